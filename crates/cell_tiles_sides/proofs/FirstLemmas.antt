@@ -1,10 +1,10 @@
 -- The first cells of areas are where their numbers first occur.
-use Rattle.std.proofs.Common.{◌≡◌, ℕ, pos, ◌+◌, ◌-◌, ◌<◌, ◌≤◌, List, Some, None, IsSome, length, get_or, refl, ap}
+use Rattle.std.proofs.Common.{◌≡◌, ℕ, pos, ◌+◌, ◌-◌, ◌<◌, List, Some, None, IsSome, length, get_or, refl, ap}
 use Rattle.std.proofs.Common.{sym, ◌∙◌, arith, subst, ⊎_elim}
 use Rattle.std.specs.List.{Contains}
 use Rattle.cell_core.specs.Grid.{CellValue, Grid}
 use Rattle.cell_cats_areas.specs.declared.clump.Joining.{Joining}
-use Rattle.cell_cats_areas.specs.Areas.{Position, cell_at_spot, IsEarlierCell, AreJoined, IsFirst, IsClumping}
+use Rattle.cell_cats_areas.specs.Areas.{Position, cell_at_spot, AreJoined, IsFirst, IsClumping}
 use Rattle.cell_cats_areas.specs.ClumpLaw.{AreFirsts}
 use Rattle.cell_cats_areas.proofs.CountLemmas.{no_number_is_left_out}
 use Rattle.cell_cats_areas.proofs.PathLemmas.{AreJoined-first}

@@ -1,6 +1,6 @@
 -- A map that tells a tile is that of its sides.
-use Rattle.std.proofs.Common.{◌≡◌, ℕ, ◌+◌, ◌-◌, ◌*◌, ◌/◌, ◌<◌, ◌≤◌, List, [], ◌∷◌, ◌++◌, Some, length, map, drop, min}
-use Rattle.std.proofs.Common.{ap, sym, ◌∙◌, arith, subst, ⊎_elim}
+use Rattle.std.proofs.Common.{◌≡◌, ℕ, ◌+◌, ◌-◌, ◌*◌, ◌<◌, ◌≤◌, List, ◌∷◌, length, map, drop}
+use Rattle.std.proofs.Common.{ap, sym, ◌∙◌, arith, subst}
 use Rattle.std.specs.List.{range_with_len}
 use Rattle.std.proofs.Math.Nat.{lt-div-mul-add}
 use Rattle.cell_core_values.specs.Region.{RegionValue}
@@ -8,12 +8,11 @@ use Rattle.cell_core.specs.Grid.{CellValue, Grid, IsFilled, no_labels, row_at}
 use Rattle.cell_tiles_edges.specs.EdgesText.{count_row}
 use Rattle.cell_tiles_edges.specs.EdgesFaults.{most_areas}
 use Rattle.cell_tiles_grid.specs.declared.sides.TileSides.{TileSides}
-use Rattle.cell_tiles_sides.specs.SidesFaults.{AreSidesFit, IsSideFit, TellsCount, TellsTile}
-use Rattle.cell_tiles_sides.specs.SidesText.{filled_row, longer_side, rows_for, sides_grid, sides_region, start_row}
-use Rattle.cell_tiles_sides.specs.SidesText.{start_rows, upper_rows}
+use Rattle.cell_tiles_sides.specs.SidesFaults.{IsSideFit, TellsCount, TellsTile}
+use Rattle.cell_tiles_sides_rows.specs.SidesRows.{filled_row, rows_for, sides_region, start_row}
 use Rattle.cell_tiles_sides.specs.parts.ToldSides.{AreAllTold, IsGridOf}
 use Rattle.cell_tiles_sides.proofs.RowLemmas.{eleven, start-rows}
-use Rattle.cell_tiles_sides.proofs.TellLemmas.{six}
+use Rattle.cell_tiles_sides_rows.proofs.RegionLemmas.{six}
 
 -- the rows for so many cells have room for them
 enough : (n w : ℕ) → 0 < w → n ≤ rows_for n w * w

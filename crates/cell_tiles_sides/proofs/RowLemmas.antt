@@ -1,5 +1,5 @@
 -- Rows of a map of sides.
-use Rattle.std.proofs.Common.{◌≡◌, ◌≢◌, ℕ, zero, suc, ◌+◌, ◌-◌, ◌*◌, ◌/◌, ◌%◌, ◌<◌, ◌≤◌, List, [], ◌∷◌, ◌++◌, Option}
+use Rattle.std.proofs.Common.{◌≡◌, ℕ, zero, suc, ◌+◌, ◌*◌, ◌/◌, ◌%◌, ◌<◌, ◌≤◌, List, [], ◌∷◌}
 use Rattle.std.proofs.Common.{Some, None, map, length, take, drop, get_or, refl, ap, sym, ◌∙◌, arith, subst, ⊎_elim}
 use Rattle.std.specs.List.{range_with_len}
 use Rattle.std.specs.Prelude.{slice_get}
@@ -12,13 +12,11 @@ use Rattle.std.proofs.lemmas.List.FromFn.{get_or-map-range_with_len, length-map-
 use Rattle.cell_core_values.specs.Region.{RegionValue}
 use Rattle.cell_core.specs.Grid.{CellValue, Grid, IsFilled, cell_at, row_at}
 use Rattle.cell_tiles_edges.proofs.GridLemmas.{wide-row}
-use Rattle.cell_tiles_edges.specs.PairFaults.{AreRowsFit, column_fault, pair_fault}
+use Rattle.cell_tiles_edges.specs.PairFaults.{AreRowsFit, pair_fault}
 use Rattle.cell_tiles_grid.specs.declared.sides.AreaStart.{AreaStart}
 use Rattle.cell_tiles_grid.specs.declared.sides.TileSide.{TileSide}
-use Rattle.cell_tiles_grid.specs.declared.sides.TileSides.{TileSides}
 use Rattle.cell_tiles_sides.specs.SidesFaults.{AreRowsRight, AreSidesRight, lower_cell, side_places}
-use Rattle.cell_tiles_sides.specs.SidesText.{filled_row, longer_side, rows_for, start_cell, start_row, start_rows}
-use Rattle.cell_tiles_sides.specs.SidesText.{upper_rows}
+use Rattle.cell_tiles_sides_rows.specs.SidesRows.{filled_row, start_cell, start_row}
 use Rattle.cell_tiles_sides.specs.parts.MadeSides.{IsSideIn}
 
 -- a list of what a function gives at each place
@@ -146,23 +144,6 @@ eleven rows many =
     let e9 = drop-cons rows 9 [] (omega (arith, many)) in
     let e10 = drop-cons rows 10 [] (omega (arith, many)) in
     cc
-
--- ---- how long rows are, and how many
-
-pub filled-long : (width : ℕ) (cells : List CellValue) → length (filled_row width cells) ≡ width
-filled-long width cells = length-map-range_with_len (λ col. get_or cells col None) 0 width
-
-pub start-long : (cols width row : ℕ) (starts : List AreaStart) → length (start_row cols width starts row) ≡ width
-start-long cols width row starts = length-map-range_with_len (λ col. start_cell cols (slice_get starts
-    (row * width + col))) 0 width
-
-pub drawn-high : (tile : RegionValue) (sides : TileSides)
-    → length (upper_rows tile sides ++ start_rows tile sides.starts.items) ≡ 11 + rows_for
-    (length sides.starts.items) (longer_side tile)
-drawn-high tile sides =
-    let high = length-map-range_with_len (start_row tile.cols (longer_side tile) sides.starts.items) 0 (rows_for
-    (length sides.starts.items) (longer_side tile)) in
-    omega (arith, high)
 
 -- ---- four sides
 

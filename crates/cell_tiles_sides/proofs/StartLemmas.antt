@@ -1,6 +1,6 @@
 -- First cells that are told one after another.
-use Rattle.std.proofs.Common.{◌≡◌, ℕ, ◌+◌, ◌<◌, ◌≤◌, List, [], ◌∷◌, ◌++◌, Option, Some, None, length, get_or, min}
-use Rattle.std.proofs.Common.{refl, ap, sym, ◌∙◌, arith, subst, ⊎_elim, below_more}
+use Rattle.std.proofs.Common.{◌≡◌, ℕ, ◌+◌, ◌<◌, ◌≤◌, List, [], ◌∷◌, ◌++◌, Some, length}
+use Rattle.std.proofs.Common.{ap, sym, ◌∙◌, arith, subst, ⊎_elim, below_more}
 use Rattle.std.specs.Prelude.{All, slice_get}
 use Rattle.std.proofs.Math.ListN.{get_or-append}
 use Rattle.std.proofs.lemmas.Bool.{cases_lt}
@@ -8,10 +8,10 @@ use Rattle.std.proofs.lemmas.List.{get_or_push, length_push}
 use Rattle.std.proofs.lemmas.List.Elements.{All-push}
 use Rattle.std.proofs.lemmas.Option.{slice_get-get_or, slice_get_past}
 use Rattle.cell_core_values.specs.Region.{RegionValue}
-use Rattle.cell_core.specs.Grid.{CellValue, Grid}
+use Rattle.cell_core.specs.Grid.{Grid}
 use Rattle.cell_tiles_grid.specs.declared.sides.AreaStart.{AreaStart}
 use Rattle.cell_tiles_sides.specs.SidesFaults.{IsInTile, IsStartRight, lower_cell}
-use Rattle.cell_tiles_sides.specs.SidesText.{start_cell}
+use Rattle.cell_tiles_sides_rows.specs.SidesRows.{start_cell}
 use Rattle.cell_tiles_sides.specs.parts.ToldSides.{AreStartsTold, IsStartAdded}
 
 -- what is pushed is the last, and the others stay

@@ -1,27 +1,24 @@
 -- The sides of a map and its numbers.
 use Rattle.std.proofs.Common.{◌≡◌, ℕ, pos, ◌+◌, ◌-◌, ◌*◌, ◌<◌, ◌≤◌, List, [], Some, None, true, length, map, get_or}
 use Rattle.std.proofs.Common.{ap, sym, ◌∙◌, arith, subst, ⊎_elim}
-use Rattle.std.specs.Prelude.{All, IfSome, IsTrue}
+use Rattle.std.specs.Prelude.{All}
 use Rattle.std.proofs.lemmas.Bool.{cases_lt}
 use Rattle.std.proofs.lemmas.Int.{ints}
 use Rattle.std.proofs.lemmas.List.{get_or-map, length-map}
 use Rattle.std.proofs.lemmas.List.Elements.{All-get_or}
 use Rattle.cell_core_values.specs.Cell.{IsCell, is_category}
-use Rattle.cell_core_values.specs.Region.{IsRegion}
 use Rattle.cell_core.specs.Grid.{AreCells, CellValue, Grid, IsFilled, row_at}
-use Rattle.cell_cats_areas.specs.declared.clump.Joining.{Joining}
-use Rattle.cell_cats_areas.specs.Areas.{IsClumping, Position, cell_at_spot}
-use Rattle.cell_cats_areas.specs.parts.CellPlaces.{position}
+use Rattle.cell_cats_areas.specs.Areas.{cell_at_spot}
 use Rattle.cell_tiles_edges.proofs.GridLemmas.{wide-row}
 use Rattle.cell_tiles_edges.specs.EdgesFaults.{most_areas}
 use Rattle.cell_tiles_edges.specs.PairFaults.{AreMapsFit}
 use Rattle.cell_tiles_edges.specs.WrittenEdges.{band_of}
-use Rattle.cell_tiles_grid.specs.Grids.{HasSides, start_position}
+use Rattle.cell_tiles_grid.specs.Grids.{start_position}
 use Rattle.cell_tiles_grid.specs.declared.sides.AreaStart.{AreaStart}
 use Rattle.cell_tiles_grid.specs.declared.sides.TileSides.{TileSides}
 use Rattle.cell_tiles_sides.specs.FirstNumbers.{AreStarts, IsFirstWith}
 use Rattle.cell_tiles_sides.specs.WrittenSides.{AreSidesOf, AreTileSides}
-use Rattle.cell_tiles_sides.specs.parts.DrawnSides.{AreTellable}
+use Rattle.cell_tiles_sides_rows.specs.SidesRows.{AreTellable}
 use Rattle.cell_tiles_sides.proofs.FirstLemmas.{starts-first}
 use Rattle.cell_tiles_sides.proofs.PassLemmas.{in-map}
 use Rattle.cell_tiles_sides.proofs.RowLemmas.{place-below}

@@ -10,12 +10,10 @@ use Rattle.cell_ascii_meaning.specs.Writing.{grid_text}
 use Rattle.cell_ascii_meaning.specs.declared.grid_fault.GridFault.{GridFault}
 use Rattle.cell_ascii_meaning.specs.declared.grid_fault.GridKind.{GridKind}
 use Rattle.cell_ascii_meaning.specs.declared.grid_fault.GridKind.TheVariants as kinds
-use Rattle.cell_tiles_sides.specs.WrittenSides.{AreSidesCut, AreSidesWritten, AreTileSides, IsTileFault, IsWrongTile}
-use Rattle.cell_tiles_sides.specs.parts.DrawnSides.{IsDrawFault}
+use Rattle.cell_tiles_sides.specs.WrittenSides.{AreSidesCut, AreSidesWritten, IsTileFault, IsWrongTile}
 use Rattle.cell_tiles_sides.specs.parts.MadeSides.{IsMapOfTexts, IsMapOfSides, of_numbers_text}
 use Rattle.cell_tiles_sides.specs.declared.tile_fault.TileFault.{TileFault}
 use Rattle.cell_tiles_sides.specs.declared.tile_fault.TileFault.TheVariants as faults
-use Rattle.cell_tiles_grid.specs.declared.sides.TileSides.{TileSides}
 
 -- ---- of results
 
@@ -35,17 +33,6 @@ some-of o x P is so = rw is at so
 -- ---- of a tile
 
 module _ (cells numbers : Grid) where
-  pub draw-wrong : (fault : TileFault) (sides : TileSides) → AreTileSides cells numbers sides
-      → IsDrawFault cells.region (length sides.starts.items) fault → IsWrongTile cells numbers fault
-  draw-wrong (faults.Map fault) sides are wrong = absurd wrong
-  draw-wrong (faults.Numbers fault) sides are wrong = absurd wrong
-  draw-wrong faults.Region sides are wrong = absurd wrong
-  draw-wrong (faults.Pair fault) sides are wrong = absurd wrong
-  draw-wrong (faults.Order place) sides are wrong = absurd wrong
-  draw-wrong faults.TooManyAreas sides are wrong = record { sides = sides; are = are; none = wrong }
-  draw-wrong faults.Memory sides are wrong = tt
-  draw-wrong faults.Write sides are wrong = absurd wrong
-
   pub wrong-tile : (text other : Coming) (fault : TileFault) → IsWrongTile cells numbers fault → Denotes text cells
       → Denotes other numbers → IsTileFault text other fault
   wrong-tile text other (faults.Map fault) wrong one two = absurd wrong

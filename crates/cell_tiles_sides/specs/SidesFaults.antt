@@ -1,5 +1,5 @@
 -- Why a text spells no sides of a tile.
-use Rattle.std.specs.Prelude.{ℕ, ◌≡◌, ◌≢◌, ◌+◌, ◌/◌, ◌%◌, ◌<◌, ◌≤◌, ◌⊎◌, List, [], ◌∷◌, length, All, Some, None, Ok, IsSome, slice_index_or}
+use Rattle.std.specs.Prelude.{ℕ, ◌≡◌, ◌+◌, ◌/◌, ◌%◌, ◌<◌, ◌≤◌, ◌⊎◌, List, [], ◌∷◌, length, All, Some, None, Ok, IsSome, slice_index_or}
 use Rattle.cell_core_devices.specs.Device.{Coming}
 use Rattle.cell_core_values.specs.Region.{RegionValue, region_fault}
 use Rattle.cell_core.specs.Grid.{CellValue, Grid, cell_at, row_at}
@@ -11,7 +11,7 @@ use Rattle.cell_tiles_edges.specs.PairFaults.{AreRowsFit, IsFirstPair}
 use Rattle.cell_tiles_grid.specs.declared.sides.AreaStart.{AreaStart}
 use Rattle.cell_tiles_grid.specs.declared.sides.TileSide.{TileSide}
 use Rattle.cell_tiles_grid.specs.declared.sides.TileSides.{TileSides}
-use Rattle.cell_tiles_sides.specs.SidesText.{longer_side, rows_for, start_cell}
+use Rattle.cell_tiles_sides_rows.specs.SidesRows.{longer_side, rows_for, start_cell}
 use Rattle.cell_tiles_sides.specs.declared.cell_place.CellPlace.{CellPlace}
 use Rattle.cell_tiles_sides.specs.declared.sides_fault.SidesFault.{SidesFault}
 use Rattle.cell_tiles_sides.specs.declared.sides_fault.SidesFault.TheVariants.{Text, Rows, Size, Areas, Pair, End, Start, Memory}

@@ -14,7 +14,8 @@ use Rattle.cell_tiles_edges.specs.PairFaults.{AreMapsFit, IsFirstOfMaps}
 use Rattle.cell_tiles_edges.specs.WrittenEdges.{band_of}
 use Rattle.cell_tiles_grid.specs.Grids.{HasSides, IsSide, start_position}
 use Rattle.cell_tiles_grid.specs.declared.sides.TileSides.{TileSides}
-use Rattle.cell_tiles_sides.specs.SidesText.{sides_region, sides_text}
+use Rattle.cell_tiles_sides_rows.specs.SidesRows.{sides_region}
+use Rattle.cell_tiles_sides.specs.SidesText.{sides_text}
 use Rattle.cell_tiles_sides.specs.FirstNumbers.{AreStarts, IsFirstOutOfOrder}
 use Rattle.cell_tiles_sides.specs.declared.tile_fault.TileFault.{TileFault}
 use Rattle.cell_tiles_sides.specs.declared.tile_fault.TileFault.TheVariants.{Map, Numbers, Region, Pair, Order, TooManyAreas, Memory, Write}

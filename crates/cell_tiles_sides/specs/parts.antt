@@ -2,4 +2,3 @@
 pub mod Passed
 pub mod MadeSides
 pub mod ToldSides
-pub mod DrawnSides

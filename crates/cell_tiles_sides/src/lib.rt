@@ -1,8 +1,7 @@
-//! The sides of a tile as a text: a grid of eleven rows and more, written of the texts of the tile and its numbers, and read again.
+//! The sides of a tile as a text: written of the texts of the tile and its numbers, and read again.
 #![tactic(auto)]
 
 pub mod cell_place;
-mod drawn;
 pub mod sides_fault;
 pub mod sides_text;
 mod starts;

@@ -6,7 +6,6 @@ ghost use Rattle.cell_tiles_sides.specs.SidesFaults.{AreSidesFit, AreSidesRight,
 ghost use Rattle.cell_tiles_sides.specs.parts.MadeSides.{of_sides_text};
 ghost use Rattle.cell_tiles_sides.specs.parts.ToldSides.{AreAllTold, IsGridOf, IsStartFault};
 
-use crate::drawn::UPPER_ROWS;
 use crate::sides_fault::SidesFault;
 use crate::told::{areas_in, side_in, tile_in};
 use crate::told_starts::starts_in;
@@ -17,6 +16,7 @@ use cell_core::region::Region;
 use cell_core::source::Source;
 use cell_tiles_edges::edges_text::map_is_filled;
 use cell_tiles_grid::sides::TileSides;
+use cell_tiles_sides_rows::drawn::UPPER_ROWS;
 use std::alloc::Global;
 
 /// What a text of sides tells: the region of a tile, and its sides.

@@ -9,7 +9,6 @@ ghost use Rattle.cell_tiles_sides.specs.WrittenSides.{AreSidesCut, AreSidesOf, A
 ghost use Rattle.cell_tiles_sides.specs.parts.MadeSides.{IsMapOfTexts, IsMapOfSides, of_tile_text, of_numbers_text};
 ghost use Rattle.cell_tiles_sides.specs.parts.Passed.{IsWrongOrder};
 
-use crate::drawn::sides_map;
 use crate::starts::starts_of;
 use crate::tile_fault::TileFault;
 use cell_ascii::grid_fault::{GridFault, GridKind};
@@ -23,6 +22,7 @@ use cell_tiles_edges::edges_text::map_is_filled;
 use cell_tiles_edges::pair_fault::first_of_maps;
 use cell_tiles_grid::scanned::{column_side, row_side};
 use cell_tiles_grid::sides::TileSides;
+use cell_tiles_sides_rows::drawn::sides_map;
 use std::alloc::Global;
 
 /// What the writing of sides did.
@@ -98,9 +98,10 @@ fn sides_drawn(alloc: Global, map: &CellMap, numbers: &CellMap) -> Result<CellMa
         Ok(sides) => sides,
         Err(fault) => return Err(fault),
     };
-    match sides_map(alloc, map.region(), &sides) {
-        Ok(drawn) => Ok(drawn),
-        Err(fault) => Err(fault),
+    let made = sides_map(alloc, map.region(), &sides)?;
+    match made {
+        Some(drawn) => Ok(drawn),
+        None => Err(TileFault::TooManyAreas),
     }
 }
 

@@ -5,12 +5,11 @@ ghost use Rattle.cell_core_values.specs.Region.{RegionValue};
 ghost use Rattle.cell_core.specs.Grid.{row_at};
 ghost use Rattle.cell_tiles_edges.specs.EdgesFaults.{most_areas};
 ghost use Rattle.cell_tiles_edges.specs.EdgesText.{count_row};
-ghost use Rattle.cell_tiles_sides.specs.SidesText.{rows_for};
+ghost use Rattle.cell_tiles_sides_rows.specs.SidesRows.{rows_for};
 ghost use Rattle.cell_tiles_sides.specs.SidesFaults.{AreRowsRight, AreRowsWrong, IsFirstBehind, IsNoSidesMap, TellsCount, TellsTile};
 ghost use Rattle.cell_tiles_sides.specs.parts.MadeSides.{IsSideIn};
 
 use crate::cell_place::CellPlace;
-use crate::drawn::{UPPER_ROWS, longer_side, rows_for};
 use crate::sides_fault::SidesFault;
 use cell_core::cell::Cell;
 use cell_core::map::CellMap;
@@ -18,8 +17,9 @@ use cell_core::memory::Memory;
 use cell_core::region::Region;
 use cell_tiles_edges::edges_text::{count_in, map_is_filled};
 use cell_tiles_edges::pair_fault::{PairFault, first_of_rows};
-use cell_tiles_grid::sides::{AreaStart, TileSide};
+use cell_tiles_grid::sides::TileSide;
 use cell_tiles_joining::clumped::row_of;
+use cell_tiles_sides_rows::drawn::{UPPER_ROWS, longer_side, rows_for};
 use std::alloc::Global;
 
 // The number that a row tells.

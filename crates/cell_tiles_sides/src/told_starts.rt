@@ -1,19 +1,19 @@
 //! The first cells that a map of a tile's sides tells.
 
-ghost use Rattle.std.specs.Prelude.{ℕ, ◌≡◌, ◌≢◌, ◌≤◌, ◌<◌, ◌+◌, ◌*◌, ◌-◌, All, IfErr, IfNone, IfOk, IfSome, Some, true, false, None, length};
+ghost use Rattle.std.specs.Prelude.{◌≡◌, ◌≢◌, ◌≤◌, ◌<◌, ◌+◌, ◌*◌, ◌-◌, IfErr, IfNone, IfOk, IfSome, Some, true, false, None};
 ghost use Rattle.cell_tiles_grid.specs.declared.sides.AreaStart.{AreaStart};
-ghost use Rattle.cell_tiles_sides.specs.SidesText.{start_cell};
+ghost use Rattle.cell_tiles_sides_rows.specs.SidesRows.{start_cell};
 ghost use Rattle.cell_tiles_sides.specs.SidesFaults.{IsInTile, IsStartRight};
 ghost use Rattle.cell_tiles_sides.specs.parts.ToldSides.{AreStartsTold, IsStartAdded, IsStartFault};
 
 use crate::cell_place::CellPlace;
-use crate::drawn::UPPER_ROWS;
 use crate::sides_fault::SidesFault;
 use cell_core::cell::Cell;
 use cell_core::map::CellMap;
 use cell_core::memory::Memory;
 use cell_core::region::Region;
 use cell_tiles_grid::sides::AreaStart;
+use cell_tiles_sides_rows::drawn::UPPER_ROWS;
 use std::alloc::Global;
 
 // The first cell whose place a cell tells, if the tile has it.

@@ -1,5 +1,5 @@
 -- The map of a tile's sides, and the faults of its texts.
-use Rattle.std.specs.Prelude.{ℕ, ◌≡◌, ◌+◌, ◌<◌, length}
+use Rattle.std.specs.Prelude.{ℕ, ◌≡◌, ◌+◌}
 use Rattle.cell_core_devices.specs.Device.{Coming}
 use Rattle.cell_core.specs.Grid.{Grid, row_at}
 use Rattle.cell_ascii_meaning.specs.declared.grid_fault.GridFault.{GridFault}
@@ -7,7 +7,7 @@ use Rattle.cell_ascii_meaning.specs.declared.grid_fault.GridKind.{GridKind}
 use Rattle.cell_ascii_meaning.specs.declared.grid_fault.GridKind.TheVariants as kinds
 use Rattle.cell_tiles_grid.specs.declared.sides.TileSide.{TileSide}
 use Rattle.cell_tiles_grid.specs.declared.sides.TileSides.{TileSides}
-use Rattle.cell_tiles_sides.specs.SidesText.{filled_row, sides_grid}
+use Rattle.cell_tiles_sides_rows.specs.SidesRows.{filled_row, sides_grid}
 use Rattle.cell_tiles_sides.specs.SidesFaults.{IsSideFit}
 use Rattle.cell_tiles_sides.specs.WrittenSides.{AreTextsSides, AreTileSides}
 use Rattle.cell_tiles_sides.specs.declared.sides_fault.SidesFault.{SidesFault}

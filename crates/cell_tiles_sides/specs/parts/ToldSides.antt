@@ -4,7 +4,7 @@ use Rattle.cell_core_values.specs.Region.{RegionValue}
 use Rattle.cell_core.specs.Grid.{CellValue, Grid, no_labels}
 use Rattle.cell_tiles_grid.specs.declared.sides.AreaStart.{AreaStart}
 use Rattle.cell_tiles_grid.specs.declared.sides.TileSides.{TileSides}
-use Rattle.cell_tiles_sides.specs.SidesText.{sides_grid, start_cell}
+use Rattle.cell_tiles_sides_rows.specs.SidesRows.{sides_grid, start_cell}
 use Rattle.cell_tiles_sides.specs.SidesFaults.{AreSidesFit, AreSidesRight, IsInTile, IsStartRight, IsWrongStart, lower_cell, side_places}
 use Rattle.cell_tiles_sides.specs.parts.MadeSides.{IsSideIn}
 use Rattle.cell_tiles_sides.specs.declared.sides_fault.SidesFault.{SidesFault}

@@ -1,6 +1,6 @@
-use Rattle.std.proofs.Common.{◌≡◌, ◌+◌, ◌<◌, ◌≤◌, ℕ, List, [], ◌∷◌, length, map, ap, sym, ◌∙◌, arith, subst}
+use Rattle.std.proofs.Common.{◌+◌, List, [], ◌∷◌, map, ap, sym, ◌∙◌, arith, subst}
 use Rattle.std.proofs.lemmas.List.{length-map, map-append}
-use Rattle.cell_cats_areas.specs.Areas.{Position, cell_at_spot}
+use Rattle.cell_cats_areas.specs.Areas.{Position}
 use Rattle.cell_cats_areas.specs.parts.CellPlaces.{position}
 use Rattle.cell_tiles_grid.specs.declared.sides.AreaStart.{AreaStart}
 use Rattle.cell_tiles_grid.specs.Grids.{start_position}

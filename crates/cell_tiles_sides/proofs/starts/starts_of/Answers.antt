@@ -1,4 +1,4 @@
-use Rattle.std.proofs.Common.{◌≡◌, List, map, ap, sym, subst, ◌∙◌, arith}
+use Rattle.std.proofs.Common.{List, map, ap, sym, subst, ◌∙◌, arith}
 use Rattle.cell_core_values.specs.Region.{RegionValue}
 use Rattle.cell_cats_areas.specs.parts.CellPlaces.{position}
 use Rattle.cell_tiles_grid.specs.declared.sides.AreaStart.{AreaStart}

@@ -1,9 +1,9 @@
-use Rattle.std.proofs.Common.{ℕ, ap, length, sym, subst, ◌∙◌}
-use Rattle.cell_core_values.specs.Region.{RegionValue}
-use Rattle.cell_tiles_sides.specs.SidesText.{sides_grid}
-use Rattle.cell_tiles_sides.specs.parts.DrawnSides.{AreTellable, IsDrawFault}
+use Rattle.std.proofs.Common.{◌≡◌, ◌≢◌, ℕ, Ok, ap, length, sym, subst, ◌∙◌}
+use Rattle.cell_core_values.specs.Region.{RegionValue, region_fault}
+use Rattle.cell_core.specs.Grid.{Grid}
+use Rattle.cell_tiles_sides_rows.specs.SidesRows.{AreTellable, sides_grid, sides_region}
 use Rattle.cell_tiles_sides.proofs.TileLemmas.{starts-few, starts-places, tile-sides}
-use Rattle.cell_tiles_sides.proofs.WrittenLemmas.{draw-wrong}
+use Rattle.cell_tiles_sides.proofs.WrittenLemmas.{some-of}
 use Rattle.cell_tiles_sides.proofs.tile_sides.sides_drawn.Goals as goal
 
 pub sides_map-requires-clause-places : goal.sides_map-requires-clause-places
@@ -19,20 +19,23 @@ sides_map-requires-clause-areas c =
     starts-few c.args.numbers.now c.in-Ok.sides.starts.items c.map_is_filled-2.ensures.filled
     c.in-Ok.ensures.sides.starts c.cells_are_in_range.ensures
 
-pub returns-in-Ok-sides_map-clause-made : goal.returns-in-Ok-sides_map-clause-made
-returns-in-Ok-sides_map-clause-made c =
+pub returns-in-Some-clause-made : goal.returns-in-Some-clause-made
+returns-in-Some-clause-made c =
     let sides = c.in-Ok.sides in
     record {
       sides = sides;
       are = tile-sides c.args.map.now c.args.numbers.now sides c.requires.region c.requires.fit c.in-Ok.ensures.sides;
-      is = c.in-Ok-sides_map.ensures.map ∙ ap (λ (r : RegionValue). sides_grid r sides) c.region.ensures.value;
+      is = some-of c.in_ok-made.made c.in-Some.drawn (λ (m : Grid). m ≡ sides_grid c.region.result sides) c.in-Some.is
+          c.in_ok-made.ensures.some ∙ ap (λ (r : RegionValue). sides_grid r sides) c.region.ensures.value;
     }
 
 pub returns-clause-fault : goal.returns-clause-fault
 returns-clause-fault c =
     let sides = c.in-Ok.sides in
-    let fault = c.in-Err-sides_map.fault in
-    draw-wrong c.args.map.now c.args.numbers.now fault sides
-    (tile-sides c.args.map.now c.args.numbers.now sides c.requires.region c.requires.fit c.in-Ok.ensures.sides)
-    (subst (λ (r : RegionValue). IsDrawFault r
-    (length sides.starts.items) fault) c.region.ensures.value c.in-Err-sides_map.ensures.fault)
+    let n = length sides.starts.items in
+    record {
+      sides = sides;
+      are = tile-sides c.args.map.now c.args.numbers.now sides c.requires.region c.requires.fit c.in-Ok.ensures.sides;
+      none = subst (λ (r : RegionValue). region_fault (sides_region r n) ≢ Ok (sides_region r n)) c.region.ensures.value
+          (rw c.in-None.is at c.in_ok-made.ensures.none);
+    }

@@ -1,7 +1,6 @@
-use Rattle.std.proofs.Common.{◌≡◌, ◌+◌, ℕ, length, sym, true, false, ◌∙◌}
+use Rattle.std.proofs.Common.{◌≡◌, ℕ, sym, true, false, ◌∙◌}
 use Rattle.cell_core.specs.Grid.{row_at}
 use Rattle.cell_tiles_edges.specs.EdgesText.{count_row}
-use Rattle.cell_tiles_sides.specs.SidesText.{rows_for}
 use Rattle.cell_tiles_sides.proofs.TellLemmas.{other-count}
 use Rattle.cell_tiles_sides.proofs.WrittenLemmas.{some-of}
 use Rattle.cell_tiles_sides.proofs.told.areas_in.Goals as goal

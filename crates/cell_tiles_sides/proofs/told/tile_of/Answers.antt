@@ -2,8 +2,9 @@ use Rattle.std.proofs.Common.{rules, ◌≡◌, ◌≢◌, ◌≤◌, length, re
 use Rattle.std.specs.Int.RustNames.{FitsSigned}
 use Rattle.std.proofs.lemmas.Int.{to_z-of_z}
 use Rattle.cell_core_values.specs.Region.{RegionValue}
-use Rattle.cell_tiles_sides.specs.SidesText.{longer_side}
-use Rattle.cell_tiles_sides.proofs.TellLemmas.{made-other, made-refused, made-tile, six}
+use Rattle.cell_tiles_sides_rows.specs.SidesRows.{longer_side}
+use Rattle.cell_tiles_sides_rows.proofs.RegionLemmas.{six}
+use Rattle.cell_tiles_sides.proofs.TellLemmas.{made-other, made-refused, made-tile}
 use Rattle.cell_tiles_sides.proofs.told.tile_of.Goals as goal
 
 pub returns-in-Err-clause-none : goal.returns-in-Err-clause-none

@@ -1,7 +1,7 @@
 use Rattle.std.proofs.Common.{◌≡◌, ◌++◌, map}
 use Rattle.std.specs.List.{range_with_len}
-use Rattle.cell_tiles_sides.specs.SidesText.{start_row}
-use Rattle.cell_tiles_sides.proofs.drawn.push_starts.Given as goal
+use Rattle.cell_tiles_sides_rows.specs.SidesRows.{start_row}
+use Rattle.cell_tiles_sides_rows.proofs.drawn.push_starts.Given as goal
 
 abbrev pub invariant-loop-row : goal.invariant-loop-row
 invariant-loop-row l = l.builder ≡ record l.fn.builder {

@@ -1,7 +1,7 @@
 use Rattle.std.proofs.Common.{length, ap, sym, ◌∙◌}
 use Rattle.cell_core.specs.Grid.{Draft}
-use Rattle.cell_tiles_sides.proofs.RowLemmas.{drawn-high}
-use Rattle.cell_tiles_sides.proofs.drawn.sides_map.Goals as goal
+use Rattle.cell_tiles_sides_rows.proofs.LengthLemmas.{drawn-high}
+use Rattle.cell_tiles_sides_rows.proofs.drawn.sides_map.Goals as goal
 
 pub finish-requires : goal.finish-requires
 finish-requires c =

@@ -1,15 +1,12 @@
 //! The map of a tile's sides.
 
-ghost use Rattle.std.specs.Prelude.{ℕ, pos, ◌≡◌, ◌≢◌, ◌≤◌, ◌<◌, ◌+◌, ◌*◌, ◌++◌, [], ◌∷◌, All, IfErr, IfOk, IfSome, OnOk, Ok, None, length, map, slice_get, slice_index_or};
+ghost use Rattle.std.specs.Prelude.{◌≡◌, ◌≢◌, ◌≤◌, ◌<◌, ◌+◌, ◌*◌, ◌++◌, [], ◌∷◌, IfNone, IfOk, IfSome, OnOk, Ok, None, length, map, slice_get, slice_index_or};
 ghost use Rattle.std.specs.List.{range_with_len};
 ghost use Rattle.cell_core_values.specs.Region.{most_side, region_fault};
 ghost use Rattle.cell_tiles_edges.specs.EdgesText.{count_row};
 ghost use Rattle.cell_tiles_edges.specs.EdgesFaults.{most_areas};
-ghost use Rattle.cell_tiles_sides.specs.SidesText.{filled_row, longer_side, rows_for, side_rows, sides_grid, sides_region, start_cell, start_row, start_rows, upper_rows};
-ghost use Rattle.cell_tiles_sides.specs.SidesFaults.{IsInTile};
-ghost use Rattle.cell_tiles_sides.specs.parts.DrawnSides.{AreTellable, IsDrawFault};
+ghost use Rattle.cell_tiles_sides_rows.specs.SidesRows.{AreTellable, filled_row, longer_side, rows_for, side_rows, sides_grid, sides_region, start_cell, start_row, start_rows, upper_rows};
 
-use crate::tile_fault::TileFault;
 use cell_core::cell::Cell;
 use cell_core::map::{CellMap, MapBuilder};
 use cell_core::memory::Memory;
@@ -18,18 +15,18 @@ use cell_tiles_edges::edges_text::count_row;
 use cell_tiles_grid::sides::{AreaStart, TileSide, TileSides};
 use std::alloc::Global;
 
-// How many rows the sides take, their numbers, and the three counts.
-pub(crate) const UPPER_ROWS: u32 = 11;
+/// How many rows the sides take, their numbers, and the three counts.
+pub const UPPER_ROWS: u32 = 11;
 
-// The longer of the rows and the columns of a tile.
-pub(crate) fn longer_side(tile: Region) -> u32
+/// The longer of the rows and the columns of a tile: as many columns as the map of its sides has.
+pub fn longer_side(tile: Region) -> u32
     ensures { result ≡ longer_side tile }
 {
     tile.rows().max(tile.cols())
 }
 
-// How many rows so many cells take.
-pub(crate) fn rows_for(count: u64, width: u32) -> u32
+/// How many rows of a width so many cells take.
+pub fn rows_for(count: u64, width: u32) -> u32
     requires count { count ≤ most_areas }
     requires width { (0 < width) × (width ≤ most_side) }
     ensures rows { result ≡ rows_for count width }
@@ -211,21 +208,24 @@ fn draw_rows(
     push_starts(alloc, builder, tile.cols(), width, &sides.starts, rows)
 }
 
-// The map of the sides of a tile of a region.
-pub(crate) fn sides_map(
-    alloc: Global,
-    tile: Region,
-    sides: &TileSides,
-) -> Result<CellMap, TileFault>
+/// The map of the sides of a tile of a region: eleven rows, and those of the first cells of its areas. None where a map may not have
+/// so many cells.
+///
+/// # Errors
+///
+/// [`Memory`] where it was refused.
+pub fn sides_map(alloc: Global, tile: Region, sides: &TileSides) -> Result<Option<CellMap>, Memory>
     requires places { AreTellable tile.cols sides.now.starts.items }
     requires areas { length sides.now.starts.items ≤ most_areas }
-    ensures map { IfOk result (λ map. map ≡ sides_grid tile sides.now) }
-    ensures fault { IfErr result (IsDrawFault tile (length sides.now.starts.items)) }
+    ensures some { IfOk result (λ made. IfSome made (λ map. map ≡ sides_grid tile sides.now)) }
+    ensures none { IfOk result (λ made. IfNone made
+        (region_fault (sides_region tile (length sides.now.starts.items))
+        ≢ Ok (sides_region tile (length sides.now.starts.items)))) }
 {
     let Some(region) = sides_region(tile, sides.starts.len() as u64) else {
-        return Err(TileFault::TooManyAreas);
+        return Ok(None);
     };
     let mut builder = MapBuilder::new(alloc, region);
     draw_rows(alloc, &mut builder, tile, sides)?;
-    Ok(builder.finish())
+    Ok(Some(builder.finish()))
 }

@@ -1,9 +1,9 @@
 use Rattle.std.proofs.Common.{rules, ◌+◌, ℕ, ◌∙◌, ap, w64}
 use Rattle.std.specs.Int.RustNames.{FitsSigned}
 use Rattle.std.proofs.lemmas.Int.{to_z-of_z}
-use Rattle.cell_tiles_sides.specs.SidesText.{rows_for, sides_region}
-use Rattle.cell_tiles_sides.proofs.TellLemmas.{made-some, six}
-use Rattle.cell_tiles_sides.proofs.drawn.sides_region.Goals as goal
+use Rattle.cell_tiles_sides_rows.specs.SidesRows.{rows_for, sides_region}
+use Rattle.cell_tiles_sides_rows.proofs.RegionLemmas.{made-some, six}
+use Rattle.cell_tiles_sides_rows.proofs.drawn.sides_region.Goals as goal
 
 pub returns-in-Ok-clause-some : goal.returns-in-Ok-clause-some
 returns-in-Ok-clause-some c =

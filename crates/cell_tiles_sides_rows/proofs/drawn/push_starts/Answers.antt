@@ -1,11 +1,11 @@
-use Rattle.std.proofs.Common.{ℕ, List, [], ◌∷◌, ◌++◌, length, map, ap, sym, ◌∙◌, append_assoc, arith}
+use Rattle.std.proofs.Common.{List, [], ◌∷◌, ◌++◌, length, map, ap, sym, ◌∙◌, append_assoc, arith}
 use Rattle.std.specs.List.{range_with_len}
 use Rattle.std.proofs.lemmas.List.{length-append}
 use Rattle.std.proofs.lemmas.List.FromFn.{length-map-range_with_len, map-range_with_len_more}
 use Rattle.cell_core.specs.Grid.{CellValue, Draft}
-use Rattle.cell_tiles_sides.specs.SidesText.{start_row}
-use Rattle.cell_tiles_sides.proofs.RowLemmas.{start-long}
-use Rattle.cell_tiles_sides.proofs.drawn.push_starts.Goals as goal
+use Rattle.cell_tiles_sides_rows.specs.SidesRows.{start_row}
+use Rattle.cell_tiles_sides_rows.proofs.LengthLemmas.{start-long}
+use Rattle.cell_tiles_sides_rows.proofs.drawn.push_starts.Goals as goal
 
 pub push_row-requires-clause-width : goal.push_row-requires-clause-width
 push_row-requires-clause-width c =

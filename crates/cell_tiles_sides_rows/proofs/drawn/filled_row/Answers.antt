@@ -2,7 +2,7 @@ use Rattle.std.proofs.Common.{ℕ, List, None, [], ◌∷◌, ◌++◌, map, get
 use Rattle.std.specs.List.{range_with_len}
 use Rattle.std.proofs.lemmas.List.FromFn.{map-range_with_len_more}
 use Rattle.cell_core.specs.Grid.{CellValue}
-use Rattle.cell_tiles_sides.proofs.drawn.filled_row.Goals as goal
+use Rattle.cell_tiles_sides_rows.proofs.drawn.filled_row.Goals as goal
 
 pub loop-col-preserved : goal.loop-col-preserved
 loop-col-preserved c =

@@ -1,11 +1,10 @@
-use Rattle.std.proofs.Common.{◌≡◌, ℕ, ◌+◌, ◌*◌, List, Option, [], ◌∷◌, ◌++◌, map, ap, sym, ◌∙◌, arith}
+use Rattle.std.proofs.Common.{◌≡◌, ℕ, ◌+◌, ◌*◌, List, [], ◌∷◌, ◌++◌, map, ap, sym, ◌∙◌, arith}
 use Rattle.std.specs.List.{range_with_len}
 use Rattle.std.specs.Prelude.{slice_get}
 use Rattle.std.proofs.lemmas.List.FromFn.{map-range_with_len_more}
 use Rattle.cell_core.specs.Grid.{CellValue}
-use Rattle.cell_tiles_grid.specs.declared.sides.AreaStart.{AreaStart}
-use Rattle.cell_tiles_sides.specs.SidesText.{start_cell}
-use Rattle.cell_tiles_sides.proofs.drawn.start_row.Goals as goal
+use Rattle.cell_tiles_sides_rows.specs.SidesRows.{start_cell}
+use Rattle.cell_tiles_sides_rows.proofs.drawn.start_row.Goals as goal
 
 pub loop-col-preserved : goal.loop-col-preserved
 loop-col-preserved c =

@@ -1,7 +1,7 @@
 use Rattle.std.proofs.Common.{List, length, ap, sym, ◌∙◌}
 use Rattle.cell_core.specs.Grid.{CellValue, Draft}
-use Rattle.cell_tiles_sides.proofs.RowLemmas.{filled-long}
-use Rattle.cell_tiles_sides.proofs.drawn.push_side.Goals as goal
+use Rattle.cell_tiles_sides_rows.proofs.LengthLemmas.{filled-long}
+use Rattle.cell_tiles_sides_rows.proofs.drawn.push_side.Goals as goal
 
 pub push_row-requires-clause-width : goal.push_row-requires-clause-width
 push_row-requires-clause-width c =

@@ -1,0 +1,2 @@
+-- The rows of the grid text of a tile's sides.
+pub mod SidesRows
