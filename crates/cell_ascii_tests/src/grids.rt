@@ -211,33 +211,6 @@ fn reads_the_widest_row(rt: HostRuntime) -> Result<(), Fail> {
     Ok(())
 }
 
-// A row of 130 cells, each a digit, behind one blank, two blanks, three and so on.
-fn row_of_gaps<R: AllocGlobal>(rt: &R) -> Result<Vec<u8>, Fail> {
-    let mut text = b"north: 1\nsouth: 0\neast: 1\nwest: 0\nrows: 1\ncols: 130\n".to_vec(
-        rt.alloc(),
-    )?;
-    for col in 0..130u32 {
-        for _ in 0..col {
-            text.extend_from_slice(b" ")?;
-        }
-        text.extend_from_slice(&[b' ', b'0' + (col % 10) as u8])?;
-    }
-    text.extend_from_slice(b"\n")?;
-    Ok(text)
-}
-
-// However many blanks are in front of it, each cell is read.
-#[test]
-fn reads_cells_behind_many_blanks(rt: HostRuntime) -> Result<(), Fail> {
-    let text = row_of_gaps(&rt)?;
-    let source = MemorySource::new(text, 20000, false);
-    let map = read_map(rt.alloc(), source).map_err(|_| "a fault")?;
-    for col in 0..130u32 {
-        assert_eq!(rt; category(&map, 0, col), Some((col % 10) as i32), "{col}");
-    }
-    Ok(())
-}
-
 // Texts with too few cells or too many.
 const CELL_FAULTS: [(&[u8], GridKind, u64); 3] = [
     (
