@@ -35,7 +35,7 @@ fn band_by(
     kinds: u64,
     joining: Joining,
 ) -> Result<BandEdges, Fail> {
-    let rows = below(seed, HEIGHT) + 1;
+    let rows = below(seed, HEIGHT).saturating_add(1);
     let mut cells = Vec::new(alloc);
     for _ in 0..rows.saturating_mul(cols) {
         let kind = below(seed, kinds);
@@ -53,7 +53,7 @@ fn bands_by(
     kinds: u64,
     joining: Joining,
 ) -> Result<Vec<BandEdges>, Fail> {
-    let cols = below(&mut seed, WIDTH) + 1;
+    let cols = below(&mut seed, WIDTH).saturating_add(1);
     let mut bands = Vec::new(alloc);
     for _ in 0..below(&mut seed, BANDS + 1) {
         bands.push(band_by(alloc, &mut seed, cols, kinds, joining)?)?;
