@@ -1,10 +1,11 @@
 -- What is added up of the tables of bands is what the script writes over the undivided map.
 use Rattle.std.proofs.Common.{◌≡◌, ℕ, suc, ◌+◌, ◌<◌, ◌≤◌, ◌^◌, List, [], ◌∷◌, ◌++◌, length, map, Some, None}
 use Rattle.std.proofs.Common.{refl, ap, sym, ◌∙◌, subst, arith, length-append}
-use Rattle.std.specs.Prelude.{All, flat_map, sum}
+use Rattle.std.specs.Prelude.{All, flat_map, sum, sum_by}
 use Rattle.std.specs.List.{AllZip}
 use Rattle.std.proofs.lemmas.List.{get_or-append-add, get_or_append_left, length-map}
 use Rattle.std.proofs.lemmas.Option.{same_Some}
+use Rattle.std.proofs.lemmas.List.Sums.{sum-map}
 use Rattle.std.proofs.lemmas.List.Elements.{All-cons, All-head, All-nil, All-tail, All-weaker}
 use Rattle.cell_core_devices.specs.Device.{Coming}
 use Rattle.cell_core_values.specs.Region.{RegionValue}
@@ -35,7 +36,7 @@ use Rattle.cell_tiles_sizes.specs.SizeTexts.{HaveSizes, number_entries}
 use Rattle.cell_tiles_sizes_law.proofs.WholeLemmas.{sizes-of-the-whole}
 use Rattle.cell_tiles_sizes_law.specs.WholeSizes.{areas_read_of, table_read}
 use Rattle.cell_tiles_edges.specs.declared.edges_text.EdgesText.{EdgesText}
-use Rattle.cell_tiles_areas.proofs.BandLemmas.{areas-twice, sum-areas}
+use Rattle.cell_tiles_areas.proofs.BandLemmas.{areas-twice}
 use Rattle.cell_tiles_areas.specs.AreasOfTexts.{HasWrittenAreas}
 use Rattle.cell_tiles_areas.specs.BandTexts.{SpellsBand, areas_of, edges_of}
 use Rattle.cell_tiles_areas_law.proofs.MapLemmas.{denoted-filled, one-map}
@@ -166,6 +167,9 @@ record IsReadAreas (joining : Joining) (whole : Grid) (bands : List Band) (readi
   many : length numbers ≡ sum (map (λ (e : BandEdges). e.areas) edges)
   join : JoinNumbers joining edges numbers
   read : reading ≡ areas_read_of edges numbers
+
+sum-areas : (bands : List EdgesText) → sum_by (λ (one : BandEdges). one.areas) (edges_of bands) ≡ sum (areas_of bands)
+sum-areas bands = sym (sum-map (λ (one : BandEdges). one.areas) (edges_of bands)) ∙ ap sum (areas-twice bands)
 
 read-areas : (joining : Joining) (whole : Grid) (bands : List Band) (texts : List Coming)
     → AllZip (IsEdgesTextOf joining) bands texts → whole.rows ≡ flat_map (λ (band : Band). band.map.rows) bands
