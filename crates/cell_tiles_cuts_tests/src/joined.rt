@@ -39,9 +39,14 @@ fn band_by(
     let mut cells = Vec::new(alloc);
     for _ in 0..rows.saturating_mul(cols) {
         let kind = below(seed, kinds);
-        cells.push(if kind == 3 { NULL } else { kind as i32 })?;
+        cells.push(if kind == 3 {
+            NULL
+        } else {
+            i32::try_from(kind).unwrap_or(0)
+        })?;
     }
-    let map = map_of(alloc, &cells, cols.max(1) as u32)?.ok_or("no map")?;
+    let cols = u32::try_from(cols).unwrap_or(1);
+    let map = map_of(alloc, &cells, cols.max(1))?.ok_or("no map")?;
     let (_, edges) = clump_band(alloc, &map, joining)?;
     Ok(edges)
 }
