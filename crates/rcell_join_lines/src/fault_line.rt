@@ -1,7 +1,7 @@
 //! The one line that says why nothing, or not all, was joined.
 
 ghost use Rattle.std.specs.Prelude.{◌≡◌, map};
-ghost use Rattle.rcell_join.specs.FaultLines.{path_at_place, refusal_source};
+ghost use Rattle.rcell_join_lines.specs.FaultLines.{path_at_place, refusal_source};
 
 use rcell_join_request::refusal::Refusal;
 use std::fmt;
@@ -23,8 +23,8 @@ impl<'a, T: fmt::Display> fmt::Display for FaultLine<'a, T> {
     }
 }
 
-// The path at a place, nothing where there is none.
-pub(crate) fn path_at<'a>(paths: &[&'a str], place: usize) -> &'a str
+/// The path at a place, nothing where there is none.
+pub fn path_at<'a>(paths: &[&'a str], place: usize) -> &'a str
     ensures { result.now ≡ path_at_place (map (λ path. path.now) paths.now) place }
 {
     match paths.get(place) {
