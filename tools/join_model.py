@@ -15,6 +15,7 @@ Given = bytes | Failing | None  # what a file gives; None: it cannot be opened
 Reply = tuple[int, bytes, bytes]  # the status, the output and what is told
 
 MOST_BYTES, GREATEST_COUNT, GREATEST_CATEGORY = 4096, 2**64 - 1, 2**31 - 1
+MOST_SIZES = 2**44  # of eight bytes, in the addresses of x86-64
 USAGE = b"usage: rcell-join (tables|edges|areas|sizes) ..."
 USAGES = {b"tables": b"usage: rcell-join tables [-l] [separator=S] [null_value=N] FILE...", b"edges": b"usage: rcell-join edges MAP NUMBERS",
           b"areas": b"usage: rcell-join areas [-d] EDGES...",
@@ -350,18 +351,16 @@ class AreasText:
         self.take()
 
 
-def add_stretch(joined: AreasText, table: TableText, sizes: list[int]) -> None:
+def add_stretch(joined: AreasText, table: TableText, sizes: dict[int, int]) -> None:
     """Reads the areas of a stretch from the table of its band, and adds their sizes."""
     _, first, last, number = joined.head
     for area in range(first, last + 1):
         if not table.head or table.head[0] != ((False, area),):
             raise Fault(table.name, area, b"other area")
         place = number + area - first
-        if not 1 <= place <= min(len(sizes) + 1, GREATEST_COUNT):
-            raise Fault(joined.name, joined.line, b"number left out")
-        if place > len(sizes):
-            sizes.append(0)
-        sizes[place - 1] = added(sizes[place - 1], table.head[1], b"%d" % place)
+        if place > MOST_SIZES:
+            raise Fault(b"sizes", 0, b"no memory", 3)
+        sizes[place] = added(sizes.get(place, 0), table.head[1], b"%d" % place)
         table.next()
 
 
@@ -375,7 +374,7 @@ def end_table(table: TableText, last: int) -> None:
 
 
 def sizes(form: Format, names: list[bytes], given: list[bytes | Failing]) -> bytes:
-    joined, found = AreasText(names[0], given[0]), []
+    joined, found = AreasText(names[0], given[0]), dict[int, int]()
     for band, (name, text) in enumerate(zip(names[1:], given[1:]), 1):
         table, last = TableText(name, text, 1, form), 0
         while joined.head and joined.head[0] == band:
@@ -385,7 +384,10 @@ def sizes(form: Format, names: list[bytes], given: list[bytes | Failing]) -> byt
         end_table(table, last)
     if joined.head:
         raise Fault(names[0], joined.line, b"band without a table")
-    return b"".join(form.printed((((False, number),), size)) for number, size in enumerate(found, 1))
+    for number in range(1, max(found, default=0)):
+        if number not in found:
+            raise Fault(names[0], 0, b"number %d left out" % number)
+    return b"".join(form.printed((((False, number),), size)) for number, size in sorted(found.items()))
 
 
 # The command line

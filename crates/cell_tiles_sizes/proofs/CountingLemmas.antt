@@ -1,6 +1,6 @@
 -- A table read entry by entry beside the stretches of its band.
-use Rattle.std.proofs.Common.{◌≡◌, ℕ, pos, ◌+◌, ◌-◌, ◌^◌, ◌<◌, ◌≤◌, List, [], ◌∷◌, ◌++◌, length, take, drop, flat_map, Option, Some, None, false, refl, ap, sym, ◌∙◌, subst, zero, suc, arith, add-one, append-nil, append_assoc, length-append, length-drop, option_map}
-use Rattle.std.specs.Prelude.{All, IfSome, is_some}
+use Rattle.std.proofs.Common.{◌≡◌, ℕ, ◌+◌, ◌^◌, ◌<◌, ◌≤◌, List, [], ◌∷◌, ◌++◌, length, take, drop, Option, Some, None, false, refl, ap, sym, ◌∙◌, subst, zero, suc, arith, add-one, append-nil, append_assoc, length-append, length-drop, option_map}
+use Rattle.std.specs.Prelude.{IfSome, is_some}
 use Rattle.std.specs.List.{range_with_len}
 use Rattle.std.proofs.lemmas.List.{drop-append-le, length_push, take-append-le, take_all}
 use Rattle.std.proofs.lemmas.List.FromFn.{length-range_with_len}
@@ -13,10 +13,10 @@ use Rattle.cell_stats.specs.TableText.{FormatValue}
 use Rattle.cell_tiles_lines.specs.LineReading.{TableReading, ended, line_after, reading_of_rest, with_entry}
 use Rattle.cell_tiles_lines.specs.TextReading.{TextValue, reading_behind, reading_from, reading_from_head}
 use Rattle.cell_tiles_numbering.specs.declared.stretch.Stretch.{Stretch}
-use Rattle.cell_tiles_numbering.specs.AreasReading.{AreasReading, areas_ended, areas_read, with_stretch}
+use Rattle.cell_tiles_numbering.specs.AreasReading.{AreasReading, areas_read, with_stretch}
 use Rattle.cell_tiles_numbering.specs.AreasText.{numbers_told, stretch_numbers}
 use Rattle.cell_tiles_numbering.specs.TextOfAreas.{AreasTextValue, areas_behind, areas_from, areas_from_head}
-use Rattle.cell_tiles_sizes.specs.SizeTexts.{BandSizes, IsNullEntry, IsTableOfBand, entries_of_areas, number_entries, stretch_areas}
+use Rattle.cell_tiles_sizes.specs.SizeTexts.{IsTableOfBand, entries_of_areas, number_entries, stretch_areas}
 use Rattle.cell_tiles_sizes.specs.parts.Tally.{Tallies}
 use Rattle.cell_tiles_sizes.specs.parts.Counting.{HasCountedAreas, HasCountedBand, HasReadBand, IsHeadOfNull, IsLeftOver, area_entry, with_entries, with_stretches}
 use Rattle.cell_tiles_sizes.proofs.TallyLemmas.{tallies-none, tallies-then}

@@ -1,6 +1,6 @@
 -- The first fault, of where tables were added up and where one of them stopped.
-use Rattle.std.proofs.Common.{◌≡◌, ◌≢◌, ℕ, ◌+◌, ◌-◌, ◌^◌, ◌<◌, List, [], ◌∷◌, ◌++◌, length, map, true, Option, Some, None, refl, ap, sym, ◌∙◌, subst, arith, append-nil, append_assoc, length-append, option_map, inr}
-use Rattle.std.specs.Prelude.{All, IfSome, is_some}
+use Rattle.std.proofs.Common.{◌≡◌, ◌≢◌, ℕ, ◌+◌, ◌-◌, ◌<◌, List, [], ◌∷◌, ◌++◌, length, map, true, Option, Some, None, refl, ap, sym, ◌∙◌, subst, arith, append-nil, append_assoc, length-append, option_map, inr}
+use Rattle.std.specs.Prelude.{IfSome, is_some}
 use Rattle.std.specs.List.{range_with_len}
 use Rattle.std.proofs.lemmas.List.Concat.{flat_map-append}
 use Rattle.cell_core_devices.specs.Device.{Coming}
@@ -10,15 +10,14 @@ use Rattle.cell_tiles_numbering.specs.declared.stretch.Stretch.{Stretch}
 use Rattle.cell_tiles_numbering.specs.AreasReading.{AreasReading, areas_reading_of}
 use Rattle.cell_tiles_numbering.specs.AreasText.{numbers_told, stretch_numbers}
 use Rattle.cell_tiles_numbering.specs.TextOfAreas.{AreasTextValue, areas_behind, areas_from}
-use Rattle.cell_tiles_texts.specs.JoinedTexts.{Give}
-use Rattle.cell_tiles_sizes.specs.SizeTexts.{AreTablesOfBands, BandSizes}
-use Rattle.cell_tiles_sizes.specs.SizeFaults.{AreReadTo, HasNoTable, IsFirstSizesFault, IsSizesFault, first_number}
+use Rattle.cell_tiles_sizes.specs.SizeTexts.{AreTablesOfBands, BandSizes, sizes_of_parts, stretches_of_parts}
+use Rattle.cell_tiles_sizes.specs.SizeFaults.{HasNoTable, IsFirstSizesFault, IsSizesFault, first_number}
 use Rattle.cell_tiles_sizes.specs.declared.size_fault.SizesFault.{SizesFault}
 use Rattle.cell_tiles_sizes.specs.declared.size_fault.SizesFault.TheVariants.{Areas, NumberLeftOut, NoTable, Table, OtherArea, TooGreat, TooLong, Memory, Write}
 use Rattle.cell_tiles_sizes.specs.parts.Counting.{HasAddedTables, with_stretches}
 use Rattle.cell_tiles_sizes.specs.parts.Stops.{HasStoppedInBand, IsBandStart}
 use Rattle.cell_tiles_sizes.specs.parts.Tally.{Tallies}
-use Rattle.cell_tiles_sizes.proofs.AddingLemmas.{no-others, sizes_of_parts, stretches_of_parts}
+use Rattle.cell_tiles_sizes.proofs.AddingLemmas.{no-others}
 use Rattle.cell_tiles_sizes.proofs.CountingLemmas.{stretch-first}
 use Rattle.cell_tiles_sizes.proofs.TallyLemmas.{tallied, tallies-then}
 
@@ -32,7 +31,7 @@ as-many band (part ∷ parts) (reading ∷ readings) are = omega (arith, as-many
 of-first : (areas : AreasReading) (tables : List TableReading) (fault : SizesFault)
     → IsFirstSizesFault areas tables fault → IsSizesFault areas tables fault
 of-first areas tables (Areas fault) is = inr is
-of-first areas tables (NumberLeftOut line) is = is
+of-first areas tables (NumberLeftOut number) is = absurd is.wrong
 of-first areas tables (NoTable line) is = absurd is.wrong
 of-first areas tables (Table table fault) is = is
 of-first areas tables (OtherArea table line) is = is
@@ -92,7 +91,7 @@ module _ {R : Type 0} (coming : R → Option Coming) (format : FormatValue) (tex
               entries = stop.entries;
               table_end = stop.table_end;
               table_line = stop.table_line;
-              tally =
+              sums =
                   let stretches = stretches_of_parts so.parts in
                   let sizes = sizes_of_parts so.parts in
                   let next = range_with_len (first_number stop.at.areas.stretches) (length stop.at.counted) in
@@ -146,14 +145,16 @@ module _ {R : Type 0} (coming : R → Option Coming) (format : FormatValue) (tex
       at-one s (Some a) other e =
           let same : whole ≡ with_stretches (stretches_of_parts so.parts) (with_stretches (s ∷ []) a) = cc in
           record {
-            parts = so.parts;
-            good = subst (AreTablesOfBands 1 so.parts) (sym readings) so.listed;
             stretch = s;
             others = a.stretches;
-            stretches = ap (λ (r : AreasReading). r.stretches) same;
+            read = record {
+              parts = so.parts;
+              good = subst (AreTablesOfBands 1 so.parts) (sym readings) so.listed;
+              stretches = ap (λ (r : AreasReading). r.stretches) same;
+              sizes = sizes;
+              sums = tallied (numbers_told (stretches_of_parts so.parts)) (sizes_of_parts so.parts) sizes so.tallies;
+            };
             other = subst (λ (n : ℕ). 0 < n → s.band ≢ n) (sym many) other;
-            sizes = sizes;
-            tally = tallied (numbers_told (stretches_of_parts so.parts)) (sizes_of_parts so.parts) sizes so.tallies;
             at = omega (arith, at, so.areas_line);
           }
 

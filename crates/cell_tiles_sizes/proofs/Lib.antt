@@ -1,4 +1,5 @@
 pub mod AddingLemmas
+pub mod CountLemmas
 pub mod CountingLemmas
 pub mod FaultLemmas
 pub mod PutLemmas

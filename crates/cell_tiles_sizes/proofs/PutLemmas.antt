@@ -1,5 +1,5 @@
 -- The lines of sizes put on a sink.
-use Rattle.std.proofs.Common.{◌≡◌, ◌≢◌, ℕ, List, [], ◌++◌, length, Bool, true, false, ◌||◌, Option, Some, None, refl, ap, sym, ◌∙◌, subst, append-nil}
+use Rattle.std.proofs.Common.{◌≡◌, ◌≢◌, ℕ, List, [], ◌++◌, length, Bool, true, false, Option, Some, None, refl, ap, sym, ◌∙◌, subst, append-nil}
 use Rattle.std.specs.Prelude.{IfSome}
 use Rattle.cell_core_devices.specs.Blocks.{Appended, BlockValue, IsRest, capped_count}
 use Rattle.cell_core_devices.specs.Device.{Faults, after_put, append_known, has_failed}
@@ -99,7 +99,7 @@ pub put-none : (format : FormatValue) (areas : AreasReading) (tables : List Tabl
     (fault : SizesFault) → fault ≢ Write
     → HasStopped format areas tables before before 0 fault
 put-none format areas tables before (Areas fault) not = (refl, refl)
-put-none format areas tables before (NumberLeftOut line) not = (refl, refl)
+put-none format areas tables before (NumberLeftOut number) not = (refl, refl)
 put-none format areas tables before (NoTable line) not = (refl, refl)
 put-none format areas tables before (Table table fault) not = (refl, refl)
 put-none format areas tables before (OtherArea table line) not = (refl, refl)

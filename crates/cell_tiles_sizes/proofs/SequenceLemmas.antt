@@ -1,10 +1,9 @@
 -- The stretch that comes next, and where it begins.
-use Rattle.std.proofs.Common.{◌≡◌, ◌≢◌, ℕ, ◌+◌, ◌-◌, ◌<◌, ◌≤◌, ◌==◌, Bool, true, false, Option, Some, None, refl, ap, sym, ◌∙◌, subst, arith}
-use Rattle.std.specs.Prelude.{IfSome, Result, Ok, Err, nat_lt, if◌then◌else◌}
+use Rattle.std.proofs.Common.{◌≡◌, ◌≢◌, ℕ, ◌+◌, ◌<◌, ◌≤◌, ◌==◌, Bool, true, false, Option, Some, None, refl, arith}
+use Rattle.std.specs.Prelude.{IfSome, Ok, Err, nat_lt, if◌then◌else◌}
 use Rattle.std.proofs.lemmas.Bool.{ltb-false}
 use Rattle.std.proofs.lemmas.Bool.Decides.{nat_tests}
 use Rattle.cell_tiles_numbering.specs.declared.stretch.Stretch.{Stretch}
-use Rattle.cell_tiles_numbering.specs.declared.areas_fault.AreasKind.{AreasKind}
 use Rattle.cell_tiles_numbering.specs.declared.areas_fault.AreasKind.TheVariants as areas_kinds
 use Rattle.cell_tiles_numbering.specs.AreasReading.{comes_next, in_sequence}
 use Rattle.cell_tiles_sizes.specs.parts.Stops.{IsBandStart, IsNextIn}

@@ -1,6 +1,5 @@
 -- Where counting stopped, and what is wrong there.
-use Rattle.std.proofs.Common.{◌≡◌, ◌≢◌, ℕ, pos, ◌+◌, ◌-◌, ◌^◌, ◌<◌, ◌≤◌, List, [], ◌∷◌, ◌++◌, length, true, Option, Some, None, refl, ap, sym, ◌∙◌, subst, arith, append-nil, append_assoc, option_map, ⊎_elim, ◌⊎◌, inl, inr}
-use Rattle.std.proofs.lemmas.Bool.{cases_lt}
+use Rattle.std.proofs.Common.{◌≡◌, ◌≢◌, ℕ, ◌+◌, ◌-◌, ◌^◌, ◌<◌, ◌≤◌, List, [], ◌∷◌, ◌++◌, length, true, Option, Some, None, refl, ap, sym, ◌∙◌, subst, arith, append-nil, append_assoc, option_map, inl, inr}
 use Rattle.std.specs.Prelude.{All, IfSome, is_some}
 use Rattle.std.specs.List.{range_with_len}
 use Rattle.cell_core_devices.specs.Device.{Coming}
@@ -8,7 +7,7 @@ use Rattle.cell_stats_combinations.specs.Combinations.{Combination}
 use Rattle.cell_stats.specs.CategoryTables.{Pairs}
 use Rattle.cell_stats.specs.TableText.{FormatValue}
 use Rattle.cell_tiles_lines.specs.LineReading.{TableReading, ended, reading_of_rest, stopped, with_entry}
-use Rattle.cell_tiles_lines.specs.TextReading.{TextValue, combination_of, reading_behind, reading_from, reading_from_head}
+use Rattle.cell_tiles_lines.specs.TextReading.{TextValue, reading_behind, reading_from, reading_from_head}
 use Rattle.cell_tiles_lines.specs.declared.table_fault.TableFault.{TableFault}
 use Rattle.cell_tiles_lines.specs.declared.table_fault.TableKind.TheVariants as table_kinds
 use Rattle.cell_tiles_numbering.specs.declared.stretch.Stretch.{Stretch}
@@ -17,8 +16,8 @@ use Rattle.cell_tiles_numbering.specs.AreasText.{numbers_told}
 use Rattle.cell_tiles_numbering.specs.TextOfAreas.{AreasTextValue, areas_behind, areas_from, areas_from_head}
 use Rattle.cell_tiles_numbering.specs.declared.areas_fault.AreasFault.{AreasFault}
 use Rattle.cell_tiles_numbering.specs.declared.areas_fault.AreasKind.TheVariants as areas_kinds
-use Rattle.cell_tiles_sizes.specs.SizeTexts.{BandSizes, IsNullEntry, entries_of_areas, number_entries, stretch_areas}
-use Rattle.cell_tiles_sizes.specs.SizeFaults.{AreOfNextStretch, HasAreasFault, HasEntryMore, HasNumberLeftOut, HasOtherArea, HasSumTooGreat, HasTableFault, IsBandOver, IsEntryOf, IsFaultAt, IsOtherEntry, IsReadOn, IsTooLong, ReadingPlace, first_area, first_number}
+use Rattle.cell_tiles_sizes.specs.SizeTexts.{entries_of_areas, number_entries, stretch_areas}
+use Rattle.cell_tiles_sizes.specs.SizeFaults.{AreOfNextStretch, IsBandOver, IsEntryOf, IsFaultAt, IsOtherEntry, IsReadOn, IsTooLong, ReadingPlace}
 use Rattle.cell_tiles_sizes.specs.declared.size_fault.SizesFault.{SizesFault}
 use Rattle.cell_tiles_sizes.specs.declared.size_fault.SizesFault.TheVariants.{Areas, NumberLeftOut, NoTable, Table, OtherArea, TooGreat, TooLong, Memory, Write}
 use Rattle.cell_tiles_sizes.specs.declared.tally.TallyFault.{TallyFault}
@@ -114,18 +113,18 @@ entry-of format text area size r is head = by (reading_behind format text)
 
 -- ---- within a stretch
 
-pub stopped-in-stretch : (place line : ℕ) (s : Stretch) (table left : Option TableReading) (old sizes : List ℕ)
+pub stopped-in-stretch : (place : ℕ) (s : Stretch) (table left : Option TableReading) (old sizes : List ℕ)
     (count : ℕ) (fault : SizesFault)
     → HasCountedAreas s.first s.number count table left old sizes → count ≤ stretch_areas s
-    → ((counted : List ℕ) (r : TableReading) → length counted ≡ count → left ≡ Some r → (others : AreasReading)
-    → IsFaultAt (place_in_stretch place line s counted r sizes others) fault)
-    → IfSome table (λ reading. HasStoppedInStretch place line s reading old fault)
-stopped-in-stretch place line s table left old sizes count fault so few wrong =
-    subst (λ (o : Option TableReading). IfSome o (λ reading. HasStoppedInStretch place line s reading old fault))
+    → ((counted : List ℕ) (r : TableReading) → length counted ≡ count → left ≡ Some r → (line : ℕ)
+    (others : AreasReading) → IsFaultAt (place_in_stretch place line s counted r sizes others) fault)
+    → IfSome table (λ reading. HasStoppedInStretch place s reading old fault)
+stopped-in-stretch place s table left old sizes count fault so few wrong =
+    subst (λ (o : Option TableReading). IfSome o (λ reading. HasStoppedInStretch place s reading old fault))
     (sym so.reads) (by left refl)
   where
     by : (o : Option TableReading) → left ≡ o → IfSome (option_map (with_entries (number_entries s.first so.sizes)) o)
-        (λ reading. HasStoppedInStretch place line s reading old fault)
+        (λ reading. HasStoppedInStretch place s reading old fault)
     by None is = tt
     by (Some r) is = record {
       counted = so.sizes;
@@ -157,33 +156,10 @@ module _ (place line : ℕ) (s : Stretch) (sizes : List ℕ) (own : s.band ≡ p
     }),
   )
 
-  pub left-out : (area size number : ℕ) → length counted < stretch_areas s → area ≡ s.first + length counted
-      → number ≡ s.number + length counted
-      → IsEntryOf area size r.entries → (number ≡ 0) ⊎ (length sizes + 1 < number) → IsFaultAt here (NumberLeftOut line)
-  left-out area size number more is own_number entry out =
-      record {
-        area = area;
-        number = number;
-        next = (own, more, is, own_number);
-        size = size;
-        entry = entry;
-        out = out;
-        at = refl;
-      }
-
-  outside : (number : ℕ) → ((n : ℕ) → n ≤ length sizes → number ≡ n + 1 → ⊥)
-      → (number ≡ 0) ⊎ (length sizes + 1 < number)
-  outside number not =
-      ⊎_elim (λ great. inr great) (λ few. ⊎_elim (λ some. absurd (not (number - 1) (omega arith) (omega arith)))
-      (λ none. inl (omega arith)) (cases_lt 0 number))
-      (cases_lt (length sizes + 1) number)
-
   pub tally-fault : (area size number : ℕ) (kind : TallyFault) (fault : SizesFault) → length counted < stretch_areas s
       → area ≡ s.first + length counted → number ≡ s.number + length counted
-      → IsEntryOf area size r.entries → IsTallyFault sizes number size kind → TellsTallyFault line number kind fault
+      → IsEntryOf area size r.entries → IsTallyFault sizes number size kind → TellsTallyFault number kind fault
       → IsFaultAt here fault
-  tally-fault area size number tally_faults.LeftOut fault more is own_number entry why told =
-      subst (IsFaultAt here) (sym told) (left-out area size number more is own_number entry (outside number why))
   tally-fault area size number tally_faults.TooGreat fault more is own_number entry why told =
       subst (IsFaultAt here) (sym told) (record {
         area = area;
@@ -201,7 +177,7 @@ pub table-fault : (place : ReadingPlace) (fault : TableFault) (told : SizesFault
     → TellsTableFault place.table fault told → IsReadOn place.areas.stretches place.areas.fault
     → (fault.kind ≢ table_kinds.Memory → place.left ≡ stopped fault.line fault.kind) → IsFaultAt place told
 table-fault place fault (Areas at) tells on is = absurd tells
-table-fault place fault (NumberLeftOut line) tells on is = absurd tells
+table-fault place fault (NumberLeftOut number) tells on is = absurd tells
 table-fault place fault (NoTable line) tells on is = absurd tells
 table-fault place fault (Table table at) tells on is =
     let left = is tells.2 in (
@@ -230,7 +206,7 @@ areas-fault place fault (Areas at) tells none on is =
       none = none;
       on = on;
     }
-areas-fault place fault (NumberLeftOut line) tells none on is = absurd tells
+areas-fault place fault (NumberLeftOut number) tells none on is = absurd tells
 areas-fault place fault (NoTable line) tells none on is = absurd tells
 areas-fault place fault (Table table at) tells none on is = absurd tells
 areas-fault place fault (OtherArea table line) tells none on is = absurd tells
@@ -243,12 +219,12 @@ areas-fault place fault Write tells none on is = absurd tells
 
 -- the next stretch is s, and its first areas are counted
 pub stopped-in-next : (place band line start : ℕ) (areas : Option AreasReading) (mid : AreasTextValue)
-    (table between : Option TableReading) (old added : List ℕ) (s : Stretch) (number : ℕ) (fault : SizesFault)
+    (table between : Option TableReading) (old added : List ℕ) (s : Stretch) (fault : SizesFault)
     → HasCountedBand band line start mid.line areas (areas_from mid) table between old added → mid.head ≡ Some s
     → s.band ≡ band → band ≡ place + 1 → s.first ≡ line
-    → number ≡ mid.line - 1 → IfSome between (λ reading. HasStoppedInStretch place number s reading added fault)
+    → IfSome between (λ reading. HasStoppedInStretch place s reading added fault)
     → IfSome areas (λ text. IfSome table (λ reading. HasStoppedInBand place start text reading old fault))
-stopped-in-next place band line start areas mid table between old added s number fault so head own is first at stop =
+stopped-in-next place band line start areas mid table between old added s fault so head own is first stop =
     subst (λ (o : Option AreasReading). IfSome o (λ text. IfSome table
     (λ reading. HasStoppedInBand place start text reading old fault)))
     (sym (so.told ∙ ap (option_map (with_stretches so.part.stretches)) (stretch-first mid s head)))
@@ -258,14 +234,14 @@ stopped-in-next place band line start areas mid table between old added s number
     (by (areas_behind mid) between stop))
   where
     by : (behind : Option AreasReading) (o : Option TableReading)
-        → IfSome o (λ reading. HasStoppedInStretch place number s reading added fault)
+        → IfSome o (λ reading. HasStoppedInStretch place s reading added fault)
         → IfSome (option_map (with_stretches so.part.stretches) (option_map (with_stretches (s ∷ [])) behind))
         (λ text. IfSome (option_map (with_entries (entries_of_areas so.part.stretches so.part.sizes)) o)
         (λ reading. HasStoppedInBand place start text reading old fault))
     by None o stop = tt
     by (Some a) None stop = tt
     by (Some a) (Some r) stop = record {
-      at = place_in_stretch place number s stop.counted stop.left stop.sizes a;
+      at = place_in_stretch place (mid.line - 1) s stop.counted stop.left stop.sizes a;
       own_table = refl;
       part = so.part;
       own = subst (λ (b : ℕ). All (λ (t : Stretch). t.band ≡ b) so.part.stretches) is so.own;
@@ -273,7 +249,7 @@ stopped-in-next place band line start areas mid table between old added s number
       begun = begun stop.counted stop.few;
       stretches = refl;
       areas_end = refl;
-      areas_line = at ∙ ap (λ (n : ℕ). n - 1) so.areas_line;
+      areas_line = ap (λ (n : ℕ). n - 1) so.areas_line;
       entries = ap (λ (l : Pairs). entries_of_areas so.part.stretches so.part.sizes ++ l) stop.entries
           ∙ sym (append_assoc (entries_of_areas so.part.stretches so.part.sizes)
           (number_entries s.first stop.counted) stop.left.entries);
@@ -281,7 +257,7 @@ stopped-in-next place band line start areas mid table between old added s number
       table_line = omega (arith, first, so.table_line);
       tallies = tallies-then old added stop.sizes (numbers_told so.part.stretches)
           (range_with_len s.number (length stop.counted)) so.part.sizes stop.counted so.tallies stop.tallies;
-      wrong = stop.wrong a;
+      wrong = stop.wrong (mid.line - 1) a;
     }
       where
         begun : (counted : List ℕ) → length counted ≤ stretch_areas s

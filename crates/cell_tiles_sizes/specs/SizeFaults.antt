@@ -1,6 +1,6 @@
 -- Why sizes are not added up: the areas text and the tables are read side by side, and the first that is wrong is told.
-use Rattle.std.specs.Prelude.{ℕ, pos, ◌≡◌, ◌≢◌, ◌+◌, ◌-◌, ◌^◌, ◌<◌, ◌≤◌, ◌⊎◌, min, List, [], ◌∷◌, ◌++◌, length, slice_index, flat_map, All, Option, Some, None}
-use Rattle.std.specs.List.{range_with_len}
+use Rattle.std.specs.Prelude.{ℕ, pos, ◌≡◌, ◌≢◌, ◌+◌, ◌-◌, ◌^◌, ◌<◌, ◌≤◌, ◌⊎◌, min, List, [], ◌∷◌, ◌++◌, length, slice_index, All, Option, Some, None}
+use Rattle.std.specs.List.{Contains, range_with_len}
 use Rattle.cell_stats_combinations.specs.Combinations.{Combination}
 use Rattle.cell_stats.specs.CategoryTables.{Pairs}
 use Rattle.cell_tiles_lines.specs.LineReading.{TableReading}
@@ -9,7 +9,7 @@ use Rattle.cell_tiles_numbering.specs.AreasReading.{AreasReading}
 use Rattle.cell_tiles_numbering.specs.AreasText.{numbers_told}
 use Rattle.cell_tiles_numbering.specs.declared.stretch.Stretch.{Stretch}
 use Rattle.cell_tiles_numbering.specs.declared.areas_fault.AreasFault.{AreasFault}
-use Rattle.cell_tiles_sizes.specs.SizeTexts.{AreTablesOfBands, BandSizes, HasTally, IsNullEntry, entries_of_areas, number_entries, stretch_areas}
+use Rattle.cell_tiles_sizes.specs.SizeTexts.{AreTablesOfBands, BandSizes, HasSums, IsNullEntry, entries_of_areas, number_entries, sizes_of_parts, stretch_areas, stretches_of_parts}
 use Rattle.cell_tiles_sizes.specs.declared.size_fault.SizesFault.{SizesFault}
 use Rattle.cell_tiles_sizes.specs.declared.size_fault.SizesFault.TheVariants.{Areas, NumberLeftOut, NoTable, Table, OtherArea, TooGreat, TooLong, Memory, Write}
 
@@ -59,14 +59,14 @@ pub record AreReadTo (areas : AreasReading) (tables : List TableReading) (place 
   pub own : All (λ (s : Stretch). s.band ≡ place.table + 1) part.stretches
   pub many : length part.sizes ≡ length (numbers_told part.stretches)
   pub begun : AreOfNextStretch (place.table + 1) place.counted place.areas.stretches
-  pub stretches : areas.stretches ≡ (flat_map (λ (one : BandSizes). one.stretches) parts ++ part.stretches) ++ place.areas.stretches
+  pub stretches : areas.stretches ≡ (stretches_of_parts parts ++ part.stretches) ++ place.areas.stretches
   pub areas_end : areas.fault ≡ place.areas.fault
-  pub areas_line : place.areas_line ≡ areas_line_behind (length (flat_map (λ (one : BandSizes). one.stretches) parts ++ part.stretches))
+  pub areas_line : place.areas_line ≡ areas_line_behind (length (stretches_of_parts parts ++ part.stretches))
   pub entries : table.entries ≡ (entries_of_areas part.stretches part.sizes ++ number_entries (first_area place.areas.stretches) place.counted) ++ place.left.entries
   pub table_end : table.fault ≡ place.left.fault
   pub table_line : place.table_line ≡ length part.sizes + length place.counted + 1
-  pub tally : HasTally (numbers_told (flat_map (λ (one : BandSizes). one.stretches) parts ++ part.stretches) ++ range_with_len (first_number place.areas.stretches) (length place.counted))
-      ((flat_map (λ (one : BandSizes). one.sizes) parts ++ part.sizes) ++ place.counted) place.sizes
+  pub sums : HasSums (numbers_told (stretches_of_parts parts ++ part.stretches) ++ range_with_len (first_number place.areas.stretches) (length place.counted))
+      ((sizes_of_parts parts ++ part.sizes) ++ place.counted) place.sizes
 
 -- ---- what comes next
 
@@ -130,16 +130,6 @@ pub record HasAreasFault (place : ReadingPlace) (fault : AreasFault) : Type 0 wh
   pub none : place.counted ≡ []
   pub on : IsReadOn place.left.entries place.left.fault
 
--- the next area has its entry, but its number is neither one of those before it nor the next one
-pub record HasNumberLeftOut (place : ReadingPlace) (line : ℕ) : Type 0 where
-  pub area : ℕ
-  pub number : ℕ
-  pub next : IsNextArea (place.table + 1) (length place.counted) place.areas.stretches area number
-  pub size : ℕ
-  pub entry : IsEntryOf area size place.left.entries
-  pub out : (number ≡ 0) ⊎ (length place.sizes + 1 < number)
-  pub at : line ≡ place.areas_line
-
 -- the next area has its entry, but with its size that of its number comes to 2^64 or more
 pub record HasSumTooGreat (place : ReadingPlace) (number : ℕ) : Type 0 where
   pub area : ℕ
@@ -156,7 +146,7 @@ IsTooLong (s ∷ stretches) line = (2 ^ 64 - 2 ≤ s.last) ⊎ (line ≡ 2 ^ 64 
 
 abbrev pub IsFaultAt : ReadingPlace → SizesFault → Type 0
 IsFaultAt place (Areas fault) = HasAreasFault place fault
-IsFaultAt place (NumberLeftOut line) = HasNumberLeftOut place line
+IsFaultAt place (NumberLeftOut number) = ⊥
 IsFaultAt place (NoTable line) = ⊥
 IsFaultAt place (Table table fault) = (table ≡ place.table) × HasTableFault place fault
 IsFaultAt place (OtherArea table line) = (table ≡ place.table) × (HasOtherArea place line ⊎ HasEntryMore place line)
@@ -177,22 +167,35 @@ pub record IsFirstSizesFault (areas : AreasReading) (tables : List TableReading)
 abbrev pub HasFaultOnFirstLine : AreasReading → AreasFault → Type 0
 HasFaultOnFirstLine areas fault = (areas.stretches ≡ []) × (areas.fault ≡ Some fault)
 
--- all tables are those of their bands, and the areas text goes on with a stretch of another band than the last of them
-pub record HasNoTable (areas : AreasReading) (tables : List TableReading) (line : ℕ) : Type 0 where
+-- all tables are those of their bands, behind which these stretches of the areas text are left; and the sizes of all areas of
+-- these bands are added up by the numbers that the text tells
+pub record AreAllRead (areas : AreasReading) (tables : List TableReading) (left : List Stretch) : Type 0 where
   pub parts : List BandSizes
   pub good : AreTablesOfBands 1 parts tables
+  pub stretches : areas.stretches ≡ stretches_of_parts parts ++ left
+  pub sizes : List ℕ
+  pub sums : HasSums (numbers_told (stretches_of_parts parts)) (sizes_of_parts parts) sizes
+
+-- all tables are read, and the areas text goes on with a stretch of another band than the last of them
+pub record HasNoTable (areas : AreasReading) (tables : List TableReading) (line : ℕ) : Type 0 where
   pub stretch : Stretch
   pub others : List Stretch
-  pub stretches : areas.stretches ≡ flat_map (λ (one : BandSizes). one.stretches) parts ++ stretch ∷ others
+  pub read : AreAllRead areas tables (stretch ∷ others)
   pub other : 0 < length tables → stretch.band ≢ length tables
-  pub sizes : List ℕ
-  pub tally : HasTally (numbers_told (flat_map (λ (one : BandSizes). one.stretches) parts)) (flat_map (λ (one : BandSizes). one.sizes) parts) sizes
-  pub at : line ≡ areas_line_behind (length (flat_map (λ (one : BandSizes). one.stretches) parts))
+  pub at : line ≡ areas_line_behind (length (stretches_of_parts read.parts))
+
+-- all tables are read, and the areas text ends there; this number, below the greatest, is that of no area, and each before it of one
+pub record HasNumberLeftOut (areas : AreasReading) (tables : List TableReading) (number : ℕ) : Type 0 where
+  pub read : AreAllRead areas tables []
+  pub ended : areas.fault ≡ None
+  pub below : (0 < number) × (number < length read.sizes)
+  pub none : Contains (numbers_told areas.stretches) number → ⊥
+  pub before : (n : ℕ) → 0 < n → n < number → Contains (numbers_told areas.stretches) n
 
 -- why sizes are not added up; of being out of memory and of a failed write nothing is said of the texts
 abbrev pub IsSizesFault : AreasReading → List TableReading → SizesFault → Type 0
 IsSizesFault areas tables (Areas fault) = HasFaultOnFirstLine areas fault ⊎ IsFirstSizesFault areas tables (Areas fault)
-IsSizesFault areas tables (NumberLeftOut line) = IsFirstSizesFault areas tables (NumberLeftOut line)
+IsSizesFault areas tables (NumberLeftOut number) = HasNumberLeftOut areas tables number
 IsSizesFault areas tables (NoTable line) = HasNoTable areas tables line
 IsSizesFault areas tables (Table table fault) = IsFirstSizesFault areas tables (Table table fault)
 IsSizesFault areas tables (OtherArea table line) = IsFirstSizesFault areas tables (OtherArea table line)

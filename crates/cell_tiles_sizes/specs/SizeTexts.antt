@@ -49,17 +49,29 @@ pub record IsTableOfBand (band : ℕ) (part : BandSizes) (reading : TableReading
   pub lists : reading.entries ≡ entries_of_areas part.stretches part.sizes ++ nulls
   pub whole : reading.fault ≡ None
 
+-- the stretches of all bands, and the sizes of all their areas
+abbrev pub stretches_of_parts : List BandSizes → List Stretch
+stretches_of_parts parts = flat_map (λ (part : BandSizes). part.stretches) parts
+
+abbrev pub sizes_of_parts : List BandSizes → List ℕ
+sizes_of_parts parts = flat_map (λ (part : BandSizes). part.sizes) parts
+
 -- tables of bands, of which the first has this place
 abbrev pub AreTablesOfBands : ℕ → List BandSizes → List TableReading → Type 0
 AreTablesOfBands band [] [] = Unit {0}
 AreTablesOfBands band (part ∷ parts) (reading ∷ readings) = IsTableOfBand band part reading × AreTablesOfBands (band + 1) parts readings
 AreTablesOfBands band parts readings = ⊥
 
--- as many sizes as numbers were added up, and each number up to the greatest is one of these
-pub record HasTally (numbers sizes whole : List ℕ) : Type 0 where
+-- as many sizes as numbers were added up, for each number up to the greatest of these
+pub record HasSums (numbers sizes whole : List ℕ) : Type 0 where
   pub same : length sizes ≡ length numbers
   pub adds : AddUp numbers sizes (length whole) whole
   pub within : All (λ n. (0 < n) × (n ≤ length whole)) numbers
+  pub greatest : 0 < length whole → Contains numbers (length whole)
+
+-- as many sizes as numbers were added up, and each number up to the greatest is one of these
+pub record HasTally (numbers sizes whole : List ℕ) : Type 0 where
+  pub sums : HasSums numbers sizes whole
   pub each : (n : ℕ) → n < length whole → Contains numbers (n + 1)
 
 -- an areas text to its end, and a table for each of its bands: the sizes of the areas of all bands, added up by the numbers that the text
@@ -67,9 +79,9 @@ pub record HasTally (numbers sizes whole : List ℕ) : Type 0 where
 pub record HaveSizes (areas : AreasReading) (tables : List TableReading) (sizes : List ℕ) : Type 0 where
   pub whole : areas.fault ≡ None
   pub parts : List BandSizes
-  pub all : areas.stretches ≡ flat_map (λ (part : BandSizes). part.stretches) parts
+  pub all : areas.stretches ≡ stretches_of_parts parts
   pub listed : AreTablesOfBands 1 parts tables
-  pub tally : HasTally (numbers_told areas.stretches) (flat_map (λ (part : BandSizes). part.sizes) parts) sizes
+  pub tally : HasTally (numbers_told areas.stretches) (sizes_of_parts parts) sizes
 
 -- the sink took exactly the lines of these sizes
 pub record HasWrittenSizes (format : FormatValue) (areas : AreasReading) (tables : List TableReading) (before now : Option (List ℕ)) (written : ℕ) : Type 0 where
@@ -95,7 +107,7 @@ NothingWritten before now written = (now ≡ before) × (written ≡ 0)
 -- what was written where not all sizes are
 abbrev pub HasStopped : FormatValue → AreasReading → List TableReading → Option (List ℕ) → Option (List ℕ) → ℕ → SizesFault → Type 0
 HasStopped format areas tables before now written (Areas fault) = NothingWritten before now written
-HasStopped format areas tables before now written (NumberLeftOut line) = NothingWritten before now written
+HasStopped format areas tables before now written (NumberLeftOut number) = NothingWritten before now written
 HasStopped format areas tables before now written (NoTable line) = NothingWritten before now written
 HasStopped format areas tables before now written (Table table fault) = NothingWritten before now written
 HasStopped format areas tables before now written (OtherArea table line) = NothingWritten before now written

@@ -8,8 +8,8 @@ use cell_tiles_numbering::areas_fault::AreasFault;
 pub enum SizesFault {
     /// The first fault of the areas text.
     Areas(AreasFault),
-    /// A line of the areas text with a number that is neither one of those before it nor the next one.
-    NumberLeftOut { line: u64 },
+    /// No area has this number, but some area a greater one.
+    NumberLeftOut { number: u64 },
     /// From this line on the areas text is of a band without a table.
     NoTable { line: u64 },
     /// The first fault of this table.

@@ -15,7 +15,7 @@ ghost use Rattle.cell_tiles_sizes.specs.parts.Stops.{HasStoppedAtEnd, HasStopped
 
 use crate::size_fault::SizesFault;
 use crate::size_lines::write_sizes;
-use crate::tally::{TallyFault, add_size};
+use crate::tally::{TallyFault, add_size, first_without_size};
 use cell_core::block::OutputBlock;
 use cell_core::sink::Sink;
 use cell_core::source::Source;
@@ -58,11 +58,10 @@ fn of_table(table: usize, fault: TableFault) -> SizesFault
 }
 
 // The fault of a sum.
-fn of_tally(line: u64, number: u64, fault: TallyFault) -> SizesFault
-    ensures { TellsTallyFault line number fault result }
+fn of_tally(number: u64, fault: TallyFault) -> SizesFault
+    ensures { TellsTallyFault number fault result }
 {
     match fault {
-        TallyFault::LeftOut => SizesFault::NumberLeftOut { line },
         TallyFault::TooGreat => SizesFault::TooGreat { number },
         TallyFault::Memory => SizesFault::Memory,
     }
@@ -111,7 +110,6 @@ fn is_null(head: &Option<(Combo, u64)>) -> bool
 fn add_stretch<R: Source>(
     alloc: Global,
     format: &Format,
-    line: u64,
     stretch: Stretch,
     place: usize,
     table: &mut TableText<R>,
@@ -125,7 +123,7 @@ fn add_stretch<R: Source>(
         sizes.old.items sizes.new.items) }
     ensures short { OnOk result (stretch.last + 1 < 2 ^ 64 - 1) }
     ensures stopped { IfErr result (λ fault. IfSome (reading_from format.now table.old) (λ reading.
-        HasStoppedInStretch place line stretch reading sizes.old.items fault)) }
+        HasStoppedInStretch place stretch reading sizes.old.items fault)) }
     ensures unwritten { IfErr result (λ fault. fault ≢ SizesFault.Write) }
 {
     'areas: for area in stretch.first..u64::MAX {
@@ -139,10 +137,11 @@ fn add_stretch<R: Source>(
             });
         };
         let Some(number) = stretch.number.checked_add(area - stretch.first) else {
-            return Err(SizesFault::NumberLeftOut { line });
+            // No memory has a place for this number.
+            return Err(SizesFault::Memory);
         };
         if let Err(fault) = add_size(sizes, number, size) {
-            return Err(of_tally(line, number, fault));
+            return Err(of_tally(number, fault));
         }
         if let Err(fault) = table.next(alloc, format) {
             return Err(of_table(place, fault));
@@ -183,15 +182,7 @@ fn add_stretches<A: Source, R: Source>(
         if stretch.band != band {
             return Ok(line);
         }
-        add_stretch(
-            alloc,
-            format,
-            areas.stretch_line(),
-            stretch,
-            place,
-            table,
-            sizes,
-        )?;
+        add_stretch(alloc, format, stretch, place, table, sizes)?;
         line = stretch.last.saturating_add(1);
         if let Err(fault) = areas.next(alloc) {
             return Err(of_areas(fault));
@@ -294,7 +285,10 @@ fn add_tables<R: Source + Drop>(
             line: text.stretch_line(),
         });
     }
-    Ok(sizes)
+    match first_without_size(sizes.as_slice()) {
+        Some(number) => Err(SizesFault::NumberLeftOut { number }),
+        None => Ok(sizes),
+    }
 }
 
 // Flushes the sink unless it refused a put, and answers.
@@ -332,9 +326,10 @@ fn put_sizes<W: Sink>(out: &mut W, format: &Format, sizes: &[u64]) -> SizesOutco
 /// Adds up the sizes of the areas of bands by the numbers that an areas text tells, and writes a line for each number, from
 /// 1 on, with the size of its area in the whole: the table of the numbers of the undivided map, without null.
 ///
-/// The tables are of the numbers of the bands, in order, each with its counts; an entry of null is passed over. Eight
-/// bytes of memory are taken for each area of the whole, and a block for the areas text and for the table that is read.
-/// Nothing is written before all is read. The sink is flushed once at the end, unless it refused a put.
+/// The tables are of the numbers of the bands, in order, each with its counts; an entry of null is passed over. The numbers may
+/// come in any order. Eight bytes of memory are taken for each number up to the greatest, and a block for the areas text and for
+/// the table that is read. Nothing is written before all is read, and whether a number is left out is seen then. The sink is
+/// flushed once at the end, unless it refused a put.
 pub fn join_table_sizes<R: Source + Drop, W: Sink>(
     alloc: Global,
     format: &Format,

@@ -1,12 +1,10 @@
 -- Sizes added up by an areas text are those of the areas of the undivided map.
-use Rattle.std.proofs.Common.{◌≡◌, ℕ, zero, suc, pos, ◌+◌, ◌-◌, ◌<◌, ◌≤◌, List, [], ◌∷◌, ◌++◌, length, map, flat_map, filter, get_or, ◌==◌, take, drop, sum, Bool, true, false, cond, not, Option, Some, None, refl, ap, sym, ◌∙◌, subst, arith, append-nil, append_assoc, length-append, length-drop, ⊎_elim, ◌⊎◌, inl, inr}
+use Rattle.std.proofs.Common.{◌≡◌, ℕ, zero, suc, pos, ◌+◌, ◌<◌, ◌≤◌, List, [], ◌∷◌, ◌++◌, length, map, flat_map, filter, get_or, take, drop, Bool, true, false, cond, not, Some, None, refl, ap, sym, ◌∙◌, subst, arith, append-nil, append_assoc, length-append, length-drop, ⊎_elim}
 use Rattle.std.specs.Prelude.{All}
-use Rattle.std.specs.List.{AllZip, Contains, range_with_len}
+use Rattle.std.specs.List.{AllZip, Contains}
 use Rattle.std.proofs.lemmas.Bool.{cases_lt}
-use Rattle.std.proofs.lemmas.Bool.Decides.{Decides-eqb}
 use Rattle.std.proofs.lemmas.List.{take-append-drop}
-use Rattle.std.proofs.lemmas.List.Concat.{flat_map-append}
-use Rattle.std.proofs.lemmas.List.Elements.{All-append, All-cons, All-contains_itself, All-get_or, All-head, All-nil, All-tail, All-weaker, Contains-append_cases, Contains-append_left}
+use Rattle.std.proofs.lemmas.List.Elements.{All-append, All-cons, All-contains_itself, All-head, All-nil, All-tail, All-weaker}
 use Rattle.std.proofs.lemmas.List.FromFn.{get_or-map-range_with_len, length-map-range_with_len, length-range_with_len}
 use Rattle.cell_core.specs.Grid.{Grid, IsFilled}
 use Rattle.cell_cats_areas.specs.declared.clump.Joining.{Joining}
@@ -18,12 +16,10 @@ use Rattle.cell_stats_combinations.specs.LeftOut.{is_left_out}
 use Rattle.cell_stats_counts.specs.Counts.{count_of}
 use Rattle.cell_stats.specs.CategoryTables.{Pairs, IsTable}
 use Rattle.cell_cats_law.specs.AreaLaw.{cells_of}
-use Rattle.cell_tiles_lines.specs.LineReading.{TableReading}
-use Rattle.cell_tiles_joining.specs.declared.edges.BandEdges.{BandEdges}
-use Rattle.cell_tiles_joining.specs.Bands.{Band, HasAreas, HaveEdges, IsCutInto, JoinNumbers}
+use Rattle.cell_tiles_joining.specs.Bands.{Band, HasAreas}
 use Rattle.cell_tiles_joining.specs.parts.Greatest.{greatest_of}
 use Rattle.cell_tiles_joining.proofs.GreatestLemmas.{has-areas}
-use Rattle.cell_tiles_joining.specs.Sizes.{AddUp, size_for, size_of_area}
+use Rattle.cell_tiles_joining.specs.Sizes.{AddUp, size_of_area}
 use Rattle.cell_tiles_joining_law.specs.SizeLaw.{size_of_number, sizes_of_areas, sizes_of_bands}
 use Rattle.cell_tiles_joining_law.specs.NumberTables.{IsBandTable, entries_from, entry_of_null, listed_sizes, number_table}
 use Rattle.cell_tiles_joining_law.proofs.BandTableLemmas.{tables-list}
@@ -32,9 +28,9 @@ use Rattle.cell_tiles_joining_law.proofs.SizeLemmas.{size-of-whole, sizes-count-
 use Rattle.cell_tiles_numbering.specs.declared.stretch.Stretch.{Stretch}
 use Rattle.cell_tiles_numbering.specs.AreasText.{numbers_told, stretch_numbers, stretches_of}
 use Rattle.cell_tiles_numbering.proofs.ToldLemmas.{numbers-are-told}
-use Rattle.cell_tiles_sizes.specs.SizeTexts.{AreTablesOfBands, BandSizes, HasTally, HaveSizes, IsNullEntry, IsTableOfBand, entries_of_areas, number_entries, stretch_areas}
-use Rattle.cell_tiles_sizes.proofs.TallyLemmas.{size-other}
-use Rattle.cell_tiles_sizes_law.specs.WholeSizes.{SizesOfTheWhole, areas_read_of, band_areas, table_read}
+use Rattle.cell_tiles_sizes.specs.SizeTexts.{AreTablesOfBands, BandSizes, HasTally, IsNullEntry, entries_of_areas, number_entries, stretch_areas}
+use Rattle.cell_tiles_sizes.proofs.TallyLemmas.{size-other, size-some}
+use Rattle.cell_tiles_sizes_law.specs.WholeSizes.{SizesOfTheWhole, band_areas, table_read}
 
 -- ---- the entries of numbers are listed as they are printed
 
@@ -100,17 +96,6 @@ some-in skip cols (band ∷ bands) (table ∷ tables) are =
     (some-listed table (All-weaker (Contains table) (λ (e : Combination × ℕ). 0 < e.1) (λ e there. ((are.0.lists.counted e.0 e.1).0 there).1.0) table (All-contains_itself table)))
     (some-in skip cols bands tables are.1)
 
--- a number that is one of some has a size
-size-some : (n : ℕ) (numbers sizes : List ℕ) (i : ℕ) → i < length numbers → get_or numbers i n ≡ n → length sizes ≡ length numbers → All IsSome sizes
-    → 0 < size_of_area n numbers sizes
-size-some n [] sizes i within is same all = absurd (omega arith)
-size-some n (number ∷ numbers) [] i within is same all = absurd (omega arith)
-size-some n (number ∷ numbers) (size ∷ sizes) zero within is same all =
-    let own : (n == number) ≡ true = (Decides-eqb n number).1 (sym is) in
-    omega (arith, ap (λ (b : Bool). cond b size 0) own, All-head IsSome size sizes all)
-size-some n (number ∷ numbers) (size ∷ sizes) (suc i) within is same all =
-    omega (arith, size-some n numbers sizes i (omega arith) is (omega arith) (All-tail IsSome size sizes all))
-
 -- ---- as many as the whole has
 
 no-null : (nulls : ℕ) → entry_of_null AnyNull nulls ≡ []
@@ -169,17 +154,17 @@ sizes-of-the-whole j whole bands edges cut filled skip tables are numbers many j
     ∙ ap (size_of_area n numbers) (sym of_bands) in
     let few : (areas < length sizes) → ⊥ = λ lt.
     let there = tally.each areas lt in
-    let more : 0 < size_of_area (areas + 1) numbers listed = size-some (areas + 1) numbers listed there.0 there.1 there.2 tally.same some in
+    let more : 0 < size_of_area (areas + 1) numbers listed = size-some (areas + 1) numbers listed there.0 there.1 there.2 tally.sums.same some in
     let least : areas + 1 ≤ areas = at-most j whole numbered is filled areas has (areas + 1) (omega arith)
     (subst (λ (k : ℕ). 0 < k) (sym (area (areas + 1) (omega arith))) more) in
     omega arith in
     let enough : (length sizes < areas) → ⊥ = λ lt.
     let none : size_of_area (1 + length sizes) numbers listed ≡ 0 = size-other (1 + length sizes) numbers listed
-    (All-weaker (λ (k : ℕ). (0 < k) × (k ≤ length sizes)) (λ (k : ℕ). k < 1 + length sizes) (λ k within. omega arith) numbers tally.within) in
+    (All-weaker (λ (k : ℕ). (0 < k) × (k ≤ length sizes)) (λ (k : ℕ). k < 1 + length sizes) (λ k within. omega arith) numbers tally.sums.within) in
     omega (arith, has-cell j whole numbered is filled areas has (length sizes) lt, area (1 + length sizes) (omega arith), none) in
     let long : length sizes ≡ areas = ⊎_elim (λ lt. absurd (few lt)) (λ ge. ⊎_elim (λ lt. absurd (enough lt)) (λ le. omega arith) (cases_lt (length sizes) areas)) (cases_lt areas (length sizes)) in
     let adds : AddUp numbers (sizes_of_bands cols bands edges) areas sizes =
-    subst (λ (l : List ℕ). AddUp numbers l areas sizes) of_bands (subst (λ (n : ℕ). AddUp numbers listed n sizes) long tally.adds) in
+    subst (λ (l : List ℕ). AddUp numbers l areas sizes) of_bands (subst (λ (n : ℕ). AddUp numbers listed n sizes) long tally.sums.adds) in
     let same : sizes ≡ sizes_of_areas areas numbered rows cols =
     sizes-count-cells j whole bands edges cut numbers join numbered is cols areas sizes adds
     ∙ ap (λ (n : ℕ). sizes_of_areas areas numbered n cols) filled.count in

@@ -1,5 +1,5 @@
 -- Sizes added up by an areas text are those of the areas of the undivided map.
-use Rattle.std.specs.Prelude.{ℕ, ◌≡◌, List, map, length, sum, Option, None}
+use Rattle.std.specs.Prelude.{ℕ, ◌≡◌, List, map, length, sum, None}
 use Rattle.std.specs.List.{AllZip}
 use Rattle.cell_core.specs.Grid.{Grid, IsFilled}
 use Rattle.cell_cats_areas.specs.declared.clump.Joining.{Joining}

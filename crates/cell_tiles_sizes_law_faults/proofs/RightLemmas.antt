@@ -1,21 +1,18 @@
 -- Where an areas text and tables have sizes, they are read side by side as these say, and nothing else is met.
 use Rattle.std.proofs.Common.{◌≡◌, ◌≢◌, ℕ, zero, suc, pos, ◌+◌, ◌-◌, ◌^◌, ◌<◌, ◌≤◌, ◌==◌, List, [], ◌∷◌, ◌++◌, length}
-use Rattle.std.proofs.Common.{map, flat_map, get_or, take, drop, Bool, true, false, cond, Option, Some, None, refl, ap}
-use Rattle.std.proofs.Common.{sym, ◌∙◌, subst, arith, append-nil, append_assoc, length-append, length-drop, ◌⊎◌, inl}
+use Rattle.std.proofs.Common.{map, take, drop, Bool, true, false, cond, Option, Some, None, refl, ap}
+use Rattle.std.proofs.Common.{sym, ◌∙◌, subst, arith, append-nil, append_assoc, length-append, length-drop, inl}
 use Rattle.std.proofs.Common.{inr}
-use Rattle.std.specs.Prelude.{All, Result, Ok, Err, max, slice_index, nat_lt, if◌then◌else◌}
-use Rattle.std.specs.List.{range_with_len}
+use Rattle.std.specs.Prelude.{All, Result, Ok, Err, nat_lt, if◌then◌else◌}
+use Rattle.std.specs.List.{Contains, range_with_len}
 use Rattle.std.proofs.lemmas.Bool.{ltb-false}
 use Rattle.std.proofs.lemmas.Bool.Decides.{Decides-eqb}
 use Rattle.std.proofs.lemmas.List.{take-append-drop}
 use Rattle.std.proofs.lemmas.List.Concat.{flat_map-append}
-use Rattle.std.proofs.lemmas.List.Elements.{All-get_or, All-head, All-tail}
+use Rattle.std.proofs.lemmas.List.Elements.{All-contains, All-get_or, All-head, All-tail}
 use Rattle.std.proofs.lemmas.List.FromFn.{length-range_with_len}
-use Rattle.cell_core_devices.specs.Device.{Coming}
 use Rattle.cell_stats_combinations.specs.Combinations.{Combination}
 use Rattle.cell_stats.specs.CategoryTables.{Pairs}
-use Rattle.cell_stats.specs.TableText.{FormatValue}
-use Rattle.cell_tiles_joining.specs.Sizes.{size_for, size_of_area}
 use Rattle.cell_tiles_lines.specs.LineReading.{TableReading, line_after, reading_of}
 use Rattle.cell_tiles_lines.specs.declared.table_fault.TableFault.{TableFault}
 use Rattle.cell_tiles_numbering.specs.declared.stretch.Stretch.{Stretch}
@@ -23,15 +20,16 @@ use Rattle.cell_tiles_numbering.specs.AreasReading.{AreasReading, areas_format, 
 use Rattle.cell_tiles_numbering.specs.AreasReading.{in_sequence, next_stretch, stretch_of_entry, stretches_read}
 use Rattle.cell_tiles_numbering.specs.AreasReading.{then_stretches}
 use Rattle.cell_tiles_numbering.specs.AreasText.{numbers_told, stretch_numbers}
-use Rattle.cell_tiles_sizes.specs.SizeTexts.{AreTablesOfBands, BandSizes, HasTally, HaveSizes, IsNullEntry}
-use Rattle.cell_tiles_sizes.specs.SizeTexts.{IsTableOfBand, entries_of_areas, number_entries, stretch_areas}
+use Rattle.cell_tiles_sizes.specs.SizeTexts.{AreTablesOfBands, BandSizes, HasSums, HaveSizes, IsNullEntry}
+use Rattle.cell_tiles_sizes.specs.SizeTexts.{entries_of_areas, number_entries, sizes_of_parts}
+use Rattle.cell_tiles_sizes.specs.SizeTexts.{stretch_areas, stretches_of_parts}
 use Rattle.cell_tiles_numbering.specs.declared.areas_fault.AreasFault.{AreasFault}
 use Rattle.cell_tiles_numbering.specs.declared.areas_fault.AreasKind.{AreasKind}
 use Rattle.cell_tiles_numbering.specs.declared.areas_fault.AreasKind.TheVariants as areas_kinds
 use Rattle.cell_core_text.specs.Answers.{◌>>=◌}
 use Rattle.cell_tiles_sizes.specs.SizeFaults.{AreReadTo, HasAreasFault, HasEntryMore, HasNoTable, HasNumberLeftOut}
 use Rattle.cell_tiles_sizes.specs.SizeFaults.{HasOtherArea, HasSumTooGreat, HasTableFault, IsBandOver, IsEntryOf}
-use Rattle.cell_tiles_sizes.specs.SizeFaults.{IsFaultAt, IsFirstSizesFault, IsNextArea, IsOtherEntry, IsSizesFault}
+use Rattle.cell_tiles_sizes.specs.SizeFaults.{IsNextArea, IsOtherEntry, IsSizesFault}
 use Rattle.cell_tiles_sizes.specs.SizeFaults.{ReadingPlace, first_area, first_number}
 use Rattle.cell_tiles_sizes.specs.declared.size_fault.SizesFault.{SizesFault}
 use Rattle.cell_tiles_sizes.specs.declared.size_fault.SizesFault.TheVariants.{Areas, NumberLeftOut, NoTable, Table}
@@ -39,13 +37,7 @@ use Rattle.cell_tiles_sizes.specs.declared.size_fault.SizesFault.TheVariants.{Ot
 use Rattle.cell_tiles_sizes.specs.declared.size_fault.SizesFault.TheVariants.{Write}
 use Rattle.cell_tiles_sizes.specs.parts.Counting.{area_entry}
 use Rattle.cell_tiles_sizes.proofs.TallyLemmas.{size-behind}
-use Rattle.cell_tiles_sizes_law_faults.specs.RightTexts.{AreNext, IsOfNoText, RightTextsAreAddedUp}
-
-abbrev stretches_of_parts : List BandSizes → List Stretch
-stretches_of_parts parts = flat_map (λ (one : BandSizes). one.stretches) parts
-
-abbrev sizes_of_parts : List BandSizes → List ℕ
-sizes_of_parts parts = flat_map (λ (one : BandSizes). one.sizes) parts
+use Rattle.cell_tiles_sizes_law_faults.specs.RightTexts.{IsOfNoText, RightTextsAreAddedUp}
 
 -- stretches that have areas
 abbrev pub AreForward : List Stretch → Type 0
@@ -289,15 +281,6 @@ range-cut a (suc count) (suc n) less =
           (next.is ∙ ap (λ (k : ℕ). range_with_len (a + 1) count ++ k ∷ next.more) (omega arith));
     }
 
-next-most : (most k : ℕ) (front : List ℕ) (n : ℕ) (rest : List ℕ) → All (λ (i : ℕ). (0 < i) × (i ≤ most)) front
-    → k ≤ most → AreNext k (front ++ n ∷ rest)
-    → (0 < n) × (n ≤ most + 1)
-next-most most k [] n rest within few is = (is.0, omega (arith, is.1))
-next-most most k (i ∷ front) n rest within few is =
-    let here = All-head (λ (j : ℕ). (0 < j) × (j ≤ most)) i front within in
-    next-most most (max k i) front n rest (All-tail (λ (j : ℕ). (0 < j) × (j ≤ most)) i front within)
-    (omega (arith, here.1)) is.2
-
 all-after : (P : ℕ → Type 0) (before after : List ℕ) → All P (before ++ after) → All P after
 all-after P [] after all = all
 all-after P (n ∷ before) after all = all-after P before after (All-tail P n (before ++ after) all)
@@ -494,9 +477,9 @@ module _ (areas : AreasReading) (tables : List TableReading) (sizes : List ℕ) 
 
   no-table-left : (line : ℕ) → HasNoTable areas tables line → ⊥
   no-table-left line is =
-      let walked = walk 1 tables [] (is.stretch ∷ is.others) is.parts have.parts is.good
+      let walked = walk 1 tables [] (is.stretch ∷ is.others) is.read.parts have.parts is.read.good
       (subst (AreTablesOfBands 1 have.parts) (sym (append-nil tables)) have.listed)
-      (sym is.stretches ∙ have.all) (subst AreForward have.all forward) in
+      (sym is.read.stretches ∙ have.all) (subst AreForward have.all forward) in
       by walked.post walked.are walked.is
     where
       by : (post : List BandSizes) → AreTablesOfBands (1 + length tables) post []
@@ -542,13 +525,19 @@ module _ (areas : AreasReading) (tables : List TableReading) (sizes : List ℕ) 
                 (range_with_len s.number (length place.counted)) (number ∷ (cut.more ++ numbers_told stretches)));
           }
 
-  no-number-left-out : AreNext 0 (numbers_told areas.stretches) → (place : ReadingPlace) (line : ℕ)
-      → AreReadTo areas tables place → HasNumberLeftOut place line → ⊥
-  no-number-left-out all_next place line read is =
-      let there = next-number place read is.area is.number is.next in
-      let may = next-most (length place.sizes) 0 (numbers_before read) is.number there.more read.tally.within
-      (omega arith) (subst (AreNext 0) there.is all_next) in
-      elim is.out [ inl none ↦ omega (arith, may.0, none) | inr great ↦ omega (arith, may.1, great) ]
+  no-number-left-out : (number : ℕ) → HasNumberLeftOut areas tables number → ⊥
+  no-number-left-out number is =
+      let read = is.read in
+      let told : areas.stretches ≡ stretches_of_parts read.parts = read.stretches
+      ∙ append-nil (stretches_of_parts read.parts) in
+      let greatest : Contains (numbers_told areas.stretches) (length read.sizes) =
+      subst (λ (l : List Stretch). Contains (numbers_told l) (length read.sizes)) (sym told)
+      (read.sums.greatest (omega (arith, is.below))) in
+      let few : length read.sizes ≤ length sizes =
+      (All-contains (λ (n : ℕ). (0 < n) × (n ≤ length sizes)) (numbers_told areas.stretches) (length read.sizes)
+      have.tally.sums.within greatest).1 in
+      is.none (subst (Contains (numbers_told areas.stretches)) (omega (arith, is.below))
+      (have.tally.each (number - 1) (omega (arith, is.below, few))))
 
   no-sum-too-great : All (λ size. size < 2 ^ 64) sizes → (place : ReadingPlace) (number : ℕ)
       → AreReadTo areas tables place → HasSumTooGreat place number → ⊥
@@ -567,9 +556,9 @@ module _ (areas : AreasReading) (tables : List TableReading) (sizes : List ℕ) 
       (append_assoc place.counted (is.size ∷ entry.more) at.later)
       ∙ sym (append_assoc (sizes_of_parts read.parts ++ read.part.sizes) place.counted
       (is.size ∷ (entry.more ++ at.later))) in
-      let tally : HasTally (before ++ number ∷ there.more) (counted ++ is.size ∷ (entry.more ++ at.later)) sizes =
-      subst (λ (l : List ℕ). HasTally (before ++ number ∷ there.more) l sizes) all
-      (subst (λ (l : List ℕ). HasTally l (sizes_of_parts have.parts) sizes) there.is have.tally) in
+      let tally : HasSums (before ++ number ∷ there.more) (counted ++ is.size ∷ (entry.more ++ at.later)) sizes =
+      subst (λ (l : List ℕ). HasSums (before ++ number ∷ there.more) l sizes) all
+      (subst (λ (l : List ℕ). HasSums l (sizes_of_parts have.parts) sizes) there.is have.tally.sums) in
       let few : number ≤ length sizes =
       (All-head (λ (n : ℕ). (0 < n) × (n ≤ length sizes)) number there.more
       (all-after (λ (n : ℕ). (0 < n) × (n ≤ length sizes)) before (number ∷ there.more) tally.within)).1 in
@@ -579,10 +568,10 @@ module _ (areas : AreasReading) (tables : List TableReading) (sizes : List ℕ) 
         arith,
         is.great,
         is.one,
-        read.tally.adds.each (number - 1) (omega (arith, is.one)),
+        read.sums.adds.each (number - 1) (omega (arith, is.one)),
         tally.adds.each
             (number - 1) (omega (arith, is.one)),
-        size-behind k before counted (number ∷ there.more) (is.size ∷ (entry.more ++ at.later)) read.tally.same,
+        size-behind k before counted (number ∷ there.more) (is.size ∷ (entry.more ++ at.later)) read.sums.same,
         ap
             (λ (b : Bool). cond b is.size 0) own,
         All-get_or (λ (n : ℕ). n < 2 ^ 64) sizes (number - 1) 0 (omega (arith, is.one)) fit,
@@ -592,24 +581,24 @@ module _ (areas : AreasReading) (tables : List TableReading) (sizes : List ℕ) 
       by [] e f = absurd e
       by (entry ∷ entries) e f = ap (λ (p : Combination × ℕ). p.1) (sym e ∙ f)
 
-  no-text : AreNext 0 (numbers_told areas.stretches) → All (λ size. size < 2 ^ 64) sizes → (fault : SizesFault)
+  no-text : All (λ size. size < 2 ^ 64) sizes → (fault : SizesFault)
       → IsSizesFault areas tables fault → IsOfNoText fault
-  no-text next fit (Areas fault) (inl once) = let none : None ≡ Some fault = sym have.whole ∙ once.1 in cc
-  no-text next fit (Areas fault) (inr is) = no-areas-fault is.place fault is.read is.wrong
-  no-text next fit (NumberLeftOut line) is = no-number-left-out next is.place line is.read is.wrong
-  no-text next fit (NoTable line) is = no-table-left line is
-  no-text next fit (Table table fault) is = no-table-fault is.place fault is.read is.wrong.1
-  no-text next fit (OtherArea table line) is =
+  no-text fit (Areas fault) (inl once) = let none : None ≡ Some fault = sym have.whole ∙ once.1 in cc
+  no-text fit (Areas fault) (inr is) = no-areas-fault is.place fault is.read is.wrong
+  no-text fit (NumberLeftOut number) is = no-number-left-out number is
+  no-text fit (NoTable line) is = no-table-left line is
+  no-text fit (Table table fault) is = no-table-fault is.place fault is.read is.wrong.1
+  no-text fit (OtherArea table line) is =
       let at = at-place is.place is.read in
       let counted = sizes_of_parts is.read.parts ++ is.read.part.sizes in
       elim is.wrong.1 [
         | inl other ↦ not-other is.place is.read.table counted (sizes_of_parts have.parts) at line other
         | inr more ↦ not-more is.place is.read.table counted (sizes_of_parts have.parts) at line more
       ]
-  no-text next fit (TooGreat number) is = no-sum-too-great fit is.place number is.read is.wrong
-  no-text next fit TooLong is = tt
-  no-text next fit Memory is = tt
-  no-text next fit Write is = tt
+  no-text fit (TooGreat number) is = no-sum-too-great fit is.place number is.read is.wrong
+  no-text fit TooLong is = tt
+  no-text fit Memory is = tt
+  no-text fit Write is = tt
 
 -- ---- the stretches that a text is read as
 
@@ -642,7 +631,7 @@ forward-read line before (entry ∷ entries) fault =
     by (Ok s) is others = (forward-of before entry s is, others s)
 
 pub right-texts-are-added-up : RightTextsAreAddedUp
-right-texts-are-added-up format text texts sizes have next fit fault is =
+right-texts-are-added-up format text texts sizes have fit fault is =
     let reading = reading_of areas_format 3 text in
     no-text (areas_reading_of text) (map (reading_of format 1) texts) sizes have
-    (forward-read 1 None reading.entries reading.fault) next fit fault is
+    (forward-read 1 None reading.entries reading.fault) fit fault is

@@ -1,24 +1,18 @@
 -- Which texts' sizes are added up.
-use Rattle.std.specs.Prelude.{ℕ, ◌+◌, ◌<◌, ◌≤◌, ◌^◌, max, List, [], ◌∷◌, All, map}
+use Rattle.std.specs.Prelude.{ℕ, ◌<◌, ◌^◌, List, All, map}
 use Rattle.cell_core_devices.specs.Device.{Coming}
 use Rattle.cell_stats.specs.TableText.{FormatValue}
 use Rattle.cell_tiles_lines.specs.LineReading.{reading_of}
 use Rattle.cell_tiles_numbering.specs.AreasReading.{areas_reading_of}
-use Rattle.cell_tiles_numbering.specs.AreasText.{numbers_told}
 use Rattle.cell_tiles_sizes.specs.SizeTexts.{HaveSizes}
 use Rattle.cell_tiles_sizes.specs.SizeFaults.{IsSizesFault}
 use Rattle.cell_tiles_sizes.specs.declared.size_fault.SizesFault.{SizesFault}
 use Rattle.cell_tiles_sizes.specs.declared.size_fault.SizesFault.TheVariants.{Areas, NumberLeftOut, NoTable, Table, OtherArea, TooGreat, TooLong, Memory, Write}
 
--- numbers of which each is one of those before it or the next one, where there are so many before them
-abbrev pub AreNext : ℕ → List ℕ → Type 0
-AreNext most [] = Unit {0}
-AreNext most (n ∷ numbers) = (0 < n) × (n ≤ most + 1) × AreNext (max most n) numbers
-
 -- a fault for which no text is to blame
 abbrev pub IsOfNoText : SizesFault → Type 0
 IsOfNoText (Areas fault) = ⊥
-IsOfNoText (NumberLeftOut line) = ⊥
+IsOfNoText (NumberLeftOut number) = ⊥
 IsOfNoText (NoTable line) = ⊥
 IsOfNoText (Table table fault) = ⊥
 IsOfNoText (OtherArea table line) = ⊥
@@ -27,9 +21,9 @@ IsOfNoText TooLong = Unit {0}
 IsOfNoText Memory = Unit {0}
 IsOfNoText Write = Unit {0}
 
--- where an areas text and tables have sizes that fit in 64 bits, and the text leaves no number out, no fault is that of a text
+-- where an areas text and tables have sizes that fit in 64 bits, no fault is that of a text
 abbrev pub RightTextsAreAddedUp : Type 0
 RightTextsAreAddedUp = (format : FormatValue) (text : Coming) (texts : List Coming) (sizes : List ℕ)
     → HaveSizes (areas_reading_of text) (map (reading_of format 1) texts) sizes
-    → AreNext 0 (numbers_told (areas_reading_of text).stretches) → All (λ size. size < 2 ^ 64) sizes
+    → All (λ size. size < 2 ^ 64) sizes
     → (fault : SizesFault) → IsSizesFault (areas_reading_of text) (map (reading_of format 1) texts) fault → IsOfNoText fault

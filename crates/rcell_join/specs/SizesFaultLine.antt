@@ -10,7 +10,7 @@ use Rattle.rcell_join.specs.declared.sizes_fault_line.SizesFaultText.TheVariants
 -- what a fault belongs to: the path of the areas text or of a table, `output`, or `sizes` when out of memory
 abbrev pub sizes_fault_source : (joined : List ℕ) → (tables : List (List ℕ)) → SizesFault → List ℕ
 sizes_fault_source joined tables (Areas fault) = joined
-sizes_fault_source joined tables (NumberLeftOut line) = joined
+sizes_fault_source joined tables (NumberLeftOut number) = joined
 sizes_fault_source joined tables (NoTable line) = joined
 sizes_fault_source joined tables (Table table fault) = path_at_place tables table
 sizes_fault_source joined tables (OtherArea table line) = path_at_place tables table
@@ -22,7 +22,6 @@ sizes_fault_source joined tables Write = codes "output"
 -- the line of a fault, 0 where it belongs to none
 abbrev pub sizes_fault_line_number : SizesFault → ℕ
 sizes_fault_line_number (Areas fault) = fault.line
-sizes_fault_line_number (NumberLeftOut line) = line
 sizes_fault_line_number (NoTable line) = line
 sizes_fault_line_number (Table table fault) = fault.line
 sizes_fault_line_number (OtherArea table line) = line
@@ -31,7 +30,7 @@ sizes_fault_line_number fault = 0
 -- the text of a fault, after so many bytes were written
 abbrev pub sizes_fault_text : ℕ → SizesFault → SizesFaultText
 sizes_fault_text written (Areas fault) = texts.Areas fault.kind
-sizes_fault_text written (NumberLeftOut line) = texts.NumberLeftOut
+sizes_fault_text written (NumberLeftOut number) = texts.NumberLeftOut number
 sizes_fault_text written (NoTable line) = texts.NoTable
 sizes_fault_text written (Table table fault) = texts.Table fault.kind
 sizes_fault_text written (OtherArea table line) = texts.OtherArea
@@ -43,7 +42,7 @@ sizes_fault_text written Write = texts.Write written
 -- the exit status of a fault
 abbrev pub sizes_fault_status : SizesFault → ℕ
 sizes_fault_status (Areas fault) = areas_kind_status fault.kind
-sizes_fault_status (NumberLeftOut line) = 1
+sizes_fault_status (NumberLeftOut number) = 1
 sizes_fault_status (NoTable line) = 1
 sizes_fault_status (Table table fault) = table_kind_status fault.kind
 sizes_fault_status (OtherArea table line) = 1

@@ -16,8 +16,8 @@ use thiserror::Error;
 pub enum SizesFaultText {
     #[error(transparent)]
     Areas(AreasKind),
-    #[error("number left out")]
-    NumberLeftOut,
+    #[error("number {number} left out")]
+    NumberLeftOut { number: u64 },
     #[error("band without a table")]
     NoTable,
     #[error(transparent)]
@@ -56,7 +56,6 @@ fn sizes_fault_line_number(fault: SizesFault) -> u64
 {
     match fault {
         SizesFault::Areas(fault) => fault.line,
-        SizesFault::NumberLeftOut { line } => line,
         SizesFault::NoTable { line } => line,
         SizesFault::Table { table: _, fault } => fault.line,
         SizesFault::OtherArea { table: _, line } => line,
@@ -69,7 +68,7 @@ fn sizes_fault_text(written: u64, fault: SizesFault) -> SizesFaultText
 {
     match fault {
         SizesFault::Areas(fault) => SizesFaultText::Areas(fault.kind),
-        SizesFault::NumberLeftOut { .. } => SizesFaultText::NumberLeftOut,
+        SizesFault::NumberLeftOut { number } => SizesFaultText::NumberLeftOut { number },
         SizesFault::NoTable { .. } => SizesFaultText::NoTable,
         SizesFault::Table { table: _, fault } => SizesFaultText::Table(fault.kind),
         SizesFault::OtherArea { .. } => SizesFaultText::OtherArea,

@@ -1,5 +1,5 @@
 -- A table read beside the stretches of its band.
-use Rattle.std.specs.Prelude.{ℕ, pos, ◌≡◌, ◌≢◌, ◌++◌, ◌+◌, ◌-◌, true, List, [], ◌∷◌, length, map, flat_map, All, Option, Some, None, IfSome}
+use Rattle.std.specs.Prelude.{ℕ, pos, ◌≡◌, ◌≢◌, ◌++◌, ◌+◌, true, List, [], ◌∷◌, length, map, All, Option, Some, None, IfSome}
 use Rattle.std.specs.Option.{option_map}
 use Rattle.std.specs.List.{range_with_len}
 use Rattle.cell_stats_combinations.specs.Combinations.{Combination}
@@ -14,10 +14,10 @@ use Rattle.cell_tiles_sizes.specs.declared.size_fault.SizesFault.{SizesFault}
 use Rattle.cell_tiles_sizes.specs.declared.size_fault.SizesFault.TheVariants.{Write}
 use Rattle.cell_tiles_numbering.specs.declared.stretch.Stretch.{Stretch}
 use Rattle.cell_tiles_numbering.specs.AreasReading.{AreasReading, areas_reading_of}
-use Rattle.cell_tiles_numbering.specs.AreasText.{numbers_told, stretch_numbers}
+use Rattle.cell_tiles_numbering.specs.AreasText.{numbers_told}
 use Rattle.cell_tiles_numbering.specs.TextOfAreas.{AreasTextValue, areas_from}
 use Rattle.cell_tiles_sizes.specs.parts.Stops.{lines_behind}
-use Rattle.cell_tiles_sizes.specs.SizeTexts.{AreTablesOfBands, BandSizes, IsNullEntry, IsTableOfBand, entries_of_areas, number_entries}
+use Rattle.cell_tiles_sizes.specs.SizeTexts.{AreTablesOfBands, BandSizes, IsNullEntry, IsTableOfBand, entries_of_areas, number_entries, sizes_of_parts, stretches_of_parts}
 use Rattle.cell_tiles_sizes.specs.parts.Tally.{Tallies}
 
 -- entries, and then what else is read
@@ -91,6 +91,6 @@ pub record HasAddedTables {R : Type 0} (coming : R → Option Coming) (format : 
   pub parts : List BandSizes
   pub count : length parts ≡ place
   pub listed : AreTablesOfBands 1 parts first
-  pub told : Some (areas_reading_of text) ≡ option_map (with_stretches (flat_map (λ (part : BandSizes). part.stretches) parts)) (areas_from areas)
-  pub areas_line : areas.line ≡ lines_behind 2 (length (flat_map (λ (part : BandSizes). part.stretches) parts))
-  pub tallies : Tallies [] (numbers_told (flat_map (λ (part : BandSizes). part.stretches) parts)) (flat_map (λ (part : BandSizes). part.sizes) parts) sizes
+  pub told : Some (areas_reading_of text) ≡ option_map (with_stretches (stretches_of_parts parts)) (areas_from areas)
+  pub areas_line : areas.line ≡ lines_behind 2 (length (stretches_of_parts parts))
+  pub tallies : Tallies [] (numbers_told (stretches_of_parts parts)) (sizes_of_parts parts) sizes

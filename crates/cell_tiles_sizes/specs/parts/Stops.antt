@@ -1,5 +1,5 @@
 -- Where counting stopped: within a stretch, within a band, at the end of a table.
-use Rattle.std.specs.Prelude.{ℕ, ◌≡◌, ◌≢◌, ◌+◌, ◌-◌, ◌^◌, ◌<◌, ◌≤◌, min, List, [], ◌∷◌, ◌++◌, length, All, Option, Some, None}
+use Rattle.std.specs.Prelude.{ℕ, ◌≡◌, ◌≢◌, ◌+◌, ◌-◌, ◌^◌, ◌<◌, ◌≤◌, min, List, [], ◌++◌, length, All}
 use Rattle.std.specs.List.{range_with_len}
 use Rattle.cell_tiles_lines.specs.LineReading.{TableReading}
 use Rattle.cell_tiles_lines.specs.declared.table_fault.TableFault.{TableFault}
@@ -21,7 +21,7 @@ use Rattle.cell_tiles_sizes.specs.parts.Tally.{Tallies}
 
 abbrev pub TellsAreasFault : AreasFault → SizesFault → Type 0
 TellsAreasFault fault (Areas told) = (told ≡ fault) × (fault.kind ≢ areas_kinds.Memory)
-TellsAreasFault fault (NumberLeftOut line) = ⊥
+TellsAreasFault fault (NumberLeftOut number) = ⊥
 TellsAreasFault fault (NoTable line) = ⊥
 TellsAreasFault fault (Table table told) = ⊥
 TellsAreasFault fault (OtherArea table line) = ⊥
@@ -32,7 +32,7 @@ TellsAreasFault fault Write = ⊥
 
 abbrev pub TellsTableFault : ℕ → TableFault → SizesFault → Type 0
 TellsTableFault place fault (Areas told) = ⊥
-TellsTableFault place fault (NumberLeftOut line) = ⊥
+TellsTableFault place fault (NumberLeftOut number) = ⊥
 TellsTableFault place fault (NoTable line) = ⊥
 TellsTableFault place fault (Table table told) = (table ≡ place) × (told ≡ fault) × (fault.kind ≢ table_kinds.Memory)
 TellsTableFault place fault (OtherArea table line) = ⊥
@@ -41,10 +41,9 @@ TellsTableFault place fault TooLong = ⊥
 TellsTableFault place fault Memory = Unit {0}
 TellsTableFault place fault Write = ⊥
 
-abbrev pub TellsTallyFault : (line number : ℕ) → TallyFault → SizesFault → Type 0
-TellsTallyFault line number tally_faults.LeftOut told = told ≡ NumberLeftOut line
-TellsTallyFault line number tally_faults.TooGreat told = told ≡ TooGreat number
-TellsTallyFault line number tally_faults.Memory told = told ≡ Memory
+abbrev pub TellsTallyFault : (number : ℕ) → TallyFault → SizesFault → Type 0
+TellsTallyFault number tally_faults.TooGreat told = told ≡ TooGreat number
+TellsTallyFault number tally_faults.Memory told = told ≡ Memory
 
 -- ---- what the next stretch is
 
@@ -74,7 +73,7 @@ place_in_stretch table line s counted left sizes others = record {
 }
 
 -- within a stretch, of which the first areas are counted
-pub record HasStoppedInStretch (place line : ℕ) (s : Stretch) (table : TableReading) (old : List ℕ) (fault : SizesFault) : Type 0 where
+pub record HasStoppedInStretch (place : ℕ) (s : Stretch) (table : TableReading) (old : List ℕ) (fault : SizesFault) : Type 0 where
   pub counted : List ℕ
   pub few : length counted ≤ stretch_areas s
   pub left : TableReading
@@ -82,7 +81,7 @@ pub record HasStoppedInStretch (place line : ℕ) (s : Stretch) (table : TableRe
   pub table_end : table.fault ≡ left.fault
   pub sizes : List ℕ
   pub tallies : Tallies old (range_with_len s.number (length counted)) counted sizes
-  pub wrong : (others : AreasReading) → IsFaultAt (place_in_stretch place line s counted left sizes others) fault
+  pub wrong : (line : ℕ) (others : AreasReading) → IsFaultAt (place_in_stretch place line s counted left sizes others) fault
 
 -- within a band, of which the first stretches are counted, and the first areas of the next
 pub record HasStoppedInBand (place start : ℕ) (areas : AreasReading) (table : TableReading) (old : List ℕ) (fault : SizesFault) : Type 0 where

@@ -1,15 +1,13 @@
-use Rattle.std.proofs.Common.{◌≡◌, ℕ, ◌+◌, ◌-◌, ◌<◌, ◌≤◌, ◌^◌, ◌∷◌, [], length, Some, Option, inl, inr, arith, refl, ap, sym, ◌∙◌, subst}
-use Rattle.cell_stats_combinations.specs.Combinations.{Combination}
+use Rattle.std.proofs.Common.{◌≡◌, ℕ, ◌+◌, ◌-◌, ◌∷◌, [], Some, Option, inl, arith, refl, ap, sym, ◌∙◌, subst}
 use Rattle.cell_tiles_lines.specs.TextReading.{reading_behind, reading_from}
 use Rattle.cell_tiles_lines.specs.LineReading.{TableReading, stopped}
 use Rattle.std.specs.Prelude.{IfSome}
-use Rattle.cell_tiles_sizes.specs.SizeTexts.{stretch_areas}
 use Rattle.cell_tiles_sizes.specs.parts.Counting.{HasCountedAreas, area_entry}
 use Rattle.cell_tiles_sizes.specs.parts.Stops.{place_in_stretch}
 use Rattle.cell_tiles_sizes.specs.parts.Tally.{Tallies}
-use Rattle.cell_tiles_sizes.specs.declared.size_fault.SizesFault.TheVariants.{NumberLeftOut, OtherArea, TooLong}
+use Rattle.cell_tiles_sizes.specs.declared.size_fault.SizesFault.TheVariants.{Memory, OtherArea, TooLong}
 use Rattle.cell_tiles_sizes.proofs.CountingLemmas.{counted-more, counted-none}
-use Rattle.cell_tiles_sizes.proofs.StoppingLemmas.{entry-of, left-out, other-area, other-entry, stopped-in-stretch, table-fault, tally-fault}
+use Rattle.cell_tiles_sizes.proofs.StoppingLemmas.{entry-of, other-area, other-entry, stopped-in-stretch, table-fault, tally-fault}
 use Rattle.cell_tiles_sizes.proofs.table_sizes.add_stretch.Goals as goal
 
 pub areas-init : goal.areas-init
@@ -60,11 +58,11 @@ returns-in_default-clause-stopped g c =
     let s = c.args.stretch in
     let at = c.areas in
     let format = c.args.format.now in
-    stopped-in-stretch c.args.place c.args.line s (reading_from format c.args.table.now)
+    stopped-in-stretch c.args.place s (reading_from format c.args.table.now)
     (reading_from format at.table) c.args.sizes.now.items at.sizes.items (at.area - s.first)
     (OtherArea c.args.place at.area) at.invariant.counted at.invariant.few
-    (λ counted r many known others.
-    other-area c.args.place c.args.line s at.sizes.items c.requires.own counted r others at.area (omega arith)
+    (λ counted r many known line others.
+    other-area c.args.place line s at.sizes.items c.requires.own counted r others at.area (omega arith)
     (omega arith)
     (other-entry format at.table at.area r known (rw c.head.ensures at c.in_default.ensures)))
 
@@ -73,16 +71,9 @@ returns-in_default-checked_add-clause-stopped g c =
     let s = c.args.stretch in
     let at = c.areas in
     let format = c.args.format.now in
-    let size = c.in-Some.size in
-    let number = s.number + (at.area - s.first) in
-    stopped-in-stretch c.args.place c.args.line s (reading_from format c.args.table.now)
-    (reading_from format at.table) c.args.sizes.now.items at.sizes.items (at.area - s.first)
-    (NumberLeftOut c.args.line) at.invariant.counted at.invariant.few
-    (λ counted r many known others.
-    left-out c.args.place c.args.line s at.sizes.items c.requires.own counted r others at.area size number (omega arith)
-    (omega arith) (omega arith)
-    (entry-of format at.table at.area size r known (sym c.head.ensures ∙ c.in-Some.ensures))
-    (inr (omega (arith, c.in_default-checked_add.ensures, at.sizes.ok.0, at.sizes.small))))
+    stopped-in-stretch c.args.place s (reading_from format c.args.table.now) (reading_from format at.table)
+    c.args.sizes.now.items at.sizes.items (at.area - s.first) Memory at.invariant.counted at.invariant.few
+    (λ counted r many known line others. tt)
 
 pub returns-in-Err-clause-stopped : goal.returns-in-Err-clause-stopped
 returns-in-Err-clause-stopped g c =
@@ -92,11 +83,11 @@ returns-in-Err-clause-stopped g c =
     let size = c.in-Some.size in
     let number = c.in-Some-checked_add.number in
     let own_number : number ≡ s.number + (at.area - s.first) = omega (arith, c.in-Some-checked_add.ensures) in
-    stopped-in-stretch c.args.place c.args.line s (reading_from format c.args.table.now)
+    stopped-in-stretch c.args.place s (reading_from format c.args.table.now)
     (reading_from format at.table) c.args.sizes.now.items at.sizes.items (at.area - s.first)
     c.of_tally.result at.invariant.counted at.invariant.few
-    (λ counted r many known others.
-    tally-fault c.args.place c.args.line s at.sizes.items c.requires.own counted r others at.area size number
+    (λ counted r many known line others.
+    tally-fault c.args.place line s at.sizes.items c.requires.own counted r others at.area size number
     c.in-Err.fault c.of_tally.result (omega arith) (omega arith) (omega arith)
     (entry-of format at.table at.area size r known (sym c.head.ensures ∙ c.in-Some.ensures)) c.in-Err.ensures.err
     c.of_tally.ensures)
@@ -119,10 +110,10 @@ returns-in-Err-next-clause-stopped g c =
     let more = counted-more format s.first s.number count table at.table left c.args.sizes.now.items at.sizes.items
     c.add_size.new.sizes.items size
     at.invariant.counted head refl tally in
-    stopped-in-stretch c.args.place c.args.line s table left c.args.sizes.now.items c.add_size.new.sizes.items
+    stopped-in-stretch c.args.place s table left c.args.sizes.now.items c.add_size.new.sizes.items
     (count + 1) c.of_table.result more (omega arith)
-    (λ counted r many known others.
-    table-fault (place_in_stretch c.args.place c.args.line s counted r c.add_size.new.sizes.items others)
+    (λ counted r many known line others.
+    table-fault (place_in_stretch c.args.place line s counted r c.add_size.new.sizes.items others)
     c.in-Err-next.fault c.of_table.result c.of_table.ensures tt
     (λ not. subst (λ (o : Option TableReading). IfSome o (λ reading. reading
     ≡ stopped c.in-Err-next.fault.line c.in-Err-next.fault.kind)) known (c.in-Err-next.ensures.fault not)))
@@ -133,6 +124,6 @@ returns-clause-stopped g c =
     let at = c.areas in
     let format = c.args.format.now in
     let forward = c.requires.forward in
-    stopped-in-stretch c.args.place c.args.line s (reading_from format c.args.table.now)
+    stopped-in-stretch c.args.place s (reading_from format c.args.table.now)
     (reading_from format at.table) c.args.sizes.now.items at.sizes.items (at.area - s.first)
-    TooLong at.invariant.counted at.invariant.few (λ counted r many known others. inl (omega arith))
+    TooLong at.invariant.counted at.invariant.few (λ counted r many known line others. inl (omega arith))

@@ -1,4 +1,4 @@
-use Rattle.std.proofs.Common.{◌+◌, ◌-◌, ◌≤◌}
+use Rattle.std.proofs.Common.{◌-◌, ◌≤◌}
 use Rattle.cell_tiles_lines.specs.TextReading.{reading_from}
 use Rattle.cell_tiles_sizes.specs.SizeTexts.{stretch_areas}
 use Rattle.cell_tiles_sizes.specs.parts.Counting.{HasCountedAreas}

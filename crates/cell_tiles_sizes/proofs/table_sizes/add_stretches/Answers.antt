@@ -1,4 +1,4 @@
-use Rattle.std.proofs.Common.{◌≡◌, ℕ, ◌+◌, ◌-◌, ◌<◌, ◌^◌, Some, None, Option, arith, refl, ap, sym, ◌∙◌, subst}
+use Rattle.std.proofs.Common.{◌≡◌, ℕ, ◌+◌, ◌-◌, ◌^◌, Some, Option, arith, refl, sym, ◌∙◌, subst}
 use Rattle.std.specs.Prelude.{IfSome, Ok}
 use Rattle.std.proofs.lemmas.Result.{err_from_is_err_and}
 use Rattle.cell_tiles_numbering.specs.AreasReading.{AreasReading, areas_stopped, in_sequence}
@@ -65,8 +65,8 @@ returns-in_err-add_stretch-clause-stopped g c =
     let p = err_from_is_err_and c.from_residual.result c.from_residual.ensures.1 in
     rw (p.1, p.2) (stopped-in-next c.args.place c.args.band at.line c.args.areas.now.line
     (areas_from c.args.areas.now) at.areas (reading_from format c.args.table.now) (reading_from format at.table)
-    c.args.sizes.now.items at.sizes.items s c.stretch_line.result _ at.invariant.counted head own c.requires.own
-    (next.1 own) c.stretch_line.ensures c.in_err-add_stretch.ensures.stopped)
+    c.args.sizes.now.items at.sizes.items s _ at.invariant.counted head own c.requires.own
+    (next.1 own) c.in_err-add_stretch.ensures.stopped)
 
 pub returns-in-Err-clause-stopped : goal.returns-in-Err-clause-stopped
 returns-in-Err-clause-stopped g c =

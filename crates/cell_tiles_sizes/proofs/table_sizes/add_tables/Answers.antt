@@ -1,11 +1,11 @@
-use Rattle.std.proofs.Common.{rules, ◌≡◌, ℕ, map, true, None, Some, Option, List, [], ◌∷◌, ap, sym, ◌∙◌, subst, arith, length, option_map}
+use Rattle.std.proofs.Common.{rules, ◌≡◌, ℕ, map, true, None, Option, List, [], ap, sym, ◌∙◌, subst, arith, length, option_map}
 use Rattle.std.specs.Vec.Iter.{into_iter_items}
 use Rattle.cell_tiles_numbering.specs.AreasReading.{areas_reading_of}
 use Rattle.cell_tiles_numbering.specs.declared.stretch.Stretch.{Stretch}
 use Rattle.std.specs.Prelude.{is_some}
 use Rattle.std.proofs.lemmas.Result.{err_from_is_err_and}
 use Rattle.cell_tiles_sizes.specs.parts.Counting.{HasAddedTables}
-use Rattle.cell_tiles_sizes.proofs.AddingLemmas.{added-all, added-more, added-none}
+use Rattle.cell_tiles_sizes.proofs.AddingLemmas.{added-all, added-more, added-none, left-out}
 use Rattle.cell_tiles_sizes.proofs.CountingLemmas.{none-of}
 use Rattle.cell_tiles_sizes.proofs.FaultLemmas.{first-fault, no-table}
 use Rattle.cell_tiles_texts.proofs.OpeningLemmas.{no-more}
@@ -58,6 +58,18 @@ returns-clause-sizes g c = λ text texts gives give.
     (sym c.is_some.ensures ∙ c.if-is_some.false) in
     added-all g.R.Source.coming c.args.format.now text texts left at.text at.place at.sizes.items none ended
     (at.invariant.added text texts gives give)
+    (rw c.as_slice.ensures.value at (c.first_without_size.ensures.all c.in-None-first_without_size.is))
+
+pub returns-in-Some-first_without_size-clause-fault : goal.returns-in-Some-first_without_size-clause-fault
+returns-in-Some-first_without_size-clause-fault g c = λ text texts gives give.
+    let at = c.loop-source in
+    let left = into_iter_items at.source-iterator in
+    let none : left ≡ [] = no-more left (sym at.invariant.len ∙ c.in-None.ensures.steps.0) in
+    let ended : at.text.head ≡ None = sym c.stretch.ensures ∙ none-of c.stretch.result
+    (sym c.is_some.ensures ∙ c.if-is_some.false) in
+    left-out g.R.Source.coming c.args.format.now text texts left at.text at.place at.sizes.items none ended
+    (at.invariant.added text texts gives give) c.in-Some-first_without_size.number
+    (rw c.as_slice.ensures.value at c.in-Some-first_without_size.ensures.first)
 
 pub returns-in_err-add_band-clause-fault : goal.returns-in_err-add_band-clause-fault
 returns-in_err-add_band-clause-fault g c =

@@ -1,4 +1,4 @@
-use Rattle.std.proofs.Common.{◌≡◌, ◌+◌, ◌^◌, ◌<◌, true, arith, Option, None, ap, sym, ◌∙◌, subst}
+use Rattle.std.proofs.Common.{◌≡◌, true, arith, None, ap, sym, ◌∙◌, subst}
 use Rattle.std.specs.Prelude.{is_some}
 use Rattle.cell_tiles_lines.specs.TextReading.{TextValue}
 use Rattle.cell_tiles_sizes.proofs.CountingLemmas.{left-none, left-over, none-of}

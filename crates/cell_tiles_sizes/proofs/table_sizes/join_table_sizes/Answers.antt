@@ -1,4 +1,4 @@
-use Rattle.std.proofs.Common.{◌≡◌, true, map, Some, ap, sym, ◌∙◌, subst}
+use Rattle.std.proofs.Common.{◌≡◌, true, map}
 use Rattle.cell_core_devices.specs.Device.{has_failed}
 use Rattle.cell_tiles_lines.specs.LineReading.{reading_of}
 use Rattle.cell_tiles_numbering.specs.AreasReading.{areas_reading_of}

@@ -1,4 +1,5 @@
-use Rattle.std.proofs.Common.{rules, ◌≡◌, ℕ, ◌+◌, ◌-◌, ◌∷◌, [], ◌++◌, List, get_or, set, arith, ap, sym, ◌∙◌, subst}
+use Rattle.std.proofs.Common.{rules, ◌≡◌, ℕ, ◌+◌, ◌-◌, ◌∷◌, [], ◌++◌, List, get_or, set, arith, ap, sym, subst}
+use Rattle.std.specs.Prelude.{OnOk}
 use Rattle.std.proofs.lemmas.List.{get_or_read}
 use Rattle.cell_tiles_sizes.specs.parts.Tally.{Tallies}
 use Rattle.cell_tiles_sizes.proofs.TallyLemmas.{tallies-again, tallies-next}
@@ -23,3 +24,9 @@ returns-in-Some-checked_add-clause-ok c =
     subst (λ (l : List ℕ). Tallies old (c.args.number ∷ []) (c.args.size ∷ []) l) (λ i. set old (at i) (sum i))
     (tallies-again old c.args.number c.args.size (omega (arith, c.in-Some.ensures))
     (omega (arith, c.in-Some.ensures, c.args.sizes.now.ok.0)))
+
+pub returns-then-count-place-clause-ok : goal.returns-then-count-place-clause-ok
+returns-then-count-place-clause-ok c =
+    let number : c.in-Some.place + 1 ≡ c.args.number = omega (arith, c.in-Some.ensures) in
+    subst (λ (n : ℕ). OnOk c.put_size.result (Tallies c.args.sizes.now.items (n ∷ []) (c.args.size ∷ [])
+    c.put_size.new.sizes.items)) number c.put_size.ensures.ok
