@@ -75,7 +75,7 @@ pair-less most areas (Some v) None fits low = cc
 pair-less most areas (Some v) (Some n) fits low =
     number-less most areas n fits (λ k is. low k (ap (λ (z : ℤ). Some z) is))
 
-rows-less : (most areas : ℕ) (cells numbers : List CellValue) → AreRowsFit most cells numbers
+pub rows-less : (most areas : ℕ) (cells numbers : List CellValue) → AreRowsFit most cells numbers
     → ((col k : ℕ) → slice_index_or numbers col None ≡ Some (pos k) → k ≤ areas) → AreRowsFit areas cells numbers
 rows-less most areas cells numbers fit low =
     λ col within. pair-less most areas (slice_index_or cells col None) (slice_index_or numbers col None)

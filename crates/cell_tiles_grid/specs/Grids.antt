@@ -19,6 +19,10 @@ pub record IsSide (tile : Band) (at : ℕ → Position) (count : ℕ) (side : Ti
   pub cells : (k : ℕ) → k < count → slice_index_or side.cells.items k None ≡ cell_at_spot tile.map (at k)
   pub numbers : (k : ℕ) → k < count → slice_index_or side.numbers.items k None ≡ cell_at_spot tile.numbers (at k)
 
+-- a side has a number for each of its cells
+abbrev pub IsPaired : TileSide → Type 0
+IsPaired side = length side.numbers.items ≡ length side.cells.items
+
 abbrev pub start_position : AreaStart → Position
 start_position s = position s.row s.col
 

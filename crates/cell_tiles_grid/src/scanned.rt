@@ -5,7 +5,7 @@ ghost use Rattle.cell_core.specs.Grid.{cell_at, row_at};
 ghost use Rattle.cell_cats_areas.specs.declared.clump.Joining.{Joining};
 ghost use Rattle.cell_cats_areas.specs.Areas.{IsClumping};
 ghost use Rattle.cell_cats_areas.specs.parts.CellPlaces.{position};
-ghost use Rattle.cell_tiles_grid.specs.Grids.{HasSides, IsSide};
+ghost use Rattle.cell_tiles_grid.specs.Grids.{HasSides, IsPaired, IsSide};
 ghost use Rattle.cell_tiles_grid.specs.parts.GridStarts.{is_next, more_starts, row_starts, map_starts};
 
 use crate::sides::{AreaStart, TileSide, TileSides};
@@ -52,8 +52,9 @@ pub fn row_side(
 ) -> Result<TileSide, Memory>
     requires row { row < map.now.region.rows }
     requires region { numbers.now.region ≡ map.now.region }
-    ensures { IfOk result (λ side. IsSide
+    ensures side { IfOk result (λ side. IsSide
         (record { map = map.now; numbers = numbers.now }) (position row) map.now.region.cols side) }
+    ensures pairs { IfOk result IsPaired }
 {
     Ok(TileSide {
         cells: row_of(alloc, map, row)?,
@@ -74,8 +75,9 @@ pub fn column_side(
 ) -> Result<TileSide, Memory>
     requires col { col < map.now.region.cols }
     requires region { numbers.now.region ≡ map.now.region }
-    ensures { IfOk result (λ side. IsSide
+    ensures side { IfOk result (λ side. IsSide
         (record { map = map.now; numbers = numbers.now }) (λ k. position k col) map.now.region.rows side) }
+    ensures pairs { IfOk result IsPaired }
 {
     Ok(TileSide {
         cells: column_of(alloc, map, col)?,

@@ -15,7 +15,7 @@ use Rattle.cell_tiles_sides.proofs.RowLemmas.{eleven, start-rows}
 use Rattle.cell_tiles_sides_rows.proofs.RegionLemmas.{six}
 
 -- the rows for so many cells have room for them
-enough : (n w : ℕ) → 0 < w → n ≤ rows_for n w * w
+pub enough : (n w : ℕ) → 0 < w → n ≤ rows_for n w * w
 enough n w some = let room = lt-div-mul-add {a = n + (w - 1)} {b = w} some in omega (arith, room, some)
 
 module _ (m : Grid) (tile : RegionValue) (areas : ℕ) (sides : TileSides) (filled : IsFilled m.region m.rows)
@@ -83,6 +83,7 @@ module _ (m : Grid) (tile : RegionValue) (areas : ℕ) (sides : TileSides) (fill
   grid-of few = record {
     is = (λ i. record { region = region i; rows = (all-rows ∙ ap rows_with size.width) i; labels = no_labels });
     fit = record {
+      good = size.good;
       first = subst (λ (n : ℕ). IsSideFit n tile.cols sides.first) (sym counted) all.four.first.fit;
       last = subst (λ (n : ℕ). IsSideFit n tile.cols sides.last) (sym counted) all.four.last.fit;
       left = subst (λ (n : ℕ). IsSideFit n tile.rows sides.left) (sym counted) all.four.left.fit;

@@ -50,7 +50,7 @@ number-few (Some v) n is e = let same : v ≡ pos n = cc in category-most n (ap 
 
 module _ (numbers : Grid) (starts : List AreaStart) (filled : IsFilled numbers.region numbers.rows)
     (are : AreStarts numbers (map start_position starts)) where
-  first-at : (k : ℕ) (d : AreaStart) → k < length starts
+  pub first-at : (k : ℕ) (d : AreaStart) → k < length starts
       → IsFirstWith numbers (k + 1) (start_position (get_or starts k d))
   first-at k d lt =
       let long = length-map starts start_position in

@@ -50,7 +50,7 @@ module _ (cells numbers : Grid) where
     cells = cells;
     numbers = numbers;
     sides = h.sides;
-    are = record { cells_denoted = one; numbers_denoted = two; are = h.are };
+    are = record { cells_denoted = one; numbers_denoted = two; are = h.are; room = h.room };
     is = h.is;
   }
 

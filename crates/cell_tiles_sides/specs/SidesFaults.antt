@@ -26,8 +26,9 @@ pub record IsSideFit (areas count : ℕ) (side : TileSide) : Type 0 where
 abbrev pub IsInTile : RegionValue → AreaStart → Type 0
 IsInTile tile start = (start.row < tile.rows) × (start.col < tile.cols)
 
--- the sides are as long as those of a tile of this region, and its areas begin in it
+-- the sides are as long as those of a tile of this region, which is one, and its areas begin in it
 pub record AreSidesFit (tile : RegionValue) (sides : TileSides) : Type 0 where
+  pub good : region_fault tile ≡ Ok tile
   pub first : IsSideFit (length sides.starts.items) tile.cols sides.first
   pub last : IsSideFit (length sides.starts.items) tile.cols sides.last
   pub left : IsSideFit (length sides.starts.items) tile.rows sides.left

@@ -1,7 +1,7 @@
 -- The text of a tile's sides, made of the texts of the tile and of its numbers.
 use Rattle.std.specs.Prelude.{ℕ, ◌≡◌, ◌≢◌, ◌-◌, List, length, map, take, Option, Some, Ok}
 use Rattle.cell_core_devices.specs.Device.{Coming, append_known}
-use Rattle.cell_core_values.specs.Region.{region_fault}
+use Rattle.cell_core_values.specs.Region.{IsRegion, region_fault}
 use Rattle.cell_core.specs.Grid.{Grid}
 use Rattle.cell_ascii_meaning.specs.FaultPlaces.{text_fault}
 use Rattle.cell_ascii_meaning.specs.GridText.{Denotes}
@@ -12,7 +12,7 @@ use Rattle.cell_tiles_joining.specs.Bands.{Band}
 use Rattle.cell_tiles_edges.specs.EdgesFaults.{most_areas}
 use Rattle.cell_tiles_edges.specs.PairFaults.{AreMapsFit, IsFirstOfMaps}
 use Rattle.cell_tiles_edges.specs.WrittenEdges.{band_of}
-use Rattle.cell_tiles_grid.specs.Grids.{HasSides, IsSide, start_position}
+use Rattle.cell_tiles_grid.specs.Grids.{HasSides, IsPaired, IsSide, start_position}
 use Rattle.cell_tiles_grid.specs.declared.sides.TileSides.{TileSides}
 use Rattle.cell_tiles_sides_rows.specs.SidesRows.{sides_region}
 use Rattle.cell_tiles_sides.specs.SidesText.{sides_text}
@@ -20,12 +20,20 @@ use Rattle.cell_tiles_sides.specs.FirstNumbers.{AreStarts, IsFirstOutOfOrder}
 use Rattle.cell_tiles_sides.specs.declared.tile_fault.TileFault.{TileFault}
 use Rattle.cell_tiles_sides.specs.declared.tile_fault.TileFault.TheVariants.{Map, Numbers, Region, Pair, Order, TooManyAreas, Memory, Write}
 
+-- each side has a number for each of its cells
+pub record ArePaired (sides : TileSides) : Type 0 where
+  pub first : IsPaired sides.first
+  pub last : IsPaired sides.last
+  pub left : IsPaired sides.left
+  pub right : IsPaired sides.right
+
 -- the four sides of a tile of so many rows and columns, and where its numbers first occur
 pub record AreSidesOf (rows cols : ℕ) (tile : Band) (sides : TileSides) : Type 0 where
   pub first : IsSide tile (position 0) cols sides.first
   pub last : IsSide tile (position (rows - 1)) cols sides.last
   pub left : IsSide tile (λ k. position k 0) rows sides.left
   pub right : IsSide tile (λ k. position k (cols - 1)) rows sides.right
+  pub pairs : ArePaired sides
   pub starts : AreStarts tile.numbers (map start_position sides.starts.items)
 
 -- the sides of a map and its numbers, of one region, that go together; where the numbers are those of its areas, by whichever
@@ -54,11 +62,12 @@ IsWrongTile cells numbers TooManyAreas = HasTooManyAreas cells numbers
 IsWrongTile cells numbers Memory = Unit {0}
 IsWrongTile cells numbers Write = ⊥
 
--- two texts denote a map and its numbers, and these are the sides of the two
+-- two texts denote a map and its numbers, these are the sides of the two, and a map has room for them
 pub record AreTextsSides (text number_text : Coming) (cells numbers : Grid) (sides : TileSides) : Type 0 where
   pub cells_denoted : Denotes text cells
   pub numbers_denoted : Denotes number_text numbers
   pub are : AreTileSides cells numbers sides
+  pub room : IsRegion (sides_region cells.region (length sides.starts.items))
 
 -- the sink took exactly the text of the sides of their tile, and its length is told
 pub record AreSidesWritten (text number_text : Coming) (before now : Option (List ℕ)) (written : ℕ) : Type 0 where

@@ -1,7 +1,8 @@
 //! The text of a tile's sides, made of the texts of the tile and of its numbers.
 
-ghost use Rattle.std.specs.Prelude.{◌≡◌, ◌≢◌, ◌↔◌, ◌*◌, ◌≤◌, true, None, Some, IfErr, IfOk, IfSome, IsTrue};
+ghost use Rattle.std.specs.Prelude.{◌≡◌, ◌≢◌, ◌↔◌, true, None, Some, IfErr, IfOk, IfSome, IsTrue};
 ghost use Rattle.cell_core_devices.specs.Device.{has_failed};
+ghost use Rattle.cell_core_values.specs.Region.{IsRegion};
 ghost use Rattle.cell_tiles_edges.specs.EdgesFaults.{most_areas};
 ghost use Rattle.cell_tiles_edges.specs.PairFaults.{AreMapsFit};
 ghost use Rattle.cell_tiles_edges.specs.WrittenEdges.{band_of};
@@ -76,9 +77,9 @@ fn sides_of(alloc: Global, map: &CellMap, numbers: &CellMap) -> Result<TileSides
     })
 }
 
-// Says that a map has no more cells than there are categories above 0. Does nothing.
-fn map_is_small(map: &CellMap)
-    ensures { map.now.region.rows * map.now.region.cols ≤ most_areas }
+// Says that the region of a map is one. Does nothing.
+fn map_has_region(map: &CellMap)
+    ensures { IsRegion map.now.region }
 {
     let _ = map.region().cols();
 }
@@ -92,7 +93,7 @@ fn sides_drawn(alloc: Global, map: &CellMap, numbers: &CellMap) -> Result<CellMa
 {
     map_is_filled(map);
     map_is_filled(numbers);
-    map_is_small(numbers);
+    map_has_region(numbers);
     numbers.cells_are_in_range();
     let sides = match sides_of(alloc, map, numbers) {
         Ok(sides) => sides,
@@ -100,7 +101,10 @@ fn sides_drawn(alloc: Global, map: &CellMap, numbers: &CellMap) -> Result<CellMa
     };
     let made = sides_map(alloc, map.region(), &sides)?;
     match made {
-        Some(drawn) => Ok(drawn),
+        Some(drawn) => {
+            map_has_region(&drawn);
+            Ok(drawn)
+        }
         None => Err(TileFault::TooManyAreas),
     }
 }

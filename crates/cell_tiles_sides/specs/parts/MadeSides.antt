@@ -1,13 +1,14 @@
 -- The map of a tile's sides, and the faults of its texts.
-use Rattle.std.specs.Prelude.{ℕ, ◌≡◌, ◌+◌}
+use Rattle.std.specs.Prelude.{ℕ, ◌≡◌, ◌+◌, length}
 use Rattle.cell_core_devices.specs.Device.{Coming}
+use Rattle.cell_core_values.specs.Region.{IsRegion}
 use Rattle.cell_core.specs.Grid.{Grid, row_at}
 use Rattle.cell_ascii_meaning.specs.declared.grid_fault.GridFault.{GridFault}
 use Rattle.cell_ascii_meaning.specs.declared.grid_fault.GridKind.{GridKind}
 use Rattle.cell_ascii_meaning.specs.declared.grid_fault.GridKind.TheVariants as kinds
 use Rattle.cell_tiles_grid.specs.declared.sides.TileSide.{TileSide}
 use Rattle.cell_tiles_grid.specs.declared.sides.TileSides.{TileSides}
-use Rattle.cell_tiles_sides_rows.specs.SidesRows.{filled_row, sides_grid}
+use Rattle.cell_tiles_sides_rows.specs.SidesRows.{filled_row, sides_grid, sides_region}
 use Rattle.cell_tiles_sides.specs.SidesFaults.{IsSideFit}
 use Rattle.cell_tiles_sides.specs.WrittenSides.{AreTextsSides, AreTileSides}
 use Rattle.cell_tiles_sides.specs.declared.sides_fault.SidesFault.{SidesFault}
@@ -15,10 +16,11 @@ use Rattle.cell_tiles_sides.specs.declared.sides_fault.SidesFault.TheVariants as
 use Rattle.cell_tiles_sides.specs.declared.tile_fault.TileFault.{TileFault}
 use Rattle.cell_tiles_sides.specs.declared.tile_fault.TileFault.TheVariants as tile_faults
 
--- a map is that of the sides of a map and its numbers
+-- a map is that of the sides of a map and its numbers, for which it has room
 pub record IsMapOfSides (cells numbers made : Grid) : Type 0 where
   pub sides : TileSides
   pub are : AreTileSides cells numbers sides
+  pub room : IsRegion (sides_region cells.region (length sides.starts.items))
   pub is : made ≡ sides_grid cells.region sides
 
 -- what was made of two texts is the map of the sides of their tile

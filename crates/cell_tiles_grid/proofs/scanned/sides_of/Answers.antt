@@ -18,8 +18,8 @@ returns c = λ j clumping.
     record {
       numbers = clumping;
       starts = subst (λ (l : List AreaStart). AreFirsts j m (map start_position l)) (sym c.in_ok-starts_of.ensures) (map-firsts j m numbers clumping);
-      first = c.in_ok-row_side.ensures;
-      last = subst (λ (n : ℕ). IsSide tile (position (n - 1)) m.region.cols c.in_ok-row_side-2.field-0) rows c.in_ok-row_side-2.ensures;
-      left = c.in_ok-column_side.ensures;
-      right = subst (λ (n : ℕ). IsSide tile (λ k. position k (n - 1)) m.region.rows c.in_ok-column_side-2.field-0) cols c.in_ok-column_side-2.ensures;
+      first = c.in_ok-row_side.ensures.side;
+      last = subst (λ (n : ℕ). IsSide tile (position (n - 1)) m.region.cols c.in_ok-row_side-2.field-0) rows c.in_ok-row_side-2.ensures.side;
+      left = c.in_ok-column_side.ensures.side;
+      right = subst (λ (n : ℕ). IsSide tile (λ k. position k (n - 1)) m.region.rows c.in_ok-column_side-2.field-0) cols c.in_ok-column_side-2.ensures.side;
     }

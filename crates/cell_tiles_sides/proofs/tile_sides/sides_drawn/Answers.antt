@@ -1,5 +1,5 @@
 use Rattle.std.proofs.Common.{◌≡◌, ◌≢◌, ℕ, Ok, ap, length, sym, subst, ◌∙◌}
-use Rattle.cell_core_values.specs.Region.{RegionValue, region_fault}
+use Rattle.cell_core_values.specs.Region.{IsRegion, RegionValue, region_fault}
 use Rattle.cell_core.specs.Grid.{Grid}
 use Rattle.cell_tiles_sides_rows.specs.SidesRows.{AreTellable, sides_grid, sides_region}
 use Rattle.cell_tiles_sides.proofs.TileLemmas.{starts-few, starts-places, tile-sides}
@@ -12,7 +12,7 @@ sides_map-requires-clause-places c =
     subst (λ (w : ℕ). AreTellable w starts) (ap (λ (r : RegionValue). r.cols) (c.requires.region
     ∙ sym c.region.ensures.value))
     (starts-places c.args.numbers.now starts c.map_is_filled-2.ensures.filled c.in-Ok.ensures.sides.starts
-    c.map_is_small.ensures)
+    c.map_has_region.ensures.cells_most)
 
 pub sides_map-requires-clause-areas : goal.sides_map-requires-clause-areas
 sides_map-requires-clause-areas c =
@@ -22,11 +22,14 @@ sides_map-requires-clause-areas c =
 pub returns-in-Some-clause-made : goal.returns-in-Some-clause-made
 returns-in-Some-clause-made c =
     let sides = c.in-Ok.sides in
+    let is : c.in-Some.drawn ≡ sides_grid c.args.map.now.region sides =
+    some-of c.in_ok-made.made c.in-Some.drawn (λ (m : Grid). m ≡ sides_grid c.region.result sides) c.in-Some.is
+    c.in_ok-made.ensures.some ∙ ap (λ (r : RegionValue). sides_grid r sides) c.region.ensures.value in
     record {
       sides = sides;
       are = tile-sides c.args.map.now c.args.numbers.now sides c.requires.region c.requires.fit c.in-Ok.ensures.sides;
-      is = some-of c.in_ok-made.made c.in-Some.drawn (λ (m : Grid). m ≡ sides_grid c.region.result sides) c.in-Some.is
-          c.in_ok-made.ensures.some ∙ ap (λ (r : RegionValue). sides_grid r sides) c.region.ensures.value;
+      room = subst IsRegion (ap (λ (m : Grid). m.region) is) c.map_has_region-in-Some.ensures;
+      is = is;
     }
 
 pub returns-clause-fault : goal.returns-clause-fault

@@ -1,0 +1,41 @@
+-- What stands in one place of two lists.
+use Rattle.std.proofs.Common.{◌≡◌, ℕ, zero, suc, List, [], ◌∷◌, length, map, Some, refl, ap, subst}
+use Rattle.std.specs.Prelude.{slice_get}
+use Rattle.std.specs.List.{AllZip}
+
+module _ {A B : Type 0} (R : A → B → Type 0) where
+  pub zip-right : (xs : List A) (ys : List B) → AllZip R xs ys → (i : ℕ) (x : A) → slice_get xs i ≡ Some x
+      → (y : B) × (slice_get ys i ≡ Some y) × R x y
+  zip-right [] ys all i x is = absurd (cc)
+  zip-right (a ∷ xs) [] all i x is = absurd all
+  zip-right (a ∷ xs) (b ∷ ys) all zero x is =
+      let same : a ≡ x = cc in
+      (b, refl, subst (λ (z : A). R z b) same all.0)
+  zip-right (a ∷ xs) (b ∷ ys) all (suc i) x is = zip-right xs ys all.1 i x is
+
+  pub zip-left : (xs : List A) (ys : List B) → AllZip R xs ys → (i : ℕ) (y : B) → slice_get ys i ≡ Some y
+      → (x : A) × (slice_get xs i ≡ Some x) × R x y
+  zip-left xs [] all i y is = absurd (cc)
+  zip-left [] (b ∷ ys) all i y is = absurd all
+  zip-left (a ∷ xs) (b ∷ ys) all zero y is =
+      let same : b ≡ y = cc in
+      (a, refl, subst (λ (z : B). R a z) same all.0)
+  zip-left (a ∷ xs) (b ∷ ys) all (suc i) y is = zip-left xs ys all.1 i y is
+
+  pub zip-long : (xs : List A) (ys : List B) → AllZip R xs ys → length xs ≡ length ys
+  zip-long [] [] all = refl
+  zip-long [] (b ∷ ys) all = absurd all
+  zip-long (a ∷ xs) [] all = absurd all
+  zip-long (a ∷ xs) (b ∷ ys) all = ap (λ (n : ℕ). suc n) (zip-long xs ys all.1)
+
+module _ {A B : Type 0} (f : A → B) where
+  pub map-from : (xs : List A) (i : ℕ) (y : B) → slice_get (map f xs) i ≡ Some y
+      → (x : A) × (slice_get xs i ≡ Some x) × (f x ≡ y)
+  map-from [] i y is = absurd (cc)
+  map-from (x ∷ xs) zero y is = (x, refl, cc)
+  map-from (x ∷ xs) (suc i) y is = map-from xs i y is
+
+  pub map-to : (xs : List A) (i : ℕ) (x : A) → slice_get xs i ≡ Some x → slice_get (map f xs) i ≡ Some (f x)
+  map-to [] i x is = absurd (cc)
+  map-to (a ∷ xs) zero x is = let same : a ≡ x = cc in ap (λ (z : A). Some (f z)) same
+  map-to (a ∷ xs) (suc i) x is = map-to xs i x is

@@ -1,0 +1,163 @@
+-- Tiles whose regions make a grid have the rows of their row of tiles and the columns of their column.
+use Rattle.std.proofs.Common.{◌≡◌, ℕ, ◌<◌, List, [], ◌∷◌, ◌++◌, length, map, None, Some, refl, ap, sym, ◌∙◌, subst}
+use Rattle.std.proofs.Common.{arith}
+use Rattle.std.specs.Prelude.{All}
+use Rattle.std.specs.List.{AllZip}
+use Rattle.std.proofs.lemmas.List.{length-map}
+use Rattle.std.proofs.lemmas.List.Concat.{flat_map-cons}
+use Rattle.std.proofs.lemmas.List.Elements.{All-cons, All-head, All-nil, All-tail}
+use Rattle.cell_core_devices.specs.Device.{Coming}
+use Rattle.cell_core_values.specs.Region.{IsRegion, RegionValue}
+use Rattle.cell_core.specs.Grid.{IsFilled}
+use Rattle.cell_tiles_joining.specs.Bands.{Band}
+use Rattle.cell_tiles_areas_law.proofs.MapLemmas.{denoted-filled}
+use Rattle.cell_tiles_areas_law.proofs.RangeLemmas.{denoted-region}
+use Rattle.cell_tiles_areas_law.specs.WrittenBands.{map_regions}
+use Rattle.cell_tiles_grid_areas.specs.TileTexts.{IsBelow}
+use Rattle.cell_tiles_grid_areas_law.specs.TileGrids.{GoDown, GoRight, IsRowBelow, MakeGrid, all_tiles, row_height}
+use Rattle.cell_tiles_grid_areas_law.specs.TileGrids.{tile_heights, tile_regions, tile_widths}
+use Rattle.cell_tiles_grid_areas_law.specs.WrittenTiles.{IsSidesTextOf}
+use Rattle.cell_tiles_grid_areas_law.proofs.GlueLemmas.{AreSized, IsSized}
+
+-- a map of a region, filled
+pub record IsMap (tile : Band) : Type 0 where
+  pub region : IsRegion tile.map.region
+  pub filled : IsFilled tile.map.region tile.map.rows
+
+abbrev pub AreMaps : List Band → Type 0
+AreMaps [] = Unit {0}
+AreMaps (tile ∷ tiles) = IsMap tile × AreMaps tiles
+
+pub texts-maps : (tiles : List Band) (texts : List Coming) → AllZip IsSidesTextOf tiles texts → AreMaps tiles
+texts-maps [] texts are = tt
+texts-maps (tile ∷ tiles) [] are = absurd are
+texts-maps (tile ∷ tiles) (text ∷ texts) are = (
+  record {
+    region = denoted-region are.0.source tile.map are.0.are.cells_denoted;
+    filled = denoted-filled are.0.source tile.map are.0.are.cells_denoted;
+  },
+  texts-maps tiles texts are.1,
+)
+
+maps-front : (a b : List Band) → AreMaps (a ++ b) → AreMaps a
+maps-front [] b are = tt
+maps-front (tile ∷ a) b are = (are.0, maps-front a b are.1)
+
+maps-back : (a b : List Band) → AreMaps (a ++ b) → AreMaps b
+maps-back [] b are = are
+maps-back (tile ∷ a) b are = maps-back a b are.1
+
+-- ---- columns of one width
+
+abbrev IsAsWide : Band → ℕ → Type 0
+IsAsWide tile width = tile.map.region.cols ≡ width
+
+own-wide : (row : List Band) → AllZip IsAsWide row (map (λ (tile : Band). tile.map.region.cols) row)
+own-wide [] = tt
+own-wide (tile ∷ row) = (refl, own-wide row)
+
+zip-wide : (above row : List Band) (widths : List ℕ) → AllZip IsBelow (map_regions above) (map_regions row)
+    → AllZip IsAsWide above widths → AllZip IsAsWide row widths
+zip-wide [] [] [] below wide = tt
+zip-wide [] [] (w ∷ widths) below wide = absurd wide
+zip-wide [] (tile ∷ row) widths below wide = absurd below
+zip-wide (upper ∷ above) [] widths below wide = absurd below
+zip-wide (upper ∷ above) (tile ∷ row) [] below wide = absurd wide
+zip-wide (upper ∷ above) (tile ∷ row) (w ∷ widths) below wide =
+    (below.0.cols ∙ wide.0, zip-wide above row widths below.1 wide.1)
+
+below-wide : (above row : List Band) (widths : List ℕ) → 0 < length above
+    → IsRowBelow (map_regions above) (map_regions row) → AllZip IsAsWide above widths → AllZip IsAsWide row widths
+below-wide [] row widths some below wide = absurd (omega (arith, some))
+below-wide (upper ∷ above) row widths some below wide = zip-wide (upper ∷ above) row widths below wide
+
+-- ---- a row of one height
+
+high-row : (left : RegionValue) (height : ℕ) (row : List Band) (widths : List ℕ) → left.rows ≡ height → AreMaps row
+    → GoRight (Some left) (map_regions row) → AllZip IsAsWide row widths → AllZip (IsSized height) row widths
+high-row left height [] [] high maps go wide = tt
+high-row left height [] (w ∷ widths) high maps go wide = absurd wide
+high-row left height (tile ∷ row) [] high maps go wide = absurd wide
+high-row left height (tile ∷ row) (w ∷ widths) high maps go wide =
+    let own : tile.map.region.rows ≡ height = go.0.rows ∙ high in (
+      record { filled = maps.0.filled; rows = own; cols = wide.0 },
+      high-row tile.map.region height row widths own maps.1 go.1 wide.1,
+    )
+
+sized-row : (row : List Band) (widths : List ℕ) → AreMaps row → GoRight None (map_regions row)
+    → AllZip IsAsWide row widths → AllZip (IsSized (row_height row)) row widths
+sized-row [] [] maps go wide = tt
+sized-row [] (w ∷ widths) maps go wide = absurd wide
+sized-row (tile ∷ row) [] maps go wide = absurd wide
+sized-row (tile ∷ row) (w ∷ widths) maps go wide = (
+  record { filled = maps.0.filled; rows = refl; cols = wide.0 },
+  high-row tile.map.region tile.map.region.rows row widths refl maps.1 go.1 wide.1,
+)
+
+-- ---- all rows
+
+abbrev IsSome : List RegionValue → Type 0
+IsSome row = 0 < length row
+
+some-tiles : (row : List Band) → IsSome (map_regions row) → 0 < length row
+some-tiles row some = omega (arith, some, length-map row (λ (tile : Band). tile.map.region))
+
+go-sized : (above : List Band) (widths : List ℕ) (tiles : List (List Band)) → 0 < length above
+    → AllZip IsAsWide above widths → AreMaps (all_tiles tiles) → All IsSome (tile_regions tiles)
+    → All (GoRight None) (tile_regions tiles) → GoDown (map_regions above) (tile_regions tiles)
+    → AreSized widths tiles
+go-sized above widths [] some wide maps all beside below = tt
+go-sized above widths (row ∷ tiles) some wide maps all beside below =
+    let own : AreMaps (row ++ all_tiles tiles) = subst AreMaps (flat_map-cons (λ (r : List Band). r) row tiles) maps in
+    let as_wide = below-wide above row widths some below.0 wide in (
+      sized-row row widths (maps-front row (all_tiles tiles) own)
+          (All-head (GoRight None) (map_regions row) (tile_regions tiles) beside) as_wide,
+      go-sized row widths tiles (some-tiles row (All-head IsSome (map_regions row) (tile_regions tiles) all)) as_wide
+          (maps-back row (all_tiles tiles) own) (All-tail IsSome (map_regions row) (tile_regions tiles) all)
+          (All-tail (GoRight None) (map_regions row) (tile_regions tiles) beside) below.1,
+    )
+
+pub grid-sized : (tiles : List (List Band)) → AreMaps (all_tiles tiles) → MakeGrid (tile_regions tiles)
+    → AreSized (tile_widths tiles) tiles
+grid-sized [] maps make = tt
+grid-sized (row ∷ tiles) maps make =
+    let widths = map (λ (tile : Band). tile.map.region.cols) row in
+    let own : AreMaps (row ++ all_tiles tiles) =
+    subst AreMaps (flat_map-cons (λ (r : List Band). r) row tiles) maps in (
+      sized-row row widths (maps-front row (all_tiles tiles) own)
+          (All-head (GoRight None) (map_regions row) (tile_regions tiles) make.beside) (own-wide row),
+      go-sized row widths tiles
+          (some-tiles row (All-head IsSome (map_regions row) (tile_regions tiles) make.some)) (own-wide row)
+          (maps-back row (all_tiles tiles) own) (All-tail IsSome (map_regions row) (tile_regions tiles) make.some)
+          (All-tail (GoRight None) (map_regions row) (tile_regions tiles) make.beside) make.below.1,
+    )
+
+-- ---- none is empty
+
+pub some-heights : (tiles : List (List Band)) → AreMaps (all_tiles tiles) → All IsSome (tile_regions tiles)
+    → All (λ (n : ℕ). 0 < n) (tile_heights tiles)
+some-heights [] maps some = All-nil (λ (n : ℕ). 0 < n)
+some-heights (row ∷ tiles) maps some =
+    let own : AreMaps (row ++ all_tiles tiles) = subst AreMaps (flat_map-cons (λ (r : List Band). r) row tiles) maps in
+    All-cons (λ (n : ℕ). 0 < n) (row_height row) (tile_heights tiles)
+    (high row (maps-front row (all_tiles tiles) own)
+    (some-tiles row (All-head IsSome (map_regions row) (tile_regions tiles) some)))
+    (some-heights tiles (maps-back row (all_tiles tiles) own)
+    (All-tail IsSome (map_regions row) (tile_regions tiles) some))
+  where
+    high : (r : List Band) → AreMaps r → 0 < length r → 0 < row_height r
+    high [] are many = absurd (omega (arith, many))
+    high (tile ∷ r) are many = are.0.region.rows_least
+
+row-widths : (row : List Band) → AreMaps row
+    → All (λ (n : ℕ). 0 < n) (map (λ (tile : Band). tile.map.region.cols) row)
+row-widths [] maps = All-nil (λ (n : ℕ). 0 < n)
+row-widths (tile ∷ row) maps =
+    All-cons (λ (n : ℕ). 0 < n) tile.map.region.cols (map (λ (t : Band). t.map.region.cols) row)
+    maps.0.region.cols_least (row-widths row maps.1)
+
+pub some-widths : (tiles : List (List Band)) → AreMaps (all_tiles tiles) → All (λ (n : ℕ). 0 < n) (tile_widths tiles)
+some-widths [] maps = All-nil (λ (n : ℕ). 0 < n)
+some-widths (row ∷ tiles) maps =
+    row-widths row (maps-front row (all_tiles tiles)
+    (subst AreMaps (flat_map-cons (λ (r : List Band). r) row tiles) maps))
