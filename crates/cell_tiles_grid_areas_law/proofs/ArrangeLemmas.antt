@@ -8,7 +8,7 @@ use Rattle.std.proofs.lemmas.List.{length-map}
 use Rattle.std.proofs.lemmas.Option.{slice_get_past}
 use Rattle.cell_core_values.specs.Region.{RegionValue}
 use Rattle.cell_tiles_sides.specs.declared.sides_text.SidesText.{SidesText}
-use Rattle.cell_tiles_grid_areas.specs.BegunGrids.{LieUnder, RowFitsUnder, last_row}
+use Rattle.cell_tiles_grid_areas.specs.BegunGrids.{RowFitsUnder, last_row}
 use Rattle.cell_tiles_grid_areas.specs.TileTexts.{IsBelow, IsBeside, LieBeside, LiesBelow, RowFitsBelow}
 
 -- the regions of tiles, and of those of rows of tiles

@@ -1,9 +1,9 @@
 -- The cells of tiles, side by side and one row of tiles below the other, are those of the map that is cut into them.
-use Rattle.std.proofs.Common.{◌≡◌, ℕ, zero, suc, ◌+◌, ◌<◌, ◌≤◌, List, [], ◌∷◌, ◌++◌, length, map, take, get_or}
+use Rattle.std.proofs.Common.{◌≡◌, ℕ, zero, suc, ◌+◌, ◌<◌, List, [], ◌∷◌, length, take, get_or}
 use Rattle.std.proofs.Common.{Some, None}
-use Rattle.std.proofs.Common.{IsSome, refl, ap, sym, ◌∙◌, subst, arith, length-append, ⊎_elim, ℤ}
+use Rattle.std.proofs.Common.{IsSome, refl, ap, sym, ◌∙◌, subst, arith, length-append, ⊎_elim}
 use Rattle.std.specs.Prelude.{All, flat_map, slice_get, sum}
-use Rattle.std.specs.List.{AllZip, range_with_len}
+use Rattle.std.specs.List.{AllZip}
 use Rattle.std.proofs.lemmas.Bool.{cases_lt}
 use Rattle.std.proofs.lemmas.List.{get_or-append-add, get_or_append_left, get_or_past}
 use Rattle.std.proofs.lemmas.List.Concat.{flat_map-cons}

@@ -1,9 +1,9 @@
 -- Texts of sides that go together are told of by no fault.
-use Rattle.std.proofs.Common.{◌≡◌, ℕ, ◌<◌, true, false, Bool, not, List, [], ◌∷◌, ◌++◌, length, Some, None, inl}
+use Rattle.std.proofs.Common.{◌≡◌, ◌<◌, true, false, Bool, not, List, [], ◌∷◌, ◌++◌, length, Some, None, inl}
 use Rattle.std.proofs.Common.{inr, ◌⊎◌}
 use Rattle.std.proofs.Common.{Ok, Err, if◌then◌else◌, refl, ap, sym, ◌∙◌, subst, append_assoc, append-nil}
 use Rattle.std.specs.Prelude.{All, int_lt, slice_get}
-use Rattle.std.specs.List.{AllZip, last_or}
+use Rattle.std.specs.List.{AllZip}
 use Rattle.std.proofs.lemmas.Bool.{and_parts}
 use Rattle.std.proofs.lemmas.List.{map-append}
 use Rattle.std.proofs.lemmas.List.Concat.{flat_map-cons}
@@ -15,7 +15,7 @@ use Rattle.cell_tiles_sides.specs.declared.sides_text.SidesText.{SidesText}
 use Rattle.cell_tiles_grid_areas.specs.BegunGrids.{HaveBegun, last_row}
 use Rattle.cell_tiles_grid_areas.specs.TileTexts.{AreGridOf, AreTileRows, LieBeside, RowsLieBelow, SpellsTile}
 use Rattle.cell_tiles_grid_areas.specs.TileTexts.{tiles_in}
-use Rattle.cell_tiles_grid_areas.specs.AreasOfTiles.{GoesNowhere, HaveFewTiles, IsFaultOfTile, IsFirstSidesFault}
+use Rattle.cell_tiles_grid_areas.specs.AreasOfTiles.{GoesNowhere, HaveFewTiles, IsFirstSidesFault}
 use Rattle.cell_tiles_grid_areas.specs.AreasOfTiles.{IsTilesJoinFault, SpellsNowhere}
 use Rattle.cell_tiles_grid_areas.specs.declared.tiles_join_fault.TilesJoinFault.{TilesJoinFault}
 use Rattle.cell_tiles_grid_areas.specs.declared.tiles_join_fault.TilesJoinFault.TheVariants.{Apart, FewTiles, Memory}

@@ -1,27 +1,25 @@
 -- A text that spells the sides of a tile denotes one map of sides, and tells no fault.
-use Rattle.std.proofs.Common.{◌≡◌, ◌≢◌, ℕ, ℤ, ◌+◌, ◌*◌, ◌-◌, ◌/◌, ◌%◌, ◌<◌, ◌≤◌, List, [], length, get_or, map}
-use Rattle.std.proofs.Common.{Option, Some, None, IsSome, inl, inr, ◌⊎◌, refl, ap, sym, ◌∙◌, subst, arith, ⊎_elim}
-use Rattle.std.specs.Prelude.{All, slice_get}
-use Rattle.std.specs.List.{range_with_len}
+use Rattle.std.proofs.Common.{◌≡◌, ◌≢◌, ℕ, ◌+◌, ◌*◌, ◌/◌, ◌%◌, ◌<◌, ◌≤◌, List, [], length, get_or}
+use Rattle.std.proofs.Common.{Some, None, IsSome, inl, inr, refl, ap, sym, ◌∙◌, subst, arith, ⊎_elim}
+use Rattle.std.specs.Prelude.{slice_get}
 use Rattle.std.proofs.Math.Nat.{div-mul-le_self, le-max_right, mod-eq-sub-div-mul, mod-lt}
 use Rattle.std.proofs.lemmas.Bool.{cases_lt}
-use Rattle.std.proofs.lemmas.List.{get_or-append-add, get_or_past, length-map}
+use Rattle.std.proofs.lemmas.List.{get_or-append-add, get_or_past}
 use Rattle.std.proofs.lemmas.List.FromFn.{get_or-map-range_with_len}
 use Rattle.std.proofs.lemmas.Option.{slice_get-get_or, slice_get_past}
 use Rattle.cell_core_devices.specs.Device.{Coming}
-use Rattle.cell_core_values.specs.Region.{IsRegion, RegionValue}
-use Rattle.cell_core.specs.Grid.{CellValue, Grid, IsFilled, row_at}
+use Rattle.cell_core_values.specs.Region.{RegionValue}
+use Rattle.cell_core.specs.Grid.{CellValue, Grid, row_at}
 use Rattle.cell_ascii_meaning.specs.GridText.{Denotes}
-use Rattle.cell_tiles_edges.specs.EdgesText.{count_row}
 use Rattle.cell_tiles_edges.specs.PairFaults.{AreRowsFit, IsFirstPair, pair_fault}
-use Rattle.cell_tiles_areas_law.proofs.MapLemmas.{denoted-filled, no-fault, one-map}
+use Rattle.cell_tiles_areas_law.proofs.MapLemmas.{no-fault, one-map}
 use Rattle.cell_tiles_areas_law.proofs.RangeLemmas.{accepted-region}
 use Rattle.cell_tiles_grid.specs.declared.sides.AreaStart.{AreaStart}
 use Rattle.cell_tiles_grid.specs.declared.sides.TileSide.{TileSide}
 use Rattle.cell_tiles_grid.specs.declared.sides.TileSides.{TileSides}
-use Rattle.cell_tiles_sides.specs.SidesFaults.{AreRowsWrong, AreSidesFit, AreSidesWrong, IsInTile, IsNoSidesMap}
+use Rattle.cell_tiles_sides.specs.SidesFaults.{AreRowsWrong, AreSidesFit, AreSidesWrong, IsNoSidesMap}
 use Rattle.cell_tiles_sides.specs.SidesFaults.{IsSideFit}
-use Rattle.cell_tiles_sides.specs.SidesFaults.{IsSidesFault, IsStartRight, IsWrongStart, TellsBoth, TellsCount}
+use Rattle.cell_tiles_sides.specs.SidesFaults.{IsSidesFault, IsWrongStart, TellsBoth, TellsCount}
 use Rattle.cell_tiles_sides.specs.SidesFaults.{TellsTile}
 use Rattle.cell_tiles_sides.specs.SidesFaults.{lower_cell, side_places}
 use Rattle.cell_tiles_sides.specs.declared.cell_place.CellPlace.{CellPlace}

@@ -1,20 +1,19 @@
 -- The areas text of texts that were written of the tiles of a map is that of the undivided map.
-use Rattle.std.proofs.Common.{◌≡◌, ℕ, ℤ, pos, zero, suc, ◌+◌, ◌-◌, ◌<◌, List, [], ◌∷◌, ◌++◌, length, map, take}
+use Rattle.std.proofs.Common.{◌≡◌, ℕ, pos, zero, suc, ◌+◌, ◌-◌, ◌<◌, List, [], ◌∷◌, ◌++◌, length, map, take}
 use Rattle.std.proofs.Common.{get_or}
-use Rattle.std.proofs.Common.{Some, None, refl, ap, sym, ◌∙◌, subst, arith}
+use Rattle.std.proofs.Common.{Some, refl, ap, sym, ◌∙◌, subst, arith}
 use Rattle.std.specs.Prelude.{All, Vec, slice_get, slice_index, sum, sum_by}
 use Rattle.std.specs.Global.{Global}
 use Rattle.std.specs.List.{AllZip}
 use Rattle.std.proofs.lemmas.List.{length-map, map-append}
 use Rattle.std.proofs.lemmas.List.Concat.{flat_map-cons}
-use Rattle.std.proofs.lemmas.List.Elements.{All-from_get_or, All-head, All-tail}
+use Rattle.std.proofs.lemmas.List.Elements.{All-head, All-tail}
 use Rattle.std.proofs.lemmas.List.Sums.{sum_by-append, sum_by-cons}
 use Rattle.std.proofs.lemmas.Option.{slice_get-get_or, slice_get_within}
 use Rattle.cell_core_devices.specs.Device.{Coming}
-use Rattle.cell_core_values.specs.Region.{RegionValue}
 use Rattle.cell_core.specs.Grid.{CellValue, Grid, no_labels}
 use Rattle.cell_cats_areas.specs.declared.clump.Joining.{Joining}
-use Rattle.cell_cats_areas.specs.Areas.{HasNumber, Position, cell_at_spot}
+use Rattle.cell_cats_areas.specs.Areas.{HasNumber, cell_at_spot}
 use Rattle.cell_tiles_law.specs.AreaParts.{moved_position}
 use Rattle.cell_tiles_joining.specs.Bands.{Band, HasAreas}
 use Rattle.cell_tiles_areas_law.specs.WrittenBands.{map_regions}
@@ -25,7 +24,6 @@ use Rattle.cell_tiles_grid.specs.Grids.{tile_place}
 use Rattle.cell_tiles_grid.specs.declared.sides.TileSides.{TileSides}
 use Rattle.cell_tiles_sides.specs.declared.sides_text.SidesText.{SidesText}
 use Rattle.cell_tiles_grid_areas.specs.TileTexts.{SpellsTile, sides_of, tile_areas, tiles_in}
-use Rattle.cell_tiles_grid_areas.specs.AreasOfTiles.{IsTilesTextOf}
 use Rattle.cell_tiles_grid_areas_law.specs.TileGrids.{MakeGrid, all_tiles, row_height, rows_of_tiles, tile_heights}
 use Rattle.cell_tiles_grid_areas_law.specs.TileGrids.{tile_regions, tile_widths}
 use Rattle.cell_tiles_grid_areas_law.specs.WrittenTiles.{GridIsTold, HaveAreas, IsNumberedTile, IsSidesTextOf}

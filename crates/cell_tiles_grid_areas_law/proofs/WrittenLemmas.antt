@@ -4,14 +4,14 @@ use Rattle.std.proofs.Common.{suc}
 use Rattle.std.proofs.Common.{Option, Some, None, inl, inr, ◌⊎◌, refl, ap, sym, ◌∙◌, subst, arith, ⊎_elim}
 use Rattle.std.specs.Prelude.{All, slice_get}
 use Rattle.std.specs.List.{range_with_len}
-use Rattle.std.proofs.Math.Nat.{le-max_left, le-max_right, mul-le-mul_right}
+use Rattle.std.proofs.Math.Nat.{le-max_right, mul-le-mul_right}
 use Rattle.std.proofs.lemmas.Bool.{cases_lt, le-leb}
 use Rattle.std.proofs.lemmas.List.{get_or_past, length-map, length-replicate}
 use Rattle.std.proofs.lemmas.List.Elements.{All-append, All-cons, All-get_or, All-map, All-nil}
 use Rattle.std.proofs.lemmas.Option.{slice_get_cases}
 use Rattle.cell_core_devices.specs.Device.{Coming}
 use Rattle.cell_core_values.specs.Region.{IsRegion, RegionValue}
-use Rattle.cell_core.specs.Grid.{CellValue, Grid, IsFilled, row_at}
+use Rattle.cell_core.specs.Grid.{CellValue, IsFilled}
 use Rattle.cell_ascii_meaning.specs.GridText.{Denotes}
 use Rattle.cell_ascii_meaning.specs.GridWords.{usual_null}
 use Rattle.cell_ascii_law_written.specs.WrittenLaw.{IsWritable}
@@ -33,13 +33,11 @@ use Rattle.cell_tiles_grid.specs.declared.sides.TileSide.{TileSide}
 use Rattle.cell_tiles_grid.specs.declared.sides.TileSides.{TileSides}
 use Rattle.cell_tiles_sides.specs.FirstNumbers.{AreStarts}
 use Rattle.cell_tiles_sides.specs.SidesFaults.{AreSidesFit, IsInTile, IsSideFit}
-use Rattle.cell_tiles_sides.specs.declared.sides_text.SidesText.{SidesText}
 use Rattle.cell_tiles_sides.proofs.GridLemmas.{enough}
 use Rattle.cell_tiles_sides.proofs.PassLemmas.{in-map}
 use Rattle.cell_tiles_sides.proofs.TileLemmas.{first-at, starts-places}
 use Rattle.cell_tiles_sides_rows.proofs.LengthLemmas.{drawn-high, filled-long, start-long}
 use Rattle.cell_tiles_sides_rows.specs.SidesRows.{AreTellable, filled_row, longer_side, rows_for, sides_grid}
-use Rattle.cell_tiles_sides_rows.specs.SidesRows.{sides_region}
 use Rattle.cell_tiles_sides_rows.specs.SidesRows.{side_rows, start_cell, start_row, start_rows, upper_rows}
 use Rattle.cell_tiles_grid_areas.specs.TileTexts.{SpellsTile}
 use Rattle.cell_tiles_grid_areas_law.specs.WrittenTiles.{IsSidesTextOf}

@@ -1,0 +1,2 @@
+-- Lemmas on runs that number areas of tiles.
+pub mod TileLemmas

@@ -1,0 +1,3 @@
+-- Areas of tiles that runs numbered.
+pub mod TileRuns
+pub mod TileNumbers
