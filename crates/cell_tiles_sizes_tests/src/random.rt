@@ -14,7 +14,7 @@ const BANDS: u64 = 6;
 const STRETCHES: u64 = 3;
 
 // The greatest number that a stretch begins with.
-const NUMBERS: u64 = 9;
+const NUMBERS: u64 = 5;
 
 // The texts of bands, and the sizes of the areas of the whole, by their numbers: 0 where a number is left out.
 #[derive(Drop)]
