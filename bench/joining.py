@@ -33,6 +33,11 @@ ROW_OF_CATEGORIES = 4  # categories of the cells of an edge: few, so that areas 
 LENGTH_OF_A_RUN = 8
 ADDING = "NR == 1 || $1 != before { if (NR > 1) print before, cells; before = $1; cells = 0 } { cells += $2 } END { print before, cells }"
 MEGABYTE = 2**20
+BYTES_OF_THE_PROGRAM = 1_800_000
+BYTES_OF_A_LABEL = 16
+BYTES_OF_A_LINE = 32
+BYTES_OF_A_BAND = 8
+BYTES_OF_A_CELL = 8
 
 
 @dataclass
@@ -114,11 +119,13 @@ TABLES = ("Tables", "`rcell-join tables`, each entry in one of the tables, in al
 
 @dataclass
 class Made:
-    """Bands whose edges were written: their paths, the pairs of labels that meet over the cuts, and how many labels there are."""
+    """Bands whose edges were written: their paths, the pairs of labels that meet over the cuts, how many labels there are, and how many
+    of them are of areas with cells in the first or the last row of their band."""
 
     paths: list[str]
     pairs: str
     labels: int
+    at_cuts: int
     columns: int
 
 
@@ -132,9 +139,10 @@ def edge(random: np.random.Generator, columns: int, areas: int) -> tuple[Any, An
 
 def make_bands(folder: str, bands: int, columns: int, areas: int) -> Made:
     random = np.random.default_rng(bands + columns)
-    paths, pairs, above = [], [], None
+    paths, pairs, above, at_cuts = [], [], None, 0
     for band in range(bands):
         rows = [*edge(random, columns, areas), *edge(random, columns, areas)]
+        at_cuts += len(np.union1d(rows[1], rows[3]))
         paths.append(f"{folder}/{band:05d}.edges")
         with open(paths[-1], "w", encoding="ascii") as file:
             file.write(f"north: {-band}\nsouth: {-band - 1}\neast: {columns}\nwest: 0\nrows: 5\ncols: {columns}\n")
@@ -145,7 +153,7 @@ def make_bands(folder: str, bands: int, columns: int, areas: int) -> Made:
             pairs.append(np.unique(np.stack([above[1][meet] - 1 + (band - 1) * areas, rows[1][meet] - 1 + band * areas]), axis=1))
         above = rows[2:]
     np.save(f"{folder}/pairs.npy", np.concatenate(pairs, axis=1))
-    return Made(paths, f"{folder}/pairs.npy", bands * areas, columns)
+    return Made(paths, f"{folder}/pairs.npy", bands * areas, at_cuts, columns)
 
 
 UNION = """
@@ -174,6 +182,18 @@ def greatest_number(path: str) -> int:
     return int(ran.stdout)
 
 
+def lines_of(path: str) -> int:
+    """How many lines a text has."""
+    with open(path, "rb") as file:
+        return sum(1 for _ in file)
+
+
+def memory_of(made: Made, lines: int) -> int:
+    """What `areas` holds: itself, labels, the stretches of numbers that its text has as lines, counts of the bands, the edges of two."""
+    edges = 2 * 4 * BYTES_OF_A_CELL * made.columns
+    return BYTES_OF_THE_PROGRAM + BYTES_OF_A_LABEL * made.at_cuts + BYTES_OF_A_LINE * lines + BYTES_OF_A_BAND * len(made.paths) + edges
+
+
 def time_areas(program: str, folder: str, bands: int, columns: int, areas: int, rounds: int) -> Iterator[str]:
     made = make_bands(folder, bands, columns, areas)
     words = [program, "areas", *made.paths]
@@ -183,15 +203,15 @@ def time_areas(program: str, folder: str, bands: int, columns: int, areas: int, 
     costs = least({"join": lambda: cost_of([words]), "scipy": lambda: union(made)[1]}, rounds)
     join, scipy = costs["join"], costs["scipy"]
     text = sum(os.path.getsize(path) for path in made.paths)
-    formula = 8 * made.labels + 4 * 16 * columns
-    yield f"{bands:,} x {columns:,} | {made.labels:,} | {megabytes(text)} | {join.seconds:.2f} s | {scipy.seconds:.2f} s | {join.seconds / scipy.seconds:.2f} | " \
+    formula = memory_of(made, lines_of(f"{folder}/joined"))
+    yield f"{bands:,} x {columns:,} | {made.labels:,} | {made.at_cuts:,} | {megabytes(text)} | {join.seconds:.2f} s | {scipy.seconds:.2f} s | {join.seconds / scipy.seconds:.2f} | " \
           f"{1e9 * join.seconds / made.labels:.0f} ns | {1e9 * join.seconds / (5 * bands * columns):.0f} ns | {megabytes(join.memory)} | {megabytes(formula)} | " \
           f"{megabytes(scipy.memory)}"
 
 
 AREAS = ("Areas", "`rcell-join areas` of the edges of bands, in runs of 8 cells of four categories, and scipy's union of the same pairs, without "
          "the reading of texts, the search for pairs and the writing of numbers.",
-         "Bands x columns | areas | edges | rcell-join | scipy's union | ratio | an area | a cell of the edges | memory: rcell-join | formula | scipy")
+         "Bands x columns | areas | at cuts | edges | rcell-join | scipy's union | ratio | an area | a cell of the edges | memory: rcell-join | formula | scipy")
 
 
 # Sizes
