@@ -1,9 +1,10 @@
-"""Named cases of rcell-join: the words, the files and what must be answered. tools/join_model.py has to say the same of each."""
+"""Named cases of rcell-join: the words, the files and what must be answered. tools/join_words.py has to say the same of each."""
 from __future__ import annotations
 
 from typing import Iterator, Mapping
 
-from join_model import GREATEST_COUNT, USAGE, USAGES, Reply
+from join_model import GREATEST_COUNT, Reply
+from join_words import USAGE, USAGES
 from model_grids import Failing
 
 Files = Mapping[bytes, bytes | Failing]
@@ -31,7 +32,10 @@ def of_words() -> Iterator[Case]:
                             [b"edges"], [b"edges", b"a"], [b"edges", b"a", b"a", b"a"], [b"edges", b"-d", b"a", b"a"], [b"edges", b"a", b"--"],
                             [b"areas"], [b"areas", b"-d"], [b"areas", b"-d", b"-d"], [b"areas", b"-dd", b"a"], [b"areas", b"-", b"a"],
                             [b"areas", b"a", b"-x"], [b"areas", b"--", b"a"], [b"sizes"], [b"sizes", b"a"], [b"sizes", b"separator=comma", b"a"],
-                            [b"sizes", b"-d", b"a", b"a"], [b"sizes", b"-l", b"separator=comma", b"a", b"a"], [b"areas", b"-l", b"a"], [b"sizes", b"a", b"a", b"--"], [b"sizes", b"separator=ab", b"a"]):
+                            [b"sizes", b"-d", b"a", b"a"], [b"sizes", b"-l", b"separator=comma", b"a", b"a"], [b"areas", b"-l", b"a"],
+                            [b"sides"], [b"sides", b"a"], [b"sides", b"a", b"a", b"a"], [b"sides", b"-d", b"a", b"a"], [b"tiles"], [b"tiles", b"-d"],
+                            [b"tiles", b"-dd", b"a"], [b"tiles", b"a", b"--"], [b"tiles", b"-l", b"a"], [b"sizes", b"a", b"a", b"--"],
+                            [b"sizes", b"separator=ab", b"a"]):
         yield f"misuse {[command, *words]}", [command, *words], one, told(b"arguments", 0, USAGES[command], 2)
     bad = [[it] for it in (b"separator=ab", b"separator=1", b"separator=-", b"separator=", b"null_value=5", b"null_value=-5", b"null_value=", b"separator=*")]
     bad += [[b"separator=comma"] * 2, [b"null_value=x"] * 2, [b"separator=x", b"null_value=axb"], [b"null_value=" + b"x" * 65]]
@@ -43,7 +47,8 @@ def of_words() -> Iterator[Case]:
     for words, missing in (([b"tables", b"separator=d", b"nowhere", b"a"], b"nowhere"), ([b"tables", b"-l", b"separator=;", b"a", b"nowhere"], b"nowhere"),
                            ([b"tables", b"a", b"nowhere"], b"nowhere"), ([b"edges", b"a", b"nowhere"], b"nowhere"), ([b"edges", b"no", b"nowhere"], b"no"),
                            ([b"edges", b"separator=comma", b"a"], b"separator=comma"), ([b"areas", b"a", b"nowhere"], b"nowhere"),
-                           ([b"areas", b"a", b"null_value=5"], b"null_value=5"), ([b"sizes", b"no", b"a"], b"no"), ([b"sizes", b"a", b"no", b"nowhere"], b"no")):
+                           ([b"areas", b"a", b"null_value=5"], b"null_value=5"), ([b"sides", b"a", b"no"], b"no"), ([b"sides", b"no", b"nowhere"], b"no"),
+                           ([b"tiles", b"-d", b"a", b"no"], b"no"), ([b"sizes", b"no", b"a"], b"no"), ([b"sizes", b"a", b"no", b"nowhere"], b"no")):
         yield f"no file {words}", words, one, told(missing, 0, b"cannot open", 4)
 
 

@@ -1,8 +1,8 @@
-"""What rcell-join is tried on: tables at random, maps that are hard to cut, their bands, and texts that are damaged."""
+"""What rcell-join is tried on: tables at random, maps that are hard to cut, their bands and tiles, and texts that are damaged."""
 from __future__ import annotations
 
 import random
-from dataclasses import dataclass
+from dataclasses import dataclass, field
 from typing import Callable
 
 from join_model import NULL_LABEL, Format, Labels
@@ -10,6 +10,7 @@ from model_grids import COORDINATE_UNIT, Cell, CellMap, Region
 
 Rows = list[list[Cell]]
 Named = list[tuple[bytes, bytes]]  # names of files with their texts
+Span = tuple[int, int, int, int]  # rows and columns: the first, and the one behind the last
 Cells = tuple[tuple[bool, int], ...]  # each with whether it is null first
 
 FORMATS = [(Format(), []), (Format(b"|", b"NA"), [b"separator=pipe", b"null_value=NA"]), (Format(b","), [b"separator=,"]),
@@ -171,38 +172,65 @@ def in_region(draw: random.Random, rows: Rows) -> CellMap:
     return CellMap(Region(north, south, east, west, len(rows), len(rows[0])), rows)
 
 
-# Bands
+# Parts
 
 
 @dataclass(frozen=True)
 class Cut:
-    """A map, and the row behind each of its bands, from the top."""
+    """A map, and the row behind each of its bands, from the top; or behind each of its rows of tiles, with the column behind each of
+    its columns of tiles, from the left."""
 
     whole: CellMap
     ends: list[int]
+    col_ends: list[int] = field(default_factory=list)
 
     @property
-    def spans(self) -> list[tuple[int, int]]:
-        return list(zip([0, *self.ends], self.ends))
+    def name(self) -> str:
+        return f"tiles to {self.ends} and {self.col_ends}" if self.col_ends else f"bands to {self.ends}"
+
+    @property
+    def commands(self) -> tuple[bytes, bytes]:
+        """What writes the borders of a part, and what joins them."""
+        return (b"sides", b"tiles") if self.col_ends else (b"edges", b"areas")
+
+    @property
+    def spans(self) -> list[Span]:
+        """The rows and the columns of each part, up to the one behind it, row by row."""
+        cols = self.col_ends or [self.whole.region.cols]
+        return [(*rows, *span) for rows in zip([0, *self.ends], self.ends) for span in zip([0, *cols], cols)]
 
 
-def band_of(whole: CellMap, begin: int, end: int) -> CellMap:
-    """The rows from one up to another as a map of their own."""
-    region = whole.region
-    height = (region.north - region.south) // region.rows
-    north, south = region.north - begin * height, region.north - end * height
-    return CellMap(Region(north, south, region.east, region.west, end - begin, region.cols), whole.rows[begin:end])
+def part_of(whole: CellMap, span: Span) -> CellMap:
+    """Some rows and columns as a map of their own."""
+    region, (top, bottom, left, right) = whole.region, span
+    height, width = (region.north - region.south) // region.rows, (region.east - region.west) // region.cols
+    north, south = region.north - top * height, region.north - bottom * height
+    west, east = region.west + left * width, region.west + right * width
+    return CellMap(Region(north, south, east, west, bottom - top, right - left), [row[left:right] for row in whole.rows[top:bottom]])
+
+
+def random_ends(draw: random.Random, count: int) -> list[int]:
+    """Cut at random; into single rows or columns in some."""
+    if draw.random() < 0.15:
+        return list(range(1, count + 1))
+    return [*sorted(draw.sample(range(1, count), draw.randint(0, min(count - 1, 6)))), count]
 
 
 def random_cut(draw: random.Random, whole: CellMap) -> Cut:
-    """Cut at random; in bands of one row in some."""
-    rows = whole.region.rows
-    if draw.random() < 0.15:
-        return Cut(whole, list(range(1, rows + 1)))
-    inner = draw.sample(range(1, rows), draw.randint(0, min(rows - 1, 6)))
-    return Cut(whole, [*sorted(inner), rows])
+    return Cut(whole, random_ends(draw, whole.region.rows))
+
+
+def random_grid(draw: random.Random, whole: CellMap) -> Cut:
+    return Cut(whole, random_ends(draw, whole.region.rows), random_ends(draw, whole.region.cols))
 
 
 def every_cut(whole: CellMap) -> list[Cut]:
     rows = whole.region.rows
     return [Cut(whole, [row for row in range(1, rows) if chosen >> (row - 1) & 1] + [rows]) for chosen in range(2 ** (rows - 1))]
+
+
+def some_grids(draw: random.Random, whole: CellMap) -> list[Cut]:
+    """Single cells, single columns, halves, and grids at random."""
+    rows, cols = whole.region.rows, whole.region.cols
+    single = Cut(whole, list(range(1, rows + 1)), list(range(1, cols + 1)))
+    return [single, Cut(whole, [rows], single.col_ends), Cut(whole, [rows // 2, rows], [cols // 2, cols]), *(random_grid(draw, whole) for _ in range(4))]

@@ -5,9 +5,8 @@ by number. Grids are read and written by the model of rcell, tools/model_grids.p
 """
 from __future__ import annotations
 
-import re
 from dataclasses import dataclass
-from typing import Callable, Iterator, Mapping, Optional
+from typing import Iterator, Mapping, Optional
 
 from model_grids import Cell, CellMap, Failing, Refused, Region, grid_text, read_map
 
@@ -16,13 +15,7 @@ Reply = tuple[int, bytes, bytes]  # the status, the output and what is told
 
 MOST_BYTES, GREATEST_COUNT, GREATEST_CATEGORY = 4096, 2**64 - 1, 2**31 - 1
 MOST_SIZES = 2**44  # of eight bytes, in the addresses of x86-64
-USAGE = b"usage: rcell-join (tables|edges|areas|sizes) ..."
-USAGES = {b"tables": b"usage: rcell-join tables [-l] [separator=S] [null_value=N] FILE...", b"edges": b"usage: rcell-join edges MAP NUMBERS",
-          b"areas": b"usage: rcell-join areas [-d] EDGES...",
-          b"sizes": b"usage: rcell-join sizes [separator=S] [null_value=N] JOINED TABLE..."}
-VISIBLE = re.compile(rb"[!-~]{1,64}")
 NULL_LABEL = b"no data"
-SEPARATORS = {b"pipe": b"|", b"comma": b",", b"space": b" ", b"tab": b"\t"}
 
 
 class Fault(Exception):
@@ -388,74 +381,3 @@ def sizes(form: Format, names: list[bytes], given: list[bytes | Failing]) -> byt
         if number not in found:
             raise Fault(names[0], 0, b"number %d left out" % number)
     return b"".join(form.printed((((False, number),), size)) for number, size in sorted(found.items()))
-
-
-# The command line
-
-
-def misuse(text: bytes) -> Fault:
-    return Fault(b"arguments", 0, text, 2)
-
-
-def is_option(word: bytes) -> bool:
-    return word.startswith((b"separator=", b"null_value="))
-
-
-def is_wrong(key: bytes, value: bytes) -> bool:
-    """Whether the value of an option is one that r.stats refuses, too."""
-    if key == b"null_value":
-        return not VISIBLE.fullmatch(value)
-    return value not in SEPARATORS and not (len(value) == 1 and VISIBLE.fullmatch(value))
-
-
-def format_of(labels: bool, options: list[bytes]) -> Format:
-    given: dict[bytes, bytes] = {}
-    for key, _, value in (word.partition(b"=") for word in options):
-        if key in given or is_wrong(key, value):
-            raise misuse(b"bad option")
-        given[key] = SEPARATORS.get(value, value) if key == b"separator" else value
-    form = Format(given.get(b"separator", b" "), given.get(b"null_value", b"*"), labels)
-    if not form.is_clear():
-        raise misuse(b"bad option")
-    return form
-
-
-def is_utf8(word: bytes) -> bool:
-    try:
-        word.decode()
-    except UnicodeDecodeError:
-        return False
-    return True
-
-
-def with_options(join: Callable[[Format, list[bytes], list[bytes | Failing]], bytes], least: int, usage: bytes, words: list[bytes],
-                 files: Mapping[bytes, Given], labels: bool = False) -> bytes:
-    names = [word for word in words if not is_option(word)]
-    if len(names) < least or any(word.startswith(b"-") for word in words):
-        raise misuse(usage)
-    form = format_of(labels, [word for word in words if is_option(word)])
-    return join(form, names, opened(names, files))
-
-
-def output_of(words: list[bytes], files: Mapping[bytes, Given]) -> bytes:
-    command, *behind = words if words and all(is_utf8(word) for word in words) else [b""]
-    if command not in USAGES:
-        raise misuse(USAGE)
-    usage = USAGES[command]
-    if command == b"tables":
-        return with_options(tables, 1, usage, [word for word in behind if word != b"-l"], files, b"-l" in behind)
-    if command == b"sizes":
-        return with_options(sizes, 2, usage, behind, files)
-    names = [word for word in behind if command == b"edges" or word != b"-d"]
-    if (len(names) != 2 if command == b"edges" else not names) or any(word.startswith(b"-") for word in names):
-        raise misuse(usage)
-    given = opened(names, files)
-    return edges(names, given) if command == b"edges" else areas(b"-d" in behind, names, given)
-
-
-def answer(words: list[bytes], files: Mapping[bytes, Given]) -> Reply:
-    """What rcell-join answers to words, of files by their names."""
-    try:
-        return 0, output_of(words, files), b""
-    except Fault as fault:
-        return fault.reply()

@@ -5,9 +5,9 @@
 
 Of each command named cases; tables at random, short and long ones, with labels and without; maps cut into bands, each clumped by
 rcell, whose joined numbers and sizes must be those of the undivided map, cell by cell: hard shapes by every cut, random ones by cuts
-at random; tables with labels of such bands, whose joined text must be that of the undivided map; and damaged texts.
-Some reads move few bytes, and each growth and each write is refused in turn. CLANG compiles what refuses growths and cuts reads;
-without it these parts are left out. The last line is 'N passed, M failed'.
+at random; the same of maps cut into grids of tiles; tables with labels of bands, whose joined text must be that of the undivided
+map; and damaged texts. Some reads move few bytes, and each growth and each write is refused in turn. CLANG compiles what refuses
+growths and cuts reads; without it these parts are left out. The last line is 'N passed, M failed'.
 """
 from __future__ import annotations
 
@@ -23,7 +23,8 @@ from typing import IO, Any, Mapping
 import cases
 import join_cases
 import join_made
-import join_model
+import join_tile_cases
+import join_words
 from join_made import Cut, Named
 from join_model import Reply
 from model_grids import CellMap, Failing, grid_text, read_map
@@ -37,6 +38,7 @@ SECONDS = 120
 SCRIPT = b"".join(b"r.clump %sinput=m output=%s\nr.out.ascii input=%s\nr.stats -c input=%s\n" % (flag, name, name, name)
                   for flag, name in ((b"", b"e"), (b"-d ", b"d")))
 HEADER_LINES = 6
+NAMED = [*join_cases.named_cases(), *join_tile_cases.named_cases()]
 
 
 class Runner:
@@ -102,9 +104,9 @@ def difference(got: Reply, wanted: Reply) -> str:
 
 
 def try_named(runner: Runner, count: Count) -> None:
-    for name, words, files, wanted in join_cases.named_cases():
+    for name, words, files, wanted in NAMED:
         count.add(name, difference(runner.answer(words, files), wanted))
-        count.add(f"{name}, by the model", difference(join_model.answer(words, files), wanted))
+        count.add(f"{name}, by the model", difference(join_words.answer(words, files), wanted))
 
 
 def reads_of_pieces(draw: random.Random, shims: Mapping[str, str]) -> dict[str, str]:
@@ -117,7 +119,7 @@ def try_tables(runner: Runner, count: Count, shims: Mapping[str, str], seed: int
     form, options = draw.choice(join_made.FORMATS)
     files = dict((join_made.long_files if seed % LONG_IN == 0 else join_made.random_files)(draw, form))
     words = [b"tables", *options, *files]
-    count.add(f"seed {seed}", difference(runner.answer(words, files, **reads_of_pieces(draw, shims)), join_model.answer(words, files)))
+    count.add(f"seed {seed}", difference(runner.answer(words, files, **reads_of_pieces(draw, shims)), join_words.answer(words, files)))
 
 
 def try_labels(runner: Runner, count: Count, shims: Mapping[str, str], seed: int) -> None:
@@ -132,135 +134,142 @@ def try_labels(runner: Runner, count: Count, shims: Mapping[str, str], seed: int
             raise RuntimeError(told)
         return output
 
-    files = {b"t%d" % place: table(join_made.band_of(cut.whole, *span)) for place, span in enumerate(cut.spans)}
+    files = {b"t%d" % place: table(join_made.part_of(cut.whole, span)) for place, span in enumerate(cut.spans)}
     words = [b"tables", *options, *files]
     got = runner.answer(words, files, **reads_of_pieces(draw, shims))
-    wrong = difference(got, (0, table(cut.whole), b"")) or difference(join_model.answer(words, files), got)
-    count.add(f"labels {seed}, bands to {cut.ends}", wrong)
+    wrong = difference(got, (0, table(cut.whole), b"")) or difference(join_words.answer(words, files), got)
+    count.add(f"labels {seed}, {cut.name}", wrong)
 
 
-# Maps by bands
+# Maps by bands and by tiles
 
 
-class Bands:
-    """The texts of the bands of maps, each made once: of each adjacency the numbers, the table, and the edges by the program."""
+class Parts:
+    """The texts of the parts of a map, each made once: of each adjacency the numbers, the table, and the borders by the program."""
 
     def __init__(self, runner: Runner, draw: random.Random, shims: Mapping[str, str]):
         self.runner, self.draw, self.shims = runner, draw, shims
-        self.made: dict[tuple[int, int], list[tuple[bytes, bytes, bytes]]] = {}
+        self.made: dict[tuple[bytes, join_made.Span], list[tuple[bytes, bytes, bytes]]] = {}
         self.wrong = ""
 
     def answer(self, words: list[bytes], files: Mapping[bytes, bytes]) -> Reply:
         """What the program answers, which must be what the model does."""
         got = self.runner.answer(words, files, **reads_of_pieces(self.draw, self.shims))
-        self.wrong = self.wrong or difference(got, join_model.answer(words, files))
+        self.wrong = self.wrong or difference(got, join_words.answer(words, files))
         return got
 
-    def of(self, whole: CellMap, begin: int, end: int) -> list[tuple[bytes, bytes, bytes]]:
-        if (begin, end) not in self.made:
-            band = join_made.band_of(whole, begin, end)
-            cells, found = grid_text(band, b"*"), []
-            for numbers, table in self.runner.clumped(band):
-                _, edges, _ = self.answer([b"edges", b"map", b"numbers"], {b"map": cells, b"numbers": numbers})
-                found.append((numbers, table, edges))
-            self.made[begin, end] = found
-        return self.made[begin, end]
+    def of(self, cut: Cut, span: join_made.Span) -> list[tuple[bytes, bytes, bytes]]:
+        command = cut.commands[0]
+        if (command, span) not in self.made:
+            part = join_made.part_of(cut.whole, span)
+            cells, found = grid_text(part, b"*"), []
+            for numbers, table in self.runner.clumped(part):
+                _, borders, _ = self.answer([command, b"map", b"numbers"], {b"map": cells, b"numbers": numbers})
+                found.append((numbers, table, borders))
+            self.made[command, span] = found
+        return self.made[command, span]
 
 
 def numbers_told(text: bytes) -> dict[tuple[int, int], int]:
-    """The number in the whole of each area of each band, by an areas text."""
+    """The number in the whole of each area of each part, by an areas text."""
     lines = [tuple(map(int, line.split())) for line in text.splitlines()]
-    return {(band, area): number + area - first for band, first, last, number in lines for area in range(first, last + 1)}
+    return {(part, area): number + area - first for part, first, last, number in lines for area in range(first, last + 1)}
 
 
-def wrong_cells(joined: bytes, numbers: list[bytes], whole: bytes) -> str:
-    """Where the numbers of bands, by an areas text, are not those of the undivided map."""
-    told, rows = numbers_told(joined), []
-    for band, text in enumerate(numbers, 1):
-        rows += [[told[band, cell] if cell else None for cell in row] for row in read_map(b"numbers", text).rows]
-    return "" if rows == read_map(b"whole", whole).rows else f"other numbers: {joined!r} of {numbers}, and not {whole!r}"
+def wrong_cells(joined: bytes, cut: Cut, numbers: list[bytes], whole: bytes) -> str:
+    """Where the numbers of parts, by an areas text, are not those of the undivided map."""
+    told, wanted = numbers_told(joined), read_map(b"whole", whole).rows
+    rows = [list(row) for row in wanted]
+    for part, ((top, bottom, left, right), text) in enumerate(zip(cut.spans, numbers), 1):
+        for row, cells in zip(rows[top:bottom], read_map(b"numbers", text).rows):
+            row[left:right] = [told[part, cell] if cell else None for cell in cells]
+    return "" if rows == wanted else f"other numbers: {joined!r} of {numbers}, and not {whole!r}"
 
 
-def files_of_cut(bands: Bands, cut: Cut, adjacency: int) -> tuple[Named, Named, list[bytes]]:
-    """Names and texts of edges and of tables, and the texts of numbers."""
-    texts = [bands.of(cut.whole, *span)[adjacency] for span in cut.spans]
-    edges = [(b"e%d" % place, edges) for place, (_, _, edges) in enumerate(texts)]
-    return edges, [(b"t%d" % place, table) for place, (_, table, _) in enumerate(texts)], [numbers for numbers, _, _ in texts]
+def files_of_cut(parts: Parts, cut: Cut, adjacency: int) -> tuple[Named, Named, list[bytes]]:
+    """Names and texts of borders and of tables, and the texts of numbers."""
+    texts = [parts.of(cut, span)[adjacency] for span in cut.spans]
+    borders = [(b"e%d" % place, text) for place, (_, _, text) in enumerate(texts)]
+    return borders, [(b"t%d" % place, table) for place, (_, table, _) in enumerate(texts)], [numbers for numbers, _, _ in texts]
 
 
-def areas_words(adjacency: int, edges: Named) -> list[bytes]:
-    return [b"areas", *[b"-d"] * adjacency, *dict(edges)]
+def joining_words(cut: Cut, adjacency: int, borders: Named) -> list[bytes]:
+    return [cut.commands[1], *[b"-d"] * adjacency, *dict(borders)]
 
 
-def wrong_join(bands: Bands, cut: Cut, adjacency: int, whole: tuple[bytes, bytes]) -> str:
+def wrong_join(parts: Parts, cut: Cut, adjacency: int, whole: tuple[bytes, bytes]) -> str:
     """What is wrong with the areas of a cut, by edges (0) or by corners (1), beside the undivided map."""
-    edges, tables, numbers = files_of_cut(bands, cut, adjacency)
-    status, joined, told = bands.answer(areas_words(adjacency, edges), dict(edges))
-    if status or bands.wrong:
-        return bands.wrong or f"{status} {told}"
+    borders, tables, numbers = files_of_cut(parts, cut, adjacency)
+    status, joined, told = parts.answer(joining_words(cut, adjacency, borders), dict(borders))
+    if status or parts.wrong:
+        return parts.wrong or f"{status} {told}"
     of_numbers = b"".join(line for line in whole[1].splitlines(keepends=True) if not line.startswith(b"*"))
-    got = bands.answer([b"sizes", b"joined", *dict(tables)], {b"joined": joined, **dict(tables)})
-    return bands.wrong or wrong_cells(joined, numbers, whole[0]) or difference(got, (0, of_numbers, b""))
+    got = parts.answer([b"sizes", b"joined", *dict(tables)], {b"joined": joined, **dict(tables)})
+    return parts.wrong or wrong_cells(joined, cut, numbers, whole[0]) or difference(got, (0, of_numbers, b""))
 
 
-def try_cuts(runner: Runner, count: Count, shims: Mapping[str, str], name: str, draw: random.Random, cuts: list[Cut]) -> Bands:
-    bands, whole = Bands(runner, draw, shims), runner.clumped(cuts[0].whole)
+def try_cuts(runner: Runner, count: Count, shims: Mapping[str, str], name: str, draw: random.Random, cuts: list[Cut]) -> Parts:
+    parts, whole = Parts(runner, draw, shims), runner.clumped(cuts[0].whole)
     for cut in cuts:
         for adjacency in (0, 1):
-            wrong = wrong_join(bands, cut, adjacency, whole[adjacency])
-            count.add(f"{name}, bands to {cut.ends}, {('edges', 'corners')[adjacency]}", wrong)
-    return bands
+            wrong = wrong_join(parts, cut, adjacency, whole[adjacency])
+            count.add(f"{name}, {cut.name}, {('edges', 'corners')[adjacency]}", wrong)
+    return parts
 
 
 def try_random_map(runner: Runner, count: Count, shims: Mapping[str, str], seed: int) -> None:
     draw = random.Random(seed)
-    cut = join_made.random_cut(draw, join_made.random_map(draw))
-    bands = try_cuts(runner, count, shims, f"map {seed}", draw, [cut])
+    whole = join_made.random_map(draw)
+    cuts = [join_made.random_cut(draw, whole), join_made.random_grid(draw, whole)]
+    parts = try_cuts(runner, count, shims, f"map {seed}", draw, cuts)
     for place in range(DAMAGES):
-        words, files = damaged_texts(bands, draw, cut)
-        count.add(f"map {seed}, damage {place}", difference(runner.answer(words, files), join_model.answer(words, files)))
+        words, files = damaged_texts(parts, draw, cuts[place % 2])
+        count.add(f"map {seed}, damage {place}", difference(runner.answer(words, files), join_words.answer(words, files)))
 
 
-def damaged_texts(bands: Bands, draw: random.Random, cut: Cut) -> tuple[list[bytes], dict[bytes, bytes]]:
+def damaged_texts(parts: Parts, draw: random.Random, cut: Cut) -> tuple[list[bytes], dict[bytes, bytes]]:
     """Words and files of which one is damaged, is another's, or is there twice."""
-    adjacency, command = draw.randrange(2), draw.choice([b"edges", b"areas", b"areas", b"sizes", b"sizes"])
-    edges, tables, numbers = files_of_cut(bands, cut, adjacency)
-    if command == b"edges":
+    writes, joins = cut.commands
+    adjacency, command = draw.randrange(2), draw.choice([writes, joins, joins, b"sizes", b"sizes"])
+    borders, tables, numbers = files_of_cut(parts, cut, adjacency)
+    if command == writes:
         place = draw.randrange(len(numbers))
-        cells = grid_text(join_made.band_of(cut.whole, *cut.spans[place]), b"*")
+        cells = grid_text(join_made.part_of(cut.whole, cut.spans[place]), b"*")
         files: Named = [(b"map", cells), (b"numbers", numbers[place])]
-    elif command == b"areas":
-        files = edges
+    elif command == joins:
+        files = borders
     else:
-        files = [(b"joined", join_model.answer(areas_words(adjacency, edges), dict(edges))[1]), *tables]
+        files = [(b"joined", join_words.answer(joining_words(cut, adjacency, borders), dict(borders))[1]), *tables]
     names, texts = [name for name, _ in files], [text for _, text in files]
     at, other, kind = draw.randrange(len(files)), draw.randrange(len(files)), draw.randrange(8)
     if kind == 0:
         texts[at], texts[other] = texts[other], texts[at]
-    elif kind == 1 and command != b"edges":
+    elif kind == 1 and command != writes:
         names.insert(at, names[other])
         texts.insert(at, texts[other])
     elif kind == 2 and len(files) > 2:
         del names[at], texts[at]
     else:
         texts[at] = join_made.damaged(draw, texts[at])
-    return [command, *[b"-d"] * (adjacency * (command == b"areas")), *names], dict(zip(names, texts))
+    return [command, *[b"-d"] * (adjacency * (command == joins)), *names], dict(zip(names, texts))
 
 
 def try_maps(runner: Runner, count: Count, shims: Mapping[str, str], seeds: range) -> None:
     for name, shape in join_made.SHAPES.items():
         draw = random.Random(name)
-        try_cuts(runner, count, shims, name, draw, join_made.every_cut(join_made.in_region(draw, shape(5, 7))))
+        whole = join_made.in_region(draw, shape(5, 7))
+        try_cuts(runner, count, shims, name, draw, join_made.every_cut(whole) + join_made.some_grids(draw, whole))
     for seed in seeds:
         try_random_map(runner, count, shims, seed)
         try_labels(runner, count, shims, seed)
     for name, rows, cols in (("comb", 120, 401), ("spiral", 161, 150), ("checkerboard", 150, 201)):
         draw = random.Random(name)
         whole = join_made.in_region(draw, join_made.SHAPES[name](rows, cols))
-        try_cuts(runner, count, shims, f"long {name}", draw, [Cut(whole, [1, 2, 50, 51, rows - 1, rows])])
+        ends, col_ends = [1, 2, 50, 51, rows - 1, rows], [1, 75, 76, cols]
+        try_cuts(runner, count, shims, f"long {name}", draw, [Cut(whole, ends), Cut(whole, ends, col_ends)])
     draw = random.Random(1)
     noise = join_made.in_region(draw, [[draw.randrange(3) or None for _ in range(300)] for _ in range(200)])
-    try_cuts(runner, count, shims, "noise", draw, [Cut(noise, list(range(10, 201, 10)))])
+    try_cuts(runner, count, shims, "noise", draw, [Cut(noise, list(range(10, 201, 10))), Cut(noise, [60, 130, 200], [70, 71, 150, 300])])
 
 
 # Refusals of the system
@@ -302,12 +311,12 @@ def growths_refused(runner: Runner, words: list[bytes], files: Mapping[bytes, by
 
 
 def try_refusals(runner: Runner, count: Count, shims: Mapping[str, str]) -> None:
-    named = {name: (words, files) for name, words, files, _ in join_cases.named_cases()}
+    named = {name: (words, files) for name, words, files, _ in NAMED}
     three = {b"a": b"1 2 3\n1 * 4\n2 2 2\n", b"b": b"0 1 9\n1 2 1\n", b"c": b""}
     two = {b"a": b"1;forest;3\n2;;2\n", b"b": b"1;forest;9\n*;no data;1\n"}
-    runs = {"tables": ([b"tables", *three], three), "tables with labels": ([b"tables", b"-l", b"separator=;", *two], two), **{name: named[name] for name in ("edges of a band", "areas by edges", "sizes")}}
+    runs = {"tables": ([b"tables", *three], three), "tables with labels": ([b"tables", b"-l", b"separator=;", *two], two), **{name: named[name] for name in ("edges of a band", "areas by edges", "sides of a tile", "tiles by edges", "sizes")}}
     for name, (words, files) in runs.items():
-        wanted = join_model.answer(words, files)[1]
+        wanted = join_words.answer(words, files)[1]
         count.add(f"{name}, outputs of each size", limited(runner, words, files, wanted))
         if shims:
             count.add(f"{name}, each growth refused", growths_refused(runner, words, files, wanted, shims["refuse"]))

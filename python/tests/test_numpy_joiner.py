@@ -7,13 +7,14 @@ import subprocess
 import sys
 import tempfile
 import unittest
+from collections.abc import Callable
 from typing import Any
 
 import numpy as np
 
 import rcell
 from rcell import _joiner
-from rcell._joiner import joined, joined_areas, joined_sizes
+from rcell._joiner import joined, joined_areas, joined_sizes, joined_tiles
 from rcell._maps import ArrayMap
 from rcell._merging import Counts, TooManyCells, counts_of, merge
 from rcell._numbers import NULL
@@ -95,48 +96,66 @@ def clumped(cells: Any, diagonal: bool) -> tuple[Any, bytes]:
     return np.maximum(numbers, 0), table_text(f"{clump_script(diagonal)}\nr.stats -c input=k", maps)
 
 
-def grid_text(cells: Any, null: int, top: int) -> bytes:
-    """A grid of the rows from `top` on of a map whose cells have sides of 1."""
+def grid_text(cells: Any, null: int, top: int, left: int = 0) -> bytes:
+    """A grid of the rows and columns from `top` and `left` on of a map whose cells have sides of 1."""
     rows, cols = cells.shape
     lines = [" ".join("*" if cell == null else str(cell) for cell in row) for row in cells.tolist()]
-    return "\n".join([f"north: {-top}", f"south: {-top - rows}", f"east: {cols}", "west: 0", f"rows: {rows}", f"cols: {cols}", *lines, ""]).encode()
+    return "\n".join([f"north: {-top}", f"south: {-top - rows}", f"east: {left + cols}", f"west: {left}", f"rows: {rows}", f"cols: {cols}", *lines, ""]).encode()
 
 
-def edges_of(cells: Any, numbers: Any, top: int) -> bytes:
+def borders_of(command: str, cells: Any, numbers: Any, top: int, left: int) -> bytes:
+    """The edges or the sides of a part, as the program writes them."""
     with tempfile.TemporaryDirectory() as folder:
-        for name, text in (("map", grid_text(cells, NULL_CELL, top)), ("numbers", grid_text(numbers, 0, top))):
+        for name, text in (("map", grid_text(cells, NULL_CELL, top, left)), ("numbers", grid_text(numbers, 0, top, left))):
             with open(f"{folder}/{name}", "wb") as file:
                 file.write(text)
-        return subprocess.run([rcell.joiner(), "edges", "map", "numbers"], cwd=folder, capture_output=True, check=True).stdout
+        return subprocess.run([rcell.joiner(), command, "map", "numbers"], cwd=folder, capture_output=True, check=True).stdout
 
 
-class Bands(unittest.TestCase):
+class Parts(unittest.TestCase):
+    """Bands and the tiles of grids."""
+
     def test_areas_of_bands_join_to_those_of_the_whole(self) -> None:
         for seed in range(TILINGS // 2):
-            random = np.random.default_rng(seed)
-            cells = random.choice(np.array([1, 1, 2, 30, NULL_CELL], np.uint8), random.integers(1, 12, 2))
-            diagonal = bool(seed % 2)
-            parts = [(top, np.ascontiguousarray(cells[top:low])) for top, low in cuts(random, len(cells))]
-            own = [clumped(part, diagonal) for _, part in parts]
-            text = joined_areas([edges_of(part, numbers, top) for (top, part), (numbers, _) in zip(parts, own)], diagonal)
-            with self.subTest(seed=seed):
-                expected, table = clumped(cells, diagonal)
-                self.assertEqual(self.renumbered(text, [numbers for numbers, _ in own]).tolist(), expected.tolist())
-                sizes = joined_sizes(text, [part for _, part in own])
-                self.assertEqual(sizes, b"".join(line for line in table.splitlines(keepends=True) if not line.startswith(b"*")))
+            self.assert_joins(seed, "edges", joined_areas)
 
-    def renumbered(self, text: bytes, bands: list[Any]) -> Any:
-        """The numbers of bands with those of the whole in their place."""
-        found = [np.zeros(band.max() + 1, np.int64) for band in bands]
-        for band, first, last, number in (map(int, line.split()) for line in text.splitlines()):
-            found[band - 1][first : last + 1] = np.arange(number, number + last - first + 1)
-        return np.concatenate([table[band] for table, band in zip(found, bands)])
+    def test_areas_of_tiles_join_to_those_of_the_whole(self) -> None:
+        for seed in range(TILINGS // 2):
+            self.assert_joins(seed, "sides", joined_tiles)
+
+    def assert_joins(self, seed: int, command: str, join: Callable[[list[bytes], bool], bytes]) -> None:
+        random = np.random.default_rng(seed)
+        cells = random.choice(np.array([1, 1, 2, 30, NULL_CELL], np.uint8), random.integers(1, 12, 2))
+        rows, cols = cells.shape
+        diagonal = bool(seed % 2)
+        heights, widths = cuts(random, rows), [(0, cols)] if command == "edges" else cuts(random, cols)
+        places = [(top, low, left, right) for top, low in heights for left, right in widths]
+        parts = [np.ascontiguousarray(cells[top:low, left:right]) for top, low, left, right in places]
+        own = [clumped(part, diagonal) for part in parts]
+        text = join([borders_of(command, part, numbers, place[0], place[2]) for place, part, (numbers, _) in zip(places, parts, own)], diagonal)
+        with self.subTest(seed=seed, command=command):
+            expected, table = clumped(cells, diagonal)
+            found = np.zeros(cells.shape, np.int64)
+            for (top, low, left, right), numbers in zip(places, self.renumbered(text, [numbers for numbers, _ in own])):
+                found[top:low, left:right] = numbers
+            self.assertEqual(found.tolist(), expected.tolist())
+            sizes = joined_sizes(text, [part for _, part in own])
+            self.assertEqual(sizes, b"".join(line for line in table.splitlines(keepends=True) if not line.startswith(b"*")))
+
+    def renumbered(self, text: bytes, parts: list[Any]) -> list[Any]:
+        """The numbers of parts with those of the whole in their place."""
+        found = [np.zeros(part.max() + 1, np.int64) for part in parts]
+        for part, first, last, number in (map(int, line.split()) for line in text.splitlines()):
+            found[part - 1][first : last + 1] = np.arange(number, number + last - first + 1)
+        return [table[part] for table, part in zip(found, parts)]
 
     def test_refused(self) -> None:
         one = grid_text(np.array([[7, 7], [1, 1], [7, 7], [1, 1], [1, 0]]), 0, 0)
         for edges in ([one, one], [one[:-4]], [b""]):
             with self.subTest(edges=edges), self.assertRaises(rcell.WrongProgram):
                 joined_areas(edges)
+            with self.subTest(sides=edges), self.assertRaises(rcell.WrongProgram):
+                joined_tiles(edges)
         refused: list[tuple[bytes, list[bytes]]] = [(b"1 1 2 1\n", [b"1 1\n"]), (b"1 1 1 1\n", []), (b"1 1 1 2\n", [b"1 1\n"])]
         for areas, tables in refused:
             with self.subTest(areas=areas), self.assertRaises(rcell.WrongProgram):

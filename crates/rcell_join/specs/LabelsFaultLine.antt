@@ -2,7 +2,7 @@
 use Rattle.std.specs.Prelude.{ℕ, List, Option, Some, None}
 use Rattle.cell_tiles_labels.specs.declared.label_fault.LabelFault.{LabelFault}
 use Rattle.cell_tiles_labels.specs.declared.label_fault.LabelFault.TheVariants.{Join, OtherLabel}
-use Rattle.rcell_join.specs.FaultLines.{path_at_place}
+use Rattle.rcell_join_lines.specs.FaultLines.{path_at_place}
 use Rattle.rcell_join.specs.TablesFaultLine.{tables_fault_line_number, tables_fault_source, tables_fault_status, tables_fault_text}
 use Rattle.rcell_join.specs.declared.labels_fault_line.LabelsFaultText.{LabelsFaultText}
 use Rattle.rcell_join.specs.declared.labels_fault_line.LabelsFaultText.TheVariants as texts

@@ -1,8 +1,4 @@
--- What the program tells where nothing, or not all, was joined.
-pub mod FaultLines
-pub mod KindStatuses
+-- What the program tells where tables or sizes were not joined, or not all.
 pub mod TablesFaultLine
 pub mod LabelsFaultLine
-pub mod EdgesFaultLine
-pub mod AreasFaultLine
 pub mod SizesFaultLine

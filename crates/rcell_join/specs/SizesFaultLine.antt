@@ -2,8 +2,8 @@
 use Rattle.std.specs.Prelude.{ℕ, List, Option, Some, None, codes}
 use Rattle.cell_tiles_sizes.specs.declared.size_fault.SizesFault.{SizesFault}
 use Rattle.cell_tiles_sizes.specs.declared.size_fault.SizesFault.TheVariants.{Areas, NumberLeftOut, NoTable, Table, OtherArea, TooGreat, TooLong, Memory, Write}
-use Rattle.rcell_join.specs.FaultLines.{path_at_place}
-use Rattle.rcell_join.specs.KindStatuses.{areas_kind_status, table_kind_status}
+use Rattle.rcell_join_lines.specs.FaultLines.{path_at_place}
+use Rattle.rcell_join_lines.specs.KindStatuses.{areas_kind_status, table_kind_status}
 use Rattle.rcell_join.specs.declared.sizes_fault_line.SizesFaultText.{SizesFaultText}
 use Rattle.rcell_join.specs.declared.sizes_fault_line.SizesFaultText.TheVariants as texts
 

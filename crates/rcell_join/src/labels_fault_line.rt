@@ -3,7 +3,6 @@
 ghost use Rattle.std.specs.Prelude.{◌≡◌, is_some, IfSome, map};
 ghost use Rattle.rcell_join.specs.LabelsFaultLine.{labels_fault_line_number, labels_fault_source, labels_fault_text, labels_status};
 
-use crate::fault_line::{FaultLine, path_at};
 use crate::tables_fault_line::{
     TablesFaultText, tables_fault_line_number, tables_fault_source, tables_fault_status,
     tables_fault_text,
@@ -11,6 +10,7 @@ use crate::tables_fault_line::{
 use bstr::ByteSlice;
 use cell_tiles_labels::label_fault::{LabelFault, OtherLabel};
 use cell_tiles_labels::label_joining::LabelOutcome;
+use rcell_join_lines::fault_line::{FaultLine, path_at};
 use std::fmt;
 use thiserror::Error;
 

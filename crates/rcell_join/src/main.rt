@@ -1,35 +1,37 @@
-//! The program `rcell-join`: joins what parts of maps gave, by `rcell-join tables`, `edges`, `areas` or `sizes`.
+//! The program `rcell-join`: joins what parts of maps gave, by `rcell-join tables`, `edges`, `areas`, `sides`,
+//! `tiles` or `sizes`.
 #![tactic(auto)]
 
-mod areas_fault_line;
-mod edges_fault_line;
-mod fault_line;
-mod kind_status;
 mod labels_fault_line;
 mod sizes_fault_line;
 mod tables_fault_line;
 
-use crate::areas_fault_line::{areas_fault_line, areas_status};
-use crate::edges_fault_line::{edges_fault_line, edges_status};
-use crate::fault_line::{FaultLine, refusal_line};
 use crate::labels_fault_line::{labels_fault_line, labels_status};
 use crate::sizes_fault_line::{sizes_fault_line, sizes_status};
 use crate::tables_fault_line::{tables_fault_line, tables_status};
 use cell_cats_areas::clump::Joining;
 use cell_core::sink::WriteSink;
+use cell_core::source::ReadSource;
 use cell_tiles_areas::areas_joining::join_edges_texts;
 use cell_tiles_edges::band_edges::write_edges;
+use cell_tiles_grid_areas::tiles_joining::join_sides_texts;
 use cell_tiles_labels::label_joining::join_labelled_texts;
+use cell_tiles_sides::tile_sides::write_sides;
 use cell_tiles_sizes::table_sizes::join_table_sizes;
 use cell_tiles_tables::table_joining::join_texts;
+use rcell_join_lines::areas_fault_line::{areas_fault_line, areas_status};
+use rcell_join_lines::edges_fault_line::{edges_fault_line, edges_status};
+use rcell_join_lines::fault_line::{report, tell};
+use rcell_join_lines::sides_fault_line::{sides_fault_line, sides_status};
+use rcell_join_lines::tiles_fault_line::{tiles_fault_line, tiles_status};
 use rcell_join_request::command_words::read_words;
 use rcell_join_request::opening::{open_file, open_files};
 use rcell_join_request::refusal::{Refusal, Usage};
 use rcell_join_request::request::{Request, TableFormat};
+use std::env;
 use std::io::{self, ErrorKind};
 use std::process::ExitCode;
 use std::rt::{Env, Files};
-use std::{env, fmt};
 
 // The words that the program was given, its own name first.
 fn words_given<R: Env + AllocGlobal>(rt: &R) -> Result<Vec<String>, Refusal> {
@@ -38,20 +40,6 @@ fn words_given<R: Env + AllocGlobal>(rt: &R) -> Result<Vec<String>, Refusal> {
         _ => Refusal::Usage(Usage::AnyCommand),
     })?;
     given.collect(rt.alloc()).map_err(|_| Refusal::Memory)
-}
-
-// Reports a refusal on standard error, and returns its status. Where standard error takes nothing, the status still says it.
-fn tell<R: Eprint>(rt: &R, refusal: Refusal, paths: &[&str]) -> u8 {
-    let line = refusal_line(refusal, paths);
-    let _ = eprintln!(rt; "{line}");
-    refusal.status()
-}
-
-// Reports a fault on standard error, if there is one.
-fn report<R: Eprint, T: fmt::Display + Drop>(rt: &R, told: Option<FaultLine<'_, T>>) {
-    if let Some(line) = told {
-        let _ = eprintln!(rt; "{line}");
-    }
 }
 
 // Joins tables of parts to the table of the whole, with labels where they have them.
@@ -77,19 +65,31 @@ fn join_tables<R: Files + Print + Eprint + AllocGlobal>(
     status
 }
 
+// The files of a map and its numbers, opened; the status of a refusal, which is told, where they are not.
+fn open_both<R: Files + Eprint>(
+    rt: &R,
+    map: &str,
+    numbers: &str,
+) -> Result<(ReadSource<R::File>, ReadSource<R::File>), u8> {
+    let map_source = match open_file(rt, map, 0) {
+        Ok(source) => source,
+        Err(refusal) => return Err(tell(rt, refusal, &[map])),
+    };
+    match open_file(rt, numbers, 0) {
+        Ok(number_source) => Ok((map_source, number_source)),
+        Err(refusal) => Err(tell(rt, refusal, &[numbers])),
+    }
+}
+
 // Writes the edges of a band.
 fn write_band_edges<R: Files + Print + Eprint + AllocGlobal>(
     rt: &R,
     map: &str,
     numbers: &str,
 ) -> u8 {
-    let map_source = match open_file(rt, map, 0) {
-        Ok(source) => source,
-        Err(refusal) => return tell(rt, refusal, &[map]),
-    };
-    let number_source = match open_file(rt, numbers, 0) {
-        Ok(source) => source,
-        Err(refusal) => return tell(rt, refusal, &[numbers]),
+    let (map_source, number_source) = match open_both(rt, map, numbers) {
+        Ok(sources) => sources,
+        Err(status) => return status,
     };
     let mut output = WriteSink::new(io::writer(rt));
     let outcome = write_edges(rt.alloc(), map_source, number_source, &mut output);
@@ -113,7 +113,39 @@ fn join_areas<R: Files + Print + Eprint + AllocGlobal>(
     areas_status(outcome.fault)
 }
 
-// Adds up the sizes of the areas of bands.
+// Writes the sides of a tile.
+fn write_tile_sides<R: Files + Print + Eprint + AllocGlobal>(
+    rt: &R,
+    map: &str,
+    numbers: &str,
+) -> u8 {
+    let (map_source, number_source) = match open_both(rt, map, numbers) {
+        Ok(sources) => sources,
+        Err(status) => return status,
+    };
+    let mut output = WriteSink::new(io::writer(rt));
+    let outcome = write_sides(rt.alloc(), map_source, number_source, &mut output);
+    report(rt, sides_fault_line(outcome, map, numbers));
+    sides_status(outcome.fault)
+}
+
+// Joins the areas of the tiles of a grid to those of the whole.
+fn join_tiles<R: Files + Print + Eprint + AllocGlobal>(
+    rt: &R,
+    joining: Joining,
+    paths: &[&str],
+) -> u8 {
+    let sources = match open_files(rt, paths) {
+        Ok(sources) => sources,
+        Err(refusal) => return tell(rt, refusal, paths),
+    };
+    let mut output = WriteSink::new(io::writer(rt));
+    let outcome = join_sides_texts(rt.alloc(), joining, sources, &mut output);
+    report(rt, tiles_fault_line(outcome, paths));
+    tiles_status(outcome.fault)
+}
+
+// Adds up the sizes of the areas of bands or of tiles.
 fn add_sizes<R: Files + Print + Eprint + AllocGlobal>(
     rt: &R,
     format: &TableFormat,
@@ -148,6 +180,8 @@ fn work<R: Env + Files + Print + Eprint + AllocGlobal>(rt: &R) -> u8 {
         Request::Tables { format, tables } => join_tables(rt, &format, &tables),
         Request::Edges { map, numbers } => write_band_edges(rt, map, numbers),
         Request::Areas { joining, bands } => join_areas(rt, joining, &bands),
+        Request::Sides { map, numbers } => write_tile_sides(rt, map, numbers),
+        Request::Tiles { joining, tiles } => join_tiles(rt, joining, &tiles),
         Request::Sizes {
             format,
             joined,

@@ -4,11 +4,11 @@ use Rattle.std.proofs.lemmas.Bool.{eqb-true}
 use Rattle.std.specs.List.{remove, slice_index_or}
 use Rattle.clap.specs.Walk.{Text, texts}
 use Rattle.cell_core_text.specs.Answers.{◌>>=◌}
-use Rattle.rcell_join_request.specs.CommandLine.{Areas, Sizes, Tables}
-use Rattle.rcell_join_request.specs.CommandLine.{asked_areas, asked_labelled, asked_sizes, bands_in}
+use Rattle.rcell_join_request.specs.CommandLine.{Sizes, Tables}
+use Rattle.rcell_join_request.specs.CommandLine.{asked_labelled, asked_sizes, joined_parts, parts_in}
 use Rattle.rcell_join_request.specs.CommandLine.{format_in, has_hyphen_word, joining_in, paths_in}
-use Rattle.rcell_join_request.specs.declared.refusal.Refusal.TheVariants.{Usage}
-use Rattle.rcell_join_request.specs.declared.refusal.Usage.TheVariants as usages
+use Rattle.rcell_join_request.specs.declared.refusal.Refusal.TheVariants as refusals
+use Rattle.rcell_join_request.specs.declared.refusal.Usage.{Usage}
 
 apart : {X : Type 0} → true ≡ false → X
 apart bad = cc
@@ -32,22 +32,23 @@ sizes_read words (one ∷ two ∷ rest) joined tables plain are some first other
     let those : tables ≡ two ∷ rest = others in
     rw (plain, ← are, is, those) refl
 
--- edges, by the flag or without it
-pub areas_read : (words : List Text) (found : List (Bor Text)) → has_hyphen_word (bands_in words) ≡ false
-    → texts found ≡ bands_in words → (length found == 0) ≡ false
-    → asked_areas words ≡ Ok (Areas (joining_in words) (texts found))
-areas_read words [] plain are some = apart some
-areas_read words (band ∷ bands) plain are some = rw (plain, ← are) refl
+-- parts, by the flag or without it
+pub parts_read : (usage : Usage) (words : List Text) (found : List (Bor Text))
+    → has_hyphen_word (parts_in words) ≡ false
+    → texts found ≡ parts_in words → (length found == 0) ≡ false
+    → joined_parts usage words ≡ Ok (joining_in words, texts found)
+parts_read usage words [] plain are some = apart some
+parts_read usage words (part ∷ parts) plain are some = rw (plain, ← are) refl
 
 -- none
-pub areas_lack : (words : List Text) (found : List (Bor Text)) → texts found ≡ bands_in words
-    → (length found == 0) ≡ true → asked_areas words ≡ Err (Usage usages.Areas)
-areas_lack words [] are none = rw (← are) refl
-areas_lack words (band ∷ bands) are none =
-    let bad : length (band ∷ bands) ≡ 0 = eqb-true _ _ none in
+pub parts_lack : (usage : Usage) (words : List Text) (found : List (Bor Text)) → texts found ≡ parts_in words
+    → (length found == 0) ≡ true → joined_parts usage words ≡ Err (refusals.Usage usage)
+parts_lack usage words [] are none = rw (← are) refl
+parts_lack usage words (part ∷ parts) are none =
+    let bad : length (part ∷ parts) ≡ 0 = eqb-true _ _ none in
     absurd (omega (arith, bad))
 
 -- a word with a hyphen in front
-pub areas_misused : (words : List Text) → has_hyphen_word (bands_in words) ≡ true
-    → asked_areas words ≡ Err (Usage usages.Areas)
-areas_misused words flagged = rw flagged refl
+pub parts_misused : (usage : Usage) (words : List Text) → has_hyphen_word (parts_in words) ≡ true
+    → joined_parts usage words ≡ Err (refusals.Usage usage)
+parts_misused usage words flagged = rw flagged refl

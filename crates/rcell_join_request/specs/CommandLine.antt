@@ -1,4 +1,4 @@
--- What the words of a command line ask for: rcell-join tables, edges, areas or sizes, and what stands behind it (profile).
+-- What the words of a command line ask for: rcell-join tables, edges, areas, sides, tiles or sizes, and what stands behind it (profile).
 use Rattle.std.specs.Prelude.{ℕ, Bool, not, List, [], ◌∷◌, ◌==◌, ◌||◌, false, true, map, Result, Ok, Err, is_some, unwrap_or, if◌then◌else◌, bytes_eq, codes}
 use Rattle.std.specs.List.{filter, list_any}
 use Rattle.cell_ascii_meaning.specs.Header.{usual_null}
@@ -13,7 +13,8 @@ use Rattle.rcell_script_options.specs.Options.{value_in}
 use Rattle.rcell_script_options.specs.declared.option_fault.OptionFault.{OptionFault}
 use Rattle.rcell_script_options.specs.declared.options.Form.TheVariants.{Stats}
 use Rattle.rcell_join_request.specs.declared.refusal.Refusal.{Refusal}
-use Rattle.rcell_join_request.specs.declared.refusal.Refusal.TheVariants.{Usage, BadOption}
+use Rattle.rcell_join_request.specs.declared.refusal.Refusal.TheVariants as refusals
+use Rattle.rcell_join_request.specs.declared.refusal.Usage.{Usage}
 use Rattle.rcell_join_request.specs.declared.refusal.Usage.TheVariants as usages
 use Rattle.rcell_join_request.specs.declared.request.Request.{Request}
 use Rattle.rcell_join_request.specs.declared.request.Request.TheVariants as requests
@@ -23,6 +24,8 @@ pub data RequestValue : Type 0 where
   Tables : (format : FormatValue) → (tables : List (List ℕ)) → RequestValue
   Edges : (map numbers : List ℕ) → RequestValue
   Areas : (joining : Joining) → (bands : List (List ℕ)) → RequestValue
+  Sides : (map numbers : List ℕ) → RequestValue
+  Tiles : (joining : Joining) → (tiles : List (List ℕ)) → RequestValue
   Sizes : (format : FormatValue) → (joined : List ℕ) → (tables : List (List ℕ)) → RequestValue
 
 -- what a request asks for
@@ -30,6 +33,8 @@ abbrev pub request_value : Request → RequestValue
 request_value (requests.Tables format tables) = Tables format (map (λ path. path.now) tables.items)
 request_value (requests.Edges cells numbers) = Edges cells.now numbers.now
 request_value (requests.Areas joining bands) = Areas joining (map (λ path. path.now) bands.items)
+request_value (requests.Sides cells numbers) = Sides cells.now numbers.now
+request_value (requests.Tiles joining tiles) = Tiles joining (map (λ path. path.now) tiles.items)
 request_value (requests.Sizes format joined tables) = Sizes format joined.now (map (λ path. path.now) tables.items)
 
 -- a word that begins with a hyphen
@@ -58,11 +63,11 @@ format_given labels given = record { separator = unwrap_or given.separator (byte
 
 -- a format by which fields can be told apart
 abbrev pub if_clear : FormatValue → Result FormatValue Refusal
-if_clear format = if is_clear format then Ok format else Err BadOption
+if_clear format = if is_clear format then Ok format else Err refusals.BadOption
 
 -- the format that options give
 abbrev pub format_of : (labels : Bool) → Result Given OptionFault → Result FormatValue Refusal
-format_of labels (Err fault) = Err BadOption
+format_of labels (Err fault) = Err refusals.BadOption
 format_of labels (Ok given) = if_clear (format_given labels given)
 
 abbrev pub format_in : (labels : Bool) → List (List ℕ) → Result FormatValue Refusal
@@ -86,25 +91,31 @@ labels_flag = codes "-l"
 
 -- one table or more
 abbrev pub asked_of_tables : List (List ℕ) → Result FormatValue Refusal → Result RequestValue Refusal
-asked_of_tables [] reading = Err (Usage usages.Tables)
+asked_of_tables [] reading = Err (refusals.Usage usages.Tables)
 asked_of_tables (table ∷ tables) reading = reading >>= λ format. Ok (Tables format (table ∷ tables))
 
 -- what words behind `tables` ask for, beside the flag of labels, which is given or not
 abbrev pub asked_labelled : (labels : Bool) → List (List ℕ) → Result RequestValue Refusal
-asked_labelled labels words = if has_hyphen_word words then Err (Usage usages.Tables) else asked_of_tables (paths_in words) (format_in labels words)
+asked_labelled labels words = if has_hyphen_word words then Err (refusals.Usage usages.Tables) else asked_of_tables (paths_in words) (format_in labels words)
 
 -- what words behind `tables` ask for: labels where the flag is one of them
 abbrev pub asked_tables : List (List ℕ) → Result RequestValue Refusal
 asked_tables words = asked_labelled (contains_flag labels_flag words) (without_flag labels_flag words)
 
--- a map and its numbers
-abbrev pub asked_of_edges : List (List ℕ) → Result RequestValue Refusal
-asked_of_edges (cells ∷ numbers ∷ []) = Ok (Edges cells numbers)
-asked_of_edges words = Err (Usage usages.Edges)
+-- the paths of a map and of its numbers
+abbrev pub two_of : Usage → List (List ℕ) → Result (List ℕ × List ℕ) Refusal
+two_of usage (cells ∷ numbers ∷ []) = Ok (cells, numbers)
+two_of usage words = Err (refusals.Usage usage)
 
--- what words behind `edges` ask for
+abbrev pub map_and_numbers : Usage → List (List ℕ) → Result (List ℕ × List ℕ) Refusal
+map_and_numbers usage words = if has_hyphen_word words then Err (refusals.Usage usage) else two_of usage words
+
+-- what words behind `edges` ask for, and behind `sides`
 abbrev pub asked_edges : List (List ℕ) → Result RequestValue Refusal
-asked_edges words = if has_hyphen_word words then Err (Usage usages.Edges) else asked_of_edges words
+asked_edges words = map_and_numbers usages.Edges words >>= λ paths. Ok (Edges paths.0 paths.1)
+
+abbrev pub asked_sides : List (List ℕ) → Result RequestValue Refusal
+asked_sides words = map_and_numbers usages.Sides words >>= λ paths. Ok (Sides paths.0 paths.1)
 
 -- the flag by which areas join at corners too
 abbrev pub corners_flag : List ℕ
@@ -114,27 +125,33 @@ corners_flag = codes "-d"
 abbrev pub joining_in : List (List ℕ) → Joining
 joining_in words = if contains_flag corners_flag words then joinings.EdgesAndCorners else joinings.Edges
 
--- the other words, which are paths
-abbrev pub bands_in : List (List ℕ) → List (List ℕ)
-bands_in words = without_flag corners_flag words
+-- the other words, which are the paths of parts
+abbrev pub parts_in : List (List ℕ) → List (List ℕ)
+parts_in words = without_flag corners_flag words
 
--- the edges of one band or more
-abbrev pub asked_of_areas : Joining → List (List ℕ) → Result RequestValue Refusal
-asked_of_areas joining [] = Err (Usage usages.Areas)
-asked_of_areas joining (band ∷ bands) = Ok (Areas joining (band ∷ bands))
+-- one part or more, joined so
+abbrev pub some_of : Usage → Joining → List (List ℕ) → Result (Joining × List (List ℕ)) Refusal
+some_of usage joining [] = Err (refusals.Usage usage)
+some_of usage joining (part ∷ parts) = Ok (joining, part ∷ parts)
 
--- what words behind `areas` ask for
+abbrev pub joined_parts : Usage → List (List ℕ) → Result (Joining × List (List ℕ)) Refusal
+joined_parts usage words = if has_hyphen_word (parts_in words) then Err (refusals.Usage usage) else some_of usage (joining_in words) (parts_in words)
+
+-- what words behind `areas` ask for: the edges of one band or more; and behind `tiles`: the sides of one tile or more
 abbrev pub asked_areas : List (List ℕ) → Result RequestValue Refusal
-asked_areas words = if has_hyphen_word (bands_in words) then Err (Usage usages.Areas) else asked_of_areas (joining_in words) (bands_in words)
+asked_areas words = joined_parts usages.Areas words >>= λ parts. Ok (Areas parts.0 parts.1)
+
+abbrev pub asked_tiles : List (List ℕ) → Result RequestValue Refusal
+asked_tiles words = joined_parts usages.Tiles words >>= λ parts. Ok (Tiles parts.0 parts.1)
 
 -- an areas text, and one table or more
 abbrev pub asked_of_sizes : List (List ℕ) → Result FormatValue Refusal → Result RequestValue Refusal
 asked_of_sizes (joined ∷ table ∷ tables) reading = reading >>= λ format. Ok (Sizes format joined (table ∷ tables))
-asked_of_sizes words reading = Err (Usage usages.Sizes)
+asked_of_sizes words reading = Err (refusals.Usage usages.Sizes)
 
 -- what words behind `sizes` ask for
 abbrev pub asked_sizes : List (List ℕ) → Result RequestValue Refusal
-asked_sizes words = if has_hyphen_word words then Err (Usage usages.Sizes) else asked_of_sizes (paths_in words) (format_in false words)
+asked_sizes words = if has_hyphen_word words then Err (refusals.Usage usages.Sizes) else asked_of_sizes (paths_in words) (format_in false words)
 
 -- what a command and the words behind it ask for
 abbrev pub command_of : List ℕ → List (List ℕ) → Result RequestValue Refusal
@@ -142,10 +159,12 @@ command_of command words =
     if bytes_eq command (codes "tables") then asked_tables words
     else (if bytes_eq command (codes "edges") then asked_edges words
     else (if bytes_eq command (codes "areas") then asked_areas words
+    else (if bytes_eq command (codes "sides") then asked_sides words
+    else (if bytes_eq command (codes "tiles") then asked_tiles words
     else (if bytes_eq command (codes "sizes") then asked_sizes words
-    else Err (Usage usages.AnyCommand))))
+    else Err (refusals.Usage usages.AnyCommand))))))
 
 -- what the words that follow the program's own name ask for
 abbrev pub asked_of : List (List ℕ) → Result RequestValue Refusal
-asked_of [] = Err (Usage usages.AnyCommand)
+asked_of [] = Err (refusals.Usage usages.AnyCommand)
 asked_of (command ∷ words) = command_of command words

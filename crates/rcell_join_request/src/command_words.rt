@@ -6,7 +6,7 @@ ghost use Rattle.std.specs.String.{string_bytes};
 ghost use Rattle.clap.specs.Words.{app_of};
 ghost use Rattle.clap.specs.Walk.{texts};
 ghost use Rattle.cell_core_text.specs.Answers.{Answers};
-ghost use Rattle.rcell_join_request.specs.CommandLine.{asked_areas, asked_labelled, request_value, asked_edges, asked_of, asked_sizes, asked_tables, begins_with_hyphen, command_of, format_in, is_flag, is_option, joining_in, options_in, paths_in, without_flag};
+ghost use Rattle.rcell_join_request.specs.CommandLine.{asked_areas, asked_labelled, request_value, asked_edges, asked_of, asked_sides, asked_sizes, asked_tables, asked_tiles, begins_with_hyphen, command_of, format_in, is_flag, is_option, joined_parts, joining_in, map_and_numbers, options_in, paths_in, without_flag};
 ghost use Rattle.rcell_join_request.specs.parts.ClapWords.{FindsAll, command_line, has_no_command};
 
 use crate::refusal::{Refusal, Usage};
@@ -247,20 +247,38 @@ fn asked_tables<'a>(alloc: Global, words: &[&'a str]) -> Result<Request<'a>, Ref
     asked_labelled(alloc, labels, others.as_slice())
 }
 
-// What the words behind `edges` ask for.
+// The paths of a map and of its numbers, where these are the words behind a command.
 #[tactic(auto, using(crate::proofs::WordLemmas::hyphens_of_texts))]
+fn map_and_numbers<'a>(usage: Usage, words: &[&'a str]) -> Result<(&'a str, &'a str), Refusal>
+    ensures { Answers Refusal.Memory (λ paths. (paths.0.now, paths.1.now)) result
+        (map_and_numbers usage (texts words.now)) }
+{
+    if has_hyphen_word(words) {
+        return Err(Refusal::Usage(usage));
+    }
+    match words {
+        [map, numbers] => Ok((*map, *numbers)),
+        _ => Err(Refusal::Usage(usage)),
+    }
+}
+
+// What the words behind `edges` ask for.
 fn asked_edges<'a>(words: &[&'a str]) -> Result<Request<'a>, Refusal>
     ensures { Answers Refusal.Memory request_value result (asked_edges (texts words.now)) }
 {
-    if has_hyphen_word(words) {
-        return Err(Refusal::Usage(Usage::Edges));
+    match map_and_numbers(Usage::Edges, words) {
+        Ok((map, numbers)) => Ok(Request::Edges { map, numbers }),
+        Err(refusal) => Err(refusal),
     }
-    match words {
-        [map, numbers] => Ok(Request::Edges {
-            map: *map,
-            numbers: *numbers,
-        }),
-        _ => Err(Refusal::Usage(Usage::Edges)),
+}
+
+// What the words behind `sides` ask for.
+fn asked_sides<'a>(words: &[&'a str]) -> Result<Request<'a>, Refusal>
+    ensures { Answers Refusal.Memory request_value result (asked_sides (texts words.now)) }
+{
+    match map_and_numbers(Usage::Sides, words) {
+        Ok((map, numbers)) => Ok(Request::Sides { map, numbers }),
+        Err(refusal) => Err(refusal),
     }
 }
 
@@ -275,23 +293,48 @@ fn joining_in(words: &[&str]) -> Joining
     }
 }
 
-// What the words behind `areas` ask for.
+// The paths of one part or more behind a command, and which cells are adjacent.
 #[tactic(auto, using(crate::proofs::WordLemmas::hyphens_of_texts))]
+fn joined_parts<'a>(
+    alloc: Global,
+    usage: Usage,
+    words: &[&'a str],
+) -> Result<(Joining, Vec<&'a str>), Refusal>
+    ensures { Answers Refusal.Memory (λ parts. (parts.0, texts parts.1.items)) result
+        (joined_parts usage (texts words.now)) }
+{
+    let parts = match without_flag(alloc, CORNERS_FLAG, words) {
+        Ok(parts) => parts,
+        Err(refusal) => return Err(refusal),
+    };
+    if has_hyphen_word(parts.as_slice()) {
+        return Err(Refusal::Usage(usage));
+    }
+    if parts.is_empty() {
+        return Err(Refusal::Usage(usage));
+    }
+    let joining = joining_in(words);
+    Ok((joining, parts))
+}
+
+// What the words behind `areas` ask for.
 fn asked_areas<'a>(alloc: Global, words: &[&'a str]) -> Result<Request<'a>, Refusal>
     ensures { Answers Refusal.Memory request_value result (asked_areas (texts words.now)) }
 {
-    let bands = match without_flag(alloc, CORNERS_FLAG, words) {
-        Ok(bands) => bands,
-        Err(refusal) => return Err(refusal),
-    };
-    if has_hyphen_word(bands.as_slice()) {
-        return Err(Refusal::Usage(Usage::Areas));
+    match joined_parts(alloc, Usage::Areas, words) {
+        Ok((joining, bands)) => Ok(Request::Areas { joining, bands }),
+        Err(refusal) => Err(refusal),
     }
-    if bands.is_empty() {
-        return Err(Refusal::Usage(Usage::Areas));
+}
+
+// What the words behind `tiles` ask for.
+fn asked_tiles<'a>(alloc: Global, words: &[&'a str]) -> Result<Request<'a>, Refusal>
+    ensures { Answers Refusal.Memory request_value result (asked_tiles (texts words.now)) }
+{
+    match joined_parts(alloc, Usage::Tiles, words) {
+        Ok((joining, tiles)) => Ok(Request::Tiles { joining, tiles }),
+        Err(refusal) => Err(refusal),
     }
-    let joining = joining_in(words);
-    Ok(Request::Areas { joining, bands })
 }
 
 // What the words behind `sizes` ask for.
@@ -331,6 +374,10 @@ fn command_of<'a>(alloc: Global, command: &str, words: &[&'a str]) -> Result<Req
         asked_edges(words)
     } else if command == "areas" {
         asked_areas(alloc, words)
+    } else if command == "sides" {
+        asked_sides(words)
+    } else if command == "tiles" {
+        asked_tiles(alloc, words)
     } else if command == "sizes" {
         asked_sizes(alloc, words)
     } else {
@@ -343,7 +390,7 @@ fn command_of<'a>(alloc: Global, command: &str, words: &[&'a str]) -> Result<Req
 /// # Errors
 ///
 /// [`Refusal::Usage`] where no word follows it, the next one is no command, a word behind that begins with `-` and is not
-/// the flag `-l` of `tables` or `-d` of `areas`, or there are fewer or more paths than the command takes;
+/// the flag `-l` of `tables` or `-d` of `areas` or `tiles`, or there are fewer or more paths than the command takes;
 /// [`Refusal::BadOption`]; [`Refusal::Memory`].
 pub fn read_words<'a>(alloc: Global, words: &'a [String]) -> Result<Request<'a>, Refusal>
     ensures { Answers Refusal.Memory request_value result

@@ -8,8 +8,8 @@ use thiserror::Error;
 /// The words that a command line should have had: those of a command, or any command.
 #[derive(Clone, Copy, Debug, PartialEq, Eq, Error)]
 pub enum Usage {
-    /// No command, or another one than these four.
-    #[error("usage: rcell-join (tables|edges|areas|sizes) ...")]
+    /// No command, or another one than these six.
+    #[error("usage: rcell-join (tables|edges|areas|sides|tiles|sizes) ...")]
     AnyCommand,
     /// The words of `tables`.
     #[error("usage: rcell-join tables [-l] [separator=S] [null_value=N] FILE...")]
@@ -20,6 +20,12 @@ pub enum Usage {
     /// The words of `areas`.
     #[error("usage: rcell-join areas [-d] EDGES...")]
     Areas,
+    /// The words of `sides`.
+    #[error("usage: rcell-join sides MAP NUMBERS")]
+    Sides,
+    /// The words of `tiles`.
+    #[error("usage: rcell-join tiles [-d] SIDES...")]
+    Tiles,
     /// The words of `sizes`.
     #[error("usage: rcell-join sizes [separator=S] [null_value=N] JOINED TABLE...")]
     Sizes,

@@ -80,13 +80,27 @@ pub enum Request<'a> {
         /// The edges of one band or more, from the top.
         bands: Vec<&'a str>,
     },
+    /// The sides of a tile.
+    Sides {
+        /// The tile's map.
+        map: &'a str,
+        /// The numbers of its areas, as r.clump gives them.
+        numbers: &'a str,
+    },
+    /// The areas of the tiles of a grid, joined to those of the whole.
+    Tiles {
+        /// Which cells are adjacent.
+        joining: Joining,
+        /// The sides of one tile or more, row by row of tiles from the top, in each from the left.
+        tiles: Vec<&'a str>,
+    },
     /// The sizes of the areas of the whole.
     Sizes {
         /// How the tables are printed: without labels.
         format: TableFormat,
         /// The areas text.
         joined: &'a str,
-        /// The table of each band's numbers, from the top.
+        /// The table of each part's numbers, in the order of the areas text.
         tables: Vec<&'a str>,
     },
 }

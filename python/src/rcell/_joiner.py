@@ -1,9 +1,9 @@
 """The joiner: where it is, and runs of it over texts that are held in memory.
 
 `rcell-join` is proved from bytes to bytes: the texts that `r.stats -c` prints of the parts of a map are joined to the text that it
-prints of the map, the edges of the bands of a map to the numbers of its areas, and the tables of these to the sizes of its areas. So
-the texts come here as the program printed them, and go on as the joiner printed them: they are read once, where the last one is
-needed as numbers.
+prints of the map, the edges of the bands of a map or the sides of its tiles to the numbers of its areas, and the tables of these to the
+sizes of its areas. So the texts come here as the program printed them, and go on as the joiner printed them: they are read once, where the
+last one is needed as numbers.
 """
 
 from __future__ import annotations
@@ -15,11 +15,11 @@ import tempfile
 from contextlib import ExitStack
 from typing import IO, Sequence
 
-from ._errors import Killed, MissingProgram, OutOfMemory, RcellError, WrongProgram
+from ._errors import Killed, MissingProgram, OutOfMemory, RcellError, WriteFailed, WrongProgram
 from ._merging import counts_of, merge
 from ._program import candidates, find_program, known_after
 
-__all__ = ["find_joiner", "joined", "joined_areas", "joined_sizes"]
+__all__ = ["find_joiner", "joined", "joined_areas", "joined_sizes", "joined_tiles"]
 
 MESSAGE_LIMIT = 1 << 16
 _MESSAGE = re.compile(r"rcell-join: ([^:]*):(\d+): (.*)")
@@ -57,9 +57,11 @@ def _found() -> str:
 
 
 _PROBE_EDGES = b"north: 1\nsouth: 0\neast: 2\nwest: 0\nrows: 5\ncols: 2\n8 9\n1 2\n8 9\n1 2\n2 *\n"
+_PROBE_SIDES = b"north: 1\nsouth: 0\neast: 2\nwest: 0\nrows: 12\ncols: 2\n8 9\n1 2\n8 9\n1 2\n8 *\n1 *\n9 *\n2 *\n1 *\n2 *\n2 *\n0 1\n"
 _PROBES: list[tuple[list[str], list[bytes], bytes]] = [
     (["tables"], [b"1 * 2\n2 1 1\n", b"-1 7 1\n1 * 3\n* 4 5\n", b""], b"-1 7 1\n1 * 5\n2 1 1\n* 4 5\n"),
     (["areas", "-d"], [_PROBE_EDGES], b"1 1 2 1\n"),
+    (["tiles", "-d"], [_PROBE_SIDES], b"1 1 2 1\n"),
     (["sizes"], [b"1 1 2 1\n", b"1 7\n2 8\n* 9\n"], b"1 7\n2 8\n"),
 ]
 
@@ -86,7 +88,7 @@ def joined(texts: Sequence[bytes], program: str | os.PathLike[str] | None = None
     ------
     TooManyCells
         A sum is too great.
-    OutOfMemory, Killed, MissingProgram, WrongProgram
+    OutOfMemory, Killed, WriteFailed, MissingProgram, WrongProgram
 
     Examples
     --------
@@ -107,7 +109,7 @@ def joined_areas(edges: Sequence[bytes], diagonal: bool = False, program: str | 
 
     Raises
     ------
-    OutOfMemory, Killed, MissingProgram, WrongProgram
+    OutOfMemory, Killed, WriteFailed, MissingProgram, WrongProgram
 
     Examples
     --------
@@ -118,19 +120,40 @@ def joined_areas(edges: Sequence[bytes], diagonal: bool = False, program: str | 
     return _answer(["areas", *["-d"] * diagonal], edges, program)
 
 
+def joined_tiles(sides: Sequence[bytes], diagonal: bool = False, program: str | os.PathLike[str] | None = None) -> bytes:
+    """Join the areas of the tiles of a grid, by the texts of their sides row by row from the top left, to those of the map.
+
+    Returns
+    -------
+    bytes
+        The areas text, as `joined_areas` answers it; a tile has its place among the texts for its number.
+
+    Raises
+    ------
+    OutOfMemory, Killed, WriteFailed, MissingProgram, WrongProgram
+
+    Examples
+    --------
+    >>> cell = b"north: 1\\nsouth: 0\\neast: %d\\nwest: %d\\nrows: 12\\ncols: 1\\n" + b"8\\n1\\n" * 4 + b"1\\n1\\n1\\n0\\n"
+    >>> joined_tiles([cell % (1, 0), cell % (2, 1)])
+    b'1 1 1 1\\n2 1 1 1\\n'
+    """
+    return _answer(["tiles", *["-d"] * diagonal], sides, program)
+
+
 def joined_sizes(areas: bytes, tables: Sequence[bytes], program: str | os.PathLike[str] | None = None) -> bytes:
-    """Add up the sizes of the areas of bands, by their areas text, to those of the areas of the map.
+    """Add up the sizes of the areas of bands or of tiles, by their areas text, to those of the areas of the map.
 
     Parameters
     ----------
     areas : bytes
-        The areas text of the bands.
+        The areas text of the parts.
     tables : sequence of bytes
-        Of each band the table of the numbers of its areas, as `r.stats -c` prints it.
+        Of each part the table of the numbers of its areas, as `r.stats -c` prints it.
 
     Raises
     ------
-    OutOfMemory, Killed, MissingProgram, WrongProgram
+    OutOfMemory, Killed, WriteFailed, MissingProgram, WrongProgram
 
     Examples
     --------
@@ -170,8 +193,10 @@ def _held(text: bytes) -> IO[bytes]:
         rest = memoryview(text)
         while rest:
             rest = rest[file.write(rest) :]
-    except BaseException:
+    except BaseException as error:
         file.close()
+        if isinstance(error, OSError):
+            raise WriteFailed(f"a text for rcell-join cannot be written: {error.strerror}") from None
         raise
     return file
 

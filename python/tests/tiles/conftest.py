@@ -31,7 +31,7 @@ if not os.environ.get("RCELL") and not shutil.which("rcell"):
 from rcell._joiner import joined  # noqa: E402
 from rcell._merging import counts_of, merge  # noqa: E402
 from rcell.tiles import NeedlessTiles, _tasks, mosaic  # noqa: E402
-from rcell.tiles._bands import JoinedBands, join_bands, sizes_in_bands  # noqa: E402
+from rcell.tiles._parts import JoinedParts, join_bands, join_tiles, sizes_in_parts  # noqa: E402
 from rcell.tiles.joining import Edges, join, renumber  # noqa: E402
 
 MakeTif = Callable[..., str]
@@ -54,26 +54,34 @@ def joined_by_both(texts: Sequence[bytes]) -> bytes:
     return text
 
 
-def bands_joined_by_both(bands: Iterable[Edges], diagonal: bool = False) -> JoinedBands:
-    """Areas of bands joined by rcell-join and in Python, which must agree."""
-    given = list(bands)
-    found, expected = join_bands(given, diagonal), join(given, diagonal)
+def areas_joined_by_both(join_parts: Callable[..., JoinedParts], parts: Iterable[Edges], diagonal: bool = False) -> JoinedParts:
+    """Areas of bands or tiles joined by rcell-join and in Python, which must agree."""
+    given = list(parts)
+    found, expected = join_parts(given, diagonal), join(given, diagonal)
     assert found.areas == expected.areas
-    for band, tile in zip(found.tiles, expected.tiles, strict=True):
+    for part, tile in zip(found.tiles, expected.tiles, strict=True):
         every = np.arange(tile.areas + 1)
-        assert (band.place, band.areas) == (tile.place, tile.areas)
-        assert np.array_equal(renumber(every, band), renumber(every, tile))
+        assert (part.place, part.areas) == (tile.place, tile.areas)
+        assert np.array_equal(renumber(every, part), renumber(every, tile))
     return found
 
 
-def sizes_added_by_both(whole: JoinedBands, tables: Sequence[bytes], categories: Sequence[Any]) -> tuple[Any, Any]:
+def bands_joined_by_both(bands: Iterable[Edges], diagonal: bool = False) -> JoinedParts:
+    return areas_joined_by_both(join_bands, bands, diagonal)
+
+
+def tiles_joined_by_both(tiles: Iterable[Edges], diagonal: bool = False) -> JoinedParts:
+    return areas_joined_by_both(join_tiles, tiles, diagonal)
+
+
+def sizes_added_by_both(whole: JoinedParts, tables: Sequence[bytes], categories: Sequence[Any]) -> tuple[Any, Any]:
     """Sizes of areas added up by rcell-join and by numpy, which must agree."""
-    found = sizes_in_bands(whole, tables, categories)
+    found = sizes_in_parts(whole, tables, categories)
     expected = np.zeros(whole.areas, dtype=np.int64)
-    for band, table in zip(whole.tiles, tables, strict=True):
+    for part, table in zip(whole.tiles, tables, strict=True):
         counts = counts_of(table, 1)
         is_area = counts.combinations[:, 0] > 0  # the others are of null
-        np.add.at(expected, band.looked_up(counts.combinations[is_area, 0]) - 1, counts.cells[is_area])
+        np.add.at(expected, part.looked_up(counts.combinations[is_area, 0]) - 1, counts.cells[is_area])
     assert np.array_equal(found[1], expected)
     return found
 
@@ -83,7 +91,8 @@ def both_joiners_agree(monkeypatch: pytest.MonkeyPatch) -> None:
     """Whatever this process and its workers join in a test is joined by both."""
     monkeypatch.setattr(_tasks, "joined", joined_by_both)
     monkeypatch.setattr(mosaic, "join_bands", bands_joined_by_both)
-    monkeypatch.setattr(mosaic, "sizes_in_bands", sizes_added_by_both)
+    monkeypatch.setattr(mosaic, "join_tiles", tiles_joined_by_both)
+    monkeypatch.setattr(mosaic, "sizes_in_parts", sizes_added_by_both)
 
 
 @pytest.fixture(scope="session")

@@ -41,6 +41,7 @@ def wrapped(folder: Path, monkeypatch: pytest.MonkeyPatch, before: str) -> Path:
     wrapper = folder / "rcell"
     wrapper.write_text(f'#!/bin/sh\n{before}\nexec {program()} "$@"\n')
     wrapper.chmod(0o755)
+    monkeypatch.setenv("RCELL_JOIN", rcell.joiner())  # there is none beside the wrapper
     monkeypatch.setenv("RCELL", str(wrapper))
     return wrapper
 
@@ -103,7 +104,8 @@ def test_workers_that_die_each_time_are_told(tif: MakeTif, tmp_path: Path, monke
     wrapper = tmp_path / "deadly"
     wrapper.write_text("#!/bin/sh\nkill -9 $PPID\n")
     wrapper.chmod(0o755)
-    monkeypatch.setenv("RCELL", str(wrapper))  # workers have it; this process starts no program for clump
+    monkeypatch.setenv("RCELL_JOIN", rcell.joiner())
+    monkeypatch.setenv("RCELL", str(wrapper))  # workers have it; this process starts no program but rcell-join for clump
     with rcell.tiles.open(size=4, scheduler=1, lc=path) as mosaic:
         with pytest.raises(rcell.tiles.WorkerLost, match="areas: (KilledWorker|no worker for)"):
             mosaic.clump("lc", tmp_path / "p.tif")

@@ -155,6 +155,7 @@ def test_a_program_that_fails_is_told(tif: MakeTif, tmp_path: Path, scheduler: s
                                       kind: type[rcell.RcellError]) -> None:
     lc = tif("lc", CELLS)
     (tmp_path / "out").mkdir()
+    monkeypatch.setenv("RCELL_JOIN", rcell.joiner())  # there is none beside the program
     with mosaic_of(scheduler, lc=lc) as mosaic:
         mosaic.table("r.stats -c input=lc")
         program = tmp_path / "program"

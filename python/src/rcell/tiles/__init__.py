@@ -1,8 +1,8 @@
 """Maps of any size: tiles of them go to a Dask cluster, and the answers are those of the undivided map.
 
 What holds of tiles is proved, in the crate `cell_tiles_law` of this project: tables add up, a halo is enough, areas join along
-borders. Each step of this code names its law. Tables, and the areas of tiles as wide as the map, are joined by rcell-join, which is
-proved itself.
+borders. Each step of this code names its law. Tables and areas are joined by rcell-join, which is proved
+itself, and in Python where there are too many areas or too many tiles for it.
 """
 
 from __future__ import annotations

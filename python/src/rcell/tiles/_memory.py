@@ -12,7 +12,7 @@ from ._scripts import NO_REACH, Reach
 from ._sheet import Sheet
 from .joining import Rectangle
 
-__all__ = ["areas_demand", "band_sizes_demand", "Demand", "grid_demand", "sizes_demand", "table_demand", "places", "size_for"]
+__all__ = ["areas_demand", "areas_table_demand", "Demand", "grid_demand", "sizes_demand", "table_demand", "places", "size_for"]
 
 WORKER = 165 * 10**6
 """Bytes of a worker without a tile: Python, Dask, numpy and rasterio, the buffers of GDAL, of pipes and of text."""
@@ -104,7 +104,7 @@ def sizes_demand(read: int) -> Demand:
     return Demand(read, maps=2, clumps=1, answer=4, after=read + 12, area=44)
 
 
-def band_sizes_demand(read: int) -> Demand:
+def areas_table_demand(read: int) -> Demand:
     """A table of the areas and their categories, of 75 bytes an entry, and its text; then the text twice, and its numbers."""
     return Demand(read, maps=2, clumps=1, after=read, area=60, entry=91)
 

@@ -5,7 +5,7 @@ from __future__ import annotations
 import re
 from collections.abc import Iterable, Iterator
 from contextlib import contextmanager
-from dataclasses import dataclass
+from dataclasses import dataclass, replace
 from typing import Any
 
 import numpy as np
@@ -19,9 +19,9 @@ from .._program import execute, table_text
 from .._region import Region
 from ._scripts import NO_REACH, Assignment, Reach, Reclass, Stats, TileScript
 from ._sheet import MapFile, Sheet
-from .joining import Counts, Edges, Numbering, Rectangle, TileNumbers, edges, merge, renumber
+from .joining import Counts, Edges, Numbering, Rectangle, TileNumbers, edges, first_cells, merge, renumber
 
-__all__ = ["TileRun", "TileSizes", "band_sizes", "edges_of", "grid_cells", "join_tables", "numbered_cells", "sizes_in_whole", "tile_sizes",
+__all__ = ["TileRun", "TileSizes", "areas_table", "edges_of", "grid_cells", "join_tables", "numbered_cells", "sizes_in_whole", "tile_sizes",
            "tile_table"]
 
 Integers = npt.NDArray[Any]
@@ -154,8 +154,8 @@ def clump_line(diagonal: bool) -> str:
     return f"r.clump {'-d ' if diagonal else ''}input=cells output=areas"
 
 
-def band_sizes(file: MapFile, sheet: Sheet, place: Rectangle, diagonal: bool) -> tuple[bytes, Integers]:
-    """The table of the numbers of a band's areas, as the program prints it, and the category of each.
+def areas_table(file: MapFile, sheet: Sheet, place: Rectangle, diagonal: bool) -> tuple[bytes, Integers]:
+    """The table of the numbers of a tile's areas, as the program prints it, and the category of each.
 
     The program prints a table of numbers and categories, since an area has one category: it is left out of each line.
     """
@@ -165,9 +165,11 @@ def band_sizes(file: MapFile, sheet: Sheet, place: Rectangle, diagonal: bool) ->
     return CATEGORY_OF_AREA.sub(rb"\1", text), counts_of(text, 2).combinations[:, 1].astype(np.int32)
 
 
-def edges_of(file: MapFile, sheet: Sheet, place: Rectangle, diagonal: bool) -> Edges:
-    """What a tile gives to the joining."""
-    return edges(place, *clumped(file, sheet, place, diagonal))
+def edges_of(file: MapFile, sheet: Sheet, place: Rectangle, diagonal: bool, most_firsts: int = 0) -> Edges:
+    """What a tile gives to the joining; with the first cells of its areas, if these are not more than that."""
+    cells, numbers = clumped(file, sheet, place, diagonal)
+    found = edges(place, cells, numbers)
+    return found if found.areas > most_firsts else replace(found, firsts=first_cells(numbers, found.begun))
 
 
 @dataclass(frozen=True, eq=False)

@@ -1,12 +1,12 @@
 """What tiles of a map say of the whole: tables merged, areas joined and numbered.
 
 Four functions do all of it, over numpy arrays alone: `merge` adds tables, `edges` takes from the areas of a tile
-what the joining needs, `join` finds which areas of tiles are one area of the whole and what its number is, `renumber`
+what the joining here needs (and `first_cells` what the program needs besides), `join` finds which areas of tiles are one area of the whole and what its number is, `renumber`
 gives the cells of a tile the numbers of the whole. None makes a Python object for an area or for an entry of a table.
 
-The tables of tiles are joined by the proved program rcell-join (`rcell._joiner`), and so are the areas of bands, tiles as wide as the
-map, and their sizes (`rcell.tiles._bands`). There `merge` and `join` are the second opinion in the tests; of tiles that columns cut
-as well, `join` joins the areas and `merge` adds their sizes.
+The tables of tiles are joined by the proved program rcell-join (`rcell._joiner`), and so are the areas of tiles and their sizes
+(`rcell.tiles._parts`), unless there are too many of either. There `merge` and `join` are the second opinion in the tests; where there are
+too many, `join` joins the areas and `merge` adds their sizes.
 
 The laws that the steps follow are proved in the crate `cell_tiles_law` of this project; each is named beside its step.
 """
@@ -25,8 +25,8 @@ from scipy.sparse.csgraph import connected_components
 from .._merging import Counts, TooManyCells, merge
 from .._numbers import NULL
 
-__all__ = ["NULL", "Counts", "Edge", "Edges", "Joined", "Numbering", "Rectangle", "TileNumbers", "TooManyCells", "edges", "join",
-           "merge", "renumber"]
+__all__ = ["NULL", "Counts", "Edge", "Edges", "Joined", "Numbering", "Rectangle", "TileNumbers", "TooManyCells", "edges", "first_cells",
+           "join", "merge", "renumber"]
 
 Integers = npt.NDArray[Any]
 
@@ -64,6 +64,8 @@ class Edges:
         How many areas of the tile have their first cell in this row or above it; the last is how many there are.
     top, bottom, left, right : Edge
         The four borders, from the top left.
+    firsts : ndarray of int32, shape (n,), or None
+        What `first_cells` tells, where the program joins the tiles: memory by areas.
     """
 
     place: Rectangle
@@ -72,6 +74,12 @@ class Edges:
     bottom: Edge
     left: Edge
     right: Edge
+    firsts: Integers | None = None
+
+    @property
+    def areas(self) -> int:
+        """How many areas the tile has."""
+        return int(self.begun[-1])
 
 
 def edges(place: Rectangle, categories: Integers, numbers: Integers) -> Edges:
@@ -101,6 +109,32 @@ def edges(place: Rectangle, categories: Integers, numbers: Integers) -> Edges:
 
     every = slice(None)
     return Edges(place, begun, edge(0, every), edge(-1, every), edge(every, 0), edge(every, -1))
+
+
+def first_cells(numbers: Integers, begun: Integers) -> Integers:
+    """Where the areas of a tile begin: of each the place of its first cell, counted row by row from 0, in the order of the numbers.
+
+    Parameters
+    ----------
+    numbers : ndarray of integers, shape (rows, cols)
+        As `edges` is given them.
+    begun : ndarray of integers, shape (rows,)
+        As in `Edges`.
+
+    Examples
+    --------
+    >>> first_cells(np.array([[1, 1, 2], [3, 1, 2]]), np.array([2, 3])).tolist()
+    [0, 2, 3]
+    """
+    found = np.empty(int(begun[-1]), dtype=np.int32)
+    before = 0
+    for row, (cells, until) in enumerate(zip(numbers, begun.tolist())):
+        if until > before:
+            # The first cell of an area is the one that takes the greatest number so far one further.
+            greatest = np.maximum(np.maximum.accumulate(cells), before)
+            found[before:until] = np.flatnonzero(np.diff(greatest, prepend=before)) + row * len(cells)
+        before = until
+    return found
 
 
 class Numbering(Protocol):

@@ -22,11 +22,11 @@ from .._script import labels_in
 from .._table import Table
 from .._text import NULL
 from . import _tasks
-from ._bands import JoinedBands, are_bands, join_bands, sizes_in_bands
 from ._cluster import SHARE, free_memory
 from ._engine import Engine
-from ._memory import Demand, areas_demand, band_sizes_demand, grid_demand, places, size_for, sizes_demand, table_demand
+from ._memory import Demand, areas_demand, areas_table_demand, grid_demand, places, size_for, sizes_demand, table_demand
 from ._output import tile_writer
+from ._parts import MOST_AREAS, JoinedParts, are_bands, are_few, are_parts, join_bands, join_tiles, sizes_in_parts
 from ._scripts import COMMANDS, NO_REACH, Assignment, Clump, Reclass, Statement, Stats, TileScript, spare_name, statements
 from ._sheet import MapFile, Sheet, open_maps
 from .joining import Joined, Rectangle, join
@@ -251,7 +251,7 @@ class Mosaic:
 
     def _counts(self, stats: Stats, run: _tasks.TileRun) -> Counts:
         demand = table_demand(self._read(run), run.made, run.script.reach)
-        tiles = list(places(self.sheet, self._size_for(demand)))
+        tiles = self._tiles(demand)
         memory = self._memory(demand, tiles[0])
         find_joiner()  # it is needed at the end, and missed at the beginning
         with self._engine.tasks("table", len(tiles)) as tasks:
@@ -300,7 +300,7 @@ class Mosaic:
         """
         run, labels = self._grid_run(script)
         demand = grid_demand(self._read(run), run.made, run.script.reach)
-        tiles = list(places(self.sheet, self._size_for(demand)))
+        tiles = self._tiles(demand)
         with tile_writer(path, self.sheet, "int32", NULL, labels) as writer, self._engine.tasks("grid", len(tiles)) as tasks:
             shared = tasks.shared(run)
             memory = self._memory(demand, tiles[0])
@@ -342,9 +342,9 @@ class Mosaic:
         file = self._file(name)
         # Before they are joined, it is not known how many areas there are: at most as many as cells.
         demand = areas_demand(file.bytes, 4 if self.sheet.rows * self.sheet.cols < 2**31 else 8)
-        tiles = list(places(self.sheet, self._size_for(demand)))
+        tiles = self._tiles(demand)
         memory = self._memory(demand, tiles[0])
-        whole = self._joined(file, tiles, diagonal, memory)
+        whole = self._joined(file, tiles, diagonal, memory, are_parts(tiles))
         dtype = "int32" if whole.areas < 2**31 else "int64"
         calls = ((file, self.sheet, place, diagonal, tile, dtype) for place, tile in zip(tiles, whole.tiles))
         with tile_writer(path, self.sheet, dtype, NO_AREA) as writer, self._engine.tasks("clump", len(tiles)) as tasks:
@@ -368,7 +368,7 @@ class Mosaic:
         -------
         DataFrame, or a Table where pandas is not installed
             `patch` (the number that r.clump gives in the undivided map, ascending from 1), `category`, `cells`. This process
-            holds it whole: 24 bytes for each area, and up to 60 more while bands are joined.
+            holds it whole: 24 bytes for each area, and up to 100 more while tiles are joined.
 
         Raises
         ------
@@ -385,34 +385,52 @@ class Mosaic:
         2      3         3      1
         """
         file = self._file(name)
-        demand = sizes_demand(file.bytes)
-        tiles = list(places(self.sheet, self._size_for(demand)))
-        if are_bands(tiles):
-            demand = band_sizes_demand(file.bytes)
-            tiles = list(places(self.sheet, self._size_for(demand)))
+        demand, tiles, by_program = self._tiles_for_sizes(file)
         memory = self._memory(demand, tiles[0])
-        whole = self._joined(file, tiles, diagonal, memory)
+        whole = self._joined(file, tiles, diagonal, memory, by_program)
         categories, cells = self._sizes(file, tiles, diagonal, whole, memory)
         numbers = np.column_stack([np.arange(1, whole.areas + 1), categories])
         answer = Table("r.clump", 0, ("patch", "category"), numbers, cells, cell=self.sheet.cell, crs=self.sheet.crs)
         return answer.frame() if has("pandas") else answer
 
-    def _joined(self, file: MapFile, tiles: list[Rectangle], diagonal: bool, memory: int) -> Joined | JoinedBands:
-        """The areas of tiles joined to those of the whole: of bands by rcell-join, of others in Python (law `numbers_join`)."""
-        if are_bands(tiles):
-            find_joiner()  # it is needed at the end, and missed at the beginning
-        with self._engine.tasks("areas", len(tiles)) as tasks:
-            found = [tasks.ask(_tasks.edges_of, file, self.sheet, place, diagonal, memory=memory) for place in tiles]
-            edges = tasks.take_each(found)
-            return join_bands(edges, diagonal) if are_bands(tiles) else join(edges, diagonal)
+    def _tiles_for_sizes(self, file: MapFile) -> tuple[Demand, list[Rectangle], bool]:
+        """Tiles whose areas are counted, what a task takes of memory, and whether rcell-join adds up what the program prints of them.
 
-    def _sizes(self, file: MapFile, tiles: list[Rectangle], diagonal: bool, whole: Joined | JoinedBands, memory: int) -> tuple[Any, Any]:
+        The tables that the program prints take more than the arrays that are added up in Python: where they have no room, or tiles
+        that have room for them would be too many, it is done in Python.
+        """
+        printed = areas_table_demand(file.bytes)
+        if self._size is None or printed.bytes(*self._size_of_tiles(*self._size)) <= self._engine.room().most:
+            tiles = self._tiles(printed)
+            if are_parts(tiles):
+                return printed, tiles, True
+        counted = sizes_demand(file.bytes)
+        return counted, self._tiles(counted), False
+
+    def _joined(self, file: MapFile, tiles: list[Rectangle], diagonal: bool, memory: int, by_program: bool) -> Joined | JoinedParts:
+        """The areas of tiles joined to those of the whole: by rcell-join or, as where they are too many for it, in Python (law
+        `numbers_join`)."""
+        if by_program:
+            find_joiner()  # it is needed at the end, and missed at the beginning
+        bands = are_bands(tiles)
+        most_firsts = MOST_AREAS if by_program and not bands else 0
+        with self._engine.tasks("areas", len(tiles)) as tasks:
+            found = [tasks.ask(_tasks.edges_of, file, self.sheet, place, diagonal, most_firsts, memory=memory) for place in tiles]
+            edges = tasks.take_each(found)
+            if not by_program:
+                return join(edges, diagonal)
+            if bands:
+                return join_bands(edges, diagonal)
+            taken = list(edges)
+        return join_tiles(taken, diagonal) if are_few(taken) else join(taken, diagonal)
+
+    def _sizes(self, file: MapFile, tiles: list[Rectangle], diagonal: bool, whole: Joined | JoinedParts, memory: int) -> tuple[Any, Any]:
         """Categories and cells of the areas of the whole, in the order of their numbers."""
         with self._engine.tasks("patches", len(tiles)) as tasks:
-            if isinstance(whole, JoinedBands):
+            if isinstance(whole, JoinedParts):
                 calls = ((file, self.sheet, place, diagonal) for place in tiles)
-                bands = sorted(tasks.stream(_tasks.band_sizes, calls, memory), key=lambda band: band[0])
-                return sizes_in_bands(whole, [table for _, (table, _) in bands], [categories for _, (_, categories) in bands])
+                parts = sorted(tasks.stream(_tasks.areas_table, calls, memory), key=lambda part: part[0])
+                return sizes_in_parts(whole, [table for _, (table, _) in parts], [categories for _, (_, categories) in parts])
             numbered = ((file, self.sheet, place, diagonal, tile) for place, tile in zip(tiles, whole.tiles))
             return _tasks.sizes_in_whole((tile for _, tile in tasks.stream(_tasks.tile_sizes, numbered, memory)), whole.areas)
 
@@ -466,16 +484,23 @@ class Mosaic:
     def _read(self, run: _tasks.TileRun) -> int:
         return sum(file.bytes for file in run.files)
 
+    def _tiles(self, demand: Demand) -> list[Rectangle]:
+        return list(places(self.sheet, self._size_for(demand)))
+
     def _size_for(self, demand: Demand) -> tuple[int, int]:
         room = self._engine.room()
         if self._size is None:
             return size_for(demand, self.sheet, room.memory, room.tasks)
-        rows, cols = min(self._size[0], self.sheet.rows), min(self._size[1], self.sheet.cols)
+        rows, cols = self._size_of_tiles(*self._size)
         needed_bytes = demand.bytes(rows, cols)
         if needed_bytes > room.most:
             raise TooLittleMemory(f"a tile of {rows} x {cols} cells may take {needed_bytes:,} bytes, and a worker has {room.most:,}: "
                                   "give a smaller size, or none")
         return rows, cols
+
+    def _size_of_tiles(self, rows: int, cols: int) -> tuple[int, int]:
+        """Rows and columns of the largest tile, where tiles of so many are asked for."""
+        return min(rows, self.sheet.rows), min(cols, self.sheet.cols)
 
     def _memory(self, demand: Demand, place: Rectangle) -> int:
         return demand.bytes(place.rows, place.cols)

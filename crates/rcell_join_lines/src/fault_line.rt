@@ -1,7 +1,8 @@
 //! The one line that says why nothing, or not all, was joined.
 
 ghost use Rattle.std.specs.Prelude.{◌≡◌, map};
-ghost use Rattle.rcell_join.specs.FaultLines.{path_at_place, refusal_source};
+ghost use Rattle.rcell_join_lines.specs.FaultLines.{path_at_place, refusal_source};
+ghost use Rattle.rcell_join_request.specs.Refusals.{refusal_status};
 
 use rcell_join_request::refusal::Refusal;
 use std::fmt;
@@ -23,8 +24,8 @@ impl<'a, T: fmt::Display> fmt::Display for FaultLine<'a, T> {
     }
 }
 
-// The path at a place, nothing where there is none.
-pub(crate) fn path_at<'a>(paths: &[&'a str], place: usize) -> &'a str
+/// The path at a place, nothing where there is none.
+pub fn path_at<'a>(paths: &[&'a str], place: usize) -> &'a str
     ensures { result.now ≡ path_at_place (map (λ path. path.now) paths.now) place }
 {
     match paths.get(place) {
@@ -55,5 +56,21 @@ pub fn refusal_line<'a>(refusal: Refusal, paths: &[&'a str]) -> FaultLine<'a, Re
         source: refusal_source(paths, refusal),
         line: 0,
         text: refusal,
+    }
+}
+
+/// Reports a refusal on standard error, and returns its status. Where standard error takes nothing, the status still says it.
+pub fn tell<R: Eprint>(rt: &R, refusal: Refusal, paths: &[&str]) -> u8
+    ensures { result ≡ refusal_status refusal }
+{
+    let line = refusal_line(refusal, paths);
+    let _ = eprintln!(rt; "{line}");
+    refusal.status()
+}
+
+/// Reports a fault on standard error, if there is one. Where standard error takes nothing, nothing is reported.
+pub fn report<R: Eprint, T: fmt::Display + Drop>(rt: &R, told: Option<FaultLine<'_, T>>) {
+    if let Some(line) = told {
+        let _ = eprintln!(rt; "{line}");
     }
 }

@@ -1,7 +1,7 @@
 //! The line that tells why areas of bands were not joined, and the exit status.
 
 ghost use Rattle.std.specs.Prelude.{◌≡◌, is_some, IfSome, map};
-ghost use Rattle.rcell_join.specs.AreasFaultLine.{areas_fault_line_number, areas_fault_source, areas_fault_status, areas_fault_text, areas_status, edges_kind_line, edges_kind_status, edges_kind_text};
+ghost use Rattle.rcell_join_lines.specs.AreasFaultLine.{areas_fault_line_number, areas_fault_source, areas_fault_status, areas_fault_text, areas_status, edges_kind_line, edges_kind_status, edges_kind_text};
 
 use crate::fault_line::{FaultLine, path_at};
 use crate::kind_status::grid_kind_status;

@@ -1,14 +1,14 @@
 //! The exit status of what a text has wrong: 4 where it cannot be read on, 3 when out of memory, and 1 of anything else.
 
 ghost use Rattle.std.specs.Prelude.{◌≡◌};
-ghost use Rattle.rcell_join.specs.KindStatuses.{areas_kind_status, grid_kind_status, table_kind_status};
+ghost use Rattle.rcell_join_lines.specs.KindStatuses.{areas_kind_status, grid_kind_status, table_kind_status};
 
 use cell_ascii::grid_fault::GridKind;
 use cell_tiles_lines::table_fault::TableKind;
 use cell_tiles_numbering::areas_fault::AreasKind;
 
-// The status of a table's fault.
-pub(crate) fn table_kind_status(kind: TableKind) -> u8
+/// The status of a table's fault.
+pub fn table_kind_status(kind: TableKind) -> u8
     ensures { result ≡ table_kind_status kind }
 {
     match kind {
@@ -18,8 +18,8 @@ pub(crate) fn table_kind_status(kind: TableKind) -> u8
     }
 }
 
-// The status of a grid's fault.
-pub(crate) fn grid_kind_status(kind: GridKind) -> u8
+/// The status of a grid's fault.
+pub fn grid_kind_status(kind: GridKind) -> u8
     ensures { result ≡ grid_kind_status kind }
 {
     match kind {
@@ -29,8 +29,8 @@ pub(crate) fn grid_kind_status(kind: GridKind) -> u8
     }
 }
 
-// The status of an areas text's fault.
-pub(crate) fn areas_kind_status(kind: AreasKind) -> u8
+/// The status of an areas text's fault.
+pub fn areas_kind_status(kind: AreasKind) -> u8
     ensures { result ≡ areas_kind_status kind }
 {
     match kind {

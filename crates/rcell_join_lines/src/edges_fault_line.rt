@@ -1,7 +1,7 @@
 //! The line that tells why no edges of a band were written, and the exit status.
 
 ghost use Rattle.std.specs.Prelude.{◌≡◌, is_some, IfSome};
-ghost use Rattle.rcell_join.specs.EdgesFaultLine.{edges_fault_line_number, edges_fault_source, edges_fault_status, edges_fault_text, edges_status};
+ghost use Rattle.rcell_join_lines.specs.EdgesFaultLine.{edges_fault_line_number, edges_fault_source, edges_fault_status, edges_fault_text, edges_status};
 
 use crate::fault_line::FaultLine;
 use crate::kind_status::grid_kind_status;

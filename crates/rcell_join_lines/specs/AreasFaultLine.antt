@@ -4,10 +4,10 @@ use Rattle.cell_tiles_areas.specs.declared.areas_join_fault.AreasJoinFault.{Area
 use Rattle.cell_tiles_areas.specs.declared.areas_join_fault.AreasJoinFault.TheVariants.{Edges, OtherColumns, NotBelow, Memory, Write}
 use Rattle.cell_tiles_edges.specs.declared.edges_fault.EdgesFault.{EdgesFault}
 use Rattle.cell_tiles_edges.specs.declared.edges_fault.EdgesFault.TheVariants as edges_faults
-use Rattle.rcell_join.specs.FaultLines.{path_at_place}
-use Rattle.rcell_join.specs.KindStatuses.{grid_kind_status}
-use Rattle.rcell_join.specs.declared.areas_fault_line.AreasFaultText.{AreasFaultText}
-use Rattle.rcell_join.specs.declared.areas_fault_line.AreasFaultText.TheVariants as texts
+use Rattle.rcell_join_lines.specs.FaultLines.{path_at_place}
+use Rattle.rcell_join_lines.specs.KindStatuses.{grid_kind_status}
+use Rattle.rcell_join_lines.specs.declared.areas_fault_line.AreasFaultText.{AreasFaultText}
+use Rattle.rcell_join_lines.specs.declared.areas_fault_line.AreasFaultText.TheVariants as texts
 
 -- what a fault belongs to: the path of a band's edges, `output`, or `areas` when out of memory
 abbrev pub areas_fault_source : List (List ℕ) → AreasJoinFault → List ℕ

@@ -2,9 +2,9 @@
 use Rattle.std.specs.Prelude.{ℕ, List, Option, Some, None, codes}
 use Rattle.cell_tiles_edges.specs.declared.band_edges.BandFault.{BandFault}
 use Rattle.cell_tiles_edges.specs.declared.band_edges.BandFault.TheVariants.{Map, Numbers, Region, Pair, Memory, Write}
-use Rattle.rcell_join.specs.KindStatuses.{grid_kind_status}
-use Rattle.rcell_join.specs.declared.edges_fault_line.EdgesFaultText.{EdgesFaultText}
-use Rattle.rcell_join.specs.declared.edges_fault_line.EdgesFaultText.TheVariants as texts
+use Rattle.rcell_join_lines.specs.KindStatuses.{grid_kind_status}
+use Rattle.rcell_join_lines.specs.declared.edges_fault_line.EdgesFaultText.{EdgesFaultText}
+use Rattle.rcell_join_lines.specs.declared.edges_fault_line.EdgesFaultText.TheVariants as texts
 
 -- what a fault belongs to: the path of the map or of the numbers, `output`, or `edges` when out of memory
 abbrev pub edges_fault_source : (cells numbers : List ℕ) → BandFault → List ℕ
