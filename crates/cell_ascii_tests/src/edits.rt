@@ -2,11 +2,13 @@
 
 ghost use Rattle.std.specs.Prelude.{◌<◌};
 
+use crate::assertions::assert_same;
 use crate::definition::cells::{cells, header};
 use crate::definition::fault::text_fault;
 use crate::definition::words::is_space;
 use cell_ascii::grid_fault::{GridFault, GridKind};
 use cell_ascii::grid_reader::read_map;
+use cell_core::cell::Cell;
 use cell_core::map::CellMap;
 use cell_core::memory::Memory;
 use cell_core::region::RegionFault;
@@ -40,22 +42,26 @@ fn read<R: AllocGlobal>(
     Ok(read_map(rt.alloc(), MemorySource::new(bytes, piece, fails)))
 }
 
-fn expect_map<R: Abort + AllocGlobal>(rt: &R, map: &CellMap, text: &[u8]) -> Result<(), Fail> {
-    let header = header(rt.alloc(), text).map_err(|_| "no memory")?;
-    let header = header.map_err(|_| "no header")?;
-    let cells = cells(rt.alloc(), &header, text).map_err(|_| "no memory")?;
+// The cells of a map, row by row.
+fn cells_of(alloc: Global, map: &CellMap) -> Result<Vec<Result<Cell, GridKind>>, Memory> {
     let region = map.region();
-    assert!(rt; region == header.region());
-    let mut wanted = cells.iter();
-    for r in 0..region.rows() {
-        for c in 0..region.cols() {
-            match wanted.next() {
-                Some(cell) => assert_eq!(rt; *cell, Ok(map.cell(r, c))),
-                None => assert!(rt; false),
-            }
+    let mut found = Vec::new(alloc);
+    for row in 0..region.rows() {
+        for col in 0..region.cols() {
+            found.push(Ok(map.cell(row, col)))?;
         }
     }
-    assert!(rt; wanted.next().is_none());
+    Ok(found)
+}
+
+fn expect_map<R: Abort + AllocGlobal>(rt: &R, map: &CellMap, text: &[u8]) -> Result<(), Fail> {
+    let header = header(rt.alloc(), text)??;
+    let wanted = cells(rt.alloc(), &header, text)?;
+    let found = cells_of(rt.alloc(), map)?;
+    assert_same!(rt;
+        (map.region(), found.as_slice()),
+        (header.region(), wanted.as_slice())
+    );
     Ok(())
 }
 
@@ -68,11 +74,11 @@ pub(crate) fn expect<R: Abort + AllocGlobal>(
 ) -> Result<(), Fail> {
     match answer {
         Ok(map) => {
-            assert_eq!(rt; told, None);
+            assert_same!(rt; told, None);
             expect_map(rt, &map, text)
         }
         Err(fault) => {
-            assert_eq!(rt; Some(fault), told);
+            assert_same!(rt; Some(fault), told);
             Ok(())
         }
     }
@@ -95,8 +101,8 @@ fn agrees<R: Abort + AllocGlobal>(
     text: &[u8],
     fails: bool,
 ) -> Result<(), Fail> {
-    let told = text_fault(rt.alloc(), text, fails).map_err(|_| "no memory")?;
-    note(kinds, told).map_err(|_| "no memory")?;
+    let told = text_fault(rt.alloc(), text, fails)?;
+    note(kinds, told)?;
     for more in [0u16, 1, 6, 65535] {
         expect(rt, read(rt, text, more as usize + 1, fails)?, text, told)?;
     }
@@ -133,7 +139,7 @@ fn agrees_spliced<R: Abort + AllocGlobal>(
     others: &[&[u8]],
     from: usize,
 ) -> Result<(), Fail> {
-    let text = spliced(rt.alloc(), parts, to, others, from).map_err(|_| "no memory")?;
+    let text = spliced(rt.alloc(), parts, to, others, from)?;
     agrees(rt, kinds, &text, false)?;
     agrees(rt, kinds, &text, true)
 }
@@ -177,7 +183,7 @@ fn agrees_replaced<R: Abort + AllocGlobal>(
     parts: &[&[u8]],
 ) -> Result<(), Fail> {
     for i in 0..parts.len() {
-        for other in OTHERS {
+        for &other in &OTHERS {
             agrees_spliced(rt, kinds, parts, i, &[other], i + 1)?;
         }
     }
@@ -243,7 +249,7 @@ fn wide_grid_edited(rt: HostRuntime) -> Result<(), Fail> {
 #[test]
 fn all_keys_edited(rt: HostRuntime) -> Result<(), Fail> {
     let kinds = agrees_edited(&rt, WHOLE)?;
-    for kind in [
+    for &kind in &[
         GridKind::BadHeader,
         GridKind::TwiceKey,
         GridKind::MissingKey,

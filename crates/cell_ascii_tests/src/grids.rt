@@ -2,6 +2,7 @@
 
 ghost use Rattle.cell_ascii_meaning.specs.Writing.{IsNullText};
 
+use crate::assertions::assert_same;
 use cell_ascii::grid_fault::{GridFault, GridKind};
 use cell_ascii::grid_reader::read_map;
 use cell_ascii::writer::write_map;
@@ -47,6 +48,11 @@ fn read<R: AllocGlobal>(rt: &R, text: &[u8]) -> Result<Result<CellMap, GridFault
     Ok(read_map(rt.alloc(), MemorySource::new(bytes, 7, false)))
 }
 
+// The map of a text without a fault.
+fn read_good<R: AllocGlobal>(rt: &R, text: &[u8]) -> Result<CellMap, Fail> {
+    Ok(read(rt, text)??)
+}
+
 fn expect_fault<R: Abort + AllocGlobal>(
     rt: &R,
     text: &[u8],
@@ -54,7 +60,7 @@ fn expect_fault<R: Abort + AllocGlobal>(
     line: u64,
 ) -> Result<(), Fail> {
     let found = read(rt, text)?.err();
-    assert_eq!(rt; found, Some(GridFault { kind, line }));
+    assert_same!(rt; found, Some(GridFault { kind, line }));
     Ok(())
 }
 
@@ -77,6 +83,13 @@ fn category(map: &CellMap, row: u32, col: u32) -> Option<i32> {
     None
 }
 
+// These cells of a map have these categories.
+fn expect_categories<R: Abort>(rt: &R, map: &CellMap, cells: &[(u32, u32, Option<i32>)]) {
+    for (row, col, wanted) in cells {
+        assert_same!(rt; category(map, *row, *col), *wanted, "{row} {col}");
+    }
+}
+
 // What is written of a map with this null text, by pieces of a size: it has the length that the call answers.
 fn written<R: Abort + AllocGlobal>(
     rt: &R,
@@ -87,8 +100,8 @@ fn written<R: Abort + AllocGlobal>(
     requires { IsNullText null_text.now }
 {
     let mut sink = sink;
-    let length = write_map(map, null_text, &mut sink).map_err(|_| "no room")?;
-    assert_eq!(rt; length, sink.bytes().len() as u64);
+    let length = write_map(map, null_text, &mut sink)?;
+    assert_same!(rt; length, sink.bytes().len() as u64);
     Ok(sink.bytes().to_vec(rt.alloc())?)
 }
 
@@ -96,18 +109,16 @@ fn written<R: Abort + AllocGlobal>(
 fn followed_by<R: AllocGlobal>(rt: &R, text: &[u8], byte: u8, count: u32) -> Result<Vec<u8>, Fail> {
     let mut bytes = text.to_vec(rt.alloc())?;
     for _ in 0..count {
-        bytes.push(byte).map_err(|_| "no memory")?;
+        bytes.push(byte)?;
     }
     Ok(bytes)
 }
 
 #[test]
 fn reads_a_grid(rt: HostRuntime) -> Result<(), Fail> {
-    let map = read(&rt, GRID)?.map_err(|_| "a fault")?;
-    assert_eq!(rt; (map.region().rows(), map.region().cols()), (3, 4));
-    for (row, col, wanted) in [(0, 2, Some(2)), (0, 3, None), (2, 0, Some(3))] {
-        assert_eq!(rt; category(&map, row, col), wanted, "{row} {col}");
-    }
+    let map = read_good(&rt, GRID)?;
+    assert_same!(rt; (map.region().rows(), map.region().cols()), (3, 4));
+    expect_categories(&rt, &map, &[(0, 2, Some(2)), (0, 3, None), (2, 0, Some(3))]);
     Ok(())
 }
 
@@ -204,7 +215,7 @@ fn widest_row<R: AllocGlobal>(rt: &R) -> Result<Vec<u8>, Fail> {
 #[test]
 fn reads_the_widest_row(rt: HostRuntime) -> Result<(), Fail> {
     let text = widest_row(&rt)?;
-    let map = read(&rt, text.as_slice())?.map_err(|_| "a fault")?;
+    let map = read_good(&rt, text.as_slice())?;
     let sink = MemorySink::new(vec![in rt.alloc(); 0u8; 200000]?, 5000, false);
     let found = written(&rt, &map, b"*", sink)?;
     assert!(rt; found.as_slice() == text.as_slice());
@@ -235,29 +246,32 @@ fn tells_faults_of_cells(rt: HostRuntime) -> Result<(), Fail> {
     expect_faults(&rt, &CELL_FAULTS)
 }
 
+// Texts with cells that their null text and their multiplier do not allow.
+const NULL_FAULTS: [(&[u8], GridKind, u64); 2] = [
+    (
+        b"north: 1\nsouth: 0\neast: 3\nwest: 0\nrows: 1\ncols: 3\nnull: -9\nmultiplier: 3\n* 9 -2\n",
+        GridKind::BadCell,
+        9,
+    ),
+    (
+        b"north: 1\nsouth: 0\neast: 3\nwest: 0\nrows: 1\ncols: 3\nnull: -9\nmultiplier: 2\n1073741824 1 1\n",
+        GridKind::CellRange,
+        9,
+    ),
+];
+
 #[test]
 fn reads_null_and_multiplier(rt: HostRuntime) -> Result<(), Fail> {
     let row =
         b"north: 1\nsouth: 0\neast: 3\nwest: 0\nrows: 1\ncols: 3\nnull: -9\nmultiplier: 3\n-9 9 -2\n";
-    let map = read(&rt, row)?.map_err(|_| "a fault")?;
-    let region = map.region();
-    assert_eq!(rt; region.rows(), 1);
-    assert_eq!(rt; region.cols(), 3);
-    assert_eq!(rt; map.cell(0, 0).get(), None);
-    assert_eq!(rt; map.cell(0, 1).get(), Some(27));
-    assert_eq!(rt; map.cell(0, 2).get(), Some(-6));
-    expect_fault(
+    let map = read_good(&rt, row)?;
+    assert_same!(rt; (map.region().rows(), map.region().cols()), (1, 3));
+    expect_categories(
         &rt,
-        b"north: 1\nsouth: 0\neast: 3\nwest: 0\nrows: 1\ncols: 3\nnull: -9\nmultiplier: 3\n* 9 -2\n",
-        GridKind::BadCell,
-        9,
-    )?;
-    expect_fault(
-        &rt,
-        b"north: 1\nsouth: 0\neast: 3\nwest: 0\nrows: 1\ncols: 3\nnull: -9\nmultiplier: 2\n1073741824 1 1\n",
-        GridKind::CellRange,
-        9,
-    )
+        &map,
+        &[(0, 0, None), (0, 1, Some(27)), (0, 2, Some(-6))],
+    );
+    expect_faults(&rt, &NULL_FAULTS)
 }
 
 // Texts that further bytes, all alike, turn into faults: the byte, their number and the fault that they have then.
@@ -303,9 +317,9 @@ const LIMITS: [(&[u8], u8, u32, Option<GridFault>); 5] = [
 
 #[test]
 fn limits_words_and_blanks(rt: HostRuntime) -> Result<(), Fail> {
-    for (text, byte, count, wanted) in LIMITS {
+    for &(text, byte, count, wanted) in &LIMITS {
         let text = followed_by(&rt, text, byte, count)?;
-        assert_eq!(rt; read(&rt, text.as_slice())?.err(), wanted);
+        assert_same!(rt; read(&rt, text.as_slice())?.err(), wanted);
     }
     Ok(())
 }
@@ -313,20 +327,20 @@ fn limits_words_and_blanks(rt: HostRuntime) -> Result<(), Fail> {
 // A text is put in blocks, and none of it is flushed.
 #[test]
 fn writes_without_a_flush(rt: HostRuntime) -> Result<(), Fail> {
-    let map = read(&rt, GRID)?.map_err(|_| "a fault")?;
+    let map = read_good(&rt, GRID)?;
     let mut sink = Counting {
         puts: 0,
         flushes: 0,
     };
-    let length = write_map(&map, b"*", &mut sink).map_err(|_| "no room")?;
-    assert_eq!(rt; length, GRID.len() as u64);
-    assert_eq!(rt; (sink.puts, sink.flushes), (1, 0));
+    let length = write_map(&map, b"*", &mut sink)?;
+    assert_same!(rt; length, GRID.len() as u64);
+    assert_same!(rt; (sink.puts, sink.flushes), (1, 0));
     Ok(())
 }
 
 // The text that is written of this one.
 fn written_again<R: Abort + AllocGlobal>(rt: &R, text: &[u8]) -> Result<Vec<u8>, Fail> {
-    let map = read(rt, text)?.map_err(|_| "a fault")?;
+    let map = read_good(rt, text)?;
     let sink = MemorySink::new(vec![in rt.alloc(); 0u8; 100]?, 3, false);
     written(rt, &map, b"-9", sink)
 }
@@ -334,15 +348,12 @@ fn written_again<R: Abort + AllocGlobal>(rt: &R, text: &[u8]) -> Result<Vec<u8>,
 #[test]
 fn reads_what_it_writes(rt: HostRuntime) -> Result<(), Fail> {
     let row = b"north: 10.50\nsouth: -.25\neast: 4.\nwest: +0\nrows: 1\ncols: 2\n7 *";
-    let map = read(&rt, row)?.map_err(|_| "a fault")?;
+    let map = read_good(&rt, row)?;
     let text = written_again(&rt, row)?;
-    assert_eq!(rt; text.len(), 71);
-    let again = read(&rt, text.as_slice())?.map_err(|_| "a fault")?;
-    assert_eq!(rt; again.region(), map.region());
-    assert_eq!(rt; (again.region().rows(), again.region().cols()), (1, 2));
-    assert_eq!(rt;
-        (category(&again, 0, 0), category(&again, 0, 1)),
-        (Some(7), None)
-    );
+    assert_same!(rt; text.len(), 71);
+    let again = read_good(&rt, text.as_slice())?;
+    let region = again.region();
+    assert_same!(rt; (region, region.rows(), region.cols()), (map.region(), 1, 2));
+    expect_categories(&rt, &again, &[(0, 0, Some(7)), (0, 1, None)]);
     Ok(())
 }

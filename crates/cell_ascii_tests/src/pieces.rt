@@ -43,8 +43,8 @@ fn read_behind<R: AllocGlobal>(
 fn agrees_in_pieces<R: Abort + AllocGlobal>(rt: &R, piece: usize) -> Result<(), Fail>
     requires { 0 < piece }
 {
-    for text in TEXTS {
-        let told = text_fault(rt.alloc(), text, false).map_err(|_| "no memory")?;
+    for &text in &TEXTS {
+        let told = text_fault(rt.alloc(), text, false)?;
         for place in 0..text.len() {
             let answer = read_behind(rt, piece - 1 - place % piece, text, piece)?;
             expect(rt, answer, text, told)?;

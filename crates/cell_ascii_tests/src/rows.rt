@@ -2,6 +2,7 @@
 
 ghost use Rattle.std.specs.Prelude.{◌≡◌, ◌<◌, ◌≤◌, length, IfOk};
 
+use crate::assertions::assert_same;
 use cell_ascii::grid_fault::{GridFault, GridKind};
 use cell_ascii::grid_reader::GridReader;
 use cell_core::cell::Cell;
@@ -19,14 +20,13 @@ const FAILED: GridFault = GridFault {
 
 fn open<R: AllocGlobal>(rt: &R, text: &[u8]) -> Result<GridReader<MemorySource>, Fail> {
     let bytes = text.to_vec(rt.alloc())?;
-    let opened = GridReader::open(rt.alloc(), MemorySource::new(bytes, 7, false));
-    Ok(opened.map_err(|_| "no header")?)
+    Ok(GridReader::open(rt.alloc(), MemorySource::new(bytes, 7, false))?)
 }
 
 fn expect_cells<R: Abort>(rt: &R, row: &[Cell], categories: &[i32]) {
-    assert_eq!(rt; row.len(), categories.len());
+    assert_same!(rt; row.len(), categories.len());
     for (cell, category) in row.iter().zip(categories.iter()) {
-        assert_eq!(rt; cell.get(), Some(*category));
+        assert_same!(rt; cell.get(), Some(*category));
     }
 }
 
@@ -37,21 +37,21 @@ fn stops_at_a_bad_cell(rt: HostRuntime) -> Result<(), Fail> {
     let mut reader = open(&rt, text)?;
     let mut cells = vec![in rt.alloc(); Cell::null(); reader.region().cols() as usize]?;
     let row = cells.as_mut_slice();
-    assert_eq!(rt; reader.rows_left(), 3);
-    assert_eq!(rt; reader.next_row(row), Ok(true));
-    assert_eq!(rt; reader.next_row(row), Ok(true));
+    assert_same!(rt; reader.rows_left(), 3);
+    assert_same!(rt; reader.next_row(row), Ok(true));
+    assert_same!(rt; reader.next_row(row), Ok(true));
     let Err(fault) = reader.next_row(row) else {
         panic!(rt; "a bad cell was read");
     };
     let kind = GridKind::BadCell;
-    assert_eq!(rt; fault, GridFault { kind, line: 9 });
-    assert_eq!(rt; reader.rows_left(), 1);
+    assert_same!(rt; fault, GridFault { kind, line: 9 });
+    assert_same!(rt; reader.rows_left(), 1);
     let Err(again) = reader.next_row(row) else {
         panic!(rt; "a reader that failed goes on");
     };
-    assert_eq!(rt; again, FAILED);
+    assert_same!(rt; again, FAILED);
     expect_cells(&rt, row, &[3, 3, 2, 2]);
-    assert_eq!(rt; reader.finish(), Err(FAILED));
+    assert_same!(rt; reader.finish(), Err(FAILED));
     Ok(())
 }
 
@@ -62,7 +62,7 @@ fn tells_that_a_row_is_missing(rt: HostRuntime) -> Result<(), Fail> {
     let mut cells = vec![in rt.alloc(); Cell::null(); reader.region().cols() as usize]?;
     let kind = GridKind::TooFew;
     let few = reader.next_row(cells.as_mut_slice());
-    assert_eq!(rt; few, Err(GridFault { kind, line: 7 }));
+    assert_same!(rt; few, Err(GridFault { kind, line: 7 }));
     Ok(())
 }
 
@@ -71,12 +71,12 @@ fn reads_rows_to_the_end(rt: HostRuntime) -> Result<(), Fail> {
     let one = b"north: 1\nsouth: 0\neast: 1\nwest: 0\nrows: 1\ncols: 1\n7\n8";
     let mut reader = open(&rt, one)?;
     let mut cells = vec![in rt.alloc(); Cell::null(); reader.region().cols() as usize]?;
-    assert_eq!(rt; reader.next_row(cells.as_mut_slice()), Ok(true));
+    assert_same!(rt; reader.next_row(cells.as_mut_slice()), Ok(true));
     let Ok(false) = reader.next_row(cells.as_mut_slice()) else {
         panic!(rt; "a row behind the last");
     };
     let kind = GridKind::TooMany;
-    assert_eq!(rt; reader.finish(), Err(GridFault { kind, line: 8 }));
+    assert_same!(rt; reader.finish(), Err(GridFault { kind, line: 8 }));
     Ok(())
 }
 
@@ -131,15 +131,16 @@ fn a_source_is_not_asked_after_it_failed(rt: HostRuntime) -> Result<(), Fail> {
         calls: &calls,
         asked: Asked::Going,
     };
-    let mut reader = GridReader::open(rt.alloc(), source).map_err(|_| "no header")?;
+    let mut reader = GridReader::open(rt.alloc(), source)?;
     let mut cells = vec![in rt.alloc(); Cell::null(); reader.region().cols() as usize]?;
     let row = cells.as_mut_slice();
-    assert_eq!(rt; reader.next_row(row), Ok(true));
+    assert_same!(rt; reader.next_row(row), Ok(true));
     let kind = GridKind::Read;
-    assert_eq!(rt; reader.next_row(row), Err(GridFault { kind, line: 8 }));
-    assert_eq!(rt; calls.get(), 61);
-    assert_eq!(rt; reader.next_row(row), Err(FAILED));
-    assert_eq!(rt; reader.finish(), Err(FAILED));
-    assert_eq!(rt; calls.get(), 61);
+    let fault = GridFault { kind, line: 8 };
+    assert_same!(rt; (reader.next_row(row), calls.get()), (Err(fault), 61));
+    let Err(again) = reader.next_row(row) else {
+        panic!(rt; "a reader that failed goes on");
+    };
+    assert_same!(rt; (again, reader.finish(), calls.get()), (FAILED, Err(FAILED), 61));
     Ok(())
 }

@@ -1,5 +1,6 @@
 //! Texts of a thousand tokens, and longer ones.
 
+use crate::assertions::assert_same;
 use crate::faults::fault_of;
 use cell_calc_language::calc_fault::{CalcFault, CalcKind};
 use std::alloc::Global;
@@ -24,23 +25,26 @@ fn repeated(
     Ok(text)
 }
 
+// What is repeated before a 1 and how often, what behind it and how often, and the column of the token that is too many.
+const REPEATED: [(&[u8], u32, &[u8], u32, Option<u32>); 7] = [
+    (b"-", 1, b" + 1", 498, None),
+    (b"-", 2, b" + 1", 498, Some(1999)),
+    (b"-", 997, b"", 0, None),
+    (b"-", 998, b"", 0, Some(1003)),
+    (b"(", 498, b")", 498, None),
+    (b"abs(", 332, b")", 332, None),
+    (b"", 0, b" ? 1 : 1", 249, None),
+];
+
 #[test]
 fn a_thousand_tokens(rt: HostRuntime) -> Result<(), Fail> {
-    for (before, first, after, second, column) in [
-        (b"-".as_slice(), 1, b" + 1".as_slice(), 498, None),
-        (b"-", 2, b" + 1", 498, Some(1999)),
-        (b"-", 997, b"", 0, None),
-        (b"-", 998, b"", 0, Some(1003)),
-        (b"(", 498, b")", 498, None),
-        (b"abs(", 332, b")", 332, None),
-        (b"", 0, b" ? 1 : 1", 249, None),
-    ] {
+    for &(before, first, after, second, column) in &REPEATED {
         let text = repeated(rt.alloc(), before, first, after, second)?;
         let fault = column.map(|column| CalcFault {
             kind: CalcKind::TooLong,
             column,
         });
-        assert_eq!(rt; fault_of(rt.alloc(), &text), fault);
+        assert_same!(rt; fault_of(rt.alloc(), &text), fault);
     }
     Ok(())
 }
@@ -53,7 +57,7 @@ fn what_follows_a_thousand_tokens_is_too_long(rt: HostRuntime) -> Result<(), Fai
         kind: CalcKind::TooLong,
         column: 1999,
     };
-    assert_eq!(rt; fault_of(rt.alloc(), &text), Some(fault));
+    assert_same!(rt; fault_of(rt.alloc(), &text), Some(fault));
     Ok(())
 }
 
@@ -64,9 +68,9 @@ fn the_longest_text(rt: HostRuntime) -> Result<(), Fail> {
     for _ in text.len()..65535 {
         text.push(b' ')?;
     }
-    assert_eq!(rt; text.len(), 65535);
+    assert_same!(rt; text.len(), 65535);
     for _ in 0..100 {
-        assert_eq!(rt; fault_of(rt.alloc(), text.as_slice()), None);
+        assert_same!(rt; fault_of(rt.alloc(), text.as_slice()), None);
     }
     Ok(())
 }

@@ -1,11 +1,13 @@
 //! Trees of texts: levels, directions, calls and offsets.
 
+use crate::assertions::assert_same;
 use cell_calc_grammar::map_name::MapName;
 use cell_calc_language::assignment::parse;
 use cell_calc_language::function::Function;
 use cell_calc_language::operator::Operator;
 use cell_calc_steps::step::Step;
-use std::alloc::Global;
+use std::alloc::{AllocGlobal, Global};
+use std::process::Abort;
 use std::test::Fail;
 
 fn sign_of(operator: Operator) -> &'static [u8] {
@@ -150,80 +152,89 @@ fn written(alloc: Global, expression: &[u8]) -> Result<Vec<u8>, Fail> {
     if text.len() > 65535 {
         return Err("too long".into());
     }
-    let read = parse(alloc, &text).map_err(|_| "refused")?;
+    let read = parse(alloc, &text)?;
     tree_of(alloc, read.expr.steps())
 }
 
-#[test]
-fn neighbouring_levels(rt: HostRuntime) -> Result<(), Fail> {
-    for (text, tree) in [
-        (b"-1 * 2".as_slice(), b"((-1)*2)".as_slice()),
-        (b"1 / !2", b"(1/(!2))"),
-        (b"!0 + 1", b"((!0)+1)"),
-        (b"1 * 2 + 3", b"((1*2)+3)"),
-        (b"1 + 2 % 3", b"(1+(2%3))"),
-        (b"1 - 2 < 3", b"((1-2)<3)"),
-        (b"1 >= 2 + 3", b"(1>=(2+3))"),
-        (b"2 < 3 == 1", b"((2<3)==1)"),
-        (b"1 != 2 <= 3", b"(1!=(2<=3))"),
-        (b"1 == 2 && 3", b"((1==2)&&3)"),
-        (b"1 &&& 2 != 3", b"(1&&&(2!=3))"),
-        (b"1 && 2 || 3", b"((1&&2)||3)"),
-        (b"1 || 2 && 3", b"(1||(2&&3))"),
-        (b"5 ||| 6 && 0", b"(5|||(6&&0))"),
-        (b"1 &&& 2 ||| 3", b"((1&&&2)|||3)"),
-        (b"1 || 2 ? 3 : 4", b"if((1||2);3;4;)"),
-        (b"1 ? 2 : 3 ||| 4", b"if(1;2;(3|||4);)"),
-    ] {
-        assert!(rt; written(rt.alloc(), text)?.as_slice() == tree, "{:?}", text);
+// Each expression has its tree.
+fn expect_trees<R: Abort + AllocGlobal>(rt: &R, table: &[(&[u8], &[u8])]) -> Result<(), Fail> {
+    for (text, tree) in table {
+        let found = written(rt.alloc(), text)?;
+        assert_same!(rt; found.as_slice(), *tree, "{text:?}");
     }
     Ok(())
 }
+
+// Expressions of two neighbouring levels, and their trees.
+const NEIGHBOURING_LEVELS: [(&[u8], &[u8]); 17] = [
+    (b"-1 * 2", b"((-1)*2)"),
+    (b"1 / !2", b"(1/(!2))"),
+    (b"!0 + 1", b"((!0)+1)"),
+    (b"1 * 2 + 3", b"((1*2)+3)"),
+    (b"1 + 2 % 3", b"(1+(2%3))"),
+    (b"1 - 2 < 3", b"((1-2)<3)"),
+    (b"1 >= 2 + 3", b"(1>=(2+3))"),
+    (b"2 < 3 == 1", b"((2<3)==1)"),
+    (b"1 != 2 <= 3", b"(1!=(2<=3))"),
+    (b"1 == 2 && 3", b"((1==2)&&3)"),
+    (b"1 &&& 2 != 3", b"(1&&&(2!=3))"),
+    (b"1 && 2 || 3", b"((1&&2)||3)"),
+    (b"1 || 2 && 3", b"(1||(2&&3))"),
+    (b"5 ||| 6 && 0", b"(5|||(6&&0))"),
+    (b"1 &&& 2 ||| 3", b"((1&&&2)|||3)"),
+    (b"1 || 2 ? 3 : 4", b"if((1||2);3;4;)"),
+    (b"1 ? 2 : 3 ||| 4", b"if(1;2;(3|||4);)"),
+];
+
+#[test]
+fn neighbouring_levels(rt: HostRuntime) -> Result<(), Fail> {
+    expect_trees(&rt, &NEIGHBOURING_LEVELS)
+}
+
+// Expressions of one level, and their trees.
+const ONE_LEVEL: [(&[u8], &[u8]); 13] = [
+    (b"10 - 4 - 3", b"((10-4)-3)"),
+    (b"8 / 2 % 3 * 4", b"(((8/2)%3)*4)"),
+    (b"1 - 2 + 3", b"((1-2)+3)"),
+    (b"1 < 2 <= 3 > 4 >= 5", b"((((1<2)<=3)>4)>=5)"),
+    (b"1 == 2 != 3", b"((1==2)!=3)"),
+    (b"1 && 0 &&& 2", b"((1&&0)&&&2)"),
+    (b"1 &&& 0 && 2", b"((1&&&0)&&2)"),
+    (b"1 ||| 2 || 3", b"((1|||2)||3)"),
+    (b"1 || 2 ||| 3", b"((1||2)|||3)"),
+    (b"- - 3", b"(-(-3))"),
+    (b"-!-3", b"(-(!(-3)))"),
+    (b"0 ? 5 : 1 ? 6 : 7", b"if(0;5;if(1;6;7;);)"),
+    (b"1 ? 2 ? 3 : 4 : 5", b"if(1;if(2;3;4;);5;)"),
+];
 
 #[test]
 fn one_level_goes_from_the_left(rt: HostRuntime) -> Result<(), Fail> {
-    for (text, tree) in [
-        (b"10 - 4 - 3".as_slice(), b"((10-4)-3)".as_slice()),
-        (b"8 / 2 % 3 * 4", b"(((8/2)%3)*4)"),
-        (b"1 - 2 + 3", b"((1-2)+3)"),
-        (b"1 < 2 <= 3 > 4 >= 5", b"((((1<2)<=3)>4)>=5)"),
-        (b"1 == 2 != 3", b"((1==2)!=3)"),
-        (b"1 && 0 &&& 2", b"((1&&0)&&&2)"),
-        (b"1 &&& 0 && 2", b"((1&&&0)&&2)"),
-        (b"1 ||| 2 || 3", b"((1|||2)||3)"),
-        (b"1 || 2 ||| 3", b"((1||2)|||3)"),
-        (b"- - 3", b"(-(-3))"),
-        (b"-!-3", b"(-(!(-3)))"),
-        (b"0 ? 5 : 1 ? 6 : 7", b"if(0;5;if(1;6;7;);)"),
-        (b"1 ? 2 ? 3 : 4 : 5", b"if(1;if(2;3;4;);5;)"),
-    ] {
-        assert!(rt; written(rt.alloc(), text)?.as_slice() == tree, "{:?}", text);
-    }
-    Ok(())
+    expect_trees(&rt, &ONE_LEVEL)
 }
+
+// Expressions by their operands, and their trees.
+const OPERANDS: [(&[u8], &[u8]); 17] = [
+    (b"10 - (4 - 3)", b"(10-(4-3))"),
+    (b"(1 + 2) * 3", b"((1+2)*3)"),
+    (b"((7))", b"7"),
+    (b"g", b"g[0,0]@5"),
+    (b"g[-255,+255]", b"g[-255,255]@5"),
+    (b"-g[1,0] + g[-1,0]", b"((-g[1,0]@6)+g[-1,0]@15)"),
+    (b"if", b"if[0,0]@5"),
+    (b"if(1) + isnull(2)", b"(if(1;)+isnull(2;))"),
+    (b"null() - abs(1)", b"(null()-abs(1;))"),
+    (b"min(1,2) + max(3,4)", b"(min(1;2;)+max(3;4;))"),
+    (b"mode(2,1,2)", b"mode(2;1;2;)"),
+    (b"row() * 10 + col()", b"((row()*10)+col())"),
+    (b"nrows() * 100 + ncols()", b"((nrows()*100)+ncols())"),
+    (b"eval(null(), 4)", b"eval(null();4;)"),
+    (b"nmin(1,2) + nmax(3,4)", b"(nmin(1;2;)+nmax(3;4;))"),
+    (b"nmode(2,null(),1)", b"nmode(2;null();1;)"),
+    (b"if(1,2) + if(1,2,3)", b"(if(1;2;)+if(1;2;3;))"),
+];
 
 #[test]
 fn operands(rt: HostRuntime) -> Result<(), Fail> {
-    for (text, tree) in [
-        (b"10 - (4 - 3)".as_slice(), b"(10-(4-3))".as_slice()),
-        (b"(1 + 2) * 3", b"((1+2)*3)"),
-        (b"((7))", b"7"),
-        (b"g", b"g[0,0]@5"),
-        (b"g[-255,+255]", b"g[-255,255]@5"),
-        (b"-g[1,0] + g[-1,0]", b"((-g[1,0]@6)+g[-1,0]@15)"),
-        (b"if", b"if[0,0]@5"),
-        (b"if(1) + isnull(2)", b"(if(1;)+isnull(2;))"),
-        (b"null() - abs(1)", b"(null()-abs(1;))"),
-        (b"min(1,2) + max(3,4)", b"(min(1;2;)+max(3;4;))"),
-        (b"mode(2,1,2)", b"mode(2;1;2;)"),
-        (b"row() * 10 + col()", b"((row()*10)+col())"),
-        (b"nrows() * 100 + ncols()", b"((nrows()*100)+ncols())"),
-        (b"eval(null(), 4)", b"eval(null();4;)"),
-        (b"nmin(1,2) + nmax(3,4)", b"(nmin(1;2;)+nmax(3;4;))"),
-        (b"nmode(2,null(),1)", b"nmode(2;null();1;)"),
-        (b"if(1,2) + if(1,2,3)", b"(if(1;2;)+if(1;2;3;))"),
-    ] {
-        assert!(rt; written(rt.alloc(), text)?.as_slice() == tree, "{:?}", text);
-    }
-    Ok(())
+    expect_trees(&rt, &OPERANDS)
 }

@@ -1,5 +1,6 @@
 //! Blocks: when what they gather goes out, and what a full sink leaves of it.
 
+use crate::assertions::{assert_holds, assert_same};
 use cell_core::block::OutputBlock;
 use cell_core::device::DeviceFault;
 use cell_core::sink::{MemorySink, Sink, WriteFault};
@@ -72,14 +73,14 @@ const ENDS: [(usize, u8); 8] = [
 fn puts_out_what_is_more_than_a_block(rt: HostRuntime) -> Result<(), Fail> {
     let mut sink = MemorySink::new(vec![in rt.alloc(); 0u8; 10000]?, 7, false);
     let mut block = OutputBlock::new();
-    for (byte, count, out) in PUSHES {
+    for &(byte, count, out) in &PUSHES {
         let found = pushed(rt.alloc(), &mut block, &mut sink, byte, count)?;
-        assert_eq!(rt; found, (out as u64, out), "{count} bytes {byte}");
+        assert_same!(rt; found, (out as u64, out), "{count} bytes {byte}");
     }
     block.empty(&mut sink);
-    assert_eq!(rt; (block.outcome(), block.written()), (Ok(()), 9098));
-    for (place, byte) in ENDS {
-        assert_eq!(rt;
+    assert_same!(rt; (block.outcome(), block.written()), (Ok(()), 9098));
+    for &(place, byte) in &ENDS {
+        assert_same!(rt;
             sink.bytes().get(place).copied(),
             Some(byte),
             "byte {place}"
@@ -94,14 +95,14 @@ fn remembers_a_refused_put(rt: HostRuntime) -> Result<(), Fail> {
     let mut block = OutputBlock::new();
     block.push(&mut sink, &[b'a'; 4000]);
     block.push(&mut sink, &[b'b'; 200]);
-    assert!(rt; !block.has_failed());
+    assert_holds!(rt; !block.has_failed());
     block.push(&mut sink, &[b'c'; 4000]);
-    assert!(rt; block.has_failed());
-    assert_eq!(rt; (block.written(), sink.bytes().len()), (4100, 4100));
+    assert_holds!(rt; block.has_failed());
+    assert_same!(rt; (block.written(), sink.bytes().len()), (4100, 4100));
     block.empty(&mut sink);
     block.push(&mut sink, b"d");
     block.empty(&mut sink);
-    assert_eq!(rt; block.outcome(), Err(WriteFault { written: 4100 }));
+    assert_same!(rt; block.outcome(), Err(WriteFault { written: 4100 }));
     Ok(())
 }
 
@@ -119,7 +120,7 @@ fn puts_nothing_after_a_refused_put(rt: HostRuntime) -> Result<(), Fail> {
         block.push(&mut sink, bytes.as_slice());
         block.empty(&mut sink);
     }
-    assert_eq!(rt;
+    assert_same!(rt;
         (sink.calls, block.outcome()),
         (1, Err(WriteFault { written: 0 }))
     );
@@ -132,7 +133,7 @@ fn a_long_slice_that_is_cut_off_is_counted(rt: HostRuntime) -> Result<(), Fail> 
     let mut block = OutputBlock::new();
     block.push(&mut sink, b"ab");
     block.push(&mut sink, &[b'c'; 6000]);
-    assert_eq!(rt; block.outcome(), Err(WriteFault { written: 5000 }));
-    assert_eq!(rt; sink.bytes().get(..3), Some(b"abc".as_slice()));
+    assert_same!(rt; block.outcome(), Err(WriteFault { written: 5000 }));
+    assert_same!(rt; sink.bytes().get(..3), Some(b"abc".as_slice()));
     Ok(())
 }

@@ -4,9 +4,9 @@ ghost use Rattle.std.specs.Prelude.{◌≡◌};
 
 use cell_core::cell::Cell;
 use cell_core::map::{CellMap, MapBuilder};
-use cell_core::memory::Memory;
 use cell_core::region::Region;
 use std::alloc::{AllocError, Global};
+use std::test::Fail;
 
 /// The number that stands for null in a list of categories.
 pub const NULL: i32 = i32::MIN;
@@ -21,27 +21,20 @@ pub fn cells(alloc: Global, numbers: &[i32]) -> Result<Vec<Cell>, AllocError> {
     numbers.iter().map(|number| cell(*number)).collect(alloc)
 }
 
-/// The map of these categories, from the upper left; None where they are no such map.
-pub fn map_of(
-    alloc: Global,
-    rows: u32,
-    cols: u32,
-    numbers: &[i32],
-) -> Result<Option<CellMap>, Memory> {
-    let Ok(region) = Region::new(1, 0, 1, 0, rows, cols) else {
-        return Ok(None);
-    };
+/// The map of these categories, from the upper left; an `Err` where they are no such map.
+pub fn map_of(alloc: Global, rows: u32, cols: u32, numbers: &[i32]) -> Result<CellMap, Fail> {
+    let region = Region::new(1, 0, 1, 0, rows, cols)?;
     let cells = cells(alloc, numbers)?;
     let width = region.cols() as usize;
     let mut builder = MapBuilder::new(alloc, region);
     for row in cells.chunks(width) {
         if row.len() != width || builder.rows_left() == 0 {
-            return Ok(None);
+            return Err("no such row".into());
         }
         builder.push_row(row)?;
     }
     if builder.rows_left() != 0 {
-        return Ok(None);
+        return Err("rows are left".into());
     }
-    Ok(Some(builder.finish()))
+    Ok(builder.finish())
 }

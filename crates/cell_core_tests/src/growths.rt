@@ -5,12 +5,13 @@
 
 ghost use Rattle.std.specs.Prelude.{◌≡◌, length};
 
+use crate::assertions::{assert_holds, assert_same};
 use crate::fixture::{NULL, cells, map_of};
 use cell_core::cell::Cell;
 use cell_core::map::{CellMap, MapBuilder};
 use cell_core::name::{Name, Names};
 use cell_core::region::Region;
-use cell_core::shelf::{Shelf, ShelfFault};
+use cell_core::shelf::{Shelf, ShelfFault, ShelfRefused};
 use std::alloc::AllocGlobal;
 use std::process::Abort;
 use std::test::Fail;
@@ -18,6 +19,11 @@ use std::test::Fail;
 const NAMES: [&[u8]; 15] = [
     b"a", b"b", b"c", b"d", b"e", b"f", b"g", b"h", b"i", b"j", b"k", b"l", b"m", b"n", b"o",
 ];
+
+// Tells that a call was refused and is made again.
+fn tell_again<R: Eprint>(rt: &R) {
+    let _ = eprintln!(rt; "made again");
+}
 
 fn push_row<R: Abort + AllocGlobal + Eprint>(
     rt: &R,
@@ -32,8 +38,8 @@ fn push_row<R: Abort + AllocGlobal + Eprint>(
         return Err("no row is left".into());
     }
     if builder.push_row(row).is_err() {
-        let _ = eprintln!(rt; "made again");
-        assert_eq!(rt; builder.rows_left(), left);
+        tell_again(rt);
+        assert_same!(rt; builder.rows_left(), left);
         builder.push_row(row)?;
     }
     Ok(())
@@ -58,7 +64,7 @@ fn push_rows<R: Abort + AllocGlobal + Eprint>(
 #[test]
 fn a_refused_row_is_pushed_again(rt: HostRuntime) -> Result<(), Fail> {
     let row = cells(rt.alloc(), &[1, 2, NULL, 2, 1, 1])?;
-    let region = Region::new(5, 0, 6, 0, 5, 6).map_err(|_| "no region")?;
+    let region = Region::new(5, 0, 6, 0, 5, 6)?;
     if row.len() != region.cols() as usize {
         return Err("no row".into());
     }
@@ -70,7 +76,7 @@ fn a_refused_row_is_pushed_again(rt: HostRuntime) -> Result<(), Fail> {
     let map = builder.finish();
     let mut found = [Cell::null(); 6];
     map.copy_row(4, &mut found);
-    assert_eq!(rt; found.as_slice(), row.as_slice());
+    assert_same!(rt; found.as_slice(), row.as_slice());
     Ok(())
 }
 
@@ -85,17 +91,17 @@ fn set_label<R: Abort + AllocGlobal + Eprint>(
         return Err("no category".into());
     }
     if map.set_label(category, text).is_err() {
-        let _ = eprintln!(rt; "made again");
-        assert_eq!(rt; map.label(category), before, "category {category}");
+        tell_again(rt);
+        assert_same!(rt; map.label(category), before, "category {category}");
         map.set_label(category, text)?;
     }
-    assert_eq!(rt; map.label(category), Some(text), "category {category}");
+    assert_same!(rt; map.label(category), Some(text), "category {category}");
     Ok(())
 }
 
 #[test]
 fn a_refused_label_is_set_again(rt: HostRuntime) -> Result<(), Fail> {
-    let mut map = map_of(rt.alloc(), 1, 2, &[1, NULL])?.ok_or("a map")?;
+    let mut map = map_of(rt.alloc(), 1, 2, &[1, NULL])?;
     for category in 0..20 {
         set_label(&rt, &mut map, category, None, b"low")?;
     }
@@ -103,8 +109,24 @@ fn a_refused_label_is_set_again(rt: HostRuntime) -> Result<(), Fail> {
         set_label(&rt, &mut map, category, Some(b"low".as_slice()), b"wood")?;
     }
     for category in 9..20 {
-        assert_eq!(rt; map.label(category), Some(b"low".as_slice()));
+        assert_same!(rt; map.label(category), Some(b"low".as_slice()));
     }
+    Ok(())
+}
+
+// The list is as it was before a name that was refused, and takes it now.
+fn push_again<R: Abort + Eprint>(
+    rt: &R,
+    names: &mut Names,
+    count: usize,
+    name: Name,
+) -> Result<(), Fail> {
+    tell_again(rt);
+    assert_same!(rt; names.len(), count);
+    if names.find(name.bytes()).is_some() {
+        return Err("a part of a name".into());
+    }
+    names.push(name)?;
     Ok(())
 }
 
@@ -120,27 +142,36 @@ fn push_name<R: Abort + AllocGlobal + Eprint>(
         return Err("a name twice".into());
     }
     if names.push(name).is_err() {
-        let _ = eprintln!(rt; "made again");
-        assert_eq!(rt; names.len(), count);
-        if names.find(again.bytes()).is_some() {
-            return Err("a part of a name".into());
-        }
-        names.push(again)?;
+        push_again(rt, names, count, again)?;
     }
-    assert_eq!(rt; names.find(text), Some(count));
+    assert_same!(rt; names.find(text), Some(count));
     Ok(())
 }
 
 #[test]
 fn a_refused_name_is_pushed_again(rt: HostRuntime) -> Result<(), Fail> {
     let mut names = Names::new(rt.alloc());
-    for text in NAMES {
+    for &text in &NAMES {
         push_name(&rt, &mut names, text)?;
     }
     for (place, text) in NAMES.iter().enumerate() {
-        assert_eq!(rt; names.find(*text), Some(place));
+        assert_same!(rt; names.find(*text), Some(place));
     }
     Ok(())
+}
+
+// The shelf is as it was before a map that was refused, and takes it now.
+fn add_again<R: Abort + Eprint>(
+    rt: &R,
+    shelf: &mut Shelf,
+    count: usize,
+    text: &[u8],
+    refused: ShelfRefused,
+) {
+    tell_again(rt);
+    assert_same!(rt; (refused.fault, refused.name.bytes()), (ShelfFault::Memory, text));
+    assert_same!(rt; (shelf.len(), shelf.find(text)), (count, None));
+    assert_holds!(rt; shelf.add(refused.name, refused.map).is_ok());
 }
 
 fn add<R: Abort + AllocGlobal + Eprint>(
@@ -152,27 +183,22 @@ fn add<R: Abort + AllocGlobal + Eprint>(
     let count = shelf.len();
     let name = Name::read(rt.alloc(), text)?;
     if let Err(refused) = shelf.add(name, map) {
-        let _ = eprintln!(rt; "made again");
-        assert_eq!(rt; refused.fault, ShelfFault::Memory);
-        assert_eq!(rt; shelf.len(), count);
-        assert_eq!(rt; shelf.find(text), None);
-        assert_eq!(rt; refused.name.bytes(), text);
-        assert!(rt; shelf.add(refused.name, refused.map).is_ok());
+        add_again(rt, shelf, count, text, refused);
     }
-    assert_eq!(rt; shelf.find(text), Some(count));
+    assert_same!(rt; shelf.find(text), Some(count));
     Ok(())
 }
 
 #[test]
 fn a_refused_map_is_added_again(rt: HostRuntime) -> Result<(), Fail> {
-    let region = Region::new(1, 0, 1, 0, 1, 2).map_err(|_| "no region")?;
+    let region = Region::new(1, 0, 1, 0, 1, 2)?;
     let mut shelf = Shelf::new(rt.alloc(), region);
     for (place, text) in NAMES.iter().enumerate() {
-        let map = map_of(rt.alloc(), 1, 2, &[place as i32, NULL])?.ok_or("a map")?;
+        let map = map_of(rt.alloc(), 1, 2, &[place as i32, NULL])?;
         add(&rt, &mut shelf, *text, map)?;
     }
     for place in 0..shelf.len() {
-        assert_eq!(rt;
+        assert_same!(rt;
             shelf.map(place).cell(0, 0).get(),
             i32::try_from(place).ok()
         );

@@ -1,5 +1,6 @@
 //! Names, lists of names and the shelf.
 
+use crate::assertions::{assert_holds, assert_same};
 use crate::fixture::{NULL, map_of};
 use cell_core::map::CellMap;
 use cell_core::name::{Name, NameFault, Names};
@@ -20,8 +21,8 @@ const TEXTS: [(&[u8], Option<NameFault>); 6] = [
 
 #[test]
 fn reads_names(rt: HostRuntime) -> Result<(), Fail> {
-    for (text, fault) in TEXTS {
-        assert_eq!(rt; Name::read(rt.alloc(), text).err(), fault);
+    for &(text, fault) in &TEXTS {
+        assert_same!(rt; Name::read(rt.alloc(), text).err(), fault);
     }
     Ok(())
 }
@@ -29,11 +30,11 @@ fn reads_names(rt: HostRuntime) -> Result<(), Fail> {
 #[test]
 fn reads_names_of_64_bytes(rt: HostRuntime) -> Result<(), Fail> {
     let long = vec![in rt.alloc(); b'a'; 65]?;
-    for (text, fault) in [
+    for &(text, fault) in &[
         (&long[..64], None),
         (long.as_slice(), Some(NameFault::BadName)),
     ] {
-        assert_eq!(rt; Name::read(rt.alloc(), text).err(), fault);
+        assert_same!(rt; Name::read(rt.alloc(), text).err(), fault);
     }
     Ok(())
 }
@@ -42,7 +43,7 @@ fn reads_names_of_64_bytes(rt: HostRuntime) -> Result<(), Fail> {
 fn copies_names(rt: HostRuntime) -> Result<(), Fail> {
     let name = Name::read(rt.alloc(), b"_land.2")?;
     let copy = name.copy(rt.alloc())?;
-    assert_eq!(rt; copy.bytes(), b"_land.2".as_slice());
+    assert_same!(rt; copy.bytes(), b"_land.2".as_slice());
     Ok(())
 }
 
@@ -50,14 +51,13 @@ fn copies_names(rt: HostRuntime) -> Result<(), Fail> {
 fn finds_names(rt: HostRuntime) -> Result<(), Fail> {
     let mut names = Names::new(rt.alloc());
     names.push(Name::read(rt.alloc(), b"g")?)?;
-    assert_eq!(rt; names.len(), 1);
-    assert_eq!(rt; names.find(b"g"), Some(0));
+    assert_same!(rt; (names.len(), names.find(b"g")), (1, Some(0)));
     Ok(())
 }
 
 // A shelf with one map, under the name g.
 fn shelf_of_one(alloc: Global) -> Result<Shelf, Fail> {
-    let map = map_of(alloc, 1, 3, &[7, NULL, 1])?.ok_or("a map")?;
+    let map = map_of(alloc, 1, 3, &[7, NULL, 1])?;
     let mut shelf = Shelf::new(alloc, map.region());
     let name = Name::read(alloc, b"g")?;
     if shelf.add(name, map).is_err() {
@@ -72,9 +72,9 @@ fn finds_maps(rt: HostRuntime) -> Result<(), Fail> {
     if shelf.len() != 1 {
         return Err("not one map".into());
     }
-    assert_eq!(rt; (shelf.find(b"g"), shelf.find(b"h")), (Some(0), None));
-    assert_eq!(rt; shelf.name(0).bytes(), b"g".as_slice());
-    assert!(rt; shelf.map(0).region() == shelf.region());
+    assert_same!(rt; (shelf.find(b"g"), shelf.find(b"h")), (Some(0), None));
+    assert_same!(rt; shelf.name(0).bytes(), b"g".as_slice());
+    assert_holds!(rt; shelf.map(0).region() == shelf.region());
     Ok(())
 }
 
@@ -88,19 +88,18 @@ fn expect_refused<R: Abort + AllocGlobal>(
     let mut shelf = shelf_of_one(rt.alloc())?;
     let name_read = Name::read(rt.alloc(), name)?;
     let refused = shelf.add(name_read, map).err().ok_or("refused")?;
-    assert_eq!(rt; refused.fault, fault);
-    assert_eq!(rt; refused.name.bytes(), name);
+    assert_same!(rt; (refused.fault, refused.name.bytes()), (fault, name));
     Ok(())
 }
 
 #[test]
 fn refuses_a_name_that_is_there(rt: HostRuntime) -> Result<(), Fail> {
-    let map = map_of(rt.alloc(), 1, 3, &[1, 1, 1])?.ok_or("a map")?;
+    let map = map_of(rt.alloc(), 1, 3, &[1, 1, 1])?;
     expect_refused(&rt, b"g", map, ShelfFault::Exists)
 }
 
 #[test]
 fn refuses_another_region(rt: HostRuntime) -> Result<(), Fail> {
-    let map = map_of(rt.alloc(), 1, 2, &[1, 1])?.ok_or("a map")?;
+    let map = map_of(rt.alloc(), 1, 2, &[1, 1])?;
     expect_refused(&rt, b"h", map, ShelfFault::OtherRegion)
 }

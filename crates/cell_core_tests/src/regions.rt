@@ -1,5 +1,6 @@
 //! The four faults of a region, in their order.
 
+use crate::assertions::{assert_holds, assert_same};
 use cell_core::region::{Region, RegionFault};
 
 const FAR: i64 = 1000000000000000000;
@@ -25,9 +26,9 @@ fn tells_the_first_fault(rt: HostRuntime) {
         (1, -FAR, 1, 0, 1, 1, Some(RegionFault::BadExtent)),
         (FAR - 1, 1 - FAR, FAR - 1, 1 - FAR, 1, 1, None),
     ];
-    for (north, south, east, west, rows, cols, fault) in table {
+    for &(north, south, east, west, rows, cols, fault) in &table {
         let region = Region::new(north, south, east, west, rows, cols);
-        assert_eq!(rt; region.err(), fault, "{north} {south} {rows} {cols}");
+        assert_same!(rt; region.err(), fault, "{north} {south} {rows} {cols}");
     }
 }
 
@@ -35,11 +36,11 @@ fn tells_the_first_fault(rt: HostRuntime) {
 fn keeps_its_six_numbers(rt: HostRuntime) {
     let region = Region::new(4, 3, 2, 1, 6, 5);
     if let Ok(region) = region {
-        assert_eq!(rt; (region.north(), region.south()), (4, 3));
-        assert_eq!(rt; (region.east(), region.west()), (2, 1));
-        assert_eq!(rt; (region.rows(), region.cols()), (6, 5));
+        assert_same!(rt; (region.north(), region.south()), (4, 3));
+        assert_same!(rt; (region.east(), region.west()), (2, 1));
+        assert_same!(rt; (region.rows(), region.cols()), (6, 5));
     }
-    assert!(rt; region.is_ok());
-    assert!(rt; region == Region::new(4, 3, 2, 1, 6, 5));
-    assert!(rt; region != Region::new(4, 3, 2, 1, 6, 4));
+    assert_holds!(rt; region.is_ok());
+    assert_holds!(rt; region == Region::new(4, 3, 2, 1, 6, 5));
+    assert_holds!(rt; region != Region::new(4, 3, 2, 1, 6, 4));
 }

@@ -1,5 +1,6 @@
 //! Sinks: how much a call takes, and that an `Err` is told once.
 
+use crate::assertions::assert_same;
 use crate::devices::{Device, Step};
 use cell_core::device::DeviceFault;
 use cell_core::sink::{MemorySink, Sink, WriteFault, WriteSink, put_bytes};
@@ -9,16 +10,16 @@ use std::test::Fail;
 #[test]
 fn fills_memory(rt: HostRuntime) -> Result<(), Fail> {
     let mut sink = MemorySink::new(vec![in rt.alloc(); 0u8; 5]?, 1, true);
-    assert_eq!(rt;
+    assert_same!(rt;
         put_bytes(&mut sink, b"1 5\n2 4\n"),
         Err(WriteFault { written: 5 })
     );
-    assert_eq!(rt; sink.bytes(), b"1 5\n2".as_slice());
-    assert_eq!(rt; put_bytes(&mut sink, b""), Ok(()));
-    assert_eq!(rt; sink.flush(), Err(DeviceFault));
+    assert_same!(rt; sink.bytes(), b"1 5\n2".as_slice());
+    assert_same!(rt; put_bytes(&mut sink, b""), Ok(()));
+    assert_same!(rt; sink.flush(), Err(DeviceFault));
     let mut sink = MemorySink::new(vec![in rt.alloc(); 0u8; 5]?, 2, false);
-    assert_eq!(rt; put_bytes(&mut sink, b"1 5\n2"), Ok(()));
-    assert_eq!(rt; sink.flush(), Ok(()));
+    assert_same!(rt; put_bytes(&mut sink, b"1 5\n2"), Ok(()));
+    assert_same!(rt; sink.flush(), Ok(()));
     Ok(())
 }
 
@@ -30,20 +31,20 @@ fn asks_a_writer_once_a_call(rt: HostRuntime) {
         Step::Moves(0),
         Step::Refuses(ErrorKind::Other),
     ]));
-    assert_eq!(rt; sink.put(b"xxx"), Err(DeviceFault));
-    assert_eq!(rt; sink.put(b"xxx"), Ok(2));
-    assert_eq!(rt; sink.put(b"xxx"), Err(DeviceFault));
-    assert_eq!(rt; sink.put(b"xxx"), Err(DeviceFault));
-    assert_eq!(rt; sink.put(b"xxx"), Ok(3));
-    assert_eq!(rt; sink.put(b"y"), Err(DeviceFault));
+    assert_same!(rt; sink.put(b"xxx"), Err(DeviceFault));
+    assert_same!(rt; sink.put(b"xxx"), Ok(2));
+    assert_same!(rt; sink.put(b"xxx"), Err(DeviceFault));
+    assert_same!(rt; sink.put(b"xxx"), Err(DeviceFault));
+    assert_same!(rt; sink.put(b"xxx"), Ok(3));
+    assert_same!(rt; sink.put(b"y"), Err(DeviceFault));
 }
 
 #[test]
 fn flushes_the_writer(rt: HostRuntime) {
     let mut sink = WriteSink::new(Device::new(&[Step::Refuses(ErrorKind::Other), Step::Moves(0)]));
-    assert_eq!(rt; sink.flush(), Err(DeviceFault));
-    assert_eq!(rt; sink.flush(), Ok(()));
-    assert_eq!(rt; sink.put(b"x"), Ok(1));
+    assert_same!(rt; sink.flush(), Err(DeviceFault));
+    assert_same!(rt; sink.flush(), Ok(()));
+    assert_same!(rt; sink.put(b"x"), Ok(1));
 }
 
 #[test]
@@ -55,14 +56,14 @@ fn puts_bytes_until_the_first_fault(rt: HostRuntime) {
         Step::Moves(0),
         Step::Moves(3),
     ]));
-    assert_eq!(rt;
+    assert_same!(rt;
         put_bytes(&mut sink, b"xxxxx"),
         Err(WriteFault { written: 2 })
     );
-    assert_eq!(rt;
+    assert_same!(rt;
         put_bytes(&mut sink, b"xxxxx"),
         Err(WriteFault { written: 1 })
     );
-    assert_eq!(rt; put_bytes(&mut sink, b""), Ok(()));
-    assert_eq!(rt; put_bytes(&mut sink, b"xxxxx"), Ok(()));
+    assert_same!(rt; put_bytes(&mut sink, b""), Ok(()));
+    assert_same!(rt; put_bytes(&mut sink, b"xxxxx"), Ok(()));
 }

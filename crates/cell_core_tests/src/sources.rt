@@ -1,5 +1,6 @@
 //! Sources: what a call gives, and that an `Err` is told once and leaves the slice.
 
+use crate::assertions::assert_same;
 use crate::devices::{Device, Step};
 use cell_core::device::DeviceFault;
 use cell_core::source::{MemorySource, ReadSource, Source};
@@ -11,13 +12,11 @@ fn gives_memory_in_pieces(rt: HostRuntime) -> Result<(), Fail> {
     for fails in [false, true] {
         let mut block = *b"12345678";
         let mut source = MemorySource::new(b"abc".as_slice().to_vec(rt.alloc())?, 2, fails);
-        assert_eq!(rt; source.take(&mut block), Ok(2));
-        assert_eq!(rt; source.take(&mut block), Ok(1));
-        assert_eq!(rt; &block, b"cb345678");
+        assert_same!(rt; source.take(&mut block), Ok(2));
+        assert_same!(rt; (source.take(&mut block), &block), (Ok(1), b"cb345678"));
         let last = if fails { Err(DeviceFault) } else { Ok(0) };
         for _ in 0..2 {
-            assert_eq!(rt; source.take(&mut block), last);
-            assert_eq!(rt; &block, b"cb345678");
+            assert_same!(rt; (source.take(&mut block), &block), (last, b"cb345678"));
         }
     }
     Ok(())
@@ -32,11 +31,9 @@ fn asks_a_reader_once_a_call(rt: HostRuntime) {
         Step::Refuses(ErrorKind::Other),
         Step::Moves(0),
     ]));
-    assert_eq!(rt; source.take(&mut block), Err(DeviceFault));
-    assert_eq!(rt; &block, b"1234");
-    assert_eq!(rt; source.take(&mut block), Ok(3));
-    assert_eq!(rt; &block, b"xxx4");
-    assert_eq!(rt; source.take(&mut block), Err(DeviceFault));
-    assert_eq!(rt; source.take(&mut block), Ok(0));
-    assert_eq!(rt; source.take(&mut block), Ok(4));
+    assert_same!(rt; (source.take(&mut block), &block), (Err(DeviceFault), b"1234"));
+    assert_same!(rt; (source.take(&mut block), &block), (Ok(3), b"xxx4"));
+    assert_same!(rt; source.take(&mut block), Err(DeviceFault));
+    assert_same!(rt; source.take(&mut block), Ok(0));
+    assert_same!(rt; source.take(&mut block), Ok(4));
 }

@@ -2,6 +2,7 @@
 
 ghost use Rattle.std.specs.Prelude.{◌≡◌, ◌≤◌, length, IfOk};
 
+use crate::assertions::assert_same;
 use crate::runs::FIVE_COMMANDS;
 use cell_ascii::grid_fault::{GridFault, GridKind};
 use cell_core::device::DeviceFault;
@@ -168,6 +169,14 @@ impl Sink for Counting {
     }
 }
 
+fn whole_grid() -> Unknown<'static> {
+    Unknown::new(GRID, Then::Ends)
+}
+
+fn whole_script() -> Unknown<'static> {
+    Unknown::new(SCRIPT, Then::Ends)
+}
+
 // Runs a script over one grid, g.
 fn run_sources<'a, W: Sink>(
     alloc: Global,
@@ -175,9 +184,20 @@ fn run_sources<'a, W: Sink>(
     grid: Unknown<'a>,
     out: &mut W,
 ) -> Result<Outcome, Fail> {
-    let name = Name::read(alloc, b"g").map_err(|_| "no name")?;
+    let name = Name::read(alloc, b"g")?;
     let grids = vec![in alloc; (name, grid)]?;
     Ok(run(alloc, script, grids, out))
+}
+
+// What a run over one grid, g, tells and puts out.
+fn ran<'a, R: AllocGlobal>(
+    rt: &R,
+    script: Unknown<'a>,
+    grid: Unknown<'a>,
+) -> Result<(Outcome, MemorySink), Fail> {
+    let mut out = MemorySink::new(vec![in rt.alloc(); 0u8; 200]?, 3, false);
+    let outcome = run_sources(rt.alloc(), script, grid, &mut out)?;
+    Ok((outcome, out))
 }
 
 // The run is refused, and has put out nothing.
@@ -188,15 +208,13 @@ fn expect_refused<'a, R: Abort + AllocGlobal>(
     status: u8,
     fault: RunFault,
 ) -> Result<(), Fail> {
-    let mut out = MemorySink::new(vec![in rt.alloc(); 0u8; 200]?, 3, false);
-    let outcome = run_sources(rt.alloc(), script, grid, &mut out)?;
+    let (outcome, out) = ran(rt, script, grid)?;
     let wanted = Outcome {
         status,
         written: 0,
         fault: Some(fault),
     };
-    assert_eq!(rt; outcome, wanted);
-    assert_eq!(rt; out.bytes().len(), 0);
+    assert_same!(rt; (outcome, out.bytes().len()), (wanted, 0));
     Ok(())
 }
 
@@ -205,7 +223,7 @@ fn each_read_fails_in_turn(rt: HostRuntime) -> Result<(), Fail> {
     let mut line = 1u64;
     for count in 0..GRID.len() + 1 {
         let grid = Unknown::new(&GRID[..count], Then::Fails);
-        let script = Unknown::new(SCRIPT, Then::Ends);
+        let script = whole_script();
         let kind = GridKind::Read;
         let fault = RunFault::Grid {
             grid: 0,
@@ -217,7 +235,7 @@ fn each_read_fails_in_turn(rt: HostRuntime) -> Result<(), Fail> {
         }
     }
     for count in 0..SCRIPT.len() + 1 {
-        let grid = Unknown::new(GRID, Then::Ends);
+        let grid = whole_grid();
         let script = Unknown::new(&SCRIPT[..count], Then::Fails);
         expect_refused(&rt, script, grid, 4, RunFault::ScriptRead)?;
     }
@@ -230,7 +248,7 @@ fn each_read_fails_once(rt: HostRuntime) -> Result<(), Fail> {
     let mut line = 1u64;
     for count in 0..GRID.len() + 1 {
         let grid = Unknown::new(&GRID[..count], Then::FailsOnce(&GRID[count..]));
-        let script = Unknown::new(SCRIPT, Then::Ends);
+        let script = whole_script();
         let kind = GridKind::Read;
         let fault = RunFault::Grid {
             grid: 0,
@@ -242,46 +260,40 @@ fn each_read_fails_once(rt: HostRuntime) -> Result<(), Fail> {
         }
     }
     for count in 0..SCRIPT.len() + 1 {
-        let grid = Unknown::new(GRID, Then::Ends);
+        let grid = whole_grid();
         let script = Unknown::new(&SCRIPT[..count], Then::FailsOnce(&SCRIPT[count..]));
         expect_refused(&rt, script, grid, 4, RunFault::ScriptRead)?;
     }
     Ok(())
 }
 
-// The run goes as one over a grid and a script that end where these end for the first time.
+// A run over a script and a grid goes as one over another script and another grid.
 fn expect_same<'a, R: Abort + AllocGlobal>(
     rt: &R,
-    script: [Unknown<'a>; 2],
-    grid: [Unknown<'a>; 2],
+    run: (Unknown<'a>, Unknown<'a>),
+    other: (Unknown<'a>, Unknown<'a>),
 ) -> Result<Outcome, Fail> {
-    let [script, script_once] = script;
-    let [grid, grid_once] = grid;
-    let mut out = MemorySink::new(vec![in rt.alloc(); 0u8; 200]?, 3, false);
-    let mut once = MemorySink::new(vec![in rt.alloc(); 0u8; 200]?, 3, false);
-    let outcome = run_sources(rt.alloc(), script, grid, &mut out)?;
-    let outcome_once = run_sources(rt.alloc(), script_once, grid_once, &mut once)?;
-    assert_eq!(rt; outcome_once, outcome);
-    assert_eq!(rt; once.bytes(), out.bytes());
+    let (outcome, out) = ran(rt, run.0, run.1)?;
+    let (other_outcome, other_out) = ran(rt, other.0, other.1)?;
+    assert_same!(rt; (other_outcome, other_out.bytes()), (outcome, out.bytes()));
     Ok(outcome)
 }
 
 #[test]
 fn nothing_is_read_behind_an_end(rt: HostRuntime) -> Result<(), Fail> {
-    let whole = || Unknown::new(GRID, Then::Ends);
-    let asked = || Unknown::new(SCRIPT, Then::Ends);
     for count in 0..GRID.len() {
         let ends = Unknown::new(&GRID[..count], Then::Ends);
         let once = Unknown::new(&GRID[..count], Then::EndsOnce(&GRID[count..]));
-        expect_same(&rt, [asked(), asked()], [ends, once])?;
+        expect_same(&rt, (whole_script(), ends), (whole_script(), once))?;
     }
     let once = Unknown::new(GRID, Then::EndsOnce(b" 7"));
-    let outcome = expect_same(&rt, [asked(), asked()], [whole(), once])?;
-    assert_eq!(rt; outcome.fault, None);
+    let whole = (whole_script(), whole_grid());
+    let outcome = expect_same(&rt, whole, (whole_script(), once))?;
+    assert_same!(rt; outcome.fault, None);
     for count in 0..SCRIPT.len() + 1 {
         let ends = Unknown::new(&SCRIPT[..count], Then::Ends);
         let once = Unknown::new(&SCRIPT[..count], Then::EndsOnce(&SCRIPT[count..]));
-        expect_same(&rt, [ends, once], [whole(), whole()])?;
+        expect_same(&rt, (ends, whole_grid()), (once, whole_grid()))?;
     }
     Ok(())
 }
@@ -290,19 +302,20 @@ fn nothing_is_read_behind_an_end(rt: HostRuntime) -> Result<(), Fail> {
 fn each_prefix_of_a_grid_is_refused(rt: HostRuntime) -> Result<(), Fail> {
     for count in 0..GRID.len() - LAST_CELL + 1 {
         let grid = Unknown::new(&GRID[..count], Then::Ends);
-        let script = Unknown::new(SCRIPT, Then::Ends);
-        let mut out = MemorySink::new(vec![in rt.alloc(); 0u8; 200]?, 3, false);
-        let outcome = run_sources(rt.alloc(), script, grid, &mut out)?;
-        assert!(rt; matches!(outcome.fault, Some(RunFault::Grid { grid: 0, .. })));
-        assert_eq!(rt; (outcome.status, outcome.written), (1, 0));
-        assert_eq!(rt; out.bytes().len(), 0);
+        let script = whole_script();
+        let (outcome, out) = ran(&rt, script, grid)?;
+        let is_told = matches!(outcome.fault, Some(RunFault::Grid { grid: 0, .. }));
+        assert_same!(rt;
+            (is_told, outcome.status, outcome.written, out.bytes().len()),
+            (true, 1, 0, 0)
+        );
     }
     Ok(())
 }
 
 #[test]
 fn grids_without_end_are_refused(rt: HostRuntime) -> Result<(), Fail> {
-    for (bytes, turns, kind, line) in [
+    for &(bytes, turns, kind, line) in &[
         (b"".as_slice(), b"  ", GridKind::ReaderStuck, 1),
         (b"", b"\n\n", GridKind::ReaderStuck, 1048577),
         (b"", b"11", GridKind::LongToken, 1),
@@ -310,7 +323,7 @@ fn grids_without_end_are_refused(rt: HostRuntime) -> Result<(), Fail> {
         (HEADER, b"1 ", GridKind::TooMany, 7),
     ] {
         let grid = Unknown::new(bytes, Then::Turns(*turns));
-        let script = Unknown::new(SCRIPT, Then::Ends);
+        let script = whole_script();
         let fault = RunFault::Grid {
             grid: 0,
             fault: GridFault { kind, line },
@@ -323,7 +336,7 @@ fn grids_without_end_are_refused(rt: HostRuntime) -> Result<(), Fail> {
 #[test]
 fn a_script_without_end_is_refused(rt: HostRuntime) -> Result<(), Fail> {
     let script = Unknown::new(SCRIPT, Then::Turns(*b"#\n"));
-    let grid = Unknown::new(GRID, Then::Ends);
+    let grid = whole_grid();
     expect_refused(&rt, script, grid, 1, RunFault::ScriptSize)
 }
 
@@ -337,22 +350,22 @@ fn a_script_may_have_a_mebibyte(rt: HostRuntime) -> Result<(), Fail> {
     }
     let mut out = MemorySink::new(vec![in rt.alloc(); 0u8; 9]?, 3, false);
     let script = Unknown::new(text.as_slice(), Then::Ends);
-    let outcome = run_sources(rt.alloc(), script, Unknown::new(GRID, Then::Ends), &mut out)?;
+    let outcome = run_sources(rt.alloc(), script, whole_grid(), &mut out)?;
     let done = Outcome {
         status: 0,
         written: 0,
         fault: None,
     };
-    assert_eq!(rt; outcome, done);
+    assert_same!(rt; outcome, done);
     text.push(b'#')?;
     let script = Unknown::new(text.as_slice(), Then::Ends);
-    let grid = Unknown::new(GRID, Then::Ends);
+    let grid = whole_grid();
     expect_refused(&rt, script, grid, 1, RunFault::ScriptSize)
 }
 
 #[test]
 fn is_flushed_once_unless_refused_or_failed(rt: HostRuntime) -> Result<(), Fail> {
-    for (script, room, flush_fails, status, written, flushes) in [
+    for &(script, room, flush_fails, status, written, flushes) in &[
         (SCRIPT, 200, false, 0, ALL_BYTES, 1),
         (SCRIPT, 200, true, 4, ALL_BYTES, 1),
         (b"# nothing is asked for\n".as_slice(), 0, false, 0, 0, 1),
@@ -362,7 +375,7 @@ fn is_flushed_once_unless_refused_or_failed(rt: HostRuntime) -> Result<(), Fail>
     ] {
         let mut out = Counting::new(room, flush_fails);
         let script = Unknown::new(script, Then::Ends);
-        let grid = Unknown::new(GRID, Then::Ends);
+        let grid = whole_grid();
         let outcome = run_sources(rt.alloc(), script, grid, &mut out)?;
         let wanted = Outcome {
             status,
@@ -373,8 +386,8 @@ fn is_flushed_once_unless_refused_or_failed(rt: HostRuntime) -> Result<(), Fail>
                 None
             },
         };
-        assert_eq!(rt; outcome, wanted);
-        assert_eq!(rt; out.flushes, flushes);
+        assert_same!(rt; outcome, wanted);
+        assert_same!(rt; out.flushes, flushes);
     }
     Ok(())
 }
@@ -389,10 +402,8 @@ fn run_grids<'a, W: Sink>(
 ) -> Result<Outcome, Fail> {
     let mut named = Vec::new(alloc);
     for (name, text) in grids {
-        let name = Name::read(alloc, *name).map_err(|_| "no name")?;
-        named
-            .push((name, Unknown::new(*text, then)))
-            .map_err(|_| "no memory")?;
+        let name = Name::read(alloc, *name)?;
+        named.push((name, Unknown::new(*text, then)))?;
     }
     if named.is_empty() {
         Err("no grid")?;
@@ -417,21 +428,50 @@ const BAD_CELL: &[(&[u8], &[u8])] = &[(
     b"north: 1\nsouth: 0\neast: 1\nwest: 0\nrows: 1\ncols: 1\nx\n",
 )];
 
-// The run is refused with a status, and its sink is not called, whether or not its flush would fail.
-fn expect_no_call<'a, R: Abort + AllocGlobal>(
-    rt: &R,
-    grids: &[(&'a [u8], &'a [u8])],
+// A run that is refused with a status.
+#[derive(Clone, Copy)]
+struct Refusal<'a> {
+    grids: &'a [(&'a [u8], &'a [u8])],
     then: Then<'a>,
     script: &'a [u8],
     script_then: Then<'a>,
     status: u8,
-) -> Result<(), Fail> {
+}
+
+impl<'a> Refusal<'a> {
+    const fn of_grids(
+        grids: &'a [(&'a [u8], &'a [u8])],
+        then: Then<'a>,
+        status: u8,
+    ) -> Refusal<'a> {
+        Refusal {
+            grids,
+            then,
+            script: SCRIPT,
+            script_then: Then::Ends,
+            status,
+        }
+    }
+
+    const fn of_script(script: &'a [u8], script_then: Then<'a>, status: u8) -> Refusal<'a> {
+        Refusal {
+            grids: ONE_GRID,
+            then: Then::Ends,
+            script,
+            script_then,
+            status,
+        }
+    }
+}
+
+// The run is refused with a status, and its sink is not called, whether or not its flush would fail.
+fn expect_no_call<'a, R: Abort + AllocGlobal>(rt: &R, refusal: Refusal<'a>) -> Result<(), Fail> {
     for flush_fails in [false, true] {
         let mut out = Counting::new(200, flush_fails);
-        let script = Unknown::new(script, script_then);
-        let outcome = run_grids(rt.alloc(), script, grids, then, &mut out)?;
-        assert_eq!(rt; (outcome.status, outcome.written), (status, 0));
-        assert_eq!(rt; (out.room, out.refused, out.flushes), (200, false, 0));
+        let script = Unknown::new(refusal.script, refusal.script_then);
+        let outcome = run_grids(rt.alloc(), script, refusal.grids, refusal.then, &mut out)?;
+        assert_same!(rt; (outcome.status, outcome.written), (refusal.status, 0));
+        assert_same!(rt; (out.room, out.refused, out.flushes), (200, false, 0));
     }
     Ok(())
 }
@@ -441,19 +481,24 @@ const UNKNOWN_MAP: &[u8] = b"r.stats -c input=g\nr.stats -c input=h\n";
 #[test]
 fn what_is_refused_is_not_flushed(rt: HostRuntime) -> Result<(), Fail> {
     let long = vec![in rt.alloc(); b'#'; MOST_BYTES + 1]?;
-    expect_no_call(&rt, BAD_CELL, Then::Ends, SCRIPT, Then::Ends, 1)?;
-    expect_no_call(&rt, OTHER_REGIONS, Then::Ends, SCRIPT, Then::Ends, 1)?;
-    expect_no_call(&rt, SAME_NAMES, Then::Ends, SCRIPT, Then::Ends, 1)?;
-    expect_no_call(&rt, ONE_GRID, Then::Fails, SCRIPT, Then::Ends, 4)?;
-    expect_no_call(&rt, ONE_GRID, Then::Ends, SCRIPT, Then::Fails, 4)?;
-    expect_no_call(&rt, ONE_GRID, Then::Ends, long.as_slice(), Then::Ends, 1)?;
-    expect_no_call(&rt, ONE_GRID, Then::Ends, UNKNOWN_MAP, Then::Ends, 1)
+    for &refusal in &[
+        Refusal::of_grids(BAD_CELL, Then::Ends, 1),
+        Refusal::of_grids(OTHER_REGIONS, Then::Ends, 1),
+        Refusal::of_grids(SAME_NAMES, Then::Ends, 1),
+        Refusal::of_grids(ONE_GRID, Then::Fails, 4),
+        Refusal::of_script(SCRIPT, Then::Fails, 4),
+        Refusal::of_script(long.as_slice(), Then::Ends, 1),
+        Refusal::of_script(UNKNOWN_MAP, Then::Ends, 1),
+    ] {
+        expect_no_call(&rt, refusal)?;
+    }
+    Ok(())
 }
 
 fn counted<R: AllocGlobal>(rt: &R, flush_fails: bool) -> Result<(Outcome, u32), Fail> {
     let mut out = Counting::new(200, flush_fails);
-    let script = Unknown::new(SCRIPT, Then::Ends);
-    let grid = Unknown::new(GRID, Then::Ends);
+    let script = whole_script();
+    let grid = whole_grid();
     let outcome = run_sources(rt.alloc(), script, grid, &mut out)?;
     Ok((outcome, out.flushes))
 }
@@ -476,7 +521,7 @@ fn expect_out_of_memory<R: Abort>(rt: &R, outcome: Outcome, flushes: u32) {
         Some(RunFault::Memory { line }) => line,
         _ => 0,
     };
-    assert_eq!(rt;
+    assert_same!(rt;
         (outcome.status, outcome.written, flushes),
         (3, written_before(line), u32::from(line > 0))
     );
@@ -486,13 +531,13 @@ fn expect_out_of_memory<R: Abort>(rt: &R, outcome: Outcome, flushes: u32) {
 fn a_run_out_of_memory_is_flushed_and_made_again(rt: HostRuntime) -> Result<(), Fail> {
     let (outcome, flushes) = counted(&rt, false)?;
     if outcome.status == 0 {
-        assert_eq!(rt; flushes, 1);
+        assert_same!(rt; flushes, 1);
         return Ok(());
     }
     expect_out_of_memory(&rt, outcome, flushes);
     let _ = eprintln!(rt; "made again");
     let (again, flushes) = counted(&rt, false)?;
-    assert_eq!(rt; (again.status, flushes), (0, 1));
+    assert_same!(rt; (again.status, flushes), (0, 1));
     Ok(())
 }
 
@@ -501,12 +546,12 @@ fn a_run_out_of_memory_is_flushed_and_made_again(rt: HostRuntime) -> Result<(), 
 fn a_run_out_of_memory_stays_so_and_is_made_again(rt: HostRuntime) -> Result<(), Fail> {
     let (outcome, flushes) = counted(&rt, true)?;
     if outcome.status == 4 {
-        assert_eq!(rt; (outcome.written, flushes), (ALL_BYTES, 1));
+        assert_same!(rt; (outcome.written, flushes), (ALL_BYTES, 1));
         return Ok(());
     }
     expect_out_of_memory(&rt, outcome, flushes);
     let _ = eprintln!(rt; "made again");
     let (again, flushes) = counted(&rt, true)?;
-    assert_eq!(rt; (again.status, again.written, flushes), (4, ALL_BYTES, 1));
+    assert_same!(rt; (again.status, again.written, flushes), (4, ALL_BYTES, 1));
     Ok(())
 }

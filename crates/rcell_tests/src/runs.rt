@@ -1,5 +1,6 @@
 //! Whole runs over memory: what is put out, how many bytes, the status and the fault.
 
+use crate::assertions::assert_same;
 use cell_ascii::grid_fault::{GridFault, GridKind};
 use cell_core::name::Name;
 use cell_core::sink::MemorySink;
@@ -43,9 +44,9 @@ fn run_texts(
 ) -> Result<Outcome, Fail> {
     let mut named = Vec::new(alloc);
     for (name, text) in grids {
-        let name = Name::read(alloc, *name).map_err(|_| "no name")?;
+        let name = Name::read(alloc, *name)?;
         let text = source(alloc, *text, false)?;
-        named.push((name, text)).map_err(|_| "no memory")?;
+        named.push((name, text))?;
     }
     if named.is_empty() {
         Err("no grid")?;
@@ -57,6 +58,21 @@ fn sink(alloc: Global, room: usize) -> Result<MemorySink, Fail> {
     Ok(MemorySink::new(vec![in alloc; 0u8; room]?, 3, false))
 }
 
+// A run goes as is wanted, and its sink has taken these bytes.
+fn expect_run<R: Abort + AllocGlobal>(
+    rt: &R,
+    grids: &[(&[u8], &[u8])],
+    script: &[u8],
+    out: MemorySink,
+    wanted: Outcome,
+    bytes: &[u8],
+) -> Result<(), Fail> {
+    let mut out = out;
+    let outcome = run_texts(rt.alloc(), grids, script, &mut out)?;
+    assert_same!(rt; (outcome, out.bytes()), (wanted, bytes));
+    Ok(())
+}
+
 // A run is done, and has put out the text.
 fn expect_text<R: Abort + AllocGlobal>(
     rt: &R,
@@ -64,19 +80,12 @@ fn expect_text<R: Abort + AllocGlobal>(
     script: &[u8],
     text: &[u8],
 ) -> Result<(), Fail> {
-    let mut out = sink(rt.alloc(), 1000)?;
-    let outcome = run_texts(rt.alloc(), grids, script, &mut out)?;
-    assert_eq!(rt; out.bytes(), text);
-    let written = text.len() as u64;
-    assert_eq!(rt;
-        outcome,
-        Outcome {
-            status: 0,
-            written,
-            fault: None
-        }
-    );
-    Ok(())
+    let wanted = Outcome {
+        status: 0,
+        written: text.len() as u64,
+        fault: None,
+    };
+    expect_run(rt, grids, script, sink(rt.alloc(), 1000)?, wanted, text)
 }
 
 // A run is refused, and has put out nothing.
@@ -87,53 +96,78 @@ fn expect_refused<R: Abort + AllocGlobal>(
     status: u8,
     fault: RunFault,
 ) -> Result<(), Fail> {
-    let mut out = sink(rt.alloc(), 1000)?;
-    let outcome = run_texts(rt.alloc(), grids, script, &mut out)?;
-    assert_eq!(rt;
-        outcome,
-        Outcome {
-            status,
-            written: 0,
-            fault: Some(fault)
-        }
-    );
-    assert_eq!(rt; out.bytes().len(), 0);
-    Ok(())
+    let wanted = Outcome {
+        status,
+        written: 0,
+        fault: Some(fault),
+    };
+    expect_run(rt, grids, script, sink(rt.alloc(), 1000)?, wanted, b"")
 }
 
-#[test]
-fn puts_out_tables(rt: HostRuntime) -> Result<(), Fail> {
-    expect_text(&rt, &[(b"g", GRID)], b"r.stats -c input=g", TABLE)?;
-    let turned =
-        b"cols: 4\r\nrows: 3\r\nwest: 0\r\neast: 4\r\nsouth: 0\r\nnorth: 3\r\n1 1 2 * 1 2 2 2 3 3 1 1   ";
-    expect_text(
-        &rt,
-        &[(b"g", turned)],
+// A run over the grid g fails as it writes, and its sink has taken these bytes.
+fn expect_failed_write<R: Abort + AllocGlobal>(
+    rt: &R,
+    script: &[u8],
+    out: MemorySink,
+    bytes: &[u8],
+) -> Result<(), Fail> {
+    let wanted = Outcome {
+        status: 4,
+        written: bytes.len() as u64,
+        fault: Some(RunFault::Write),
+    };
+    expect_run(rt, &[(b"g", GRID)], script, out, wanted, bytes)
+}
+
+// Grids by their names, a script over them, and the text that it puts out.
+const TABLES: [(&[(&[u8], &[u8])], &[u8], &[u8]); 7] = [
+    (&[(b"g", GRID)], b"r.stats -c input=g", TABLE),
+    (
+        &[(
+            b"g",
+            b"cols: 4\r\nrows: 3\r\nwest: 0\r\neast: 4\r\nsouth: 0\r\nnorth: 3\r\n1 1 2 * 1 2 2 2 3 3 1 1   ",
+        )],
         b"# land cover\r\n\r\nr.stats -c input=g\r\n",
         TABLE,
-    )?;
-    expect_text(
-        &rt,
+    ),
+    (
         &[(b"g", GRID)],
         b"r.stats -c input=g,g",
         b"1 1 5\n2 2 4\n3 3 2\n* * 1\n",
-    )?;
-    let one = b"north: 1\nsouth: 0\neast: 1\nwest: 0\nrows: 1\ncols: 1\n*";
-    expect_text(&rt, &[(b"k", one)], b"r.stats -c input=k\n", b"* 1\n")?;
-    let same = b"north: 3.0\nsouth: 0\neast: 4\nwest: 0\nrows: 3\ncols: 4\n1 1 2 * 1 2 2 2 3 3 1 1";
-    expect_text(
-        &rt,
-        &[(b"g", GRID), (b"h", same)],
+    ),
+    (
+        &[(
+            b"k",
+            b"north: 1\nsouth: 0\neast: 1\nwest: 0\nrows: 1\ncols: 1\n*",
+        )],
+        b"r.stats -c input=k\n",
+        b"* 1\n",
+    ),
+    (
+        &[
+            (b"g", GRID),
+            (
+                b"h",
+                b"north: 3.0\nsouth: 0\neast: 4\nwest: 0\nrows: 3\ncols: 4\n1 1 2 * 1 2 2 2 3 3 1 1",
+            ),
+        ],
         b"r.stats -c input=h",
         TABLE,
-    )?;
-    expect_text(
-        &rt,
+    ),
+    (
         &[(b"k", FOUR_CELLS)],
         b"r.stats -c input=k,k\n",
         b"-7 -7 1\n1 1 2\n* * 1\n",
-    )?;
-    expect_text(&rt, &[(b"g", GRID)], b"# nothing is asked for\n", b"")
+    ),
+    (&[(b"g", GRID)], b"# nothing is asked for\n", b""),
+];
+
+#[test]
+fn puts_out_tables(rt: HostRuntime) -> Result<(), Fail> {
+    for &(grids, script, text) in &TABLES {
+        expect_text(&rt, grids, script, text)?;
+    }
+    Ok(())
 }
 
 #[test]
@@ -146,14 +180,9 @@ fn puts_out_grids(rt: HostRuntime) -> Result<(), Fail> {
     let script = b"r.out.ascii null_value=-9 input=p";
     expect_text(&rt, &[(b"p", given)], script, written)?;
     expect_text(&rt, &[(b"p", written)], script, written)?;
-    let mut full = sink(rt.alloc(), 60)?;
     let script = b"r.stats -c input=g\nr.out.ascii input=g null_value=*\n";
-    let outcome = run_texts(rt.alloc(), &[(b"g", GRID)], script, &mut full)?;
-    assert_eq!(rt; outcome.written, 60);
-    assert_eq!(rt; outcome.fault, Some(RunFault::Write));
     let front = b"1 5\n2 4\n3 2\n* 1\nnorth: 3\nsouth: 0\neast: 4\nwest: 0\nrows: 3\nco";
-    assert_eq!(rt; full.bytes(), front.as_slice());
-    Ok(())
+    expect_failed_write(&rt, script, sink(rt.alloc(), 60)?, front)
 }
 
 // Each of the five commands.
@@ -167,26 +196,22 @@ const FIVE_TEXTS: &[u8] =
 fn writes_what_each_command_asks_for(rt: HostRuntime) -> Result<(), Fail> {
     let alloc = rt.alloc();
     expect_text(&rt, &[(b"g", GRID)], FIVE_COMMANDS, FIVE_TEXTS)?;
-    let mut slow = MemorySink::new(vec![in alloc; 0u8; 200]?, 1, false);
-    let outcome = run_texts(alloc, &[(b"g", GRID)], FIVE_COMMANDS, &mut slow)?;
-    assert_eq!(rt; outcome.status, 0);
-    assert_eq!(rt; slow.bytes(), FIVE_TEXTS);
-    let mut unflushed = MemorySink::new(vec![in alloc; 0u8; 200]?, 3, true);
-    let outcome = run_texts(alloc, &[(b"g", GRID)], FIVE_COMMANDS, &mut unflushed)?;
-    assert_eq!(rt; (outcome.status, outcome.written), (4, 111));
-    assert_eq!(rt; outcome.fault, Some(RunFault::Write));
-    assert_eq!(rt; unflushed.bytes(), FIVE_TEXTS);
-    Ok(())
+    let slow = MemorySink::new(vec![in alloc; 0u8; 200]?, 1, false);
+    let done = Outcome {
+        status: 0,
+        written: 111,
+        fault: None,
+    };
+    expect_run(&rt, &[(b"g", GRID)], FIVE_COMMANDS, slow, done, FIVE_TEXTS)?;
+    let unflushed = MemorySink::new(vec![in alloc; 0u8; 200]?, 3, true);
+    expect_failed_write(&rt, FIVE_COMMANDS, unflushed, FIVE_TEXTS)
 }
 
 #[test]
 fn a_full_sink_has_a_prefix(rt: HostRuntime) -> Result<(), Fail> {
     for room in 0..FIVE_TEXTS.len() {
-        let mut full = sink(rt.alloc(), room)?;
-        let outcome = run_texts(rt.alloc(), &[(b"g", GRID)], FIVE_COMMANDS, &mut full)?;
-        assert_eq!(rt; (outcome.status, outcome.written), (4, room as u64));
-        assert_eq!(rt; outcome.fault, Some(RunFault::Write));
-        assert_eq!(rt; full.bytes(), &FIVE_TEXTS[..room]);
+        let full = sink(rt.alloc(), room)?;
+        expect_failed_write(&rt, FIVE_COMMANDS, full, &FIVE_TEXTS[..room])?;
     }
     Ok(())
 }
@@ -206,7 +231,7 @@ fn refuses_grids_before_it_writes(rt: HostRuntime) -> Result<(), Fail> {
         (TWO_VALUES, GridKind::BadHeader, 1),
         (LONG_SECOND_VALUE, GridKind::BadHeader, 1),
     ];
-    for (text, kind, line) in texts {
+    for &(text, kind, line) in &texts {
         let fault = RunFault::Grid {
             grid: 0,
             fault: GridFault { kind, line },
@@ -216,34 +241,32 @@ fn refuses_grids_before_it_writes(rt: HostRuntime) -> Result<(), Fail> {
     Ok(())
 }
 
+// Scripts, and the kind and the line of the fault of each.
+const BAD_SCRIPTS: [(&[u8], ScriptKind, u64); 7] = [
+    (b"r.stats -c -1 input=g", ScriptKind::BadOption, 1),
+    (b"r.stats -c\n", ScriptKind::MissingOption, 1),
+    (b"\nr.stats -c input=1a\n", ScriptKind::BadName, 2),
+    (
+        b"r.stats -c input=g\n# note\nr.stats -c input=h\n",
+        ScriptKind::UnknownMap,
+        3,
+    ),
+    (b"r.clump input=g output=g\n", ScriptKind::MapExists, 1),
+    (
+        b"r.reclass input=g output=r\n1 = 2\n",
+        ScriptKind::MissingEnd,
+        1,
+    ),
+    (
+        b"r.buffer input=g output=c\n",
+        ScriptKind::UnknownCommand,
+        1,
+    ),
+];
+
 #[test]
 fn refuses_scripts_before_it_writes(rt: HostRuntime) -> Result<(), Fail> {
-    let lines = [
-        (
-            b"r.stats -c -1 input=g".as_slice(),
-            ScriptKind::BadOption,
-            1,
-        ),
-        (b"r.stats -c\n", ScriptKind::MissingOption, 1),
-        (b"\nr.stats -c input=1a\n", ScriptKind::BadName, 2),
-        (
-            b"r.stats -c input=g\n# note\nr.stats -c input=h\n",
-            ScriptKind::UnknownMap,
-            3,
-        ),
-        (b"r.clump input=g output=g\n", ScriptKind::MapExists, 1),
-        (
-            b"r.reclass input=g output=r\n1 = 2\n",
-            ScriptKind::MissingEnd,
-            1,
-        ),
-        (
-            b"r.buffer input=g output=c\n",
-            ScriptKind::UnknownCommand,
-            1,
-        ),
-    ];
-    for (text, kind, line) in lines {
+    for &(text, kind, line) in &BAD_SCRIPTS {
         let fault = ScriptFault { kind, line };
         expect_refused(&rt, &[(b"g", GRID)], text, 1, RunFault::Script(fault))?;
     }
@@ -253,62 +276,47 @@ fn refuses_scripts_before_it_writes(rt: HostRuntime) -> Result<(), Fail> {
 #[test]
 fn tells_what_a_failing_device_took(rt: HostRuntime) -> Result<(), Fail> {
     let script = b"r.stats -c input=g\n";
-    let mut full = sink(rt.alloc(), 5)?;
-    let outcome = run_texts(rt.alloc(), &[(b"g", GRID)], script, &mut full)?;
-    assert_eq!(rt;
-        outcome,
-        Outcome {
-            status: 4,
-            written: 5,
-            fault: Some(RunFault::Write)
-        }
-    );
-    assert_eq!(rt; full.bytes(), b"1 5\n2".as_slice());
-    let mut unflushed = MemorySink::new(vec![in rt.alloc(); 0u8; 100]?, 3, true);
-    let outcome = run_texts(rt.alloc(), &[(b"g", GRID)], script, &mut unflushed)?;
-    assert_eq!(rt;
-        outcome,
-        Outcome {
-            status: 4,
-            written: 16,
-            fault: Some(RunFault::Write)
-        }
-    );
-    assert_eq!(rt; unflushed.bytes(), TABLE);
-    Ok(())
+    expect_failed_write(&rt, script, sink(rt.alloc(), 5)?, b"1 5\n2")?;
+    let unflushed = MemorySink::new(vec![in rt.alloc(); 0u8; 100]?, 3, true);
+    expect_failed_write(&rt, script, unflushed, TABLE)
+}
+
+// What a run over one grid, g, tells, and how many bytes it puts out; the source of the script or the grid may fail at its end.
+fn run_one(
+    alloc: Global,
+    script: MemorySource,
+    grid: MemorySource,
+) -> Result<(Outcome, usize), Fail> {
+    let grids = vec![in alloc; (Name::read(alloc, b"g")?, grid)]?;
+    let mut out = sink(alloc, 100)?;
+    let outcome = run(alloc, script, grids, &mut out);
+    Ok((outcome, out.bytes().len()))
+}
+
+fn read_failed(fault: RunFault) -> Outcome {
+    Outcome {
+        status: 4,
+        written: 0,
+        fault: Some(fault),
+    }
 }
 
 #[test]
 fn tells_a_failing_reader(rt: HostRuntime) -> Result<(), Fail> {
     let alloc = rt.alloc();
-    let mut out = sink(alloc, 100)?;
-    let name = Name::read(alloc, b"g").map_err(|_| "no name")?;
-    let broken = vec![in alloc; (name, source(alloc, HEADER, true)?)]?;
-    let outcome = run(alloc, source(alloc, b"", false)?, broken, &mut out);
+    let found = run_one(
+        alloc,
+        source(alloc, b"", false)?,
+        source(alloc, HEADER, true)?,
+    )?;
     let fault = GridFault {
         kind: GridKind::Read,
         line: 7,
     };
-    assert_eq!(rt;
-        outcome,
-        Outcome {
-            status: 4,
-            written: 0,
-            fault: Some(RunFault::Grid { grid: 0, fault })
-        }
-    );
-    let name = Name::read(alloc, b"g").map_err(|_| "no name")?;
-    let whole = vec![in alloc; (name, source(alloc, GRID, false)?)]?;
-    let outcome = run(alloc, source(alloc, b"r.stats", true)?, whole, &mut out);
-    assert_eq!(rt;
-        outcome,
-        Outcome {
-            status: 4,
-            written: 0,
-            fault: Some(RunFault::ScriptRead)
-        }
-    );
-    assert_eq!(rt; out.bytes().len(), 0);
+    assert_same!(rt; found, (read_failed(RunFault::Grid { grid: 0, fault }), 0));
+    let script = source(alloc, b"r.stats", true)?;
+    let found = run_one(alloc, script, source(alloc, GRID, false)?)?;
+    assert_same!(rt; found, (read_failed(RunFault::ScriptRead), 0));
     Ok(())
 }
 
