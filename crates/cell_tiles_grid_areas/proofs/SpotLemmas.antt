@@ -1,5 +1,5 @@
 -- Where a tile goes, by the tiles that it has to lie beside or below.
-use Rattle.std.proofs.Common.{◌≡◌, ◌≢◌, ◌==◌, ◌-◌, ◌<◌, ◌≤◌, ℕ, Bool, true, false, nat_lt, List, [], ◌∷◌, length}
+use Rattle.std.proofs.Common.{◌≡◌, ◌==◌, ◌-◌, ◌<◌, ◌≤◌, ℕ, true, false, nat_lt, List, [], ◌∷◌, length}
 use Rattle.std.proofs.Common.{get_or, Option, Some, None}
 use Rattle.std.proofs.Common.{refl, sym, ◌∙◌, subst, arith, inl, inr}
 use Rattle.std.specs.Prelude.{◌⊎◌, IfSome, slice_get}
@@ -10,7 +10,7 @@ use Rattle.std.proofs.lemmas.Option.{slice_get_cases, slice_get_past, slice_get_
 use Rattle.cell_core_devices.specs.Device.{Coming}
 use Rattle.cell_tiles_sides.specs.declared.sides_text.SidesText.{SidesText}
 use Rattle.cell_tiles_grid_areas.specs.TileTexts.{FitsBeside, SpellsTile}
-use Rattle.cell_tiles_grid_areas.specs.AreasOfTiles.{IsApart, GoesNowhere, IsNotBeside, IsNotNextRow, IsNotUnder}
+use Rattle.cell_tiles_grid_areas.specs.AreasOfTiles.{GoesNowhere}
 use Rattle.cell_tiles_grid_areas.specs.parts.ReadTiles.{IsFaultAtTile, row_above}
 use Rattle.cell_tiles_grid_areas.specs.parts.Spots.{IsFirstRowSpot, IsNextRowSpot, IsTileSpot, IsSpotBelow}
 use Rattle.cell_tiles_grid_areas.specs.declared.arrangement.TileSpot.{TileSpot}

@@ -32,7 +32,7 @@ use Rattle.cell_tiles_texts.proofs.FaultOrderLemmas.{GoesOn, all-on, kept, none-
 use Rattle.cell_tiles_texts.proofs.HeadLemmas.{taken-fault, taken-some}
 use Rattle.cell_tiles_texts.proofs.StepLemmas.{least-first}
 use Rattle.cell_tiles_texts.proofs.TakingLemmas.{above-next, begins, beyond, first-counted, head-read, no-entry, past-listing, past-tables, sum-regrouped}
-use Rattle.cell_tiles_tables.specs.parts.HeadOrder.{BeginsWith, GoesFirst, IsFaultBehind, ReadsOn, before, goes_before, heads_of}
+use Rattle.cell_tiles_tables.specs.parts.HeadOrder.{BeginsWith, GoesFirst, IsFaultBehind, ReadsOn, goes_before, heads_of}
 use Rattle.cell_tiles_tables.specs.parts.LeastEntries.{HasGone, begin_count, one_if_any}
 use Rattle.cell_tiles_tables.proofs.OrderLemmas.{lesser-or-same}
 use Rattle.cell_tiles_tables.proofs.PlaceLemmas.{first-or}

@@ -1,5 +1,5 @@
 -- Tiles read from the texts of their sides, one after another.
-use Rattle.std.specs.Prelude.{ℕ, ◌≡◌, ◌≢◌, List, [], ◌∷◌, ◌++◌, length, map, Option, Some, None, IfSome, Vec, slice_get, ◌⊎◌}
+use Rattle.std.specs.Prelude.{ℕ, ◌≡◌, ◌≢◌, List, [], ◌∷◌, ◌++◌, length, map, Option, Some, IfSome, Vec, slice_get, ◌⊎◌}
 use Rattle.std.specs.Global.{Global}
 use Rattle.cell_core_devices.specs.Device.{Coming}
 use Rattle.cell_tiles_texts.specs.JoinedTexts.{Give}

@@ -1,4 +1,4 @@
-use Rattle.std.proofs.Common.{◌≡◌, ◌==◌, true, false, length, sym, ◌∙◌}
+use Rattle.std.proofs.Common.{length, sym, ◌∙◌}
 use Rattle.cell_tiles_grid_areas.proofs.SpotLemmas.{below-row, first-row, got, next-row, past}
 use Rattle.cell_tiles_grid_areas.proofs.arrangement.spot_of.Goals as goal
 

@@ -1,4 +1,4 @@
-use Rattle.std.proofs.Common.{◌≡◌, ℕ, length, ap, subst, ◌∙◌}
+use Rattle.std.proofs.Common.{ap, subst, ◌∙◌}
 use Rattle.cell_tiles_grid.specs.Grids.{GridNumbers, TileRows, areas_in_rows}
 use Rattle.cell_tiles_grid_areas.proofs.PartLemmas.{numbered}
 use Rattle.cell_tiles_grid_areas.proofs.ReadLemmas.{finished, too-short}

@@ -1,4 +1,4 @@
-use Rattle.std.proofs.Common.{◌≡◌, ◌==◌, ℕ, Bool, List, length, nat_lt, true, false, ap, sym, subst, ◌∙◌}
+use Rattle.std.proofs.Common.{◌≡◌, ◌==◌, ℕ, List, length, nat_lt, true, false, ap, sym, ◌∙◌}
 use Rattle.cell_tiles_sides.specs.declared.sides_text.SidesText.{SidesText}
 use Rattle.cell_tiles_grid_areas.specs.parts.ReadTiles.{row_above}
 use Rattle.cell_tiles_grid_areas.proofs.SpotLemmas.{past, some-items, within}
