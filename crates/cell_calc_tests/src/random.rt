@@ -1,5 +1,6 @@
 //! Values of random expressions, beside those that the definition gives cell by cell.
 
+use crate::assertions::assert_same;
 use crate::definition::value::value;
 use crate::tests::{at, expression, map_of, number_of, worked_names, worked_shelf};
 use cell_calc::{Expr, resolve};
@@ -110,9 +111,8 @@ fn expect_cells<R: Abort + AllocGlobal>(
     let region = shelf.region();
     for row in 0..region.rows() {
         for col in 0..region.cols() {
-            let wanted = value(rt.alloc(), expr, names, shelf, row, col);
-            let wanted = wanted.map_err(|_| "no memory")?;
-            assert_eq!(rt; at(map, row, col), number_of(wanted), "{text} {row} {col}");
+            let wanted = value(rt.alloc(), expr, names, shelf, row, col)?;
+            assert_same!(rt; at(map, row, col), number_of(wanted), "{text} {row} {col}");
         }
     }
     Ok(())
@@ -120,7 +120,7 @@ fn expect_cells<R: Abort + AllocGlobal>(
 
 // The map of an expression over the worked map, by rows.
 fn map_by_rows(alloc: Global, expr: &Expr, names: &Names, shelf: &Shelf) -> Result<CellMap, Fail> {
-    let bound = resolve(alloc, expr, names).map_err(|_| "unknown map")?;
+    let bound = resolve(alloc, expr, names)?;
     map_of(alloc, &bound, shelf)
 }
 

@@ -1,5 +1,6 @@
 //! Worked values of expressions over a map of three rows.
 
+use crate::assertions::assert_same;
 use crate::evaluation::values_along;
 use cell_calc::{Bound, CalcFault, CalcKind, Expr, parse, resolve};
 use cell_core::cell::Cell;
@@ -34,20 +35,20 @@ pub(crate) fn number_of(cell: Cell) -> i32 {
 fn cells_of(alloc: Global, numbers: [i32; 4]) -> Result<Vec<Cell>, Fail> {
     let mut cells = Vec::new(alloc);
     for number in numbers {
-        cells.push(cell_of(number)).map_err(|_| "no memory")?;
+        cells.push(cell_of(number))?;
     }
     Ok(cells)
 }
 
 pub(crate) fn worked_map(alloc: Global) -> Result<CellMap, Fail> {
-    let region = Region::new(3, 0, 4, 0, 3, 4).map_err(|_| "no region")?;
+    let region = Region::new(3, 0, 4, 0, 3, 4)?;
     let mut builder = MapBuilder::new(alloc, region);
-    for row in ROWS {
+    for &row in &ROWS {
         let cells = cells_of(alloc, row)?;
         if builder.rows_left() == 0 || cells.len() != region.cols() as usize {
             return Err("no row".into());
         }
-        builder.push_row(cells.as_slice()).map_err(|_| "no memory")?;
+        builder.push_row(cells.as_slice())?;
     }
     if builder.rows_left() != 0 {
         return Err("rows left".into());
@@ -59,7 +60,7 @@ pub(crate) fn worked_map(alloc: Global) -> Result<CellMap, Fail> {
 pub(crate) fn worked_shelf(alloc: Global) -> Result<Shelf, Fail> {
     let map = worked_map(alloc)?;
     let mut shelf = Shelf::new(alloc, map.region());
-    let name = Name::read(alloc, b"g").map_err(|_| "no name")?;
+    let name = Name::read(alloc, b"g")?;
     match shelf.add(name, map) {
         Ok(()) => Ok(shelf),
         Err(_) => Err("not added".into()),
@@ -68,9 +69,9 @@ pub(crate) fn worked_shelf(alloc: Global) -> Result<Shelf, Fail> {
 
 pub(crate) fn worked_names(alloc: Global) -> Result<Names, Fail> {
     let mut names = Names::new(alloc);
-    let name = Name::read(alloc, b"g").map_err(|_| "no name")?;
+    let name = Name::read(alloc, b"g")?;
     if names.find(name.bytes()).is_none() {
-        names.push(name).map_err(|_| "no memory")?;
+        names.push(name)?;
     }
     Ok(names)
 }
@@ -90,7 +91,7 @@ pub(crate) fn expression(alloc: Global, text: &[u8]) -> Result<Expr, Fail> {
 // An expression over the places of names.
 pub(crate) fn bound_of(alloc: Global, names: &Names, text: &[u8]) -> Result<Bound, Fail> {
     let expr = expression(alloc, text)?;
-    resolve(alloc, &expr, names).map_err(|_| "unknown map".into())
+    Ok(resolve(alloc, &expr, names)?)
 }
 
 // The map of an expression over a shelf.
@@ -98,7 +99,7 @@ pub(crate) fn map_of(alloc: Global, bound: &Bound, shelf: &Shelf) -> Result<Cell
     if bound.top() > shelf.len() {
         return Err("no such map".into());
     }
-    evaluate(alloc, bound, shelf).map_err(|_| "no memory".into())
+    Ok(evaluate(alloc, bound, shelf)?)
 }
 
 // The map of an expression over the worked map.
@@ -163,37 +164,40 @@ const VALUES: [(&str, i32); 41] = [
 fn expect_everywhere<R: Abort>(rt: &R, map: &CellMap, text: &str, wanted: i32) {
     for row in 0..3 {
         for col in 0..4 {
-            assert_eq!(rt; at(map, row, col), wanted, "{text} {row} {col}");
+            assert_same!(rt; at(map, row, col), wanted, "{text} {row} {col}");
         }
     }
 }
 
 #[test]
 fn expressions_have_one_value_everywhere(rt: HostRuntime) -> Result<(), Fail> {
-    for (text, wanted) in VALUES {
+    for &(text, wanted) in &VALUES {
         let map = values(rt.alloc(), text.as_bytes())?;
         expect_everywhere(&rt, &map, text, wanted);
     }
     Ok(())
 }
 
+// Expressions, and the column of the first name that is unknown.
+const UNKNOWN_NAMES: [(&[u8], Option<u32>); 4] = [
+    (b"g + 1", None),
+    (b"h", Some(5)),
+    (b"g + h[1,0] * k", Some(9)),
+    (b"max(g, if(1, k, h))", Some(18)),
+];
+
 #[test]
 fn unknown_names_are_found(rt: HostRuntime) -> Result<(), Fail> {
     let alloc = rt.alloc();
     let names = worked_names(alloc)?;
-    for (text, column) in [
-        (b"g + 1".as_slice(), None),
-        (b"h", Some(5)),
-        (b"g + h[1,0] * k", Some(9)),
-        (b"max(g, if(1, k, h))", Some(18)),
-    ] {
+    for &(text, column) in &UNKNOWN_NAMES {
         let expr = expression(alloc, text)?;
-        assert_eq!(rt; expr.first_unknown(&names), column);
+        assert_same!(rt; expr.first_unknown(&names), column);
         let wanted = column.map(|column| CalcFault {
             kind: CalcKind::UnknownMap,
             column,
         });
-        assert_eq!(rt; resolve(alloc, &expr, &names).err(), wanted);
+        assert_same!(rt; resolve(alloc, &expr, &names).err(), wanted);
     }
     Ok(())
 }
@@ -212,7 +216,7 @@ fn worked_row(
     if bound.top() > shelf.len() || region.rows() <= row || region.cols() as usize != cells.len() {
         return Err("no such map".into());
     }
-    values_along(alloc, &bound, &shelf, row, cells).map_err(|_| "no memory".into())
+    Ok(values_along(alloc, &bound, &shelf, row, cells)?)
 }
 
 // Run as it is, each growth is granted: tools/hostile.py refuses them in turn, one in each run, and wants the row to be
@@ -226,7 +230,7 @@ fn a_refused_row_is_evaluated_again(rt: HostRuntime) -> Result<(), Fail> {
         assert!(rt; is_unchanged);
     }
     for (cell, wanted) in cells.iter().zip([5, 7, 11, NULL].iter()) {
-        assert_eq!(rt; number_of(*cell), *wanted);
+        assert_same!(rt; number_of(*cell), *wanted);
     }
     Ok(())
 }
@@ -236,7 +240,7 @@ fn a_row_is_evaluated_from_windows_that_were_moved(rt: HostRuntime) -> Result<()
     let mut cells = [cell_of(77); 4];
     worked_row(rt.alloc(), b"g[1,0] + g[-1,0]", 1, &mut cells)?;
     for (cell, wanted) in cells.iter().zip([4, 4, 3, NULL].iter()) {
-        assert_eq!(rt; number_of(*cell), *wanted);
+        assert_same!(rt; number_of(*cell), *wanted);
     }
     Ok(())
 }
