@@ -1,5 +1,5 @@
 -- The map of a band's edges, and its text.
-use Rattle.std.proofs.Common.{◌≡◌, ℕ, List, length, take, Option, Some, None, ap, ◌∙◌}
+use Rattle.std.proofs.Common.{◌≡◌, ◌≤◌, ℕ, List, length, take, Option, Some, None, ap, subst, ◌∙◌}
 use Rattle.std.specs.Prelude.{IfSome}
 use Rattle.cell_core_devices.specs.Device.{Coming, append_known}
 use Rattle.cell_core.specs.Grid.{Grid}
@@ -41,14 +41,16 @@ written-so text number_text made before now written taken count h = record {
 }
 
 pub cut-so : (text number_text : Coming) (made : Grid) (before now : Option (List ℕ)) (written : ℕ)
-    → now ≡ append_known before (take written (grid_text usual_null made)) → IsMadeOf text number_text made
+    → now ≡ append_known before (take written (grid_text usual_null made))
+    → written ≤ length (grid_text usual_null made) → IsMadeOf text number_text made
     → AreEdgesCut text number_text before now written
-cut-so text number_text made before now written taken h = record {
+cut-so text number_text made before now written taken count h = record {
   cells = h.cells;
   numbers = h.numbers;
   edges = h.edges;
   are = h.are;
   taken = taken ∙ ap (λ (m : Grid). append_known before (take written (grid_text usual_null m))) h.is;
+  count = subst (λ (m : Grid). written ≤ length (grid_text usual_null m)) h.is count;
 }
 
 pub if-under : (o : Option Coming) (A : Type 0) (P : Coming → Type 0) → (A → IfSome o P) → IfSome o (λ c. A → P c)

@@ -1,5 +1,5 @@
 -- The text of a band's edges, made of the texts of the band and of its numbers.
-use Rattle.std.specs.Prelude.{ℕ, ◌≡◌, ◌≢◌, List, length, take, Option, Some}
+use Rattle.std.specs.Prelude.{ℕ, ◌≡◌, ◌≢◌, ◌≤◌, List, length, take, Option, Some}
 use Rattle.cell_core_devices.specs.Device.{Coming, append_known}
 use Rattle.cell_core.specs.Grid.{Grid}
 use Rattle.cell_ascii_meaning.specs.FaultPlaces.{text_fault}
@@ -50,13 +50,14 @@ pub record AreEdgesWritten (text number_text : Coming) (before now : Option (Lis
   pub taken : now ≡ append_known before (edges_text cells.region edges)
   pub count : written ≡ length (edges_text cells.region edges)
 
--- the sink took a prefix of that text
+-- the sink took a prefix of that text, and its length is told
 pub record AreEdgesCut (text number_text : Coming) (before now : Option (List ℕ)) (written : ℕ) : Type 0 where
   pub cells : Grid
   pub numbers : Grid
   pub edges : BandEdges
   pub are : AreEdgesOf text number_text cells numbers edges
   pub taken : now ≡ append_known before (take written (edges_text cells.region edges))
+  pub count : written ≤ length (edges_text cells.region edges)
 
 -- why no edges are made of two texts: the first text's fault, the second's, other regions, or a cell and a number that do not go together
 abbrev pub IsBandFault : (text number_text : Coming) → BandFault → Type 0

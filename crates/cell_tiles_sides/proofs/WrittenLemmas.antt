@@ -1,5 +1,5 @@
 -- What is made and written of the texts of a tile, and their faults.
-use Rattle.std.proofs.Common.{◌≡◌, ◌≢◌, ℕ, List, length, take, Option, Some, Result, Ok, Err, ap, ◌∙◌}
+use Rattle.std.proofs.Common.{◌≡◌, ◌≢◌, ◌≤◌, ℕ, List, length, take, Option, Some, Result, Ok, Err, ap, subst, ◌∙◌}
 use Rattle.std.specs.Prelude.{IfOk, IfErr, IfSome}
 use Rattle.cell_core_devices.specs.Device.{Coming, append_known}
 use Rattle.cell_core.specs.Grid.{Grid}
@@ -74,12 +74,14 @@ written-so text number_text made before now written taken count h = record {
 }
 
 pub cut-so : (text number_text : Coming) (made : Grid) (before now : Option (List ℕ)) (written : ℕ)
-    → now ≡ append_known before (take written (grid_text usual_null made)) → IsMapOfTexts text number_text made
+    → now ≡ append_known before (take written (grid_text usual_null made))
+    → written ≤ length (grid_text usual_null made) → IsMapOfTexts text number_text made
     → AreSidesCut text number_text before now written
-cut-so text number_text made before now written taken h = record {
+cut-so text number_text made before now written taken count h = record {
   cells = h.cells;
   numbers = h.numbers;
   sides = h.sides;
   are = h.are;
   taken = taken ∙ ap (λ (m : Grid). append_known before (take written (grid_text usual_null m))) h.is;
+  count = subst (λ (m : Grid). written ≤ length (grid_text usual_null m)) h.is count;
 }

@@ -1,5 +1,5 @@
 -- The text of a tile's sides, made of the texts of the tile and of its numbers.
-use Rattle.std.specs.Prelude.{ℕ, ◌≡◌, ◌≢◌, ◌-◌, List, length, map, take, Option, Some, Ok}
+use Rattle.std.specs.Prelude.{ℕ, ◌≡◌, ◌≢◌, ◌≤◌, ◌-◌, List, length, map, take, Option, Some, Ok}
 use Rattle.cell_core_devices.specs.Device.{Coming, append_known}
 use Rattle.cell_core_values.specs.Region.{IsRegion, region_fault}
 use Rattle.cell_core.specs.Grid.{Grid}
@@ -78,13 +78,14 @@ pub record AreSidesWritten (text number_text : Coming) (before now : Option (Lis
   pub taken : now ≡ append_known before (sides_text cells.region sides)
   pub count : written ≡ length (sides_text cells.region sides)
 
--- the sink took a prefix of that text
+-- the sink took a prefix of that text, and its length is told
 pub record AreSidesCut (text number_text : Coming) (before now : Option (List ℕ)) (written : ℕ) : Type 0 where
   pub cells : Grid
   pub numbers : Grid
   pub sides : TileSides
   pub are : AreTextsSides text number_text cells numbers sides
   pub taken : now ≡ append_known before (take written (sides_text cells.region sides))
+  pub count : written ≤ length (sides_text cells.region sides)
 
 -- why no sides are made of two texts: the first text's fault, the second's, or that of the tile that they denote
 abbrev pub IsTileFault : (text number_text : Coming) → TileFault → Type 0

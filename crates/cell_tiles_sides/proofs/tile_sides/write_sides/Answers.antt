@@ -14,9 +14,10 @@ returns-in-Err-write_map-clause-cut g c = λ is.
     let now = g.W.Sink.taken c.write_map.new.out in
     let made = c.in-Ok.made in
     let n = c.in-Err-write_map.fault.written in
+    let few : n ≤ length (grid_text usual_null made) = omega (arith, c.in-Err-write_map.ensures.short) in
     if-pair (g.R.Source.coming c.args.map) (g.R.Source.coming c.args.numbers) (λ (t u : Coming). IsMapOfTexts t u made)
     (λ (t u : Coming). AreSidesCut t u before now n)
-    (λ t u h. cut-so t u made before now n c.in-Err-write_map.ensures.err h) c.in-Ok.ensures.made
+    (λ t u h. cut-so t u made before now n c.in-Err-write_map.ensures.err few h) c.in-Ok.ensures.made
 
 pub returns-in-Ok-flush-clause-written : goal.returns-in-Ok-flush-clause-written
 returns-in-Ok-flush-clause-written g c = λ is.
@@ -36,7 +37,8 @@ returns-clause-cut g c = λ is.
     let made = c.in-Ok.made in
     let n = c.in-Ok-write_map.written in
     let all : length (grid_text usual_null made) ≤ n = omega (arith, c.in-Ok-write_map.ensures.length) in
+    let few : n ≤ length (grid_text usual_null made) = omega (arith, c.in-Ok-write_map.ensures.length) in
     if-pair (g.R.Source.coming c.args.map) (g.R.Source.coming c.args.numbers) (λ (t u : Coming). IsMapOfTexts t u made)
     (λ (t u : Coming). AreSidesCut t u before now n)
     (λ t u h. cut-so t u made before now n (c.flush.ensures.taken ∙ c.in-Ok-write_map.ensures.ok
-    ∙ ap (append_known before) (sym (take_all n (grid_text usual_null made) all))) h) c.in-Ok.ensures.made
+    ∙ ap (append_known before) (sym (take_all n (grid_text usual_null made) all))) few h) c.in-Ok.ensures.made
