@@ -5,6 +5,7 @@ from __future__ import annotations
 import os
 import pickle
 import resource
+import time
 from collections.abc import Callable, Iterator
 from contextlib import contextmanager
 from pathlib import Path
@@ -145,6 +146,17 @@ REAL = rcell.program()
 DIES = f'case "$*" in *" g="*) exec {REAL} "$@";; esac\n'
 
 
+def zombies() -> list[str]:
+    """Programs that have ended and that nothing has waited for; a moment is given to tasks that are ending."""
+    found: list[str] = []
+    for _ in range(100):
+        found = [child.name() for child in psutil.Process().children() if child.status() == psutil.STATUS_ZOMBIE]
+        if not found:
+            break
+        time.sleep(0.1)
+    return found
+
+
 @pytest.mark.parametrize("body, kind", [
     (None, rcell.MissingProgram),
     ("echo rcell 0.0.1", rcell.WrongProgram),
@@ -170,7 +182,7 @@ def test_a_program_that_fails_is_told(tif: MakeTif, tmp_path: Path, scheduler: s
             with pytest.raises(kind):
                 work()
     assert os.listdir(tmp_path / "out") == []
-    assert [child.name() for child in psutil.Process().children() if child.status() == psutil.STATUS_ZOMBIE] == []
+    assert zombies() == []
 
 
 @contextmanager
