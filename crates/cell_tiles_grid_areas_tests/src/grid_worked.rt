@@ -104,19 +104,21 @@ fn four_tiles_are_joined(rt: HostRuntime) -> Result<(), Fail> {
     Ok(())
 }
 
+// Tiles that make no grid, and their fault.
+const APART: [([Tile; 4], TilesJoinFault); 7] = [
+    ([A, D, C, B], TilesJoinFault::Apart { text: 1 }),
+    ([A, A, B, C], TilesJoinFault::Apart { text: 1 }),
+    ([A, B, A, B], TilesJoinFault::Apart { text: 2 }),
+    ([A, B, C, C], TilesJoinFault::NotBeside { text: 3 }),
+    ([A, B, C, NARROW], TilesJoinFault::NotBelow { text: 3 }),
+    ([A, C, D, B], TilesJoinFault::NotBelow { text: 2 }),
+    ([A, C, C, C], TilesJoinFault::NotBelow { text: 2 }),
+];
+
 #[test]
 fn tiles_that_make_no_grid_are_refused(rt: HostRuntime) -> Result<(), Fail> {
-    let cases = [
-        ([A, D, C, B], TilesJoinFault::Apart { text: 1 }),
-        ([A, A, B, C], TilesJoinFault::Apart { text: 1 }),
-        ([A, B, A, B], TilesJoinFault::Apart { text: 2 }),
-        ([A, B, C, C], TilesJoinFault::NotBeside { text: 3 }),
-        ([A, B, C, NARROW], TilesJoinFault::NotBelow { text: 3 }),
-        ([A, C, D, B], TilesJoinFault::NotBelow { text: 2 }),
-        ([A, C, C, C], TilesJoinFault::NotBelow { text: 2 }),
-    ];
-    for (tiles, fault) in cases {
-        assert!(rt; fault_of(rt.alloc(), &tiles)? == Some(fault));
+    for (tiles, fault) in &APART {
+        assert!(rt; fault_of(rt.alloc(), tiles)? == Some(*fault));
     }
     assert!(rt; fault_of(rt.alloc(), &[A, B, C])? == Some(TilesJoinFault::FewTiles));
     Ok(())

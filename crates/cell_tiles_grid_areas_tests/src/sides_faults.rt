@@ -45,37 +45,38 @@ fn text_fault(alloc: Global, rows: &[u8], cells: &[u8]) -> Result<Option<SidesFa
     Ok(told(alloc, &text)?.err())
 }
 
-// A fault of a pair, from 0.
-fn pair(row: u64, col: u64, kind: PairKind) -> PairFault {
-    PairFault { row, col, kind }
-}
-
 // A cell that is none, in the first row below a header.
-fn bad_cell() -> GridFault {
-    GridFault {
-        kind: GridKind::BadCell,
-        line: 7,
-    }
-}
+const BAD_CELL: GridFault = GridFault {
+    kind: GridKind::BadCell,
+    line: 7,
+};
+
+// Numbers beside the cells 5 5 6, and the fault of the two.
+const NUMBERS: [(&[u8], TileFault); 5] = [
+    (b"1 1 x\n", TileFault::Numbers(BAD_CELL)),
+    (
+        b"3 0 2\n",
+        TileFault::Pair(PairFault {
+            row: 0,
+            col: 1,
+            kind: PairKind::BelowOne,
+        }),
+    ),
+    (
+        b"* 1 2\n",
+        TileFault::Pair(PairFault {
+            row: 0,
+            col: 0,
+            kind: PairKind::NoNumber,
+        }),
+    ),
+    (b"2 1 3\n", TileFault::Order(CellPlace { row: 0, col: 0 })),
+    (b"1 1 3\n", TileFault::Order(CellPlace { row: 0, col: 2 })),
+];
 
 #[test]
 fn numbers_with_faults(rt: HostRuntime) -> Result<(), Fail> {
-    let first = CellPlace { row: 0, col: 0 };
-    let last = CellPlace { row: 0, col: 2 };
-    let cases = [
-        (b"1 1 x\n".as_slice(), TileFault::Numbers(bad_cell())),
-        (
-            b"3 0 2\n".as_slice(),
-            TileFault::Pair(pair(0, 1, PairKind::BelowOne)),
-        ),
-        (
-            b"* 1 2\n".as_slice(),
-            TileFault::Pair(pair(0, 0, PairKind::NoNumber)),
-        ),
-        (b"2 1 3\n".as_slice(), TileFault::Order(first)),
-        (b"1 1 3\n".as_slice(), TileFault::Order(last)),
-    ];
-    for (numbers, fault) in cases {
+    for &(numbers, fault) in &NUMBERS {
         assert!(rt; tile_fault(rt.alloc(), b"5 5 6\n", HEADER, numbers)? == Some(fault));
     }
     Ok(())
@@ -85,78 +86,83 @@ fn numbers_with_faults(rt: HostRuntime) -> Result<(), Fail> {
 fn tiles_with_faults(rt: HostRuntime) -> Result<(), Fail> {
     let alloc = rt.alloc();
     let map = tile_fault(alloc, b"5 5 x\n", HEADER, b"x 1 2\n")?;
-    assert!(rt; map == Some(TileFault::Map(bad_cell())));
+    assert!(rt; map == Some(TileFault::Map(BAD_CELL)));
     let region = tile_fault(alloc, b"5 5 6\n", EASTWARD, b"0 1 2\n")?;
     assert!(rt; region == Some(TileFault::Region));
     Ok(())
 }
 
+// Rows and cells of texts of a tile of two rows and one column, 7 above 8, and their faults.
+const COUNTS: [(&[u8], &[u8], Option<SidesFault>); 5] = [
+    (
+        b"12",
+        b"7 *\n1 *\n8 *\n2 *\n7 8\n1 2\n7 8\n1 2\n2 *\n1 *\n2 *\n0 1\n",
+        None,
+    ),
+    (
+        b"10",
+        b"7 *\n1 *\n8 *\n2 *\n7 8\n1 2\n7 8\n1 2\n2 *\n1 *\n",
+        Some(SidesFault::Rows),
+    ),
+    (
+        b"12",
+        b"7 *\n1 *\n8 *\n2 *\n7 8\n1 2\n7 8\n1 2\n3 *\n1 *\n2 *\n0 1\n",
+        Some(SidesFault::Size),
+    ),
+    (
+        b"12",
+        b"7 *\n1 *\n8 *\n2 *\n7 8\n1 2\n7 8\n1 2\n2 *\n1 1\n2 *\n0 1\n",
+        Some(SidesFault::Size),
+    ),
+    (
+        b"12",
+        b"7 *\n1 *\n8 *\n2 *\n7 8\n1 2\n7 8\n1 2\n2 *\n1 *\n3 *\n0 1\n",
+        Some(SidesFault::Areas),
+    ),
+];
+
 #[test]
-fn rows_of_counts_with_faults(rt: HostRuntime) -> Result<(), Fail> {
-    let cases = [
-        (
-            b"12".as_slice(),
-            // A tile of two rows and one column: 7 above 8.
-            b"7 *\n1 *\n8 *\n2 *\n7 8\n1 2\n7 8\n1 2\n2 *\n1 *\n2 *\n0 1\n".as_slice(),
-            None,
-        ),
-        (
-            b"10".as_slice(),
-            b"7 *\n1 *\n8 *\n2 *\n7 8\n1 2\n7 8\n1 2\n2 *\n1 *\n".as_slice(),
-            Some(SidesFault::Rows),
-        ),
-        (
-            b"12".as_slice(),
-            b"7 *\n1 *\n8 *\n2 *\n7 8\n1 2\n7 8\n1 2\n3 *\n1 *\n2 *\n0 1\n".as_slice(),
-            Some(SidesFault::Size),
-        ),
-        (
-            b"12".as_slice(),
-            b"7 *\n1 *\n8 *\n2 *\n7 8\n1 2\n7 8\n1 2\n2 *\n1 1\n2 *\n0 1\n".as_slice(),
-            Some(SidesFault::Size),
-        ),
-        (
-            b"12".as_slice(),
-            b"7 *\n1 *\n8 *\n2 *\n7 8\n1 2\n7 8\n1 2\n2 *\n1 *\n3 *\n0 1\n".as_slice(),
-            Some(SidesFault::Areas),
-        ),
-    ];
-    for (rows, cells, fault) in cases {
+fn counts_with_faults(rt: HostRuntime) -> Result<(), Fail> {
+    for &(rows, cells, fault) in &COUNTS {
         assert!(rt; text_fault(rt.alloc(), rows, cells)? == fault);
     }
     Ok(())
 }
 
+// Cells of such texts of twelve rows, and the fault of a side, a first cell or a cell that is none.
+const SIDES: [(&[u8], SidesFault); 5] = [
+    (
+        b"7 *\n1 *\n8 *\n3 *\n7 8\n1 2\n7 8\n1 2\n2 *\n1 *\n2 *\n0 1\n",
+        SidesFault::Pair(PairFault {
+            row: 3,
+            col: 0,
+            kind: PairKind::TooGreat,
+        }),
+    ),
+    (
+        b"7 *\n1 *\n8 8\n2 2\n7 8\n1 2\n7 8\n1 2\n2 *\n1 *\n2 *\n0 1\n",
+        SidesFault::End(CellPlace { row: 2, col: 1 }),
+    ),
+    (
+        b"7 *\n1 *\n8 *\n2 *\n7 8\n1 2\n7 8\n1 2\n2 *\n1 *\n2 *\n0 2\n",
+        SidesFault::Start(CellPlace { row: 11, col: 1 }),
+    ),
+    (
+        b"7 *\n1 *\n8 *\n1 *\n7 8\n1 1\n7 8\n1 1\n2 *\n1 *\n1 *\n0 1\n",
+        SidesFault::Start(CellPlace { row: 11, col: 1 }),
+    ),
+    (
+        b"7 *\n1 *\n8 x\n",
+        SidesFault::Text(GridFault {
+            kind: GridKind::BadCell,
+            line: 9,
+        }),
+    ),
+];
+
 #[test]
 fn sides_with_faults(rt: HostRuntime) -> Result<(), Fail> {
-    let end = CellPlace { row: 2, col: 1 };
-    let start = CellPlace { row: 11, col: 1 };
-    let cases = [
-        (
-            b"7 *\n1 *\n8 *\n3 *\n7 8\n1 2\n7 8\n1 2\n2 *\n1 *\n2 *\n0 1\n".as_slice(),
-            SidesFault::Pair(pair(3, 0, PairKind::TooGreat)),
-        ),
-        (
-            b"7 *\n1 *\n8 8\n2 2\n7 8\n1 2\n7 8\n1 2\n2 *\n1 *\n2 *\n0 1\n".as_slice(),
-            SidesFault::End(end),
-        ),
-        (
-            b"7 *\n1 *\n8 *\n2 *\n7 8\n1 2\n7 8\n1 2\n2 *\n1 *\n2 *\n0 2\n".as_slice(),
-            SidesFault::Start(start),
-        ),
-        (
-            b"7 *\n1 *\n8 *\n1 *\n7 8\n1 1\n7 8\n1 1\n2 *\n1 *\n1 *\n0 1\n".as_slice(),
-            SidesFault::Start(start),
-        ),
-        (
-            b"7 *\n1 *\n8 x\n".as_slice(),
-            SidesFault::Text(GridFault {
-                kind: GridKind::BadCell,
-                line: 9,
-            }),
-        ),
-    ];
-    for (cells, fault) in cases {
+    for &(cells, fault) in &SIDES {
         assert!(rt; text_fault(rt.alloc(), b"12", cells)? == Some(fault));
     }
     Ok(())
