@@ -1,7 +1,8 @@
 -- What stands in one place of two lists.
-use Rattle.std.proofs.Common.{◌≡◌, ℕ, zero, suc, List, [], ◌∷◌, length, map, Some, refl, ap, subst}
+use Rattle.std.proofs.Common.{◌≡◌, ℕ, zero, suc, List, [], ◌∷◌, length, map, get_or, Some, refl, ap, sym, ◌∙◌, subst}
 use Rattle.std.specs.Prelude.{slice_get}
 use Rattle.std.specs.List.{AllZip}
+use Rattle.std.proofs.lemmas.Option.{slice_get-get_or, slice_get_within}
 
 module _ {A B : Type 0} (R : A → B → Type 0) where
   pub zip-right : (xs : List A) (ys : List B) → AllZip R xs ys → (i : ℕ) (x : A) → slice_get xs i ≡ Some x
@@ -39,3 +40,8 @@ module _ {A B : Type 0} (f : A → B) where
   map-to [] i x is = absurd (cc)
   map-to (a ∷ xs) zero x is = let same : a ≡ x = cc in ap (λ (z : A). Some (f z)) same
   map-to (a ∷ xs) (suc i) x is = map-to xs i x is
+
+pub got : {X : Type 0} (xs : List X) (i : ℕ) (d x : X) → slice_get xs i ≡ Some x → get_or xs i d ≡ x
+got xs i d x there =
+    let is : Some (get_or xs i d) ≡ Some x = sym (slice_get-get_or xs i d (slice_get_within xs i x there)) ∙ there in
+    cc

@@ -19,33 +19,47 @@ use Rattle.cell_tiles_grid_areas_law.specs.TileGrids.{tile_heights, tile_regions
 use Rattle.cell_tiles_grid_areas_law.specs.WrittenTiles.{IsSidesTextOf}
 use Rattle.cell_tiles_grid_areas_law.proofs.GlueLemmas.{AreSized, IsSized}
 
--- a map of a region, filled
-pub record IsMap (tile : Band) : Type 0 where
-  pub region : IsRegion tile.map.region
-  pub filled : IsFilled tile.map.region tile.map.rows
+-- each of some tiles
+abbrev pub Each : (Band → Type 0) → List Band → Type 0
+Each P [] = Unit {0}
+Each P (tile ∷ tiles) = P tile × Each P tiles
 
-abbrev pub AreMaps : List Band → Type 0
-AreMaps [] = Unit {0}
-AreMaps (tile ∷ tiles) = IsMap tile × AreMaps tiles
+module _ (P : Band → Type 0) where
+  pub each-front : (a b : List Band) → Each P (a ++ b) → Each P a
+  each-front [] b all = tt
+  each-front (tile ∷ a) b all = (all.0, each-front a b all.1)
 
-pub texts-maps : (tiles : List Band) (texts : List Coming) → AllZip IsSidesTextOf tiles texts → AreMaps tiles
-texts-maps [] texts are = tt
-texts-maps (tile ∷ tiles) [] are = absurd are
-texts-maps (tile ∷ tiles) (text ∷ texts) are = (
-  record {
-    region = denoted-region are.0.source tile.map are.0.are.cells_denoted;
-    filled = denoted-filled are.0.source tile.map are.0.are.cells_denoted;
-  },
-  texts-maps tiles texts are.1,
-)
+  pub each-back : (a b : List Band) → Each P (a ++ b) → Each P b
+  each-back [] b all = all
+  each-back (tile ∷ a) b all = each-back a b all.1
 
-maps-front : (a b : List Band) → AreMaps (a ++ b) → AreMaps a
-maps-front [] b are = tt
-maps-front (tile ∷ a) b are = (are.0, maps-front a b are.1)
+  -- of the first row of tiles, and of the others
+  pub each-row : (row : List Band) (tiles : List (List Band)) → Each P (all_tiles (row ∷ tiles))
+      → Each P row × Each P (all_tiles tiles)
+  each-row row tiles all =
+      let own : Each P (row ++ all_tiles tiles) = subst (Each P) (flat_map-cons (λ (r : List Band). r) row tiles) all in
+      (each-front row (all_tiles tiles) own, each-back row (all_tiles tiles) own)
 
-maps-back : (a b : List Band) → AreMaps (a ++ b) → AreMaps b
-maps-back [] b are = are
-maps-back (tile ∷ a) b are = maps-back a b are.1
+-- its map is filled, and of a region
+abbrev pub IsFilledTile : Band → Type 0
+IsFilledTile tile = IsFilled tile.map.region tile.map.rows
+
+abbrev pub IsTileOfRegion : Band → Type 0
+IsTileOfRegion tile = IsRegion tile.map.region
+
+pub texts-filled : (tiles : List Band) (texts : List Coming) → AllZip IsSidesTextOf tiles texts
+    → Each IsFilledTile tiles
+texts-filled [] texts are = tt
+texts-filled (tile ∷ tiles) [] are = absurd are
+texts-filled (tile ∷ tiles) (text ∷ texts) are =
+    (denoted-filled are.0.source tile.map are.0.are.cells_denoted, texts-filled tiles texts are.1)
+
+pub texts-regions : (tiles : List Band) (texts : List Coming) → AllZip IsSidesTextOf tiles texts
+    → Each IsTileOfRegion tiles
+texts-regions [] texts are = tt
+texts-regions (tile ∷ tiles) [] are = absurd are
+texts-regions (tile ∷ tiles) (text ∷ texts) are =
+    (denoted-region are.0.source tile.map are.0.are.cells_denoted, texts-regions tiles texts are.1)
 
 -- ---- columns of one width
 
@@ -73,25 +87,26 @@ below-wide (upper ∷ above) row widths some below wide = zip-wide (upper ∷ ab
 
 -- ---- a row of one height
 
-high-row : (left : RegionValue) (height : ℕ) (row : List Band) (widths : List ℕ) → left.rows ≡ height → AreMaps row
-    → GoRight (Some left) (map_regions row) → AllZip IsAsWide row widths → AllZip (IsSized height) row widths
-high-row left height [] [] high maps go wide = tt
-high-row left height [] (w ∷ widths) high maps go wide = absurd wide
-high-row left height (tile ∷ row) [] high maps go wide = absurd wide
-high-row left height (tile ∷ row) (w ∷ widths) high maps go wide =
+high-row : (left : RegionValue) (height : ℕ) (row : List Band) (widths : List ℕ) → left.rows ≡ height
+    → Each IsFilledTile row → GoRight (Some left) (map_regions row) → AllZip IsAsWide row widths
+    → AllZip (IsSized height) row widths
+high-row left height [] [] high filled go wide = tt
+high-row left height [] (w ∷ widths) high filled go wide = absurd wide
+high-row left height (tile ∷ row) [] high filled go wide = absurd wide
+high-row left height (tile ∷ row) (w ∷ widths) high filled go wide =
     let own : tile.map.region.rows ≡ height = go.0.rows ∙ high in (
-      record { filled = maps.0.filled; rows = own; cols = wide.0 },
-      high-row tile.map.region height row widths own maps.1 go.1 wide.1,
+      record { filled = filled.0; rows = own; cols = wide.0 },
+      high-row tile.map.region height row widths own filled.1 go.1 wide.1,
     )
 
-sized-row : (row : List Band) (widths : List ℕ) → AreMaps row → GoRight None (map_regions row)
+sized-row : (row : List Band) (widths : List ℕ) → Each IsFilledTile row → GoRight None (map_regions row)
     → AllZip IsAsWide row widths → AllZip (IsSized (row_height row)) row widths
-sized-row [] [] maps go wide = tt
-sized-row [] (w ∷ widths) maps go wide = absurd wide
-sized-row (tile ∷ row) [] maps go wide = absurd wide
-sized-row (tile ∷ row) (w ∷ widths) maps go wide = (
-  record { filled = maps.0.filled; rows = refl; cols = wide.0 },
-  high-row tile.map.region tile.map.region.rows row widths refl maps.1 go.1 wide.1,
+sized-row [] [] filled go wide = tt
+sized-row [] (w ∷ widths) filled go wide = absurd wide
+sized-row (tile ∷ row) [] filled go wide = absurd wide
+sized-row (tile ∷ row) (w ∷ widths) filled go wide = (
+  record { filled = filled.0; rows = refl; cols = wide.0 },
+  high-row tile.map.region tile.map.region.rows row widths refl filled.1 go.1 wide.1,
 )
 
 -- ---- all rows
@@ -103,61 +118,60 @@ some-tiles : (row : List Band) → IsSome (map_regions row) → 0 < length row
 some-tiles row some = omega (arith, some, length-map row (λ (tile : Band). tile.map.region))
 
 go-sized : (above : List Band) (widths : List ℕ) (tiles : List (List Band)) → 0 < length above
-    → AllZip IsAsWide above widths → AreMaps (all_tiles tiles) → All IsSome (tile_regions tiles)
+    → AllZip IsAsWide above widths → Each IsFilledTile (all_tiles tiles) → All IsSome (tile_regions tiles)
     → All (GoRight None) (tile_regions tiles) → GoDown (map_regions above) (tile_regions tiles)
     → AreSized widths tiles
-go-sized above widths [] some wide maps all beside below = tt
-go-sized above widths (row ∷ tiles) some wide maps all beside below =
-    let own : AreMaps (row ++ all_tiles tiles) = subst AreMaps (flat_map-cons (λ (r : List Band). r) row tiles) maps in
+go-sized above widths [] some wide filled all beside below = tt
+go-sized above widths (row ∷ tiles) some wide filled all beside below =
+    let own = each-row IsFilledTile row tiles filled in
     let as_wide = below-wide above row widths some below.0 wide in (
-      sized-row row widths (maps-front row (all_tiles tiles) own)
+      sized-row row widths own.0
           (All-head (GoRight None) (map_regions row) (tile_regions tiles) beside) as_wide,
       go-sized row widths tiles (some-tiles row (All-head IsSome (map_regions row) (tile_regions tiles) all)) as_wide
-          (maps-back row (all_tiles tiles) own) (All-tail IsSome (map_regions row) (tile_regions tiles) all)
+          own.1 (All-tail IsSome (map_regions row) (tile_regions tiles) all)
           (All-tail (GoRight None) (map_regions row) (tile_regions tiles) beside) below.1,
     )
 
-pub grid-sized : (tiles : List (List Band)) → AreMaps (all_tiles tiles) → MakeGrid (tile_regions tiles)
+pub grid-sized : (tiles : List (List Band)) → Each IsFilledTile (all_tiles tiles) → MakeGrid (tile_regions tiles)
     → AreSized (tile_widths tiles) tiles
-grid-sized [] maps make = tt
-grid-sized (row ∷ tiles) maps make =
+grid-sized [] filled make = tt
+grid-sized (row ∷ tiles) filled make =
     let widths = map (λ (tile : Band). tile.map.region.cols) row in
-    let own : AreMaps (row ++ all_tiles tiles) =
-    subst AreMaps (flat_map-cons (λ (r : List Band). r) row tiles) maps in (
-      sized-row row widths (maps-front row (all_tiles tiles) own)
+    let own = each-row IsFilledTile row tiles filled in (
+      sized-row row widths own.0
           (All-head (GoRight None) (map_regions row) (tile_regions tiles) make.beside) (own-wide row),
       go-sized row widths tiles
           (some-tiles row (All-head IsSome (map_regions row) (tile_regions tiles) make.some)) (own-wide row)
-          (maps-back row (all_tiles tiles) own) (All-tail IsSome (map_regions row) (tile_regions tiles) make.some)
+          own.1 (All-tail IsSome (map_regions row) (tile_regions tiles) make.some)
           (All-tail (GoRight None) (map_regions row) (tile_regions tiles) make.beside) make.below.1,
     )
 
 -- ---- none is empty
 
-pub some-heights : (tiles : List (List Band)) → AreMaps (all_tiles tiles) → All IsSome (tile_regions tiles)
+pub some-heights : (tiles : List (List Band)) → Each IsTileOfRegion (all_tiles tiles) → All IsSome (tile_regions tiles)
     → All (λ (n : ℕ). 0 < n) (tile_heights tiles)
-some-heights [] maps some = All-nil (λ (n : ℕ). 0 < n)
-some-heights (row ∷ tiles) maps some =
-    let own : AreMaps (row ++ all_tiles tiles) = subst AreMaps (flat_map-cons (λ (r : List Band). r) row tiles) maps in
+some-heights [] regions some = All-nil (λ (n : ℕ). 0 < n)
+some-heights (row ∷ tiles) regions some =
+    let own = each-row IsTileOfRegion row tiles regions in
     All-cons (λ (n : ℕ). 0 < n) (row_height row) (tile_heights tiles)
-    (high row (maps-front row (all_tiles tiles) own)
+    (high row own.0
     (some-tiles row (All-head IsSome (map_regions row) (tile_regions tiles) some)))
-    (some-heights tiles (maps-back row (all_tiles tiles) own)
+    (some-heights tiles own.1
     (All-tail IsSome (map_regions row) (tile_regions tiles) some))
   where
-    high : (r : List Band) → AreMaps r → 0 < length r → 0 < row_height r
+    high : (r : List Band) → Each IsTileOfRegion r → 0 < length r → 0 < row_height r
     high [] are many = absurd (omega (arith, many))
-    high (tile ∷ r) are many = are.0.region.rows_least
+    high (tile ∷ r) are many = are.0.rows_least
 
-row-widths : (row : List Band) → AreMaps row
+row-widths : (row : List Band) → Each IsTileOfRegion row
     → All (λ (n : ℕ). 0 < n) (map (λ (tile : Band). tile.map.region.cols) row)
-row-widths [] maps = All-nil (λ (n : ℕ). 0 < n)
-row-widths (tile ∷ row) maps =
+row-widths [] regions = All-nil (λ (n : ℕ). 0 < n)
+row-widths (tile ∷ row) regions =
     All-cons (λ (n : ℕ). 0 < n) tile.map.region.cols (map (λ (t : Band). t.map.region.cols) row)
-    maps.0.region.cols_least (row-widths row maps.1)
+    regions.0.cols_least (row-widths row regions.1)
 
-pub some-widths : (tiles : List (List Band)) → AreMaps (all_tiles tiles) → All (λ (n : ℕ). 0 < n) (tile_widths tiles)
-some-widths [] maps = All-nil (λ (n : ℕ). 0 < n)
-some-widths (row ∷ tiles) maps =
-    row-widths row (maps-front row (all_tiles tiles)
-    (subst AreMaps (flat_map-cons (λ (r : List Band). r) row tiles) maps))
+pub some-widths : (tiles : List (List Band)) → Each IsTileOfRegion (all_tiles tiles)
+    → All (λ (n : ℕ). 0 < n) (tile_widths tiles)
+some-widths [] regions = All-nil (λ (n : ℕ). 0 < n)
+some-widths (row ∷ tiles) regions =
+    row-widths row (each-row IsTileOfRegion row tiles regions).0

@@ -9,7 +9,7 @@ use Rattle.std.proofs.lemmas.List.{length-map, map-append}
 use Rattle.std.proofs.lemmas.List.Concat.{flat_map-cons}
 use Rattle.std.proofs.lemmas.List.Elements.{All-head, All-tail}
 use Rattle.std.proofs.lemmas.List.Sums.{sum_by-append, sum_by-cons}
-use Rattle.std.proofs.lemmas.Option.{slice_get-get_or, slice_get_within}
+use Rattle.std.proofs.lemmas.Option.{slice_get-get_or}
 use Rattle.cell_core_devices.specs.Device.{Coming}
 use Rattle.cell_core.specs.Grid.{CellValue, Grid, no_labels}
 use Rattle.cell_cats_areas.specs.declared.clump.Joining.{Joining}
@@ -34,9 +34,9 @@ use Rattle.cell_tiles_grid_areas_law.proofs.GatherLemmas.{lie-so, rows-told}
 use Rattle.cell_tiles_grid_areas_law.proofs.GlueLemmas.{AreSized, IsSized, cell-within, height-at, is-tile}
 use Rattle.cell_tiles_grid_areas_law.proofs.GlueLemmas.{sized-row, tile-sized, tiles-long, tiles-wide}
 use Rattle.cell_tiles_grid_areas_law.proofs.GoodLemmas.{all-regs, grid-good, same-regions, spelled-wide}
-use Rattle.cell_tiles_grid_areas_law.proofs.PlaceLemmas.{map-from, map-to, zip-left, zip-long, zip-right}
-use Rattle.cell_tiles_grid_areas_law.proofs.SizedLemmas.{AreMaps, grid-sized, some-heights, some-widths}
-use Rattle.cell_tiles_grid_areas_law.proofs.SizedLemmas.{texts-maps}
+use Rattle.cell_tiles_grid_areas_law.proofs.PlaceLemmas.{got, map-from, map-to, zip-left, zip-long, zip-right}
+use Rattle.cell_tiles_grid_areas_law.proofs.SizedLemmas.{Each, IsTileOfRegion, grid-sized, some-heights}
+use Rattle.cell_tiles_grid_areas_law.proofs.SizedLemmas.{some-widths, texts-filled, texts-regions}
 use Rattle.cell_tiles_grid_areas_law.proofs.ToldLemmas.{HasTold, has-told}
 
 -- ---- the tiles that are told are those of the map
@@ -176,11 +176,6 @@ no_tile = record { map = no_map; numbers = no_map }
 
 abbrev tile_in : List (List Band) → ℕ → ℕ → Band
 tile_in tiles r c = get_or (get_or tiles r []) c no_tile
-
-got : {X : Type 0} (xs : List X) (i : ℕ) (d x : X) → slice_get xs i ≡ Some x → get_or xs i d ≡ x
-got xs i d x there =
-    let is : Some (get_or xs i d) ≡ Some x = sym (slice_get-get_or xs i d (slice_get_within xs i x there)) ∙ there in
-    cc
 
 tile-there : (tiles : List (List Band)) (r c : ℕ) (row : List Band) (tile : Band) → slice_get tiles r ≡ Some row
     → slice_get row c ≡ Some tile → tile_in tiles r c ≡ tile
@@ -332,8 +327,8 @@ grid-is-told j whole tiles texts are numbered make rows text is = record {
       (slice_index is.numbers (n + (k - 1))))
       (before-is j whole tiles told is.are.sides rows sized all is.are.same r c tile found.row found.one found.placed)
       (is.are.join whole (tile_heights tiles) (tile_widths tiles) (tile_in tiles)
-      (is-grid j whole tiles told is.are.sides rows sized all is.are.same (some-heights tiles maps make.some)
-      (some-widths tiles maps))
+      (is-grid j whole tiles told is.are.sides rows sized all is.are.same (some-heights tiles regions make.some)
+      (some-widths tiles regions))
       r c found.row found.one found.in_sides found.in_items p k
       (ap (λ (b : Band). cell_at_spot b.numbers p) here ∙ there));
 }
@@ -341,11 +336,11 @@ grid-is-told j whole tiles texts are numbered make rows text is = record {
     told : List (List SidesText)
     told = is.are.rows
 
-    maps : AreMaps (all_tiles tiles)
-    maps = texts-maps (all_tiles tiles) texts are
+    regions : Each IsTileOfRegion (all_tiles tiles)
+    regions = texts-regions (all_tiles tiles) texts are
 
     sized : AreSized (tile_widths tiles) tiles
-    sized = grid-sized tiles maps make
+    sized = grid-sized tiles (texts-filled (all_tiles tiles) texts are) make
 
     counts : is.areas ≡ all_counts (map tile_areas is.are.rows)
     counts = is.are.counts ∙ sym (counts-told is.are.rows)

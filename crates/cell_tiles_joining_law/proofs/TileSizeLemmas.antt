@@ -61,7 +61,7 @@ module _ (j : Joining) (whole numbered : Grid) (clumping : IsClumping j whole nu
       All-cons IsNumbersPart (part_of t) (map part_of tiles) (tile-part t (All-head (IsJoinedTile j whole) t tiles are))
       (tile-parts tiles (All-tail (IsJoinedTile j whole) t tiles are))
 
-  counts-in-tiles : (rows cols : ℕ) (tiles : List JoinedTile) → AreJoinedTiles j whole rows cols tiles →
+  pub counts-in-tiles : (rows cols : ℕ) (tiles : List JoinedTile) → AreJoinedTiles j whole rows cols tiles →
       (k : Combination) →
       count_of k (cells_of numbered rows cols)
       ≡ sum_by (λ (part : Part). count_of k (combinations_of_part (0 ∷ []) part)) (map part_of tiles)
@@ -85,7 +85,7 @@ module _ (j : Joining) (whole : Grid) where
   abbrev counted : ℕ → Part → ℕ
   counted n part = count_of (Some (pos n) ∷ []) (combinations_of_part (0 ∷ []) part)
 
-  tile-sizes : (n : ℕ) → 1 ≤ n → (tiles : List JoinedTile) → All (IsJoinedTile j whole) tiles →
+  pub tile-sizes : (n : ℕ) → 1 ≤ n → (tiles : List JoinedTile) → All (IsJoinedTile j whole) tiles →
       sum_by (counted n) (map part_of tiles)
       ≡ size_of_area n (numbers_of_tiles tiles) (flat_map sizes_of_tile tiles)
   tile-sizes n some [] are = refl
@@ -130,7 +130,7 @@ module _ (j : Joining) (whole : Grid) (skip : Skip) where
       (one-number-table j t.numbered.tile.map t.numbered.numbers is.clumping (length t.there) is.areas
       (place_of_tile t).rows (place_of_tile t).cols (λ p some. is.cells.outside p some) skip table).0 lists
 
-  tile-tables-list : (tiles : List JoinedTile) (tables : List Pairs) → All (IsJoinedTile j whole) tiles →
+  pub tile-tables-list : (tiles : List JoinedTile) (tables : List Pairs) → All (IsJoinedTile j whole) tiles →
       AllZip (IsTileTable skip) tiles tables → flat_map listed_sizes tables ≡ flat_map sizes_of_tile tiles
   tile-tables-list [] [] are lists = refl
   tile-tables-list [] (table ∷ tables) are lists = absurd lists

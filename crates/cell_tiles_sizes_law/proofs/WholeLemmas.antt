@@ -1,9 +1,9 @@
 -- Sizes added up by an areas text are those of the areas of the undivided map.
-use Rattle.std.proofs.Common.{◌≡◌, ℕ, zero, suc, pos, ◌+◌, ◌<◌, ◌≤◌, List, [], ◌∷◌, ◌++◌, length, map, flat_map, filter, get_or, take, drop, Bool, true, false, cond, not, Some, None, refl, ap, sym, ◌∙◌, subst, arith, append-nil, append_assoc, length-append, length-drop, ⊎_elim}
+use Rattle.std.proofs.Common.{◌≡◌, ℕ, zero, suc, pos, ◌+◌, ◌<◌, ◌≤◌, List, [], ◌∷◌, ◌++◌, length, map, flat_map, filter, get_or, sum, take, drop, Bool, true, false, cond, not, Some, None, refl, ap, sym, ◌∙◌, subst, arith, append-nil, append_assoc, length-append, length-drop, ⊎_elim}
 use Rattle.std.specs.Prelude.{All}
 use Rattle.std.specs.List.{AllZip, Contains}
 use Rattle.std.proofs.lemmas.Bool.{cases_lt}
-use Rattle.std.proofs.lemmas.List.{take-append-drop}
+use Rattle.std.proofs.lemmas.List.{ext_get_or, take-append-drop}
 use Rattle.std.proofs.lemmas.List.Elements.{All-append, All-cons, All-contains_itself, All-head, All-nil, All-tail, All-weaker}
 use Rattle.std.proofs.lemmas.List.FromFn.{get_or-map-range_with_len, length-map-range_with_len, length-range_with_len}
 use Rattle.cell_core.specs.Grid.{Grid, IsFilled}
@@ -19,16 +19,16 @@ use Rattle.cell_cats_law.specs.AreaLaw.{cells_of}
 use Rattle.cell_tiles_joining.specs.Bands.{Band, HasAreas}
 use Rattle.cell_tiles_joining.specs.parts.Greatest.{greatest_of}
 use Rattle.cell_tiles_joining.proofs.GreatestLemmas.{has-areas}
-use Rattle.cell_tiles_joining.specs.Sizes.{AddUp, size_of_area}
+use Rattle.cell_tiles_joining.specs.Sizes.{size_of_area}
 use Rattle.cell_tiles_joining_law.specs.SizeLaw.{size_of_number, sizes_of_areas, sizes_of_bands}
 use Rattle.cell_tiles_joining_law.specs.NumberTables.{IsBandTable, entries_from, entry_of_null, listed_sizes, number_table}
 use Rattle.cell_tiles_joining_law.proofs.BandTableLemmas.{tables-list}
 use Rattle.cell_tiles_joining_law.proofs.NumberTableLemmas.{entry-only, entry-there, numbers-are-listed}
-use Rattle.cell_tiles_joining_law.proofs.SizeLemmas.{size-of-whole, sizes-count-cells}
+use Rattle.cell_tiles_joining_law.proofs.SizeLemmas.{size-of-whole}
 use Rattle.cell_tiles_numbering.specs.declared.stretch.Stretch.{Stretch}
 use Rattle.cell_tiles_numbering.specs.AreasText.{numbers_told, stretch_numbers, stretches_of}
 use Rattle.cell_tiles_numbering.proofs.ToldLemmas.{numbers-are-told}
-use Rattle.cell_tiles_sizes.specs.SizeTexts.{AreTablesOfBands, BandSizes, HasTally, IsNullEntry, entries_of_areas, number_entries, stretch_areas}
+use Rattle.cell_tiles_sizes.specs.SizeTexts.{AreTablesOfBands, BandSizes, HasTally, HaveSizes, IsNullEntry, entries_of_areas, number_entries, stretch_areas}
 use Rattle.cell_tiles_sizes.proofs.TallyLemmas.{size-other, size-some}
 use Rattle.cell_tiles_sizes_law.specs.WholeSizes.{SizesOfTheWhole, band_areas, table_read}
 
@@ -87,13 +87,22 @@ some-listed (e ∷ table) all = by (not (is_left_out AnyNull e.0)) (some-listed 
     by true rest = All-cons IsSome e.1 (listed_sizes table) (All-head (λ (p : Combination × ℕ). 0 < p.1) e table all) rest
     by false rest = rest
 
-some-in : (skip : Skip) (cols : ℕ) (bands : List Band) (tables : List Pairs) → AllZip (IsBandTable skip cols) bands tables → All IsSome (flat_map listed_sizes tables)
+-- nor is any that a table lists
+pub table-some : (skip : Skip) (cells : List Combination) (table : Pairs) → IsTable skip cells table
+    → All (λ (n : ℕ). 0 < n) (listed_sizes table)
+table-some skip cells table is =
+    some-listed table
+    (All-weaker (Contains table) (λ (e : Combination × ℕ). 0 < e.1) (λ e there. ((is.counted e.0 e.1).0 there).1.0) table
+    (All-contains_itself table))
+
+some-in : (skip : Skip) (cols : ℕ) (bands : List Band) (tables : List Pairs) → AllZip (IsBandTable skip cols) bands tables
+    → All IsSome (flat_map listed_sizes tables)
 some-in skip cols [] [] are = All-nil IsSome
 some-in skip cols [] (table ∷ tables) are = absurd are
 some-in skip cols (band ∷ bands) [] are = absurd are
 some-in skip cols (band ∷ bands) (table ∷ tables) are =
     All-append IsSome (listed_sizes table) (flat_map listed_sizes tables)
-    (some-listed table (All-weaker (Contains table) (λ (e : Combination × ℕ). 0 < e.1) (λ e there. ((are.0.lists.counted e.0 e.1).0 there).1.0) table (All-contains_itself table)))
+    (table-some skip (cells_of band.numbers band.map.region.rows band.map.region.cols) table are.0.lists)
     (some-in skip cols bands tables are.1)
 
 -- ---- as many as the whole has
@@ -132,42 +141,78 @@ module _ (j : Joining) (whole numbered : Grid) (is : IsClumping j whole numbered
       let counted = (own-table.counted (Some (pos (1 + n)) ∷ []) (get_or own_sizes n 0)).0 there in
       subst (λ (k : ℕ). 0 < k) (get_or-map-range_with_len (size_of_number numbered whole.region.rows whole.region.cols) 1 areas n (1 + n) 0 few refl) counted.1.0
 
+-- ---- the sizes that were added up
+
+-- they are added up by the numbers of all areas
+pub tally-of : (areas numbers : List ℕ) → length numbers ≡ sum areas → (tables : List Pairs) (sizes : List ℕ)
+    → HaveSizes (record { stretches = stretches_of areas numbers; fault = None }) (map table_read tables) sizes
+    → HasTally numbers (flat_map listed_sizes tables) sizes
+tally-of areas numbers many tables sizes have =
+    subst (λ (l : List ℕ). HasTally numbers l sizes) (parts-list 1 have.parts tables have.listed)
+    (subst (λ (l : List ℕ). HasTally l (flat_map (λ (part : BandSizes). part.sizes) have.parts) sizes)
+    (numbers-are-told areas numbers many) have.tally)
+
+-- where each number has in the whole as many cells as its sizes are together, they are listed as the table of the whole
+module _ (j : Joining) (whole numbered : Grid) (is : IsClumping j whole numbered)
+    (filled : IsFilled whole.region whole.rows) (numbers listed sizes : List ℕ) (tally : HasTally numbers listed sizes)
+    (some : All (λ (n : ℕ). 0 < n) listed)
+    (area : (n : ℕ) → 0 < n
+    → size_of_number numbered whole.region.rows whole.region.cols n ≡ size_of_area n numbers listed) where
+  abbrev areas : ℕ
+  areas = greatest_of 0 numbered.rows
+
+  has : HasAreas j whole areas
+  has = has-areas j whole numbered is
+
+  not-more : areas < length sizes → ⊥
+  not-more lt =
+      let there = tally.each areas lt in
+      let more = size-some (areas + 1) numbers listed there.0 there.1 there.2 tally.sums.same some in
+      let same = area (areas + 1) (omega arith) in
+      let least : areas + 1 ≤ areas =
+      at-most j whole numbered is filled areas has (areas + 1) (omega arith) (omega (arith, more, same)) in
+      omega (arith, least)
+
+  not-fewer : length sizes < areas → ⊥
+  not-fewer lt =
+      let none = size-other (1 + length sizes) numbers listed
+      (All-weaker (λ (k : ℕ). (0 < k) × (k ≤ length sizes)) (λ (k : ℕ). k < 1 + length sizes)
+      (λ k within. omega (arith, within.1)) numbers tally.sums.within) in
+      let cell = has-cell j whole numbered is filled areas has (length sizes) lt in
+      let same = area (1 + length sizes) (omega arith) in
+      omega (arith, cell, same, none)
+
+  as-many : length sizes ≡ areas
+  as-many =
+      ⊎_elim (λ lt. absurd (not-more lt))
+      (λ ge. ⊎_elim (λ lt. absurd (not-fewer lt)) (λ le. omega (arith, ge, le)) (cases_lt (length sizes) areas))
+      (cases_lt areas (length sizes))
+
+  same-sizes : sizes ≡ sizes_of_areas areas numbered whole.region.rows whole.region.cols
+  same-sizes =
+      let size = size_of_number numbered whole.region.rows whole.region.cols in
+      ext_get_or 0 sizes (sizes_of_areas areas numbered whole.region.rows whole.region.cols)
+      (as-many ∙ sym (length-map-range_with_len size 1 areas))
+      (λ i within.
+      tally.sums.adds.each i within ∙ sym (area (i + 1) (omega arith))
+      ∙ sym (get_or-map-range_with_len size 1 areas i (i + 1) 0 (omega (arith, within, as-many)) (omega arith)))
+
+  pub sizes-are-listed : IsTable AnyNull (cells_of numbered whole.region.rows whole.region.cols) (number_entries 1 sizes)
+  sizes-are-listed =
+      subst (IsTable AnyNull (cells_of numbered whole.region.rows whole.region.cols))
+      (sym (same-entries 1 sizes ∙ ap (entries_from 1) same-sizes))
+      (own-table j whole numbered is filled areas has)
+
 -- ---- the law
 
 pub sizes-of-the-whole : SizesOfTheWhole
 sizes-of-the-whole j whole bands edges cut filled skip tables are numbers many join sizes have numbered is =
-    let areas = greatest_of 0 numbered.rows in
     let rows = whole.region.rows in
     let cols = whole.region.cols in
-    let told : numbers_told (stretches_of (band_areas edges) numbers) ≡ numbers = numbers-are-told (band_areas edges) numbers many in
     let listed = flat_map listed_sizes tables in
-    let own : flat_map (λ (part : BandSizes). part.sizes) have.parts ≡ listed = parts-list 1 have.parts tables have.listed in
-    let tally : HasTally numbers listed sizes =
-    subst (λ (l : List ℕ). HasTally numbers l sizes) own
-    (subst (λ (l : List ℕ). HasTally l (flat_map (λ (part : BandSizes). part.sizes) have.parts) sizes) told have.tally) in
     let of_bands : listed ≡ sizes_of_bands cols bands edges = tables-list j skip cols bands edges tables cut.all are in
-    let some : All IsSome listed = some-in skip cols bands tables are in
-    let has : HasAreas j whole areas = has-areas j whole numbered is in
-    let area : (n : ℕ) → 0 < n → size_of_number numbered rows cols n ≡ size_of_area n numbers listed =
-    λ n one. ap (λ (k : ℕ). size_of_number numbered k cols n) (sym filled.count)
+    sizes-are-listed j whole numbered is filled numbers listed sizes (tally-of (band_areas edges) numbers many tables sizes have)
+    (some-in skip cols bands tables are)
+    (λ n one. ap (λ (k : ℕ). size_of_number numbered k cols n) (sym filled.count)
     ∙ size-of-whole j whole bands edges cut numbers (join whole bands cut) numbered is cols n one
-    ∙ ap (size_of_area n numbers) (sym of_bands) in
-    let few : (areas < length sizes) → ⊥ = λ lt.
-    let there = tally.each areas lt in
-    let more : 0 < size_of_area (areas + 1) numbers listed = size-some (areas + 1) numbers listed there.0 there.1 there.2 tally.sums.same some in
-    let least : areas + 1 ≤ areas = at-most j whole numbered is filled areas has (areas + 1) (omega arith)
-    (subst (λ (k : ℕ). 0 < k) (sym (area (areas + 1) (omega arith))) more) in
-    omega arith in
-    let enough : (length sizes < areas) → ⊥ = λ lt.
-    let none : size_of_area (1 + length sizes) numbers listed ≡ 0 = size-other (1 + length sizes) numbers listed
-    (All-weaker (λ (k : ℕ). (0 < k) × (k ≤ length sizes)) (λ (k : ℕ). k < 1 + length sizes) (λ k within. omega arith) numbers tally.sums.within) in
-    omega (arith, has-cell j whole numbered is filled areas has (length sizes) lt, area (1 + length sizes) (omega arith), none) in
-    let long : length sizes ≡ areas = ⊎_elim (λ lt. absurd (few lt)) (λ ge. ⊎_elim (λ lt. absurd (enough lt)) (λ le. omega arith) (cases_lt (length sizes) areas)) (cases_lt areas (length sizes)) in
-    let adds : AddUp numbers (sizes_of_bands cols bands edges) areas sizes =
-    subst (λ (l : List ℕ). AddUp numbers l areas sizes) of_bands (subst (λ (n : ℕ). AddUp numbers listed n sizes) long tally.sums.adds) in
-    let same : sizes ≡ sizes_of_areas areas numbered rows cols =
-    sizes-count-cells j whole bands edges cut numbers join numbered is cols areas sizes adds
-    ∙ ap (λ (n : ℕ). sizes_of_areas areas numbered n cols) filled.count in
-    subst (IsTable AnyNull (cells_of numbered rows cols))
-    (sym (same-entries 1 sizes ∙ ap (entries_from 1) same))
-    (own-table j whole numbered is filled areas has)
+    ∙ ap (size_of_area n numbers) (sym of_bands))

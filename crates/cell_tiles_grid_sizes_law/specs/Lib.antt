@@ -1,0 +1,2 @@
+-- Sizes of the areas of a map that is cut into a grid of tiles.
+pub mod GridSizes
