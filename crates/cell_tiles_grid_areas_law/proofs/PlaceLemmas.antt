@@ -1,7 +1,10 @@
 -- What stands in one place of two lists.
-use Rattle.std.proofs.Common.{◌≡◌, ℕ, zero, suc, List, [], ◌∷◌, length, map, get_or, Some, refl, ap, sym, ◌∙◌, subst}
-use Rattle.std.specs.Prelude.{slice_get}
+use Rattle.std.proofs.Common.{◌≡◌, ℕ, zero, suc, List, [], ◌∷◌, ◌++◌, length, map, get_or, Some, refl, ap, sym}
+use Rattle.std.proofs.Common.{◌∙◌, subst}
+use Rattle.std.specs.Prelude.{All, flat_map, slice_get}
 use Rattle.std.specs.List.{AllZip}
+use Rattle.std.proofs.lemmas.List.Concat.{flat_map-cons}
+use Rattle.std.proofs.lemmas.List.Elements.{All-cons, All-head, All-nil, All-tail}
 use Rattle.std.proofs.lemmas.Option.{slice_get-get_or, slice_get_within}
 
 module _ {A B : Type 0} (R : A → B → Type 0) where
@@ -45,3 +48,28 @@ pub got : {X : Type 0} (xs : List X) (i : ℕ) (d x : X) → slice_get xs i ≡ 
 got xs i d x there =
     let is : Some (get_or xs i d) ≡ Some x = sym (slice_get-get_or xs i d (slice_get_within xs i x there)) ∙ there in
     cc
+
+-- ---- what holds of all
+
+module _ {A : Type 0} (P : A → Type 0) where
+  pub one-of : (xs : List A) (i : ℕ) (x : A) → All P xs → slice_get xs i ≡ Some x → P x
+  one-of xs i x all there = subst P (got xs i x x there) (all i x (slice_get_within xs i x there))
+
+  pub all-front : (a b : List A) → All P (a ++ b) → All P a
+  all-front [] b all = All-nil P
+  all-front (x ∷ a) b all = All-cons P x a (All-head P x (a ++ b) all) (all-front a b (All-tail P x (a ++ b) all))
+
+  pub all-back : (a b : List A) → All P (a ++ b) → All P b
+  all-back [] b all = all
+  all-back (x ∷ a) b all = all-back a b (All-tail P x (a ++ b) all)
+
+  pub row-of-all : (rows : List (List A)) (r : ℕ) (row : List A) → All P (flat_map (λ (l : List A). l) rows)
+      → slice_get rows r ≡ Some row → All P row
+  row-of-all [] r row all there = absurd (cc)
+  row-of-all (one ∷ rows) zero row all there =
+      let same : one ≡ row = cc in
+      let own = subst (All P) (flat_map-cons (λ (l : List A). l) one rows) all in
+      subst (All P) same (all-front one (flat_map (λ (l : List A). l) rows) own)
+  row-of-all (one ∷ rows) (suc r) row all there =
+      let own = subst (All P) (flat_map-cons (λ (l : List A). l) one rows) all in
+      row-of-all rows r row (all-back one (flat_map (λ (l : List A). l) rows) own) there

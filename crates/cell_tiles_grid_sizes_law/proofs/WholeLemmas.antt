@@ -1,12 +1,10 @@
 -- Sizes added up by the areas text of a grid of tiles are those of the areas of the undivided map.
-use Rattle.std.proofs.Common.{◌≡◌, ℕ, zero, suc, pos, ◌+◌, ◌<◌, ◌≤◌, List, [], ◌∷◌, ◌++◌, length, flat_map, take}
+use Rattle.std.proofs.Common.{◌≡◌, ℕ, pos, ◌+◌, ◌<◌, ◌≤◌, List, [], ◌∷◌, length, flat_map, take}
 use Rattle.std.proofs.Common.{get_or, Some, refl}
 use Rattle.std.proofs.Common.{ap, sym, ◌∙◌, subst, arith}
 use Rattle.std.specs.Prelude.{All, slice_get, sum}
 use Rattle.std.specs.List.{AllZip}
-use Rattle.std.proofs.lemmas.List.Elements.{All-append, All-cons, All-get_or, All-head, All-nil, All-tail}
-use Rattle.std.proofs.lemmas.List.Concat.{flat_map-cons}
-use Rattle.std.proofs.lemmas.Option.{slice_get_within}
+use Rattle.std.proofs.lemmas.List.Elements.{All-append, All-get_or, All-head, All-nil}
 use Rattle.std.proofs.lemmas.List.Sums.{sum_by-cons}
 use Rattle.cell_core.specs.Grid.{CellValue, Grid, IsFilled}
 use Rattle.cell_cats_areas.specs.declared.clump.Joining.{Joining}
@@ -29,7 +27,7 @@ use Rattle.cell_tiles_grid_areas_law.specs.TileGrids.{tile_regions, tile_widths}
 use Rattle.cell_tiles_grid_areas_law.specs.WrittenTiles.{IsAreasTextOfGrid, IsNumberedTile, all_counts}
 use Rattle.cell_tiles_grid_areas_law.specs.WrittenTiles.{earlier_areas}
 use Rattle.cell_tiles_grid_areas_law.proofs.GlueLemmas.{AreSized, is-tile, tiles-long, tiles-wide}
-use Rattle.cell_tiles_grid_areas_law.proofs.PlaceLemmas.{got, zip-right}
+use Rattle.cell_tiles_grid_areas_law.proofs.PlaceLemmas.{got, one-of, row-of-all, zip-right}
 use Rattle.cell_tiles_grid_areas_law.proofs.SizedLemmas.{Each, IsFilledTile, IsTileOfRegion, grid-sized, some-heights}
 use Rattle.cell_tiles_grid_sizes_law.specs.GridSizes.{HasTileTable, SizesOfTheGrid}
 use Rattle.cell_tiles_grid_sizes_law.proofs.JoinLemmas.{AreRowsHere, IsJoinedOf, join-rows, rows-joined, rows-numbers}
@@ -77,33 +75,6 @@ module _ (skip : Skip) where
   tables-of (tile ∷ tiles) (t ∷ joined) [] are have = absurd have
   tables-of (tile ∷ tiles) (t ∷ joined) (table ∷ tables) are have =
       (table-of tile t table are.0 have.0, tables-of tiles joined tables are.1 have.1)
-
--- ---- one of all tiles
-
-module _ (P : Band → Type 0) where
-  one-of : (tiles : List Band) (i : ℕ) (tile : Band) → All P tiles → slice_get tiles i ≡ Some tile → P tile
-  one-of tiles i tile all there =
-      subst P (got tiles i tile tile there) (all i tile (slice_get_within tiles i tile there))
-
-  all-front : (a b : List Band) → All P (a ++ b) → All P a
-  all-front [] b all = All-nil P
-  all-front (tile ∷ a) b all =
-      All-cons P tile a (All-head P tile (a ++ b) all) (all-front a b (All-tail P tile (a ++ b) all))
-
-  all-back : (a b : List Band) → All P (a ++ b) → All P b
-  all-back [] b all = all
-  all-back (tile ∷ a) b all = all-back a b (All-tail P tile (a ++ b) all)
-
-  row-of-all : (tiles : List (List Band)) (r : ℕ) (row : List Band) → All P (all_tiles tiles)
-      → slice_get tiles r ≡ Some row → All P row
-  row-of-all [] r row all there = absurd (cc)
-  row-of-all (one ∷ tiles) zero row all there =
-      let same : one ≡ row = cc in
-      let own = subst (All P) (flat_map-cons (λ (l : List Band). l) one tiles) all in
-      subst (All P) same (all-front one (all_tiles tiles) own)
-  row-of-all (one ∷ tiles) (suc r) row all there =
-      let own = subst (All P) (flat_map-cons (λ (l : List Band). l) one tiles) all in
-      row-of-all tiles r row (all-back one (all_tiles tiles) own) there
 
 -- ---- the places of tiles cover the whole
 

@@ -48,7 +48,7 @@ pair-fits j cells numbers is p range = by (cell_at_spot cells p) refl
         let within : InRange (Some (pos n.0)) = subst InRange n.1 range in
         (λ i. pair_fault most_areas (some i) (n.1 i)) ∙ number-fits n.0 n.2 (leb-true n.0 2147483647 within)
 
-maps-fit : (j : Joining) (text number_text : Coming) (cells numbers : Grid) → Denotes text cells
+pub maps-fit : (j : Joining) (text number_text : Coming) (cells numbers : Grid) → Denotes text cells
     → Denotes number_text numbers
     → IsClumping j cells numbers → (fault : PairFault) → IsFirstOfMaps most_areas cells numbers fault → ⊥
 maps-fit j text number_text cells numbers denoted own is fault wrong =

@@ -56,7 +56,7 @@ clumped-there j (one ∷ bands) (e ∷ edges) have zero band there =
 clumped-there j (one ∷ bands) (e ∷ edges) have (suc i) band there = clumped-there j bands edges have.1 i band there
 
 -- a cell of a band has in the whole what the number of its area says
-number-here : (j : Joining) (whole numbered : Grid) → IsClumping j whole numbered → (band : Band)
+pub number-here : (j : Joining) (whole numbered : Grid) → IsClumping j whole numbered → (band : Band)
     → IsClumping j band.map band.numbers → (numbers : List ℕ) (before : ℕ) (p q : Position)
     → cell_at_spot whole q ≡ cell_at_spot band.map p
     → ((k : ℕ) → cell_at_spot band.numbers p ≡ Some (pos k)

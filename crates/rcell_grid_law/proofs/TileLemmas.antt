@@ -49,7 +49,7 @@ module _ (script : Coming) (place : ℕ) where
   texts-of-all [] = tt
   texts-of-all (one ∷ runs) = (text-of-tile one, texts-of-all runs)
 
-  texts-of-tiles : (runs : List (List (TileRun script place)))
+  pub texts-of-tiles : (runs : List (List (TileRun script place)))
       → AllZip IsSidesTextOf (all_tiles (tiles_of_runs runs)) (sides_texts runs)
   texts-of-tiles runs =
       subst (λ (l : List Band). AllZip IsSidesTextOf l (sides_texts runs)) (sym (all-tiles runs))
@@ -70,13 +70,13 @@ module _ (one : OneScript) (script : Coming) (names : List (List ℕ)) (place : 
       (λ (b : TileRun script place). IsClumping joining b.drawn.cells b.drawn.numbers) tile-numbered (all_runs runs)
       are.named
 
-  tiles-numbered : All (IsNumberedTile joining) (all_tiles (tiles_of_runs runs))
+  pub tiles-numbered : All (IsNumberedTile joining) (all_tiles (tiles_of_runs runs))
   tiles-numbered =
       subst (All (IsNumberedTile joining)) (sym (all-tiles script place runs))
       (All-map (IsNumberedTile joining) tile_of_run (all_runs runs) all-numbered)
 
   -- what is written of the texts of the tiles of a map is its areas text
-  told-of-grid : (whole : Grid) → HasTiles whole runs → (text : List ℕ) (written : ℕ)
+  pub told-of-grid : (whole : Grid) → HasTiles whole runs → (text : List ℕ) (written : ℕ)
       → HasWrittenTiles joining (sides_texts runs) (Some []) (Some text) written
       → IsAreasTextOfGrid joining whole (tiles_of_runs runs) text
   told-of-grid whole rows text written has =
