@@ -6,7 +6,7 @@ use crate::flood::numbers_by_flood;
 use crate::maps::expect_numbers;
 use cell_cats_areas::clump::Joining;
 use cell_core_test_maps::maps::NULL;
-use std::alloc::AllocGlobal;
+use std::alloc::{AllocGlobal, Global};
 use std::process::Abort;
 use std::test::Fail;
 
@@ -23,19 +23,25 @@ fn expect_as_by_flood<R: Abort + AllocGlobal>(
     expect_numbers(rt, categories, cols, Joining::EdgesAndCorners, &by_corners)
 }
 
+// The nine categories of a map by its number: its digits to the base of three.
+fn nine_categories(alloc: Global, code: u32) -> Result<Vec<i32>, Fail> {
+    let mut rest = code;
+    let mut categories = Vec::new(alloc);
+    for _ in 0..9 {
+        categories.push(match rest % 3 {
+            0 => NULL,
+            1 => 1,
+            _ => 2,
+        })?;
+        rest /= 3;
+    }
+    Ok(categories)
+}
+
 #[test]
 fn all_maps_of_3_by_3(rt: HostRuntime) -> Result<(), Fail> {
     for code in 0..19683u32 {
-        let mut rest = code;
-        let mut categories = Vec::new(rt.alloc());
-        for _ in 0..9 {
-            categories.push(match rest % 3 {
-                0 => NULL,
-                1 => 1,
-                _ => 2,
-            })?;
-            rest /= 3;
-        }
+        let categories = nine_categories(rt.alloc(), code)?;
         expect_as_by_flood(&rt, &categories, 3)?;
     }
     Ok(())
@@ -47,18 +53,32 @@ fn next_random(seed: u64) -> u64 {
         .wrapping_add(1442695040888963407)
 }
 
+// So many categories below a number, at most 4; 3 stands for null.
+fn random_categories(
+    alloc: Global,
+    seed: &mut u64,
+    count: u32,
+    kinds: u64,
+) -> Result<Vec<i32>, Fail>
+    requires positive { 0 < kinds }
+    requires few { kinds < 5 }
+{
+    let mut categories = Vec::new(alloc);
+    for _ in 0..count {
+        *seed = next_random(*seed);
+        let kind = (*seed >> 33) % kinds;
+        categories.push(if kind == 3 { NULL } else { kind as i32 })?;
+    }
+    Ok(categories)
+}
+
 #[test]
 fn random_maps(rt: HostRuntime) -> Result<(), Fail> {
     let mut seed = 2026u64;
     for rows in 1..11u32 {
         for cols in 1..11u32 {
             for kinds in 2..5u64 {
-                let mut categories = Vec::new(rt.alloc());
-                for _ in 0..rows * cols {
-                    seed = next_random(seed);
-                    let kind = (seed >> 33) % kinds;
-                    categories.push(if kind == 3 { NULL } else { kind as i32 })?;
-                }
+                let categories = random_categories(rt.alloc(), &mut seed, rows * cols, kinds)?;
                 expect_as_by_flood(&rt, &categories, cols)?;
             }
         }

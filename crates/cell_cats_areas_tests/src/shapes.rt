@@ -37,25 +37,37 @@ fn combs(rt: HostRuntime) -> Result<(), Fail> {
     Ok(())
 }
 
+// So many numbers from 1 on.
+fn counted(alloc: Global, count: u32) -> Result<Vec<i32>, Fail>
+    requires { count < 65536 }
+{
+    let mut numbers = Vec::new(alloc);
+    for place in 0..count {
+        numbers.push(place as i32 + 1)?;
+    }
+    Ok(numbers)
+}
+
+// A checkerboard of 1 and 2.
+fn board(alloc: Global, rows: u32, cols: u32) -> Result<Vec<i32>, Fail> {
+    let mut categories = Vec::new(alloc);
+    for r in 0..rows {
+        for c in 0..cols {
+            categories.push(if r % 2 == c % 2 { 1 } else { 2 })?;
+        }
+    }
+    Ok(categories)
+}
+
 #[test]
 fn checkerboards(rt: HostRuntime) -> Result<(), Fail> {
-    for rows in 2..12 {
-        for cols in 2..12 {
-            let (mut categories, mut places) = (Vec::new(rt.alloc()), Vec::new(rt.alloc()));
-            for r in 0..rows {
-                for c in 0..cols {
-                    categories.push(if (r + c) % 2 == 0 { 1 } else { 2 })?;
-                    places.push((r * cols + c + 1) as i32)?;
-                }
-            }
+    let corners = Joining::EdgesAndCorners;
+    for rows in 2..12u32 {
+        for cols in 2..12u32 {
+            let categories = board(rt.alloc(), rows, cols)?;
+            let places = counted(rt.alloc(), rows * cols)?;
             expect_numbers(&rt, &categories, cols, Joining::Edges, &places)?;
-            expect_numbers(
-                &rt,
-                &categories,
-                cols,
-                Joining::EdgesAndCorners,
-                &categories,
-            )?;
+            expect_numbers(&rt, &categories, cols, corners, &categories)?;
         }
     }
     Ok(())
@@ -63,14 +75,10 @@ fn checkerboards(rt: HostRuntime) -> Result<(), Fail> {
 
 #[test]
 fn widest_rows(rt: HostRuntime) -> Result<(), Fail> {
-    let (mut turns, mut places) = (Vec::new(rt.alloc()), Vec::new(rt.alloc()));
-    let (mut alike, mut ones) = (Vec::new(rt.alloc()), Vec::new(rt.alloc()));
-    for c in 0..WIDEST {
-        turns.push(if c % 2 == 0 { 1 } else { 2 })?;
-        places.push(c as i32 + 1)?;
-        alike.push(7)?;
-        ones.push(1)?;
-    }
+    let turns = board(rt.alloc(), 1, WIDEST)?;
+    let places = counted(rt.alloc(), WIDEST)?;
+    let alike = vec![in rt.alloc(); 7; 65535]?;
+    let ones = vec![in rt.alloc(); 1; 65535]?;
     for joining in [Joining::Edges, Joining::EdgesAndCorners] {
         expect_numbers(&rt, &turns, WIDEST, joining, &places)?;
         expect_numbers(&rt, &turns, 1, joining, &places)?;

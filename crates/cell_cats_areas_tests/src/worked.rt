@@ -8,7 +8,8 @@ use cell_core::cell::Cell;
 use cell_core::map::MapBuilder;
 use cell_core::region::Region;
 use cell_core_test_maps::maps::NULL;
-use std::alloc::Global;
+use std::alloc::{AllocGlobal, Global};
+use std::process::Abort;
 use std::test::Fail;
 
 // A map, and the numbers of its areas by edges and by edges and corners; a stroke ends a row.
@@ -83,15 +84,23 @@ fn cols_in(text: &str) -> u32
     if cols == 0 { 1 } else { cols }
 }
 
+// The areas of the map that a text spells have the numbers of another text.
+fn expect_worked<R: Abort + AllocGlobal>(
+    rt: &R,
+    map: &str,
+    joining: Joining,
+    wanted: &str,
+) -> Result<(), Fail> {
+    let categories = categories_in(rt.alloc(), map)?;
+    let wanted = categories_in(rt.alloc(), wanted)?;
+    expect_numbers(rt, &categories, cols_in(map), joining, &wanted)
+}
+
 #[test]
 fn worked_maps(rt: HostRuntime) -> Result<(), Fail> {
-    for (map, by_edges, by_corners) in WORKED {
-        let cols = cols_in(map);
-        let map = categories_in(rt.alloc(), map)?;
-        let by_edges = categories_in(rt.alloc(), by_edges)?;
-        let by_corners = categories_in(rt.alloc(), by_corners)?;
-        expect_numbers(&rt, &map, cols, Joining::Edges, &by_edges)?;
-        expect_numbers(&rt, &map, cols, Joining::EdgesAndCorners, &by_corners)?;
+    for &(map, by_edges, by_corners) in &WORKED {
+        expect_worked(&rt, map, Joining::Edges, by_edges)?;
+        expect_worked(&rt, map, Joining::EdgesAndCorners, by_corners)?;
     }
     Ok(())
 }
@@ -104,8 +113,7 @@ fn clump_is_by_edges(rt: HostRuntime) -> Result<(), Fail> {
     builder.push_row(&[one, other])?;
     builder.push_row(&[other, one])?;
     let numbers = clump(rt.alloc(), &builder.finish())?;
-    assert_eq!(rt; numbers.cell(1, 0).get(), Some(3));
-    assert_eq!(rt; numbers.cell(1, 1).get(), Some(4));
-    assert_eq!(rt; numbers.label(1), None);
+    let below = (numbers.cell(1, 0).get(), numbers.cell(1, 1).get());
+    assert_eq!(rt; (below, numbers.label(1)), ((Some(3), Some(4)), None));
     Ok(())
 }

@@ -1,6 +1,7 @@
 //! Maps by random rules beside a plain look at every rule: ranges in either order that overlap, rules of `*` in any place,
 //! the least and the greatest category.
 
+use crate::assertions::{assert_holds, assert_same};
 use cell_cats::reclassing::reclass;
 use cell_cats::rules::Rules;
 use cell_core::cell::Cell;
@@ -98,7 +99,7 @@ fn expect_as_plainly<R: Abort + AllocGlobal>(rt: &R, rules: &Rules) -> Result<()
     for number in &NUMBERS {
         wanted.push(plainly(rules, *number))?;
     }
-    assert_eq!(rt; categories_of(alloc, &made)?.as_slice(), wanted.as_slice());
+    assert_same!(rt; categories_of(alloc, &made)?.as_slice(), wanted.as_slice());
     Ok(())
 }
 
@@ -109,7 +110,7 @@ fn random_rules(rt: HostRuntime) -> Result<(), Fail> {
         let mut rules = Rules::new(rt.alloc());
         for _ in 0..MOST_RULES {
             let line = rule(rt.alloc(), &mut seed)?;
-            assert!(rt;
+            assert_holds!(rt;
                 rules.add_line(line.as_bytes()).is_ok(),
                 "the line {line:?}"
             );

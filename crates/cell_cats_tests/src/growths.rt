@@ -3,6 +3,7 @@
 //! Run as it is, each growth is granted: tools/hostile.py refuses them in turn, one in each run, and wants the call to be made
 //! again in some of them.
 
+use crate::assertions::{assert_holds, assert_same};
 use cell_cats::rules::{LineKind, RuleFault, Rules};
 use cell_core::cell::Cell;
 use std::alloc::AllocGlobal;
@@ -19,7 +20,8 @@ const LINES: [(&[u8], i32); 6] = [
     (b"-7 thru -6 6 = 0 zero", 0),
 ];
 
-fn new_category(rules: &Rules, category: i32) -> Option<i32> {
+// The new category of one, if it has one.
+pub(crate) fn new_category(rules: &Rules, category: i32) -> Option<i32> {
     rules.apply(Cell::value(category)?).get()
 }
 
@@ -32,9 +34,9 @@ fn add_line<R: Abort + AllocGlobal + Eprint>(
     let before = new_category(rules, category);
     if let Err(fault) = rules.add_line(line) {
         let _ = eprintln!(rt; "made again");
-        assert_eq!(rt; fault, RuleFault::Memory);
-        assert_eq!(rt; new_category(rules, category), before, "the line {line:?}");
-        assert!(rt;
+        assert_same!(rt; fault, RuleFault::Memory);
+        assert_same!(rt; new_category(rules, category), before, "the line {line:?}");
+        assert_holds!(rt;
             rules.add_line(line) == Ok(LineKind::Rule),
             "the line {line:?}"
         );
@@ -48,7 +50,7 @@ fn a_refused_rule_is_added_again(rt: HostRuntime) -> Result<(), Fail> {
     for (place, (line, wanted)) in LINES.iter().enumerate() {
         let category = place as i32 + 1;
         add_line(&rt, &mut rules, category, *line)?;
-        assert_eq!(rt;
+        assert_same!(rt;
             new_category(&rules, category),
             Some(*wanted),
             "the line {line:?}"

@@ -1,7 +1,10 @@
 //! Each form of a rule line.
 
+use crate::assertions::{assert_holds, assert_same};
+use crate::growths::new_category;
 use cell_cats::rules::{LineKind, RuleFault, Rules};
 use cell_core::cell::Cell;
+use std::process::Abort;
 use std::test::Fail;
 
 const GOOD: [(&[u8], LineKind); 27] = [
@@ -75,36 +78,29 @@ const BAD: [(&[u8], RuleFault); 34] = [
 fn good_lines(rt: HostRuntime) -> Result<(), Fail> {
     for (line, kind) in &GOOD {
         let mut rules = Rules::new(rt.alloc());
-        assert!(rt; rules.add_line(*line) == Ok(*kind), "the line {line:?}");
+        assert_holds!(rt; rules.add_line(*line) == Ok(*kind), "the line {line:?}");
     }
     Ok(())
+}
+
+// A rule that is added after a bad line is the only one.
+fn expect_one_rule<R: Abort>(rt: &R, rules: &mut Rules, line: &[u8]) {
+    assert_holds!(rt;
+        rules.add_line(b"1 = 2") == Ok(LineKind::Rule),
+        "a line after {line:?}"
+    );
+    let null = rules.apply(Cell::null()).get();
+    assert_holds!(rt; null != Some(2), "null after {line:?}");
+    let found = (new_category(rules, 1), new_category(rules, 3));
+    assert_same!(rt; found, (Some(2), None), "a category, and no more rules after {line:?}");
 }
 
 #[test]
 fn bad_lines(rt: HostRuntime) -> Result<(), Fail> {
     for (line, fault) in &BAD {
         let mut rules = Rules::new(rt.alloc());
-        assert!(rt; rules.add_line(*line) == Err(*fault), "the line {line:?}");
-        assert!(rt;
-            rules.add_line(b"1 = 2") == Ok(LineKind::Rule),
-            "a line after {line:?}"
-        );
-        assert!(rt;
-            Some(rules.apply(Cell::null())) != Cell::value(2),
-            "null after {line:?}"
-        );
-        if let Some(one) = Cell::value(1) {
-            assert!(rt;
-                Some(rules.apply(one)) == Cell::value(2),
-                "a category after {line:?}"
-            );
-        }
-        if let Some(three) = Cell::value(3) {
-            assert!(rt;
-                rules.apply(three) == Cell::null(),
-                "no more rules after {line:?}"
-            );
-        }
+        assert_holds!(rt; rules.add_line(*line) == Err(*fault), "the line {line:?}");
+        expect_one_rule(&rt, &mut rules, *line);
     }
     Ok(())
 }

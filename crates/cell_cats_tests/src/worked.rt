@@ -1,8 +1,11 @@
 //! Worked maps.
 
+use crate::assertions::{assert_holds, assert_same};
 use cell_cats::reclassing::reclass;
 use cell_cats::rules::Rules;
 use cell_core_test_maps::maps::{NULL, categories_of, map_of};
+use std::alloc::AllocGlobal;
+use std::process::Abort;
 use std::test::Fail;
 
 // Lines, the categories of a map in rows of four, its new categories, and the label of a category of it.
@@ -128,28 +131,30 @@ const CASES: [Case; 15] = [
     },
 ];
 
+// The rules of a case give its map.
+fn expect_case<R: Abort + AllocGlobal>(rt: &R, case: &Case) -> Result<(), Fail> {
+    let mut rules = Rules::new(rt.alloc());
+    for line in case.lines {
+        assert_holds!(rt; rules.add_line(*line).is_ok(), "the line {line:?}");
+    }
+    let map = map_of(rt.alloc(), case.given, 4)?.ok_or("no map")?;
+    let made = reclass(rt.alloc(), &map, &rules)?;
+    let categories = categories_of(rt.alloc(), &made)?;
+    assert_same!(rt; made.region(), map.region());
+    assert_same!(rt;
+        (categories.as_slice(), made.label(case.category)),
+        (case.wanted, case.label),
+        "the map {:?}, and the label of {}",
+        case.given,
+        case.category
+    );
+    Ok(())
+}
+
 #[test]
 fn worked_maps(rt: HostRuntime) -> Result<(), Fail> {
     for case in &CASES {
-        let mut rules = Rules::new(rt.alloc());
-        for line in case.lines {
-            assert!(rt; rules.add_line(*line).is_ok(), "the line {line:?}");
-        }
-        let map = map_of(rt.alloc(), case.given, 4)?.ok_or("no map")?;
-        let made = reclass(rt.alloc(), &map, &rules)?;
-        assert!(rt; made.region() == map.region());
-        let categories = categories_of(rt.alloc(), &made)?;
-        assert_eq!(rt;
-            categories.as_slice(),
-            case.wanted,
-            "the map {:?}",
-            case.given
-        );
-        assert!(rt;
-            made.label(case.category) == case.label,
-            "the label of {}",
-            case.category
-        );
+        expect_case(&rt, case)?;
     }
     Ok(())
 }
@@ -157,12 +162,11 @@ fn worked_maps(rt: HostRuntime) -> Result<(), Fail> {
 #[test]
 fn labels_of_the_given_map_go(rt: HostRuntime) -> Result<(), Fail> {
     let mut rules = Rules::new(rt.alloc());
-    assert!(rt; rules.add_line(b"* = *").is_ok());
+    assert_holds!(rt; rules.add_line(b"* = *").is_ok());
     let mut map = map_of(rt.alloc(), &LEGEND, 4)?.ok_or("no map")?;
     map.set_label(1, b"forest")?;
     let made = reclass(rt.alloc(), &map, &rules)?;
     let categories = categories_of(rt.alloc(), &made)?;
-    assert_eq!(rt; categories.as_slice(), LEGEND.as_slice());
-    assert!(rt; made.label(1).is_none());
+    assert_same!(rt; (categories.as_slice(), made.label(1)), (LEGEND.as_slice(), None));
     Ok(())
 }

@@ -24,16 +24,26 @@ pub(crate) fn add(alloc: Global, shelf: &mut Shelf, name: &[u8], map: CellMap) -
     }
 }
 
+/// The map of these categories; an `Err` where they fill none.
+pub(crate) fn filled(alloc: Global, categories: &[i32], cols: u32) -> Result<CellMap, Fail>
+    requires { 0 < cols }
+{
+    Ok(map_of(alloc, categories, cols)?.ok_or("no map")?)
+}
+
+const NAMES: [&[u8]; 3] = [b"a", b"b", b"c"];
+
 /// The shelf of maps `a`, `b` and so on, of so many columns.
 pub(crate) fn shelf_of(alloc: Global, maps: &[&[i32]], cols: u32) -> Result<Shelf, Fail>
     requires { 0 < cols }
 {
-    let first = maps.first().ok_or("no map")?;
-    let first = map_of(alloc, *first, cols)?.ok_or("no map")?;
-    let mut shelf = Shelf::new(alloc, first.region());
-    for (name, categories) in [b"a", b"b", b"c"].iter().zip(maps) {
-        let map = map_of(alloc, *categories, cols)?.ok_or("no map")?;
-        add(alloc, &mut shelf, *name, map)?;
+    let Some(first) = maps.first() else {
+        return Err("no map".into());
+    };
+    let region = filled(alloc, *first, cols)?.region();
+    let mut shelf = Shelf::new(alloc, region);
+    for (name, categories) in NAMES.iter().zip(maps) {
+        add(alloc, &mut shelf, *name, filled(alloc, *categories, cols)?)?;
     }
     Ok(shelf)
 }

@@ -1,10 +1,11 @@
 //! The printed text of tables and cells: worked maps.
 
-use crate::maps::{G, X, add, are_picks, shelf_of};
+use crate::assertions::assert_same;
+use crate::maps::{G, X, add, are_picks, filled, shelf_of};
 use cell_core::block::OutputBlock;
 use cell_core::shelf::Shelf;
 use cell_core::sink::{MemorySink, WriteFault};
-use cell_core_test_maps::maps::{NULL, map_of};
+use cell_core_test_maps::maps::NULL;
 use cell_stats::combination::Combo;
 use cell_stats::format::Format;
 use cell_stats::printed_cells::{CellWalk, write_cells};
@@ -64,8 +65,8 @@ fn expect_table<R: Abort + AllocGlobal>(
     wanted: &str,
 ) -> Result<(), Fail> {
     let (bytes, ended) = table_in_room(rt.alloc(), shelf, picks, skip, format, after, 4096)?;
-    assert!(rt; ended == Ok(()));
-    assert_eq!(rt; bytes.as_slice(), wanted.as_bytes(), "after {after:?}");
+    assert_same!(rt; ended, Ok(()));
+    assert_same!(rt; bytes.as_slice(), wanted.as_bytes(), "after {after:?}");
     Ok(())
 }
 
@@ -86,8 +87,7 @@ fn expect_cells<R: Abort + AllocGlobal>(
     let walk = CellWalk::new(rt.alloc(), shelf, picks)?;
     write_cells(&mut out, &mut block, walk, shelf, picks, skip, format);
     block.empty(&mut out);
-    assert_eq!(rt; block.outcome(), Ok(()));
-    assert_eq!(rt; out.bytes(), wanted.as_bytes());
+    assert_same!(rt; (block.outcome(), out.bytes()), (Ok(()), wanted.as_bytes()));
     Ok(())
 }
 
@@ -224,7 +224,7 @@ fn tables_of_two_maps(rt: HostRuntime) -> Result<(), Fail> {
 // A map and one of its classes, of which one has a label.
 fn labelled_shelf(alloc: Global) -> Result<Shelf, Fail> {
     let mut shelf = shelf_of(alloc, &[&[1, 2, 3, 9, NULL]], 5)?;
-    let mut made = map_of(alloc, &[7, NULL, 7, 9, NULL], 5)?.ok_or("no map")?;
+    let mut made = filled(alloc, &[7, NULL, 7, 9, NULL], 5)?;
     made.set_label(7, b"low")?;
     add(alloc, &mut shelf, b"r", made)?;
     Ok(shelf)
@@ -258,7 +258,7 @@ fn separators(rt: HostRuntime) -> Result<(), Fail> {
 fn cells_of_one_map(rt: HostRuntime) -> Result<(), Fail> {
     let format = Format::new(b' ', b"*", false, false);
     let shelf = shelf_of(rt.alloc(), &[&[5, NULL, 5]], 3)?;
-    for (skip, wanted) in [(Skip::Nothing, "5\n*\n5\n"), (Skip::AnyNull, "5\n5\n")] {
+    for &(skip, wanted) in &[(Skip::Nothing, "5\n*\n5\n"), (Skip::AnyNull, "5\n5\n")] {
         expect_cells(&rt, &shelf, &[0], skip, &format, wanted)?;
     }
     Ok(())
@@ -270,7 +270,7 @@ const PAIR: [&[i32]; 2] = [&[1, 1, 2, NULL], &[1, NULL, NULL, NULL]];
 fn cells_of_two_maps(rt: HostRuntime) -> Result<(), Fail> {
     let format = Format::new(b' ', b"*", false, false);
     let shelf = shelf_of(rt.alloc(), &PAIR, 2)?;
-    for (skip, wanted) in [
+    for &(skip, wanted) in &[
         (Skip::Nothing, "1 1\n1 *\n2 *\n* *\n"),
         (Skip::AllNull, "1 1\n1 *\n2 *\n"),
     ] {
@@ -292,8 +292,8 @@ fn sink_without_room(rt: HostRuntime) -> Result<(), Fail> {
     let format = Format::new(b' ', b"*", false, true);
     let shelf = shelf_of(rt.alloc(), &[&G], 4)?;
     let (bytes, ended) = table_in_room(rt.alloc(), &shelf, &[0], Skip::Nothing, &format, b"", 5)?;
-    assert_eq!(rt; bytes.as_slice(), b"1 5\n2".as_slice());
-    assert!(rt; ended == Err(WriteFault { written: 5 }));
+    let fault = WriteFault { written: 5 };
+    assert_same!(rt; (bytes.as_slice(), ended), (b"1 5\n2".as_slice(), Err(fault)));
     Ok(())
 }
 
@@ -314,22 +314,27 @@ fn expect_cells_cut<R: Abort + AllocGlobal>(
     let walk = CellWalk::new(rt.alloc(), shelf, picks)?;
     let skip = Skip::Nothing;
     write_cells(&mut out, &mut block, walk, shelf, picks, skip, format);
-    assert!(rt; block.has_failed());
+    assert_same!(rt; block.has_failed(), true);
     block.empty(&mut out);
-    assert!(rt; block.outcome() == Err(WriteFault { written }));
+    assert_same!(rt; block.outcome(), Err(WriteFault { written }));
     Ok(Vec::from_slice(rt.alloc(), out.bytes())?)
+}
+
+// The shelf of a map of one row of the category 12.
+fn shelf_of_one_row(alloc: Global) -> Result<Shelf, Fail> {
+    let row = vec![in alloc; 12; 3000]?;
+    shelf_of(alloc, &[row.as_slice()], 3000)
 }
 
 #[test]
 fn sink_without_room_for_cells(rt: HostRuntime) -> Result<(), Fail> {
     let format = Format::new(b' ', b"*", false, false);
-    let row = vec![in rt.alloc(); 12; 3000]?;
-    let shelf = shelf_of(rt.alloc(), &[row.as_slice()], 3000)?;
+    let shelf = shelf_of_one_row(rt.alloc())?;
     let room = vec![in rt.alloc(); 0u8; 5000]?;
     let bytes = expect_cells_cut(&rt, &shelf, &[0], &format, room)?;
-    assert_eq!(rt; bytes.len(), 5000);
+    assert_same!(rt; bytes.len(), 5000);
     for line in bytes.chunks(3) {
-        assert!(rt; b"12\n".starts_with(line));
+        assert_same!(rt; b"12\n".starts_with(line), true);
     }
     Ok(())
 }

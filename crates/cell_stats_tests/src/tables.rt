@@ -1,5 +1,6 @@
 //! What is counted: many maps, and very many combinations.
 
+use crate::assertions::assert_same;
 use crate::maps::{G, X, are_picks, shelf_of};
 use cell_core::shelf::Shelf;
 use cell_core_test_maps::maps::NULL;
@@ -47,8 +48,8 @@ const TEXTS: [(&[u8], Result<[i32; 2], ComboFault>); 12] = [
 
 #[test]
 fn texts_of_combinations(rt: HostRuntime) -> Result<(), Fail> {
-    for (text, want) in TEXTS {
-        assert_eq!(rt; pair_of(rt.alloc(), text), want, "{text:?}");
+    for &(text, want) in &TEXTS {
+        assert_same!(rt; pair_of(rt.alloc(), text), want, "{text:?}");
     }
     Ok(())
 }
@@ -88,10 +89,10 @@ const ENTRIES_AFTER: [(&[u8], Option<u64>, usize); 10] = [
 fn entries_after_a_combination(rt: HostRuntime) -> Result<(), Fail> {
     let shelf = shelf_of(rt.alloc(), &[&G, &X], 4)?;
     let table = table_of(rt.alloc(), &shelf, &[0, 1])?;
-    assert!(rt; table.len() == 8);
-    for (text, first, many) in ENTRIES_AFTER {
+    assert_same!(rt; table.len(), 8);
+    for &(text, first, many) in &ENTRIES_AFTER {
         let found = after(rt.alloc(), &table, text)?;
-        assert_eq!(rt; found, (first, many), "after {text:?}");
+        assert_same!(rt; found, (first, many), "after {text:?}");
     }
     Ok(())
 }
@@ -100,31 +101,35 @@ fn entries_after_a_combination(rt: HostRuntime) -> Result<(), Fail> {
 fn sixteen_picks_of_one_map(rt: HostRuntime) -> Result<(), Fail> {
     let shelf = shelf_of(rt.alloc(), &[&[5, NULL, 5, -3]], 2)?;
     let table = table_of(rt.alloc(), &shelf, &[0; 16])?;
-    assert!(rt; table.width() == 16);
     let wanted: [(i32, u64); 3] = [(-3, 1), (5, 2), (NULL, 1)];
-    assert!(rt; table.len() == wanted.len());
+    assert_same!(rt; (table.width(), table.len()), (16, wanted.len()));
     for (entry, (category, count)) in table.all().zip(wanted) {
-        assert!(rt; entry.count == count && entry.combo.len() == 16);
+        assert_same!(rt; (entry.count, entry.combo.len()), (count, 16));
         for i in 0..entry.combo.len() {
-            assert_eq!(rt; entry.combo.get(i).get().unwrap_or(NULL), category);
+            assert_same!(rt; entry.combo.get(i).get().unwrap_or(NULL), category);
         }
     }
     Ok(())
 }
 
-#[test]
-fn each_cell_another_combination(rt: HostRuntime) -> Result<(), Fail> {
-    let mut falling = Vec::new(rt.alloc());
+// The table of a map with the categories from 199999 down to 0.
+fn table_of_many(alloc: Global) -> Result<Table, Fail> {
+    let mut falling = Vec::new(alloc);
     for i in 0..200000i32 {
         falling.push(199999i32.wrapping_sub(i))?;
     }
-    let shelf = shelf_of(rt.alloc(), &[&falling], 500)?;
-    let table = table_of(rt.alloc(), &shelf, &[0])?;
-    assert!(rt; table.len() == 200000);
+    let shelf = shelf_of(alloc, &[&falling], 500)?;
+    table_of(alloc, &shelf, &[0])
+}
+
+#[test]
+fn each_cell_another_combination(rt: HostRuntime) -> Result<(), Fail> {
+    let table = table_of_many(rt.alloc())?;
+    assert_same!(rt; table.len(), 200000);
     for (entry, category) in table.all().zip(0..200000i32) {
-        assert!(rt; entry.count == 1 && entry.combo.len() == 1);
+        assert_same!(rt; (entry.count, entry.combo.len()), (1, 1));
         if entry.combo.len() == 1 {
-            assert!(rt; entry.combo.get(0).get() == Some(category));
+            assert_same!(rt; entry.combo.get(0).get(), Some(category));
         }
     }
     Ok(())

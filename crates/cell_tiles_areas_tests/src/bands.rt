@@ -16,7 +16,8 @@ use cell_core::source::MemorySource;
 use cell_tiles_areas::areas_join_fault::AreasJoinFault;
 use cell_tiles_areas::areas_joining::{AreasOutcome, join_edges_texts};
 use cell_tiles_edges::edges_fault::EdgesFault;
-use std::alloc::Global;
+use std::alloc::{AllocGlobal, Global};
+use std::process::Abort;
 use std::test::Fail;
 
 // The edges of the bands. Only in the last band do corners join what edges do not.
@@ -86,37 +87,66 @@ fn fault_of(alloc: Global, texts: &[&[u8]]) -> Result<Option<AreasJoinFault>, Me
     Ok(joined.outcome.fault)
 }
 
-#[test]
-fn bands_are_joined(rt: HostRuntime) -> Result<(), Fail> {
-    let joined = join_to(
-        rt.alloc(),
-        Joining::Edges,
-        &[TOP, MIDDLE, BOTTOM],
-        4096,
-        false,
-    )?;
-    assert!(rt; joined.outcome.fault == None);
-    assert!(rt; joined.outcome.written == BY_EDGES.len() as u64);
-    assert!(rt; joined.bytes.as_slice() == BY_EDGES);
-    let texts = [TOP, MIDDLE, BOTTOM_BY_CORNERS];
-    let joined = join_to(rt.alloc(), Joining::EdgesAndCorners, &texts, 4096, false)?;
-    assert!(rt; joined.outcome.fault == None);
-    assert!(rt; joined.bytes.as_slice() == BY_CORNERS);
-    let joined = join_to(rt.alloc(), Joining::Edges, &[], 4096, false)?;
-    assert!(rt; joined.outcome.fault == None && joined.bytes.is_empty());
+// Texts are joined to a sink of so much room, whose flush fails or not, with this fault or none, and these bytes are written.
+fn expect_joined<R: Abort + AllocGlobal>(
+    rt: &R,
+    joining: Joining,
+    texts: &[&[u8]],
+    sink: (usize, bool),
+    fault: Option<AreasJoinFault>,
+    bytes: &[u8],
+) -> Result<(), Fail> {
+    let joined = join_to(rt.alloc(), joining, texts, sink.0, sink.1)?;
+    let outcome = joined.outcome;
+    assert_eq!(rt;
+        (outcome.fault, outcome.written, joined.bytes.as_slice()),
+        (fault, bytes.len() as u64, bytes)
+    );
     Ok(())
 }
 
+// A sink with room for all, whose flush does not fail.
+const ROOMY: (usize, bool) = (4096, false);
+
+#[test]
+fn bands_are_joined(rt: HostRuntime) -> Result<(), Fail> {
+    let texts = [TOP, MIDDLE, BOTTOM];
+    expect_joined(&rt, Joining::Edges, &texts, ROOMY, None, BY_EDGES)?;
+    let texts = [TOP, MIDDLE, BOTTOM_BY_CORNERS];
+    let by_corners = Joining::EdgesAndCorners;
+    expect_joined(&rt, by_corners, &texts, ROOMY, None, BY_CORNERS)?;
+    expect_joined(&rt, Joining::Edges, &[], ROOMY, None, b"")
+}
+
+// Texts are not joined, with this fault, and nothing is written.
+fn expect_fault<R: Abort + AllocGlobal>(
+    rt: &R,
+    texts: &[&[u8]],
+    fault: AreasJoinFault,
+) -> Result<(), Fail> {
+    assert_eq!(rt; fault_of(rt.alloc(), texts)?, Some(fault));
+    Ok(())
+}
+
+// Texts of which the second is not that of the next band,
+const NOT_BELOW: [&[&[u8]]; 4] = [
+    &[TOP, BOTTOM, MIDDLE],
+    &[MIDDLE, TOP, BOTTOM],
+    &[TOP, TOP, MIDDLE, BOTTOM],
+    &[TOP, BOTTOM],
+];
+
+// and of which it has other columns.
+const OTHER_COLUMNS: [&[&[u8]]; 2] = [&[TOP, NARROW], &[TOP, EASTWARD]];
+
 #[test]
 fn bands_that_do_not_follow_are_refused(rt: HostRuntime) -> Result<(), Fail> {
-    let not_below = Some(AreasJoinFault::NotBelow { text: 1 });
-    let other_columns = Some(AreasJoinFault::OtherColumns { text: 1 });
-    assert!(rt; fault_of(rt.alloc(), &[TOP, BOTTOM, MIDDLE])? == not_below);
-    assert!(rt; fault_of(rt.alloc(), &[MIDDLE, TOP, BOTTOM])? == not_below);
-    assert!(rt; fault_of(rt.alloc(), &[TOP, TOP, MIDDLE, BOTTOM])? == not_below);
-    assert!(rt; fault_of(rt.alloc(), &[TOP, BOTTOM])? == not_below);
-    assert!(rt; fault_of(rt.alloc(), &[TOP, NARROW])? == other_columns);
-    assert!(rt; fault_of(rt.alloc(), &[TOP, EASTWARD])? == other_columns);
+    for &texts in &NOT_BELOW {
+        expect_fault(&rt, texts, AreasJoinFault::NotBelow { text: 1 })?;
+    }
+    for &texts in &OTHER_COLUMNS {
+        expect_fault(&rt, texts, AreasJoinFault::OtherColumns { text: 1 })?;
+    }
     Ok(())
 }
 
@@ -126,32 +156,28 @@ fn the_first_fault_is_told(rt: HostRuntime) -> Result<(), Fail> {
         text: 1,
         fault: EdgesFault::Rows,
     };
-    assert!(rt; fault_of(rt.alloc(), &[TOP, SHORT, TOP])? == Some(rows));
-    assert!(rt;
-        fault_of(rt.alloc(), &[TOP, BOTTOM, SHORT])? == Some(AreasJoinFault::NotBelow { text: 1 })
-    );
-    let Some(AreasJoinFault::Edges { text, fault }) = fault_of(
-        rt.alloc(),
-        &[TOP, MIDDLE, b"1 2\n"],
-    )?
+    expect_fault(&rt, &[TOP, SHORT, TOP], rows)?;
+    let not_below = AreasJoinFault::NotBelow { text: 1 };
+    expect_fault(&rt, &[TOP, BOTTOM, SHORT], not_below)?;
+    let told = fault_of(rt.alloc(), &[TOP, MIDDLE, b"1 2\n"])?;
+    let Some(
+        AreasJoinFault::Edges {
+            text: 2,
+            fault: EdgesFault::Text(of),
+        },
+    ) = told
     else {
-        assert!(rt; false);
-        return Ok(());
+        panic!(rt; "no missing key: {told:?}");
     };
-    assert!(rt; text == 2);
-    assert!(rt; matches!(&fault, EdgesFault::Text(of) if of.kind == GridKind::MissingKey));
+    assert!(rt; of.kind == GridKind::MissingKey);
     Ok(())
 }
 
 #[test]
 fn a_failing_sink_is_told(rt: HostRuntime) -> Result<(), Fail> {
     let texts = [TOP, MIDDLE, BOTTOM];
-    let joined = join_to(rt.alloc(), Joining::Edges, &texts, 10, false)?;
-    assert!(rt; joined.outcome.fault == Some(AreasJoinFault::Write));
-    assert!(rt; joined.outcome.written == 10);
-    assert!(rt; joined.bytes.as_slice() == &BY_EDGES[..10]);
-    let joined = join_to(rt.alloc(), Joining::Edges, &texts, 4096, true)?;
-    assert!(rt; joined.outcome.fault == Some(AreasJoinFault::Write));
-    assert!(rt; joined.bytes.as_slice() == BY_EDGES);
-    Ok(())
+    let failed = Some(AreasJoinFault::Write);
+    let front = &BY_EDGES[..10];
+    expect_joined(&rt, Joining::Edges, &texts, (10, false), failed, front)?;
+    expect_joined(&rt, Joining::Edges, &texts, (4096, true), failed, BY_EDGES)
 }

@@ -2,6 +2,7 @@
 
 ghost use Rattle.std.specs.Prelude.{◌<◌};
 
+use crate::assertions::assert_same;
 use cell_cats_areas::clump::{Joining, clump_with};
 use cell_core_test_maps::maps::{categories_of, map_of};
 use cell_tiles_joining::clumped::clump_band;
@@ -58,6 +59,17 @@ fn bands_of(
     Ok((edges, bands))
 }
 
+// The number of a band's area in the whole, 0 for null, by the numbers of all areas and how many stand before its band's.
+fn number_in_whole(numbers: &[u64], base: usize, area: i32) -> u64 {
+    match usize::try_from(area) {
+        Ok(area) => match numbers.get(base.saturating_add(area).saturating_sub(1)) {
+            Some(number) => *number,
+            None => u64::MAX,
+        },
+        Err(_) => 0,
+    }
+}
+
 /// The numbers of all cells of a map in bands of these heights, 0 for null, as they are joined, and how many areas
 /// there are.
 pub(crate) fn joined_numbers(
@@ -75,16 +87,7 @@ pub(crate) fn joined_numbers(
     let mut base: usize = 0;
     for (numbers, edge) in bands.iter().zip(edges.iter()) {
         for number in numbers {
-            found.push(match usize::try_from(*number) {
-                Ok(area) => match joined
-                    .numbers
-                    .get(base.saturating_add(area).saturating_sub(1))
-                {
-                    Some(number) => *number,
-                    None => u64::MAX,
-                },
-                Err(_) => 0,
-            })?;
+            found.push(number_in_whole(&joined.numbers, base, *number))?;
         }
         base = base.saturating_add(edge.areas as usize);
     }
@@ -106,6 +109,19 @@ fn sizes_of(alloc: Global, numbers: &[i32], areas: u64) -> Result<Vec<u64>, Fail
     Ok(sizes)
 }
 
+// How many cells each area of each band has.
+fn sizes_in_bands(
+    alloc: Global,
+    bands: &[Vec<i32>],
+    edges: &[BandEdges],
+) -> Result<Vec<u64>, Fail> {
+    let mut sizes = Vec::new(alloc);
+    for (numbers, edge) in bands.iter().zip(edges.iter()) {
+        sizes.extend_from_slice(&sizes_of(alloc, numbers, edge.areas)?)?;
+    }
+    Ok(sizes)
+}
+
 /// How many cells each area has, joined from bands of these heights, and in the undivided map.
 pub(crate) fn joined_sizes(
     alloc: Global,
@@ -118,10 +134,7 @@ pub(crate) fn joined_sizes(
 {
     let (edges, bands) = bands_of(alloc, categories, cols, heights, joining)?;
     let joined = join_bands(alloc, joining, &edges)?;
-    let mut sizes = Vec::new(alloc);
-    for (numbers, edge) in bands.iter().zip(edges.iter()) {
-        sizes.extend_from_slice(&sizes_of(alloc, numbers, edge.areas)?)?;
-    }
+    let sizes = sizes_in_bands(alloc, &bands, &edges)?;
     let found = match join_sizes(alloc, &joined, &sizes) {
         Ok(found) => found,
         Err(_) => return Err(Fail::from("refused")),
@@ -149,6 +162,28 @@ pub(crate) fn whole_numbers(
     Ok((found, greatest(&numbers)))
 }
 
+// Joined from bands of these heights, areas have the numbers and sizes of the undivided map.
+fn expect_joined_as_whole<R: Abort + AllocGlobal>(
+    rt: &R,
+    categories: &[i32],
+    cols: u32,
+    heights: &[usize],
+    joining: Joining,
+) -> Result<(), Fail>
+    requires { 0 < cols }
+{
+    let joined = joined_numbers(rt.alloc(), categories, cols, heights, joining)?;
+    let whole = whole_numbers(rt.alloc(), categories, cols, joining)?;
+    assert_same!(rt;
+        joined,
+        whole,
+        "the areas of {categories:?}, {cols} columns, bands of {heights:?}, {joining:?}"
+    );
+    let sizes = joined_sizes(rt.alloc(), categories, cols, heights, joining)?;
+    assert_same!(rt; sizes.0, sizes.1);
+    Ok(())
+}
+
 /// Joined from bands of these heights, by edges and by corners, areas have the numbers and sizes of the undivided map.
 pub(crate) fn expect_as_whole<R: Abort + AllocGlobal>(
     rt: &R,
@@ -158,17 +193,6 @@ pub(crate) fn expect_as_whole<R: Abort + AllocGlobal>(
 ) -> Result<(), Fail>
     requires { 0 < cols }
 {
-    for joining in [Joining::Edges, Joining::EdgesAndCorners] {
-        let joined = joined_numbers(rt.alloc(), categories, cols, heights, joining)?;
-        let whole = whole_numbers(rt.alloc(), categories, cols, joining)?;
-        assert_eq!(rt;
-            joined.0,
-            whole.0,
-            "the areas of {categories:?}, {cols} columns, bands of {heights:?}, {joining:?}"
-        );
-        assert_eq!(rt; joined.1, whole.1);
-        let sizes = joined_sizes(rt.alloc(), categories, cols, heights, joining)?;
-        assert_eq!(rt; sizes.0, sizes.1);
-    }
-    Ok(())
+    expect_joined_as_whole(rt, categories, cols, heights, Joining::Edges)?;
+    expect_joined_as_whole(rt, categories, cols, heights, Joining::EdgesAndCorners)
 }

@@ -3,6 +3,7 @@
 ghost use Rattle.std.specs.Prelude.{◌<◌, IfOk};
 ghost use Rattle.cell_tiles_merging.specs.Merging.{IsListing};
 
+use crate::assertions::assert_same;
 use crate::chance::{categories_by, heights_by};
 use cell_core::name::Name;
 use cell_core::shelf::Shelf;
@@ -82,7 +83,7 @@ fn random_maps_in_three_bands(rt: HostRuntime) -> Result<(), Fail> {
                 let first = heights.first().copied().unwrap_or(1);
                 let merged = merged_of(rt.alloc(), &categories, cols, first, 1, skip)?;
                 let whole = table_of(rt.alloc(), &categories, cols, skip)?;
-                assert_eq!(rt; merged, whole);
+                assert_same!(rt; merged, whole);
             }
         }
     }

@@ -1,5 +1,6 @@
 //! Shapes that cross the cuts between bands: what joins only far below is one area.
 
+use crate::assertions::assert_same;
 use crate::bands::{expect_as_whole, joined_numbers};
 use cell_cats_areas::clump::Joining;
 use cell_tiles_joining::pairs::join_pairs;
@@ -46,8 +47,7 @@ fn a_comb_a_spiral_and_a_board(rt: HostRuntime) -> Result<(), Fail> {
 fn the_teeth_of_a_comb_are_one_area(rt: HostRuntime) -> Result<(), Fail> {
     let (numbers, areas) = joined_numbers(rt.alloc(), &COMB, 5, &[1, 1, 1, 1], Joining::Edges)?;
     let wanted = [1, 2, 1, 3, 1, 1, 2, 1, 3, 1, 1, 2, 1, 3, 1, 1, 1, 1, 1, 1];
-    assert_eq!(rt; numbers.as_slice(), wanted.as_slice());
-    assert_eq!(rt; areas, 3);
+    assert_same!(rt; (numbers.as_slice(), areas), (wanted.as_slice(), 3));
     Ok(())
 }
 
@@ -55,7 +55,6 @@ fn the_teeth_of_a_comb_are_one_area(rt: HostRuntime) -> Result<(), Fail> {
 fn labels_of_tiles_in_pairs(rt: HostRuntime) -> Result<(), Fail> {
     let joined = join_pairs(rt.alloc(), 6, &[(2, 0), (4, 5), (5, 3)])?;
     let wanted = [1, 2, 1, 3, 3, 3];
-    assert_eq!(rt; joined.numbers.as_slice(), wanted.as_slice());
-    assert_eq!(rt; joined.areas, 3);
+    assert_same!(rt; (joined.numbers.as_slice(), joined.areas), (wanted.as_slice(), 3));
     Ok(())
 }
