@@ -32,6 +32,25 @@ module _ {A B : Type 0} (R : A → B → Type 0) where
   zip-long (a ∷ xs) [] all = absurd all
   zip-long (a ∷ xs) (b ∷ ys) all = ap (λ (n : ℕ). suc n) (zip-long xs ys all.1)
 
+  pub zip-append : (a c : List A) (b d : List B) → AllZip R a b → AllZip R c d → AllZip R (a ++ c) (b ++ d)
+  zip-append [] c [] d one other = other
+  zip-append [] c (y ∷ b) d one other = absurd one
+  zip-append (x ∷ a) c [] d one other = absurd one
+  zip-append (x ∷ a) c (y ∷ b) d one other = (one.0, zip-append a c b d one.1 other)
+
+  -- all of rows that go together
+  pub zip-flat : (xs : List (List A)) (ys : List (List B)) → AllZip (AllZip R) xs ys
+      → AllZip R (flat_map (λ (row : List A). row) xs) (flat_map (λ (row : List B). row) ys)
+  zip-flat [] [] all = tt
+  zip-flat [] (b ∷ ys) all = absurd all
+  zip-flat (a ∷ xs) [] all = absurd all
+  zip-flat (a ∷ xs) (b ∷ ys) all =
+      subst (AllZip R (flat_map (λ (row : List A). row) (a ∷ xs))) (sym (flat_map-cons (λ (row : List B). row) b ys))
+      (subst (λ (l : List A). AllZip R l (b ++ flat_map (λ (row : List B). row) ys))
+      (sym (flat_map-cons (λ (row : List A). row) a xs))
+      (zip-append a (flat_map (λ (row : List A). row) xs) b (flat_map (λ (row : List B). row) ys) all.0
+      (zip-flat xs ys all.1)))
+
 module _ {A B : Type 0} (f : A → B) where
   pub map-from : (xs : List A) (i : ℕ) (y : B) → slice_get (map f xs) i ≡ Some y
       → (x : A) × (slice_get xs i ≡ Some x) × (f x ≡ y)

@@ -44,7 +44,7 @@ use Rattle.cell_tiles_grid_areas_law.specs.WrittenTiles.{IsSidesTextOf}
 
 -- ---- cells in range
 
-any-in : (rows : List (List CellValue)) → AllInRange rows → (row col : ℕ)
+pub any-in : (rows : List (List CellValue)) → AllInRange rows → (row col : ℕ)
     → InRange (get_or (get_or rows row []) col None)
 any-in rows all row col =
     ⊎_elim

@@ -19,6 +19,7 @@ use Rattle.cell_tiles_joining_law.specs.TileSizes.{IsJoinedTile, JoinedTile, num
 use Rattle.cell_tiles_grid_areas_law.specs.TileGrids.{all_tiles, row_height, tile_heights}
 use Rattle.cell_tiles_grid_areas_law.specs.WrittenTiles.{HaveAreas, all_counts, earlier_areas}
 use Rattle.cell_tiles_grid_areas_law.proofs.GlueLemmas.{AreSized, IsSized}
+use Rattle.cell_tiles_grid_areas_law.proofs.PlaceLemmas.{zip-append}
 
 sum-more : (n : ℕ) (ns : List ℕ) → sum (n ∷ ns) ≡ n + sum ns
 sum-more n ns = sum_by-cons (λ (k : ℕ). k) n ns
@@ -311,13 +312,6 @@ pub record IsJoinedOf (tile : Band) (t : JoinedTile) : Type 0 where
   pub rows : tile.map.region.rows ≡ (place_of_tile t).rows
   pub cols : tile.map.region.cols ≡ (place_of_tile t).cols
 
-zip-append : (a c : List Band) (b d : List JoinedTile) → AllZip IsJoinedOf a b → AllZip IsJoinedOf c d
-    → AllZip IsJoinedOf (a ++ c) (b ++ d)
-zip-append [] c [] d one other = other
-zip-append [] c (t ∷ b) d one other = absurd one
-zip-append (tile ∷ a) c [] d one other = absurd one
-zip-append (tile ∷ a) c (t ∷ b) d one other = (one.0, zip-append a c b d one.1 other)
-
 module _ (j : Joining) where
   row-of : (top left height : ℕ) (row : List Band) (widths counts numbers : List ℕ)
       → AllZip (IsSized height) row widths → AllZip (IsCounted j) row counts
@@ -340,6 +334,6 @@ module _ (j : Joining) where
       subst
       (λ (l : List Band). AllZip IsJoinedOf l (join-row top 0 (row_height row) row widths count numbers ++ others))
       (sym (flat_map-cons (λ (r : List Band). r) row tiles))
-      (zip-append row (all_tiles tiles) (join-row top 0 (row_height row) row widths count numbers) others
+      (zip-append IsJoinedOf row (all_tiles tiles) (join-row top 0 (row_height row) row widths count numbers) others
       (row-of top 0 (row_height row) row widths count numbers sized.0 counted.0)
       (rows-of (top + row_height row) tiles widths counts (drop (sum count) numbers) sized.1 counted.1))

@@ -18,7 +18,8 @@ use Rattle.cell_tiles_joining.specs.Bands.{Band, HasAreas}
 use Rattle.cell_tiles_joining.specs.Sizes.{size_of_area}
 use Rattle.cell_tiles_joining_law.specs.NumberTables.{listed_sizes}
 use Rattle.cell_tiles_joining_law.specs.SizeLaw.{size_of_number}
-use Rattle.cell_tiles_joining_law.specs.TileSizes.{AreJoinedTiles, IsTileTable, JoinedTile, sizes_of_tile}
+use Rattle.cell_tiles_joining_law.specs.TileSizes.{AreJoinedTiles, IsTileTable, JoinedTile, numbers_of_tiles}
+use Rattle.cell_tiles_joining_law.specs.TileSizes.{sizes_of_tile}
 use Rattle.cell_tiles_joining_law.proofs.TileSizeLemmas.{counts-in-tiles, tile-sizes, tile-tables-list}
 use Rattle.cell_tiles_grid.specs.Grids.{tile_place}
 use Rattle.cell_tiles_sizes_law.proofs.WholeLemmas.{sizes-are-listed, table-some, tally-of}
@@ -120,7 +121,7 @@ module _ (j : Joining) (whole : Grid) (tiles : List (List Band)) (make : MakeGri
   sized : AreSized (tile_widths tiles) tiles
   sized = grid-sized tiles (tables-filled skip (all_tiles tiles) tables have) make
 
-  abbrev joined : List JoinedTile
+  abbrev pub joined : List JoinedTile
   joined = join-rows 0 tiles (tile_widths tiles) is.counts is.numbers
 
   clumped : (r c : ℕ) (row : List Band) (tile : Band) → slice_get tiles r ≡ Some row → slice_get row c ≡ Some tile
@@ -161,7 +162,7 @@ module _ (j : Joining) (whole : Grid) (tiles : List (List Band)) (make : MakeGri
         tells = is.tell r c row tile in_tiles in_row;
       })
 
-  are-joined : AreJoinedTiles j whole whole.region.rows whole.region.cols joined
+  pub are-joined : AreJoinedTiles j whole whole.region.rows whole.region.cols joined
   are-joined = record {
     tiling = subst (AreTiling whole.region.rows whole.region.cols)
         (sym (rows-places j 0 tiles (tile_widths tiles) is.counts is.numbers sized is.have))
@@ -169,6 +170,9 @@ module _ (j : Joining) (whole : Grid) (tiles : List (List Band)) (make : MakeGri
         (some-heights tiles (tables-regions skip (all_tiles tiles) tables have) make.some));
     joined = rows-joined j whole 0 tiles (tile_widths tiles) is.counts is.numbers sized is.have is.many here;
   }
+
+  pub numbers-joined : numbers_of_tiles joined ≡ is.numbers
+  numbers-joined = rows-numbers j 0 tiles (tile_widths tiles) is.counts is.numbers sized is.have is.many
 
   listed : flat_map listed_sizes tables ≡ flat_map sizes_of_tile joined
   listed =
@@ -183,8 +187,7 @@ module _ (j : Joining) (whole : Grid) (tiles : List (List Band)) (make : MakeGri
   sizes-of-number own clumping n one =
       counts-in-tiles j whole own clumping whole.region.rows whole.region.cols joined are-joined (Some (pos n) ∷ [])
       ∙ tile-sizes j whole n (omega (arith, one)) joined are-joined.joined
-      ∙ ap (λ (l : List ℕ). size_of_area n l (flat_map sizes_of_tile joined))
-      (rows-numbers j 0 tiles (tile_widths tiles) is.counts is.numbers sized is.have is.many)
+      ∙ ap (λ (l : List ℕ). size_of_area n l (flat_map sizes_of_tile joined)) numbers-joined
       ∙ ap (size_of_area n is.numbers) (sym listed)
 
 pub sizes-of-the-grid : SizesOfTheGrid

@@ -25,7 +25,7 @@ use Rattle.rcell_grid_law.specs.TileRuns.{AreTileRuns, TileRun, all_runs, sides_
 
 module _ (script : Coming) (place : ℕ) where
   -- the tiles of all runs, row by row
-  all-tiles : (runs : List (List (TileRun script place)))
+  pub all-tiles : (runs : List (List (TileRun script place)))
       → all_tiles (tiles_of_runs runs) ≡ map tile_of_run (all_runs runs)
   all-tiles [] = refl
   all-tiles (row ∷ runs) =

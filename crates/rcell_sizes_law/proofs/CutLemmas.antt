@@ -20,7 +20,7 @@ some-long : (xs : List Position) (x : Position) → Contains xs x → 0 < length
 some-long [] x (i, lt, same) = absurd (omega (arith, lt))
 some-long (y ∷ xs) x there = omega arith
 
-number-within : (j : Joining) (m : Grid) (areas : ℕ) → HasAreas j m areas → (p : Position) (n : ℕ)
+pub number-within : (j : Joining) (m : Grid) (areas : ℕ) → HasAreas j m areas → (p : Position) (n : ℕ)
     → HasNumber j m p n → (0 < n) × (n ≤ areas)
 number-within j m areas has p n is =
     let some = some-long is.firsts is.first ((is.up_to.exactly is.first).1 (

@@ -10,6 +10,7 @@ use Rattle.std.proofs.lemmas.List.Elements.{All-cons, All-head, All-nil, All-tai
 use Rattle.cell_core_devices.specs.Device.{Coming}
 use Rattle.cell_core_values.specs.Region.{RegionValue}
 use Rattle.cell_core.specs.Grid.{CellValue, Grid}
+use Rattle.cell_core.specs.Shelf.{ShelfValue}
 use Rattle.cell_ascii_meaning.specs.GridText.{Denotes}
 use Rattle.cell_cats_areas.proofs.LawLemmas.{clumping_is_one}
 use Rattle.cell_cats_areas.specs.Areas.{IsClumping}
@@ -45,13 +46,14 @@ use Rattle.cell_tiles_areas_law.proofs.WholeLemmas.{have-edges}
 use Rattle.cell_tiles_areas_law.specs.WrittenBands.{IsEdgesTextOf}
 use Rattle.rcell_script_commands.specs.declared.command.StatsOptions.{StatsOptions}
 use Rattle.rcell_script.specs.ScriptLaw.{OneScript}
-use Rattle.rcell.specs.Output.{format_of}
+use Rattle.rcell.specs.Output.{IsOutput, format_of}
 use Rattle.rcell_areas_law.proofs.BandLemmas.{numbers-are, taken-is, texts-of-bands}
 use Rattle.rcell_sizes_law.proofs.CutLemmas.{numbers-good}
 use Rattle.rcell_sizes_law.proofs.TableLemmas.{entries-printed, run-counts, two-counted}
 use Rattle.rcell_areas_law.specs.BandRuns.{BandRun, MapRun, NumbersAreas, band_of_run, bands_of_runs, edges_texts}
 use Rattle.rcell_areas_law.specs.BandRuns.{written_text}
-use Rattle.rcell_sizes_law.specs.SizedBands.{CountsAreas, CountsBand, SizesAreThoseOfTheWhole, table_texts}
+use Rattle.rcell_sizes_law.specs.SizedBands.{CountsAreas, CountsBand, IsUndivided, SizesAreThoseOfTheWhole}
+use Rattle.rcell_sizes_law.specs.SizedBands.{table_texts}
 
 -- ---- bands are as wide as the whole
 
@@ -208,22 +210,47 @@ read-areas joining whole bands texts are rows short areas has few text written i
           ∙ ap (λ (l : List ℕ). record { stretches = stretches_of l numbers; fault = None }) (sym (areas-twice told));
     }
 
-pub sizes-are-those-of-the-whole : OneScript → SizesAreThoseOfTheWhole
-sizes-are-those-of-the-whole one script counting undivided names place joining options whole_options script_is
-    band_counts counts alike skips runs are short tables listed shelf whole is rows areas areas_written has sizes
-    sizes_written added text (after, output) =
-    let format = format_of options in
+-- sizes that are listed as the table of the undivided map are printed as the script does over it
+pub printed-as-whole : (undivided : Coming) (names : List (List ℕ)) (place : ℕ) (joining : Joining)
+    (options whole_options : StatsOptions) (counts : CountsAreas undivided names place joining whole_options)
+    → format_of whole_options ≡ format_of options → whole_options.skip ≡ AnyNull → (shelf : ShelfValue) (whole : Grid)
+    → IsUndivided shelf names place joining whole → (sizes : List ℕ)
+    → ((numbered : Grid) → IsClumping joining whole numbered
+    → IsTable AnyNull (cells_of numbered whole.region.rows whole.region.cols) (number_entries 1 sizes))
+    → (text : List ℕ) → IsOutput shelf (counts.clump ∷ counts.stats ∷ []) text
+    → entries_text (format_of options) (number_entries 1 sizes) ≡ text
+printed-as-whole undivided names place joining options whole_options counts alike skips shelf whole is sizes lists text
+    (after, output) =
     let maps = shelf.maps in
-    let bands = bands_of_runs runs in
     let n = length names in
-    let cols = whole.region.cols in
     let counted = two-counted shelf place n joining counts.target whole_options (sym is.many) counts.clump counts.stats
     counts.clumps counts.prints text after output in
     let numbered = counted.made in
     let map_is : counted.map ≡ whole = same_Some counted.map whole (sym counted.there ∙ is.there) in
     let clumping = subst (λ (m : Grid). IsClumping joining m numbered) map_is counted.numbers.clumping in
+    let entries : number_entries 1 sizes ≡ table_of whole_options.skip
+    (cells_of numbered shelf.region.rows shelf.region.cols) =
+    table_is AnyNull (cells_of numbered whole.region.rows whole.region.cols) (number_entries 1 sizes)
+    (lists numbered clumping)
+    ∙ ap (λ (e : RegionValue). table_of AnyNull (cells_of numbered e.rows e.cols)) is.region
+    ∙ ap (λ (s : Skip). table_of s (cells_of numbered shelf.region.rows shelf.region.cols)) (sym skips) in
+    ap (λ (f : FormatValue). entries_text f (number_entries 1 sizes)) (sym alike)
+    ∙ sym (entries-printed (format_of whole_options) n counts.prints.readable (maps ++ numbered ∷ [])
+    (number_entries 1 sizes) (entries-wide 1 sizes))
+    ∙ ap (table_text (format_of whole_options) (maps ++ numbered ∷ []) (n ∷ [])) entries
+    ∙ sym counted.prints
+
+pub sizes-are-those-of-the-whole : OneScript → SizesAreThoseOfTheWhole
+sizes-are-those-of-the-whole one script counting undivided names place joining options whole_options script_is
+    band_counts counts alike skips runs are short tables listed shelf whole is rows areas areas_written has sizes
+    sizes_written added text output =
+    let bands = bands_of_runs runs in
+    let cols = whole.region.cols in
     let read = bands-read one script counting names place joining options script_is band_counts cols runs are.named
     tables listed (subst (λ (l : List (List CellValue)). All (IsWide cols) l) rows is.filled.width) in
+    taken-is (entries_text (format_of options) (number_entries 1 added.sizes)) sizes added.taken
+    ∙ printed-as-whole undivided names place joining options whole_options counts alike skips shelf whole is added.sizes
+    (λ numbered clumping.
     let own = has-areas joining whole numbered clumping in
     let most = greatest_of 0 numbered.rows in
     let told = read-areas joining whole bands (edges_texts runs)
@@ -234,17 +261,6 @@ sizes-are-those-of-the-whole one script counting undivided names place joining o
     subst (λ (r : AreasReading). HaveSizes r (map table_read read.tables) added.sizes) told.read
     (subst (λ (l : List TableReading). HaveSizes (areas_reading_of (written_text areas)) l added.sizes) read.read
     added.have) in
-    let table : IsTable AnyNull (cells_of numbered whole.region.rows cols) (number_entries 1 added.sizes) =
     sizes-of-the-whole joining whole bands told.edges told.cut is.filled options.skip read.tables read.are
-    told.numbers told.many told.join added.sizes have numbered clumping in
-    let entries : number_entries 1 added.sizes ≡ table_of whole_options.skip
-    (cells_of numbered shelf.region.rows shelf.region.cols) =
-    table_is AnyNull (cells_of numbered whole.region.rows cols) (number_entries 1 added.sizes) table
-    ∙ ap (λ (e : RegionValue). table_of AnyNull (cells_of numbered e.rows e.cols)) is.region
-    ∙ ap (λ (s : Skip). table_of s (cells_of numbered shelf.region.rows shelf.region.cols)) (sym skips) in
-    taken-is (entries_text format (number_entries 1 added.sizes)) sizes added.taken
-    ∙ ap (λ (f : FormatValue). entries_text f (number_entries 1 added.sizes)) (sym alike)
-    ∙ sym (entries-printed (format_of whole_options) n counts.prints.readable (maps ++ numbered ∷ [])
-    (number_entries 1 added.sizes) (entries-wide 1 added.sizes))
-    ∙ ap (table_text (format_of whole_options) (maps ++ numbered ∷ []) (n ∷ [])) entries
-    ∙ sym counted.prints
+    told.numbers told.many told.join added.sizes have numbered clumping)
+    text output

@@ -1,0 +1,3 @@
+-- Lemmas on runs that count the cells of the areas of tiles.
+pub mod NumberLemmas
+pub mod SizeLemmas

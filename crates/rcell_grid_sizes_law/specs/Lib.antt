@@ -1,0 +1,2 @@
+-- Sizes of the areas of tiles that runs counted.
+pub mod SizedTiles
