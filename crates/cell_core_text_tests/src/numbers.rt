@@ -1,5 +1,6 @@
 //! Digits and whole numbers.
 
+use crate::assertions::{assert_holds, assert_same};
 use cell_core_text::whole_numbers::{
     WholeFault, are_digits, is_digit, is_in_range, read_whole, value_of_digits, whole_in_range,
     whole_number,
@@ -37,9 +38,9 @@ const NUMBERS: [(&[u8], Result<i32, WholeFault>); 22] = [
 #[test]
 fn reads_whole_numbers(rt: HostRuntime) -> Result<(), Fail> {
     for (text, wanted) in &NUMBERS {
-        assert!(rt; read_whole(*text) == *wanted, "the text {text:?}");
-        assert_eq!(rt; whole_in_range(*text), wanted.ok(), "the text {text:?}");
-        assert_eq!(rt;
+        assert_holds!(rt; read_whole(*text) == *wanted, "the text {text:?}");
+        assert_same!(rt; whole_in_range(*text), wanted.ok(), "the text {text:?}");
+        assert_same!(rt;
             whole_number(*text).is_some(),
             *wanted != Err(WholeFault::NotWhole),
             "the text {text:?}"
@@ -51,7 +52,7 @@ fn reads_whole_numbers(rt: HostRuntime) -> Result<(), Fail> {
 #[test]
 fn ten_bytes_are_digits(rt: HostRuntime) {
     for byte in 0..=255u8 {
-        assert_eq!(rt;
+        assert_same!(rt;
             is_digit(byte),
             b"0123456789".contains(&byte),
             "the byte {byte}"
@@ -69,16 +70,16 @@ fn values_stop_at_a_bound(rt: HostRuntime) -> Result<(), Fail> {
         (b"1000000000000000000", 1000000000000000000),
         (b"18446744073709551617", 1000000000000000000),
     ];
-    for (digits, wanted) in table {
-        assert!(rt; are_digits(digits), "the text {digits:?}");
-        assert_eq!(rt; value_of_digits(digits), wanted, "the text {digits:?}");
+    for &(digits, wanted) in &table {
+        assert_holds!(rt; are_digits(digits), "the text {digits:?}");
+        assert_same!(rt; value_of_digits(digits), wanted, "the text {digits:?}");
     }
-    assert!(rt; !are_digits(b"12a"));
-    assert_eq!(rt;
+    assert_holds!(rt; !are_digits(b"12a"));
+    assert_same!(rt;
         whole_number(b"-18446744073709551617"),
         Some(-1000000000000000000)
     );
-    assert!(rt; is_in_range(-2147483647) && is_in_range(2147483647));
-    assert!(rt; !is_in_range(-2147483648) && !is_in_range(2147483648));
+    assert_holds!(rt; is_in_range(-2147483647) && is_in_range(2147483647));
+    assert_holds!(rt; !is_in_range(-2147483648) && !is_in_range(2147483648));
     Ok(())
 }

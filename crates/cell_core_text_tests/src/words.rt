@@ -1,5 +1,6 @@
 //! Blanks, words, parts and pairs.
 
+use crate::assertions::{assert_holds, assert_same};
 use cell_core_text::blanks::{after_blanks, around_blank, is_blank, trimmed_text};
 use cell_core_text::words::{list_words_of, pair_of, parts_of, words_of};
 use std::alloc::AllocGlobal;
@@ -9,7 +10,7 @@ use std::test::Fail;
 #[test]
 fn three_bytes_are_blanks(rt: HostRuntime) {
     for byte in 0..=255u8 {
-        assert_eq!(rt; is_blank(byte), b" \t\r".contains(&byte), "the byte {byte}");
+        assert_same!(rt; is_blank(byte), b" \t\r".contains(&byte), "the byte {byte}");
     }
 }
 
@@ -24,9 +25,9 @@ fn takes_blanks_from_both_ends(rt: HostRuntime) -> Result<(), Fail> {
         (b"\x0ba\x0c ", b"\x0ba\x0c ", b"\x0ba\x0c"),
         (b" a\n ", b"a\n ", b"a\n"),
     ];
-    for (text, after, wanted) in table {
-        assert_eq!(rt; after_blanks(text), after, "the text {text:?}");
-        assert_eq!(rt; trimmed_text(text), wanted, "the text {text:?}");
+    for &(text, after, wanted) in &table {
+        assert_same!(rt; after_blanks(text), after, "the text {text:?}");
+        assert_same!(rt; trimmed_text(text), wanted, "the text {text:?}");
     }
     Ok(())
 }
@@ -41,8 +42,8 @@ fn cuts_at_the_first_blank(rt: HostRuntime) -> Result<(), Fail> {
         (b" 7", b"", b"7"),
         (b"", b"", b""),
     ];
-    for (text, before, after) in table {
-        assert!(rt; around_blank(text) == (before, after), "the text {text:?}");
+    for &(text, before, after) in &table {
+        assert_holds!(rt; around_blank(text) == (before, after), "the text {text:?}");
     }
     Ok(())
 }
@@ -57,14 +58,14 @@ fn cuts_at_the_first_equals_sign(rt: HostRuntime) -> Result<(), Fail> {
         (b"a", None),
         (b"", None),
     ];
-    for (text, wanted) in table {
-        assert!(rt; pair_of(text) == wanted, "the text {text:?}");
+    for &(text, wanted) in &table {
+        assert_holds!(rt; pair_of(text) == wanted, "the text {text:?}");
     }
     Ok(())
 }
 
 fn expect<R: Abort + AllocGlobal>(rt: &R, found: &[&[u8]], wanted: &[&[u8]], text: &[u8]) {
-    assert!(rt; found == wanted, "the text {text:?}");
+    assert_holds!(rt; found == wanted, "the text {text:?}");
 }
 
 #[test]

@@ -8,6 +8,7 @@ use cell_tiles_joining::edges::BandEdges;
 use cell_tiles_joining::joining::join_bands;
 use cell_tiles_numbering::stretch::Stretch;
 use std::alloc::{AllocGlobal, Global};
+use std::process::Abort;
 use std::test::Fail;
 
 // How many rows a band has at most.
@@ -27,7 +28,21 @@ fn below(seed: &mut u64, bound: u64) -> u64 {
     (*seed >> 33) % bound.max(1)
 }
 
-// The edges of a random band: of so many kinds of cells, nulls among them.
+// Random cells of so many kinds, nulls among them.
+fn cells_by(alloc: Global, seed: &mut u64, count: u64, kinds: u64) -> Result<Vec<i32>, Fail> {
+    let mut cells = Vec::new(alloc);
+    for _ in 0..count {
+        let kind = below(seed, kinds);
+        cells.push(if kind == 3 {
+            NULL
+        } else {
+            i32::try_from(kind).unwrap_or(0)
+        })?;
+    }
+    Ok(cells)
+}
+
+// The edges of a random band.
 fn band_by(
     alloc: Global,
     seed: &mut u64,
@@ -36,15 +51,7 @@ fn band_by(
     joining: Joining,
 ) -> Result<BandEdges, Fail> {
     let rows = below(seed, HEIGHT).saturating_add(1);
-    let mut cells = Vec::new(alloc);
-    for _ in 0..rows.saturating_mul(cols) {
-        let kind = below(seed, kinds);
-        cells.push(if kind == 3 {
-            NULL
-        } else {
-            i32::try_from(kind).unwrap_or(0)
-        })?;
-    }
+    let cells = cells_by(alloc, seed, rows.saturating_mul(cols), kinds)?;
     let cols = u32::try_from(cols).unwrap_or(1);
     let map = map_of(alloc, &cells, cols.max(1))?.ok_or("no map")?;
     let (_, edges) = clump_band(alloc, &map, joining)?;
@@ -66,6 +73,26 @@ fn bands_by(
     Ok(bands)
 }
 
+// Adds an area of a band with its number: it goes on with the last stretch, or begins another.
+fn add_area(found: &mut Vec<Stretch>, band: u64, area: u64, number: u64) -> Result<(), Fail> {
+    let next = match found.last() {
+        Some(last) if last.band == band => {
+            last.number.saturating_add(area).saturating_sub(last.first) == number
+        }
+        _ => false,
+    };
+    match found.last_mut() {
+        Some(last) if next => last.last = area,
+        _ => found.push(Stretch {
+            band,
+            first: area,
+            last: area,
+            number,
+        })?,
+    }
+    Ok(())
+}
+
 // The stretches of numbers, of bands that have so many areas.
 fn stretches_by(alloc: Global, bands: &[BandEdges], numbers: &[u64]) -> Result<Vec<Stretch>, Fail> {
     let mut found: Vec<Stretch> = Vec::new(alloc);
@@ -73,23 +100,8 @@ fn stretches_by(alloc: Global, bands: &[BandEdges], numbers: &[u64]) -> Result<V
     for (place, band) in bands.iter().enumerate() {
         let band_number = (place as u64).saturating_add(1);
         for area in 0..band.areas {
-            let area = area.saturating_add(1);
             let number = *numbers.next().ok_or("too few numbers")?;
-            let next = match found.last() {
-                Some(last) if last.band == band_number => {
-                    last.number.saturating_add(area).saturating_sub(last.first) == number
-                }
-                _ => false,
-            };
-            match found.last_mut() {
-                Some(last) if next => last.last = area,
-                _ => found.push(Stretch {
-                    band: band_number,
-                    first: area,
-                    last: area,
-                    number,
-                })?,
-            }
+            add_area(&mut found, band_number, area.saturating_add(1), number)?;
         }
     }
     Ok(found)
@@ -108,19 +120,30 @@ fn join_at_cuts(
     Ok(joiner.finish(alloc)?)
 }
 
+// Random bands have the same stretches, joined one after another as joined all at once.
+fn expect_same_stretches<R: Abort + AllocGlobal>(
+    rt: &R,
+    seed: u64,
+    joining: Joining,
+) -> Result<(), Fail> {
+    let alloc = rt.alloc();
+    let bands = bands_by(alloc, seed, seed % 4 + 1, joining)?;
+    let joined = join_bands(alloc, joining, &bands)?;
+    let expected = stretches_by(alloc, &bands, &joined.numbers)?;
+    let found = join_at_cuts(alloc, bands, joining)?;
+    assert_eq!(rt;
+        (found.stretches.as_slice(), found.areas),
+        (expected.as_slice(), joined.areas),
+        "seed {seed}, {joining:?}"
+    );
+    Ok(())
+}
+
 #[test]
 fn random_bands_have_the_same_stretches(rt: HostRuntime) -> Result<(), Fail> {
-    let alloc = rt.alloc();
     for seed in 0..400u64 {
-        let kinds = seed % 4 + 1;
-        for joining in [Joining::Edges, Joining::EdgesAndCorners] {
-            let bands = bands_by(alloc, seed, kinds, joining)?;
-            let joined = join_bands(alloc, joining, &bands)?;
-            let expected = stretches_by(alloc, &bands, &joined.numbers)?;
-            let found = join_at_cuts(alloc, bands, joining)?;
-            assert_eq!(rt; found.stretches, expected, "seed {seed}, {joining:?}");
-            assert_eq!(rt; found.areas, joined.areas);
-        }
+        expect_same_stretches(&rt, seed, Joining::Edges)?;
+        expect_same_stretches(&rt, seed, Joining::EdgesAndCorners)?;
     }
     Ok(())
 }

@@ -1,5 +1,6 @@
 //! Shapes that cross the cuts between tiles: what joins only far away is one area.
 
+use crate::assertions::assert_same;
 use crate::random::expect_as_whole;
 use crate::tiles::{Whole, joined_numbers};
 use cell_cats_areas::clump::Joining;
@@ -65,7 +66,7 @@ fn four_tiles_meet_at_a_crossing(rt: HostRuntime) -> Result<(), Fail> {
         cols: 2,
     };
     let edges = joined_numbers(rt.alloc(), whole, &[1, 1], &[1, 1], Joining::Edges)?;
-    assert_eq!(rt; edges.0.as_slice(), [1, 2, 3, 4].as_slice());
+    assert_same!(rt; edges.0.as_slice(), [1, 2, 3, 4].as_slice());
     let corners = joined_numbers(
         rt.alloc(),
         whole,
@@ -73,8 +74,7 @@ fn four_tiles_meet_at_a_crossing(rt: HostRuntime) -> Result<(), Fail> {
         &[1, 1],
         Joining::EdgesAndCorners,
     )?;
-    assert_eq!(rt; corners.0.as_slice(), [1, 2, 2, 1].as_slice());
-    assert_eq!(rt; corners.1, 2);
+    assert_same!(rt; (corners.0.as_slice(), corners.1), ([1, 2, 2, 1].as_slice(), 2));
     Ok(())
 }
 
@@ -85,6 +85,6 @@ fn areas_are_numbered_by_rows_and_not_by_tiles(rt: HostRuntime) -> Result<(), Fa
         cols: 2,
     };
     let joined = joined_numbers(rt.alloc(), whole, &[2], &[1, 1], Joining::Edges)?;
-    assert_eq!(rt; joined.0.as_slice(), [1, 2, 3, 4].as_slice());
+    assert_same!(rt; joined.0.as_slice(), [1, 2, 3, 4].as_slice());
     Ok(())
 }

@@ -2,6 +2,7 @@
 
 ghost use Rattle.std.specs.Prelude.{◌<◌};
 
+use crate::assertions::assert_same;
 use cell_cats_areas::clump::{Joining, clump_with};
 use cell_core_test_maps::maps::{NULL, categories_of, map_of};
 use cell_tiles_grid::grid::join_grid;
@@ -64,6 +65,29 @@ fn tile_of(
     Ok((sides, categories_of(alloc, &clumps)?))
 }
 
+// The sides of the tile of these categories at a place, and the tile by its numbers.
+fn numbered_tile(
+    alloc: Global,
+    categories: &[i32],
+    top: u32,
+    left: u32,
+    cols: u32,
+    joining: Joining,
+) -> Result<(TileSides, Numbered), Fail>
+    requires { 0 < cols }
+{
+    let (sides, numbers) = tile_of(alloc, categories, cols, joining)?;
+    let areas = sides.starts.len();
+    let tile = Numbered {
+        numbers,
+        top,
+        left,
+        cols,
+        areas,
+    };
+    Ok((sides, tile))
+}
+
 // The sides of the tiles of a row of tiles, whose numbers go behind those of the others.
 fn row_of_tiles(
     alloc: Global,
@@ -77,21 +101,13 @@ fn row_of_tiles(
     let mut tiles = Vec::new(alloc);
     let mut left: u32 = 0;
     for width in widths {
-        let cols = *width;
-        if cols > 0 {
-            let cells = cut_out(alloc, whole, top, left, rows, cols)?;
-            let (sides, numbers) = tile_of(alloc, &cells, cols, joining)?;
-            let areas = sides.starts.len();
+        if *width > 0 {
+            let cells = cut_out(alloc, whole, top, left, rows, *width)?;
+            let (sides, tile) = numbered_tile(alloc, &cells, top, left, *width, joining)?;
             tiles.push(sides)?;
-            numbered.push(Numbered {
-                numbers,
-                top,
-                left,
-                cols,
-                areas,
-            })?;
+            numbered.push(tile)?;
         }
-        left = left.saturating_add(cols);
+        left = left.saturating_add(*width);
     }
     Ok(tiles)
 }
@@ -185,11 +201,10 @@ pub(crate) fn expect_numbers<R: Abort + AllocGlobal>(
     let joined = joined_numbers(rt.alloc(), whole, heights, widths, joining)?;
     let categories = whole.categories;
     let cols = whole.cols;
-    assert_eq!(rt;
-        joined.0,
-        wanted.0,
+    assert_same!(rt;
+        joined,
+        *wanted,
         "the areas of {categories:?}, {cols} columns, tiles of {heights:?} by {widths:?}, {joining:?}"
     );
-    assert_eq!(rt; joined.1, wanted.1);
     Ok(())
 }

@@ -1,0 +1,46 @@
+//! `assert_same!` and `assert_holds!` are `assert_eq!` and `assert!` by a call: the comparison and its message are
+//! proved once, and not at each place.
+
+ghost use Rattle.std.specs.Prelude.{◌≡◌, true};
+
+use std::fmt::{Debug, Display};
+use std::process::Abort;
+
+/// What was found is what was wanted.
+pub(crate) fn same<R: Abort, N: Display + Drop, T: PartialEq + Debug>(
+    rt: &R,
+    note: N,
+    found: &T,
+    wanted: &T,
+) {
+    assert_eq!(rt; *found, *wanted, "{note}");
+}
+
+macro_rules! assert_same {
+    ($rt:expr; $found:expr, $wanted:expr $(,)?) => {
+        crate::assertions::same(&$rt, stringify!($found), &$found, &$wanted)
+    };
+    ($rt:expr; $found:expr, $wanted:expr, $($note:tt)+) => {
+        crate::assertions::same(&$rt, format_args!($($note)+), &$found, &$wanted)
+    };
+}
+
+pub(crate) use assert_same;
+
+/// What is asserted is true.
+pub(crate) fn holds<R: Abort, N: Display + Drop>(rt: &R, note: N, truth: bool)
+    ensures { truth ≡ true }
+{
+    assert!(rt; truth, "{note}");
+}
+
+macro_rules! assert_holds {
+    ($rt:expr; $truth:expr $(,)?) => {
+        crate::assertions::holds(&$rt, stringify!($truth), $truth)
+    };
+    ($rt:expr; $truth:expr, $($note:tt)+) => {
+        crate::assertions::holds(&$rt, format_args!($($note)+), $truth)
+    };
+}
+
+pub(crate) use assert_holds;
