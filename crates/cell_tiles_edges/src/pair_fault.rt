@@ -94,16 +94,39 @@ fn pair_fault(most: u64, cell: Cell, number: Cell) -> Option<PairKind>
     }
 }
 
+// The same, where another cell and its number go together: where a run goes on, they are those before.
+fn fault_behind(
+    most: u64,
+    cell: Cell,
+    number: Cell,
+    fit_cell: Cell,
+    fit_number: Cell,
+) -> Option<PairKind>
+    requires { pair_fault most fit_cell fit_number ≡ None }
+    ensures { result ≡ pair_fault most cell number }
+{
+    if cell == fit_cell && number == fit_number {
+        return None;
+    }
+    pair_fault(most, cell, number)
+}
+
 /// The first column where the cells of two rows do not go together, and why.
 pub fn first_of_rows(most: u64, cells: &[Cell], numbers: &[Cell]) -> Option<(usize, PairKind)>
     ensures none { IfNone result (AreRowsFit most cells.now numbers.now) }
     ensures some { IfSome result (λ found. IsFirstPair most cells.now numbers.now found.0 found.1) }
 {
+    let mut fit_cell = Cell::null();
+    let mut fit_number = Cell::null();
     for col in 0..cells.len() {
-        let fault = pair_fault(most, cell_at(cells, col), cell_at(numbers, col));
+        let cell = cells[col];
+        let number = cell_at(numbers, col);
+        let fault = fault_behind(most, cell, number, fit_cell, fit_number);
         if let Some(kind) = fault {
             return Some((col, kind));
         }
+        fit_cell = cell;
+        fit_number = number;
     }
     None
 }

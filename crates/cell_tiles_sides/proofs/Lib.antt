@@ -4,6 +4,7 @@ pub mod FirstLemmas
 pub mod WrittenLemmas
 pub mod RowLemmas
 pub mod StartLemmas
+pub mod StretchLemmas
 pub mod TellLemmas
 pub mod TileLemmas
 pub mod GridLemmas

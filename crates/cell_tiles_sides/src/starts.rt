@@ -1,10 +1,11 @@
 //! Where the numbers of a map first occur.
 
-ghost use Rattle.std.specs.Prelude.{◌≡◌, ◌<◌, ◌+◌, None, true, false, IfErr, IfOk, IfSome, map};
+ghost use Rattle.std.specs.Prelude.{◌≡◌, ◌<◌, ◌+◌, None, true, false, IfErr, IfOk, IfSome, length, map};
+ghost use Rattle.cell_core_values.specs.Region.{IsRegion};
 ghost use Rattle.cell_cats_areas.specs.parts.CellPlaces.{position};
 ghost use Rattle.cell_tiles_grid.specs.Grids.{start_position};
 ghost use Rattle.cell_tiles_sides.specs.FirstNumbers.{AreStarts, IsFirstOutOfOrder};
-ghost use Rattle.cell_tiles_sides.specs.parts.Passed.{AreStartsBefore, IsWrongOrder, number_of};
+ghost use Rattle.cell_tiles_sides.specs.parts.Passed.{AreStartsBefore, IsNumberPassed, IsWrongOrder, number_of};
 
 use crate::cell_place::CellPlace;
 use crate::tile_fault::TileFault;
@@ -14,6 +15,13 @@ use cell_core::memory::Memory;
 use cell_tiles_edges::edges_text::map_is_filled;
 use cell_tiles_grid::sides::AreaStart;
 use std::alloc::Global;
+
+// Says that the region of a map is one. Does nothing.
+pub(crate) fn map_has_region(map: &CellMap)
+    ensures { IsRegion map.now.region }
+{
+    let _ = map.region().cols();
+}
 
 // The number of a cell, 0 where it has none above 0.
 fn number_of(cell: Cell) -> u64
@@ -28,23 +36,14 @@ fn number_of(cell: Cell) -> u64
     }
 }
 
-// Puts a cell that has the next number behind the first cells so far. Whether its number is in order.
-fn add_start(
-    starts: &mut Vec<AreaStart>,
-    numbers: &CellMap,
-    row: u32,
-    col: u32,
-) -> Result<bool, Memory>
-    requires row { row < numbers.now.region.rows }
-    requires col { col < numbers.now.region.cols }
-    requires before { AreStartsBefore numbers.now (position row col)
-        (map start_position starts.old.items) }
-    ensures right { IfOk result (λ right. right ≡ true → AreStartsBefore numbers.now
-        (position row (col + 1)) (map start_position starts.new.items)) }
+// Puts a place behind the first cells so far, if the cell there has the next number. Whether its number is in order.
+fn add_start(starts: &mut Vec<AreaStart>, place: AreaStart, cell: Cell) -> Result<bool, Memory>
+    ensures right { IfOk result (λ right. right ≡ true
+        → IsNumberPassed (number_of cell) place starts.old.items starts.new.items) }
     ensures wrong { IfOk result (λ right. right ≡ false
-        → IsFirstOutOfOrder numbers.now (position row col)) }
+        → length starts.old.items + 1 < number_of cell) }
 {
-    let number = number_of(numbers.cell(row, col));
+    let number = number_of(cell);
     let count = starts.len() as u64;
     if number <= count {
         return Ok(true);
@@ -52,11 +51,12 @@ fn add_start(
     if 1 < number - count {
         return Ok(false);
     }
-    starts.push(AreaStart { row, col })?;
+    starts.push(place)?;
     Ok(true)
 }
 
-// Puts the cells of a row that have a new number behind the first cells so far, up to one whose number is out of order.
+// Puts the cells of a row that have a new number behind the first cells so far, up to one whose number is out of order. In a
+// stretch only the first cell can be one of them.
 fn add_row_starts(
     starts: &mut Vec<AreaStart>,
     numbers: &CellMap,
@@ -70,11 +70,14 @@ fn add_row_starts(
     ensures some { IfOk result (λ found. IfSome found
         (λ col. IsFirstOutOfOrder numbers.now (position row col))) }
 {
-    for col in 0..numbers.region().cols() {
-        let right = add_start(starts, numbers, row, col)?;
+    map_has_region(numbers);
+    let mut col = 0;
+    for (cell, count) in numbers.stretches(row) {
+        let right = add_start(starts, AreaStart { row, col }, cell)?;
         if !right {
             return Ok(Some(col));
         }
+        col += count;
     }
     Ok(None)
 }

@@ -2,7 +2,6 @@
 
 ghost use Rattle.std.specs.Prelude.{◌≡◌, ◌≢◌, ◌↔◌, true, None, Some, IfErr, IfOk, IfSome, IsTrue};
 ghost use Rattle.cell_core_devices.specs.Device.{has_failed};
-ghost use Rattle.cell_core_values.specs.Region.{IsRegion};
 ghost use Rattle.cell_tiles_edges.specs.EdgesFaults.{most_areas};
 ghost use Rattle.cell_tiles_edges.specs.PairFaults.{AreMapsFit};
 ghost use Rattle.cell_tiles_edges.specs.WrittenEdges.{band_of};
@@ -10,7 +9,7 @@ ghost use Rattle.cell_tiles_sides.specs.WrittenSides.{AreSidesCut, AreSidesOf, A
 ghost use Rattle.cell_tiles_sides.specs.parts.MadeSides.{IsMapOfTexts, IsMapOfSides, of_tile_text, of_numbers_text};
 ghost use Rattle.cell_tiles_sides.specs.parts.Passed.{IsWrongOrder};
 
-use crate::starts::starts_of;
+use crate::starts::{map_has_region, starts_of};
 use crate::tile_fault::TileFault;
 use cell_ascii::grid_fault::{GridFault, GridKind};
 use cell_ascii::grid_reader::read_map;
@@ -75,13 +74,6 @@ fn sides_of(alloc: Global, map: &CellMap, numbers: &CellMap) -> Result<TileSides
         right: column_side(alloc, map, numbers, last_col)?,
         starts,
     })
-}
-
-// Says that the region of a map is one. Does nothing.
-fn map_has_region(map: &CellMap)
-    ensures { IsRegion map.now.region }
-{
-    let _ = map.region().cols();
 }
 
 // The map of the sides of a map and its numbers, of which each cell and its number go together.
