@@ -6,7 +6,8 @@ use cell_stats::format::Format;
 use cell_tiles_labels::label_fault::LabelFault;
 use cell_tiles_labels::label_joining::{LabelOutcome, join_labelled_texts};
 use cell_tiles_texts::join_fault::JoinFault;
-use std::alloc::{AllocError, Global};
+use std::alloc::{AllocError, AllocGlobal, Global};
+use std::process::Abort;
 use std::test::Fail;
 
 // How many bytes a sink has room for.
@@ -52,16 +53,25 @@ fn other_labels(outcome: &LabelOutcome) -> Option<(usize, usize, u64, &[u8], &[u
     }
 }
 
-#[test]
-fn labels_are_carried(rt: HostRuntime) -> Result<(), Fail> {
+// The table of two texts that label the same, and of one that is empty.
+const CARRIED: &[u8] = b"1;forest;12\n2;lake;1\n3;;2\n*;no data;4\n";
+
+fn expect_carried<R: Abort + AllocGlobal>(rt: &R, piece: usize) -> Result<(), Fail> {
     let north = b"1;forest;5\n3;;2\n*;no data;4\n".as_slice();
     let south = b"1;forest;7\n2;lake;1\n".as_slice();
+    let mut out = MemorySink::new(vec![in rt.alloc(); 0u8; ROOM]?, 4096, false);
+    let outcome = join(rt.alloc(), &[north, south, b""], piece, &mut out)?;
+    assert_eq!(rt;
+        (outcome.fault.is_none(), outcome.written, out.bytes()),
+        (true, CARRIED.len() as u64, CARRIED)
+    );
+    Ok(())
+}
+
+#[test]
+fn labels_are_carried(rt: HostRuntime) -> Result<(), Fail> {
     for piece in [1, 2, 3, 7, 4096] {
-        let mut out = MemorySink::new(vec![in rt.alloc(); 0u8; ROOM]?, 4096, false);
-        let outcome = join(rt.alloc(), &[north, south, b""], piece, &mut out)?;
-        assert!(rt; outcome.fault.is_none());
-        assert!(rt; out.bytes() == b"1;forest;12\n2;lake;1\n3;;2\n*;no data;4\n".as_slice());
-        assert!(rt; outcome.written == out.bytes().len() as u64);
+        expect_carried(&rt, piece)?;
     }
     Ok(())
 }
@@ -80,8 +90,11 @@ fn other_labels_are_told_with_their_line(rt: HostRuntime) -> Result<(), Fail> {
         b"2;lake;5;clay;".as_slice(),
         b"2;lake;5;loam;".as_slice(),
     );
-    assert!(rt; other_labels(&outcome) == Some(wanted), "{outcome:?}");
-    assert!(rt; out.bytes() == b"1;forest;5;clay;13\n".as_slice());
+    assert_eq!(rt;
+        (other_labels(&outcome), out.bytes()),
+        (Some(wanted), b"1;forest;5;clay;13\n".as_slice()),
+        "{outcome:?}"
+    );
     Ok(())
 }
 
@@ -108,7 +121,10 @@ fn a_full_sink_is_told(rt: HostRuntime) -> Result<(), Fail> {
         Some(LabelFault::Join(JoinFault::Write)) => true,
         _ => false,
     };
-    assert!(rt; failed, "{outcome:?}");
-    assert!(rt; out.bytes() == b"1;forest".as_slice());
+    assert_eq!(rt;
+        (failed, out.bytes()),
+        (true, b"1;forest".as_slice()),
+        "{outcome:?}"
+    );
     Ok(())
 }
