@@ -4,11 +4,12 @@ use Rattle.std.proofs.Common.{get_or, Some, refl}
 use Rattle.std.proofs.Common.{ap, sym, ◌∙◌, subst, arith}
 use Rattle.std.specs.Prelude.{All, slice_get, sum}
 use Rattle.std.specs.List.{AllZip}
-use Rattle.std.proofs.lemmas.List.Elements.{All-append, All-get_or, All-head, All-nil}
+use Rattle.std.proofs.lemmas.List.Elements.{All-append, All-get_or, All-head, All-nil, All-tail}
 use Rattle.std.proofs.lemmas.List.Sums.{sum_by-cons}
 use Rattle.cell_core.specs.Grid.{CellValue, Grid, IsFilled}
 use Rattle.cell_cats_areas.specs.declared.clump.Joining.{Joining}
 use Rattle.cell_cats_areas.specs.Areas.{IsClumping}
+use Rattle.cell_cats_areas_law.specs.ExistsLaw.{ClumpingExists}
 use Rattle.cell_stats_combinations.specs.declared.skip.Skip.{Skip}
 use Rattle.cell_stats.specs.CategoryTables.{IsTable, Pairs}
 use Rattle.cell_cats_law.specs.AreaLaw.{cells_of}
@@ -22,7 +23,7 @@ use Rattle.cell_tiles_joining_law.specs.TileSizes.{AreJoinedTiles, IsTileTable, 
 use Rattle.cell_tiles_joining_law.specs.TileSizes.{sizes_of_tile}
 use Rattle.cell_tiles_joining_law.proofs.TileSizeLemmas.{counts-in-tiles, tile-sizes, tile-tables-list}
 use Rattle.cell_tiles_grid.specs.Grids.{tile_place}
-use Rattle.cell_tiles_sizes_law.proofs.WholeLemmas.{sizes-are-listed, table-some, tally-of}
+use Rattle.cell_tiles_sizes_law.proofs.WholeLemmas.{has-size, sizes-are-listed, table-some, tally-of}
 use Rattle.cell_tiles_grid_areas_law.specs.TileGrids.{MakeGrid, all_tiles, row_height, rows_of_tiles, tile_heights}
 use Rattle.cell_tiles_grid_areas_law.specs.TileGrids.{tile_regions, tile_widths}
 use Rattle.cell_tiles_grid_areas_law.specs.WrittenTiles.{IsAreasTextOfGrid, IsNumberedTile, all_counts}
@@ -30,6 +31,7 @@ use Rattle.cell_tiles_grid_areas_law.specs.WrittenTiles.{earlier_areas}
 use Rattle.cell_tiles_grid_areas_law.proofs.GlueLemmas.{AreSized, is-tile, tiles-long, tiles-wide}
 use Rattle.cell_tiles_grid_areas_law.proofs.PlaceLemmas.{got, one-of, row-of-all, zip-right}
 use Rattle.cell_tiles_grid_areas_law.proofs.SizedLemmas.{Each, IsFilledTile, IsTileOfRegion, grid-sized, some-heights}
+use Rattle.cell_tiles_grid_sizes_law.specs.AllGridNumbers.{IsTileMap, NoNumberOfTilesIsLeftOut}
 use Rattle.cell_tiles_grid_sizes_law.specs.GridSizes.{HasTileTable, SizesOfTheGrid}
 use Rattle.cell_tiles_grid_sizes_law.proofs.JoinLemmas.{AreRowsHere, IsJoinedOf, join-rows, rows-joined, rows-numbers}
 use Rattle.cell_tiles_grid_sizes_law.proofs.JoinLemmas.{rows-of, rows-places, tile-as}
@@ -115,11 +117,10 @@ cover whole (row ∷ tiles) rows filled sized some =
 
 module _ (j : Joining) (whole : Grid) (tiles : List (List Band)) (make : MakeGrid (tile_regions tiles))
     (rows : whole.rows ≡ rows_of_tiles tiles) (filled : IsFilled whole.region whole.rows)
-    (numbered : All (IsNumberedTile j) (all_tiles tiles)) (skip : Skip) (tables : List Pairs)
-    (have : AllZip (HasTileTable skip) (all_tiles tiles) tables) (text : List ℕ)
-    (is : IsAreasTextOfGrid j whole tiles text) where
+    (numbered : All (IsNumberedTile j) (all_tiles tiles)) (solid : Each IsFilledTile (all_tiles tiles))
+    (regions : Each IsTileOfRegion (all_tiles tiles)) (text : List ℕ) (is : IsAreasTextOfGrid j whole tiles text) where
   sized : AreSized (tile_widths tiles) tiles
-  sized = grid-sized tiles (tables-filled skip (all_tiles tiles) tables have) make
+  sized = grid-sized tiles solid make
 
   abbrev pub joined : List JoinedTile
   joined = join-rows 0 tiles (tile_widths tiles) is.counts is.numbers
@@ -166,33 +167,56 @@ module _ (j : Joining) (whole : Grid) (tiles : List (List Band)) (make : MakeGri
   are-joined = record {
     tiling = subst (AreTiling whole.region.rows whole.region.cols)
         (sym (rows-places j 0 tiles (tile_widths tiles) is.counts is.numbers sized is.have))
-        (cover whole tiles rows filled sized
-        (some-heights tiles (tables-regions skip (all_tiles tiles) tables have) make.some));
+        (cover whole tiles rows filled sized (some-heights tiles regions make.some));
     joined = rows-joined j whole 0 tiles (tile_widths tiles) is.counts is.numbers sized is.have is.many here;
   }
 
   pub numbers-joined : numbers_of_tiles joined ≡ is.numbers
   numbers-joined = rows-numbers j 0 tiles (tile_widths tiles) is.counts is.numbers sized is.have is.many
 
-  listed : flat_map listed_sizes tables ≡ flat_map sizes_of_tile joined
-  listed =
-      tile-tables-list j whole skip joined tables are-joined.joined
-      (tables-of skip (all_tiles tiles) joined tables
-      (rows-of j 0 tiles (tile_widths tiles) is.counts is.numbers sized is.have) have)
-
   -- each number has in the whole as many cells as its sizes are together
   sizes-of-number : (own : Grid) → IsClumping j whole own → (n : ℕ) → 0 < n
       → size_of_number own whole.region.rows whole.region.cols n
-      ≡ size_of_area n is.numbers (flat_map listed_sizes tables)
+      ≡ size_of_area n is.numbers (flat_map sizes_of_tile joined)
   sizes-of-number own clumping n one =
       counts-in-tiles j whole own clumping whole.region.rows whole.region.cols joined are-joined (Some (pos n) ∷ [])
       ∙ tile-sizes j whole n (omega (arith, one)) joined are-joined.joined
       ∙ ap (λ (l : List ℕ). size_of_area n l (flat_map sizes_of_tile joined)) numbers-joined
-      ∙ ap (size_of_area n is.numbers) (sym listed)
+
+  -- their tables list these sizes
+  listed : (skip : Skip) (tables : List Pairs) → AllZip (HasTileTable skip) (all_tiles tiles) tables
+      → flat_map listed_sizes tables ≡ flat_map sizes_of_tile joined
+  listed skip tables have =
+      tile-tables-list j whole skip joined tables are-joined.joined
+      (tables-of skip (all_tiles tiles) joined tables
+      (rows-of j 0 tiles (tile_widths tiles) is.counts is.numbers sized is.have) have)
 
 pub sizes-of-the-grid : SizesOfTheGrid
 sizes-of-the-grid j whole tiles make rows filled numbered skip tables have text is sizes sums own clumping =
+    let solid = tables-filled skip (all_tiles tiles) tables have in
+    let regions = tables-regions skip (all_tiles tiles) tables have in
+    let same = listed j whole tiles make rows filled numbered solid regions text is skip tables have in
     sizes-are-listed j whole own clumping filled is.numbers (flat_map listed_sizes tables) sizes
     (tally-of (all_counts is.counts) is.numbers is.many tables sizes sums)
     (tables-some skip (all_tiles tiles) tables have)
-    (sizes-of-number j whole tiles make rows filled numbered skip tables have text is own clumping)
+    (λ n one. sizes-of-number j whole tiles make rows filled numbered solid regions text is own clumping n one
+    ∙ ap (size_of_area n is.numbers) (sym same))
+
+maps-filled : (tiles : List Band) → All IsTileMap tiles → Each IsFilledTile tiles
+maps-filled [] are = tt
+maps-filled (tile ∷ tiles) are =
+    ((All-head IsTileMap tile tiles are).filled, maps-filled tiles (All-tail IsTileMap tile tiles are))
+
+maps-regions : (tiles : List Band) → All IsTileMap tiles → Each IsTileOfRegion tiles
+maps-regions [] are = tt
+maps-regions (tile ∷ tiles) are =
+    ((All-head IsTileMap tile tiles are).region, maps-regions tiles (All-tail IsTileMap tile tiles are))
+
+pub no-number-of-tiles-is-left-out : ClumpingExists → NoNumberOfTilesIsLeftOut
+no-number-of-tiles-is-left-out exists j whole tiles make rows filled are numbered text is areas has =
+    let own = exists j whole filled in
+    let solid = maps-filled (all_tiles tiles) are in
+    let regions = maps-regions (all_tiles tiles) are in
+    has-size j whole own.0 own.1.1 filled areas has is.numbers
+    (flat_map sizes_of_tile (joined j whole tiles make rows filled numbered solid regions text is))
+    (sizes-of-number j whole tiles make rows filled numbered solid regions text is own.0 own.1.1)

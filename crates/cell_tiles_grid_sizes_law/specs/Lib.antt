@@ -1,2 +1,3 @@
 -- Sizes of the areas of a map that is cut into a grid of tiles.
+pub mod AllGridNumbers
 pub mod GridSizes

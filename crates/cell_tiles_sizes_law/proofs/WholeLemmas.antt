@@ -1,5 +1,5 @@
 -- Sizes added up by an areas text are those of the areas of the undivided map.
-use Rattle.std.proofs.Common.{◌≡◌, ℕ, zero, suc, pos, ◌+◌, ◌<◌, ◌≤◌, List, [], ◌∷◌, ◌++◌, length, map, flat_map, filter, get_or, sum, take, drop, Bool, true, false, cond, not, Some, None, refl, ap, sym, ◌∙◌, subst, arith, append-nil, append_assoc, length-append, length-drop, ⊎_elim}
+use Rattle.std.proofs.Common.{◌≡◌, ℕ, zero, suc, pos, ◌+◌, ◌-◌, ◌<◌, ◌≤◌, List, [], ◌∷◌, ◌++◌, length, map, flat_map, filter, get_or, sum, take, drop, Bool, true, false, cond, not, Some, None, refl, ap, sym, ◌∙◌, subst, arith, append-nil, append_assoc, length-append, length-drop, ⊎_elim}
 use Rattle.std.specs.Prelude.{All}
 use Rattle.std.specs.List.{AllZip, Contains}
 use Rattle.std.proofs.lemmas.Bool.{cases_lt}
@@ -29,7 +29,9 @@ use Rattle.cell_tiles_numbering.specs.declared.stretch.Stretch.{Stretch}
 use Rattle.cell_tiles_numbering.specs.AreasText.{numbers_told, stretch_numbers, stretches_of}
 use Rattle.cell_tiles_numbering.proofs.ToldLemmas.{numbers-are-told}
 use Rattle.cell_tiles_sizes.specs.SizeTexts.{AreTablesOfBands, BandSizes, HasTally, HaveSizes, IsNullEntry, entries_of_areas, number_entries, stretch_areas}
-use Rattle.cell_tiles_sizes.proofs.TallyLemmas.{size-other, size-some}
+use Rattle.cell_tiles_sizes.proofs.TallyLemmas.{size-other, size-some, told-with-size}
+use Rattle.cell_cats_areas_law.specs.ExistsLaw.{ClumpingExists}
+use Rattle.cell_tiles_sizes_law.specs.AllNumbers.{NoNumberOfBandsIsLeftOut}
 use Rattle.cell_tiles_sizes_law.specs.WholeSizes.{SizesOfTheWhole, band_areas, table_read}
 
 -- ---- the entries of numbers are listed as they are printed
@@ -202,6 +204,28 @@ module _ (j : Joining) (whole numbered : Grid) (is : IsClumping j whole numbered
       subst (IsTable AnyNull (cells_of numbered whole.region.rows whole.region.cols))
       (sym (same-entries 1 sizes ∙ ap (entries_from 1) same-sizes))
       (own-table j whole numbered is filled areas has)
+
+-- ---- no number is left out
+
+-- each number from 1 to the count of areas has a cell in the whole, and so a size
+pub has-size : (j : Joining) (whole numbered : Grid) → IsClumping j whole numbered → IsFilled whole.region whole.rows
+    → (areas : ℕ) → HasAreas j whole areas → (numbers sizes : List ℕ)
+    → ((n : ℕ) → 0 < n
+    → size_of_number numbered whole.region.rows whole.region.cols n ≡ size_of_area n numbers sizes)
+    → (n : ℕ) → 0 < n → n ≤ areas → Contains numbers n
+has-size j whole numbered is filled areas has numbers sizes area n one most =
+    let cell = has-cell j whole numbered is filled areas has (n - 1) (omega (arith, one, most)) in
+    let next : 1 + (n - 1) ≡ n = omega (arith, one) in
+    let some : 0 < size_of_number numbered whole.region.rows whole.region.cols n =
+    subst (λ (k : ℕ). 0 < size_of_number numbered whole.region.rows whole.region.cols k) next cell in
+    told-with-size n numbers sizes (subst (λ (k : ℕ). 0 < k) (area n one) some)
+
+pub no-number-of-bands-is-left-out : ClumpingExists → NoNumberOfBandsIsLeftOut
+no-number-of-bands-is-left-out exists j whole bands edges cut filled numbers tell areas has =
+    let own = exists j whole filled in
+    has-size j whole own.0 own.1.1 filled areas has numbers (sizes_of_bands whole.region.cols bands edges)
+    (λ n one. ap (λ (k : ℕ). size_of_number own.0 k whole.region.cols n) (sym filled.count)
+    ∙ size-of-whole j whole bands edges cut numbers tell own.0 own.1.1 whole.region.cols n one)
 
 -- ---- the law
 

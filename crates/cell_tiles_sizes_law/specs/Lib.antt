@@ -1,2 +1,3 @@
 -- Sizes of the areas of the whole.
+pub mod AllNumbers
 pub mod WholeSizes

@@ -1,6 +1,16 @@
 //! What is written of an areas text and the tables of bands says of the undivided map.
 
+ghost use Rattle.cell_tiles_sizes_law.specs.AllNumbers.{NoNumberOfBandsIsLeftOut};
 ghost use Rattle.cell_tiles_sizes_law.specs.WholeSizes.{SizesOfTheWhole};
+
+use cell_cats_areas_law::law::clumping_exists;
+
+/// The numbers that the areas of the bands of a map have in the whole are all from 1 to the count of its areas.
+pub fn no_number_of_bands_is_left_out()
+    ensures { NoNumberOfBandsIsLeftOut }
+{
+    clumping_exists();
+}
 
 /// A map is cut into bands, each is clumped and counted, and the areas text is that of the numbers that the joining of the bands
 /// promises: the sizes that are then added up, listed by their numbers, are the table of the clump map of the undivided map
