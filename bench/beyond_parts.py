@@ -1,13 +1,14 @@
 #!/usr/bin/env python3
-"""Counts a map of more cells than one run takes by bands, joins them by rcell-join, and compares with what is known by its making.
+"""Counts a map of more cells than one run takes by its parts, joins them by rcell-join, and compares with what is known by its making.
 
-    beyond_bands.py [--rows N] [--cols N] [--height N] [--jobs N] [--rcell PROGRAM] [--program PROGRAM] [--folder F]
+    beyond_parts.py [--rows N] [--cols N] [--height N] [--width N] [--jobs N] [--rcell PROGRAM] [--program PROGRAM] [--folder F]
 
 The map, 62,000 x 65,000 where no numbers are given, is of blocks of 50 x 52 cells, one of 9 residues each: of the number of the block's
 row less that of its column. Residue 0 is null, the others are categories. So blocks of one category meet at corners alone, and by
-corners each diagonal is an area, whose cells are reckoned without a look at the map. Bands of 1,025 rows cut blocks and diagonals.
-Each band is written, counted and clumped by rcell, its edges are taken, and its texts are deleted: what stays of it is small. The map
-is that of python/bench/beyond.py. Seconds are of the processor; it needs Debian's package time.
+corners each diagonal is an area, whose cells are reckoned without a look at the map. Parts of 1,025 rows cut blocks and diagonals: bands,
+which have all columns, or the tiles of a grid where a width is given. Each part is written, counted and clumped by rcell, its edges
+or sides are taken, and its texts are deleted: what stays of it is small. The map is that of python/bench/beyond.py. Seconds are of the
+processor; it needs Debian's package time.
 """
 from __future__ import annotations
 
@@ -17,6 +18,7 @@ import os
 import subprocess
 import sys
 import tempfile
+from dataclasses import dataclass
 
 ROOT = os.path.dirname(os.path.dirname(os.path.abspath(__file__)))
 HEIGHT, WIDTH, RESIDUES = 50, 52, 9
@@ -41,26 +43,43 @@ class Costs:
         self.steps[step] = (seconds + user + system, max(memory, 1024 * kilobytes))
 
 
-def lines(cols: int) -> list[bytes]:
-    """The line of a row of blocks, by its residue."""
+@dataclass
+class Part:
+    """Rows and columns from the first to the one behind the last."""
+
+    name: str
+    top: int
+    low: int
+    left: int
+    right: int
+
+
+def parts_of(given: argparse.Namespace) -> list[Part]:
+    """Row by row from the top, in each from the left."""
+    return [Part(f"{top:06d}-{left:06d}", top, min(top + given.height, given.rows), left, min(left + given.width, given.cols))
+            for top in range(0, given.rows, given.height) for left in range(0, given.cols, given.width)]
+
+
+def lines(left: int, right: int) -> list[bytes]:
+    """The line of a row of blocks between two columns, by its residue."""
     words = [b"*", *(b"%d" % residue for residue in range(1, RESIDUES))]
-    return [b" ".join(words[(down - col // WIDTH) % RESIDUES] for col in range(cols)) + b"\n" for down in range(RESIDUES)]
+    return [b" ".join(words[(down - col // WIDTH) % RESIDUES] for col in range(left, right)) + b"\n" for down in range(RESIDUES)]
 
 
-def do_band(costs: Costs, given: argparse.Namespace, texts: list[bytes], band: int) -> None:
-    top, low = band * given.height, min((band + 1) * given.height, given.rows)
-    grid = f"{band:04d}.txt"
+def do_part(costs: Costs, given: argparse.Namespace, part: Part) -> None:
+    grid, texts = f"{part.name}.txt", lines(part.left, part.right)
     with open(f"{costs.folder}/{grid}", "wb") as file:
-        file.write(b"north: %d\nsouth: %d\neast: %d\nwest: 0\nrows: %d\ncols: %d\n" % (-top, -low, given.cols, low - top, given.cols))
-        file.writelines(texts[row // HEIGHT % RESIDUES] for row in range(top, low))
+        file.write(b"north: %d\nsouth: %d\neast: %d\nwest: %d\n" % (-part.top, -part.low, part.right, part.left))
+        file.write(b"rows: %d\ncols: %d\n" % (part.low - part.top, part.right - part.left))
+        file.writelines(texts[row // HEIGHT % RESIDUES] for row in range(part.top, part.low))
     for step in SCRIPTS:
-        costs.run(step, [given.rcell, step, f"m={grid}"], f"{band:04d}.{step}")
-    costs.run("edges", [given.program, "edges", grid, f"{band:04d}.numbers"], f"{band:04d}.edges")
+        costs.run(step, [given.rcell, step, f"m={grid}"], f"{part.name}.{step}")
+    costs.run(given.borders, [given.program, given.borders, grid, f"{part.name}.numbers"], f"{part.name}.{given.borders}")
     os.remove(f"{costs.folder}/{grid}")
-    os.remove(f"{costs.folder}/{band:04d}.numbers")
+    os.remove(f"{costs.folder}/{part.name}.numbers")
 
 
-def sides(cells: int, side: int) -> list[int]:
+def lengths_of(cells: int, side: int) -> list[int]:
     """The lengths of the blocks along one side of the map; the last may be cut."""
     return [min(side, cells - begin) for begin in range(0, cells, side)]
 
@@ -78,25 +97,33 @@ def known_sizes(heights: list[int], widths: list[int]) -> str:
     return "".join(f"{number} {size}\n" for number, size in enumerate(sizes, 1))
 
 
-def main() -> int:
-    words = argparse.ArgumentParser(description="Counts a map of more cells than one run takes by bands, and joins them by rcell-join.")
+def words_given() -> argparse.Namespace:
+    words = argparse.ArgumentParser(description="Counts a map of more cells than one run takes by its parts, and joins them by rcell-join.")
     for name, usual in (("rows", 62_000), ("cols", 65_000), ("height", 1025), ("jobs", 4)):
         words.add_argument(f"--{name}", type=int, default=usual)
+    words.add_argument("--width", type=int, default=None, help="of tiles; without it parts are bands")
     for name, usual in (("rcell", "rcell"), ("program", "rcell-join")):
         words.add_argument(f"--{name}", type=os.path.abspath, default=f"{ROOT}/bin/{usual}")
-    words.add_argument("--folder", default=None, help="where bands are made")
+    words.add_argument("--folder", default=None, help="where parts are made")
     given = words.parse_args()
-    heights, widths = sides(given.rows, HEIGHT), sides(given.cols, WIDTH)
+    given.borders, given.joining = ("sides", "tiles") if given.width else ("edges", "areas")
+    given.width = given.width or given.cols
+    return given
+
+
+def main() -> int:
+    given = words_given()
+    heights, widths = lengths_of(given.rows, HEIGHT), lengths_of(given.cols, WIDTH)
     with tempfile.TemporaryDirectory(prefix="beyond-", dir=given.folder) as folder:
-        costs, texts, bands = Costs(folder), lines(given.cols), range(-(-given.rows // given.height))
+        costs, parts = Costs(folder), parts_of(given)
         for step, script in SCRIPTS.items():
             with open(f"{folder}/{step}", "w", encoding="ascii") as file:
                 file.write(script + "\n")
         with concurrent.futures.ThreadPoolExecutor(given.jobs) as pool:
-            list(pool.map(lambda band: do_band(costs, given, texts, band), bands))
-        of = {ending: [f"{band:04d}.{ending}" for band in bands] for ending in ("table", "edges", "sizes")}
+            list(pool.map(lambda part: do_part(costs, given, part), parts))
+        of = {ending: [f"{part.name}.{ending}" for part in parts] for ending in ("table", given.borders, "sizes")}
         costs.run("rcell-join tables", [given.program, "tables", *of["table"]], "joined.table")
-        costs.run("rcell-join areas -d", [given.program, "areas", "-d", *of["edges"]], "joined")
+        costs.run(f"rcell-join {given.joining} -d", [given.program, given.joining, "-d", *of[given.borders]], "joined")
         costs.run("rcell-join sizes", [given.program, "sizes", "joined", *of["sizes"]], "joined.sizes")
         wrong = 0
         for name, known in (("joined.table", known_table(heights, widths)), ("joined.sizes", known_sizes(heights, widths))):
