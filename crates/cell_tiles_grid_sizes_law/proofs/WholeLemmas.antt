@@ -35,6 +35,7 @@ use Rattle.cell_tiles_grid_sizes_law.specs.AllGridNumbers.{IsTileMap, NoNumberOf
 use Rattle.cell_tiles_grid_sizes_law.specs.GridSizes.{HasTileTable, SizesOfTheGrid}
 use Rattle.cell_tiles_grid_sizes_law.proofs.JoinLemmas.{AreRowsHere, IsJoinedOf, join-rows, rows-joined, rows-numbers}
 use Rattle.cell_tiles_grid_sizes_law.proofs.JoinLemmas.{rows-of, rows-places, tile-as}
+use Rattle.cell_tiles_grid_sizes_law.proofs.NumberLemmas.{numbers-good}
 
 -- ---- tables of tiles
 
@@ -122,7 +123,7 @@ module _ (j : Joining) (whole : Grid) (tiles : List (List Band)) (make : MakeGri
   sized : AreSized (tile_widths tiles) tiles
   sized = grid-sized tiles solid make
 
-  abbrev pub joined : List JoinedTile
+  abbrev joined : List JoinedTile
   joined = join-rows 0 tiles (tile_widths tiles) is.counts is.numbers
 
   clumped : (r c : ℕ) (row : List Band) (tile : Band) → slice_get tiles r ≡ Some row → slice_get row c ≡ Some tile
@@ -163,7 +164,7 @@ module _ (j : Joining) (whole : Grid) (tiles : List (List Band)) (make : MakeGri
         tells = is.tell r c row tile in_tiles in_row;
       })
 
-  pub are-joined : AreJoinedTiles j whole whole.region.rows whole.region.cols joined
+  are-joined : AreJoinedTiles j whole whole.region.rows whole.region.cols joined
   are-joined = record {
     tiling = subst (AreTiling whole.region.rows whole.region.cols)
         (sym (rows-places j 0 tiles (tile_widths tiles) is.counts is.numbers sized is.have))
@@ -171,7 +172,7 @@ module _ (j : Joining) (whole : Grid) (tiles : List (List Band)) (make : MakeGri
     joined = rows-joined j whole 0 tiles (tile_widths tiles) is.counts is.numbers sized is.have is.many here;
   }
 
-  pub numbers-joined : numbers_of_tiles joined ≡ is.numbers
+  numbers-joined : numbers_of_tiles joined ≡ is.numbers
   numbers-joined = rows-numbers j 0 tiles (tile_widths tiles) is.counts is.numbers sized is.have is.many
 
   -- each number has in the whole as many cells as its sizes are together
@@ -191,16 +192,39 @@ module _ (j : Joining) (whole : Grid) (tiles : List (List Band)) (make : MakeGri
       (tables-of skip (all_tiles tiles) joined tables
       (rows-of j 0 tiles (tile_widths tiles) is.counts is.numbers sized is.have) have)
 
+module _ (j : Joining) (whole : Grid) (tiles : List (List Band)) (make : MakeGrid (tile_regions tiles))
+    (rows : whole.rows ≡ rows_of_tiles tiles) (filled : IsFilled whole.region whole.rows)
+    (numbered : All (IsNumberedTile j) (all_tiles tiles)) (skip : Skip) (tables : List Pairs)
+    (have : AllZip (HasTileTable skip) (all_tiles tiles) tables)
+    (text : List ℕ) (is : IsAreasTextOfGrid j whole tiles text) where
+  -- each number has in the whole as many cells as its sizes in the tables are together
+  pub size-listed : (own : Grid) → IsClumping j whole own → (n : ℕ) → 0 < n
+      → size_of_number own whole.region.rows whole.region.cols n
+      ≡ size_of_area n is.numbers (flat_map listed_sizes tables)
+  size-listed own clumping n one =
+      let solid = tables-filled skip (all_tiles tiles) tables have in
+      let regions = tables-regions skip (all_tiles tiles) tables have in
+      sizes-of-number j whole tiles make rows filled numbered solid regions text is own clumping n one
+      ∙ ap (size_of_area n is.numbers)
+      (sym (listed j whole tiles make rows filled numbered solid regions text is skip tables have))
+
+  -- and each of the numbers is that of an area of the whole
+  pub numbers-few : (areas : ℕ) → HasAreas j whole areas → All (λ (n : ℕ). (0 < n) × (n ≤ areas)) is.numbers
+  numbers-few areas has =
+      let solid = tables-filled skip (all_tiles tiles) tables have in
+      let regions = tables-regions skip (all_tiles tiles) tables have in
+      let all = joined j whole tiles make rows filled numbered solid regions text is in
+      subst (All (λ (n : ℕ). (0 < n) × (n ≤ areas)))
+      (numbers-joined j whole tiles make rows filled numbered solid regions text is)
+      (numbers-good j whole areas has all
+      (are-joined j whole tiles make rows filled numbered solid regions text is).joined)
+
 pub sizes-of-the-grid : SizesOfTheGrid
 sizes-of-the-grid j whole tiles make rows filled numbered skip tables have text is sizes sums own clumping =
-    let solid = tables-filled skip (all_tiles tiles) tables have in
-    let regions = tables-regions skip (all_tiles tiles) tables have in
-    let same = listed j whole tiles make rows filled numbered solid regions text is skip tables have in
     sizes-are-listed j whole own clumping filled is.numbers (flat_map listed_sizes tables) sizes
     (tally-of (all_counts is.counts) is.numbers is.many tables sizes sums)
     (tables-some skip (all_tiles tiles) tables have)
-    (λ n one. sizes-of-number j whole tiles make rows filled numbered solid regions text is own clumping n one
-    ∙ ap (size_of_area n is.numbers) (sym same))
+    (size-listed j whole tiles make rows filled numbered skip tables have text is own clumping)
 
 maps-filled : (tiles : List Band) → All IsTileMap tiles → Each IsFilledTile tiles
 maps-filled [] are = tt

@@ -1,1 +1,4 @@
+pub mod EntryLemmas
+pub mod ExistLemmas
+pub mod NumberLemmas
 pub mod WholeLemmas

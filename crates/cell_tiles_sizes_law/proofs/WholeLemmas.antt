@@ -16,7 +16,8 @@ use Rattle.cell_stats_combinations.specs.LeftOut.{is_left_out}
 use Rattle.cell_stats_counts.specs.Counts.{count_of}
 use Rattle.cell_stats.specs.CategoryTables.{Pairs, IsTable}
 use Rattle.cell_cats_law.specs.AreaLaw.{cells_of}
-use Rattle.cell_tiles_joining.specs.Bands.{Band, HasAreas}
+use Rattle.cell_tiles_joining.specs.Bands.{Band, HasAreas, IsCutInto, TellNumbers}
+use Rattle.cell_tiles_joining.specs.declared.edges.BandEdges.{BandEdges}
 use Rattle.cell_tiles_joining.specs.parts.Greatest.{greatest_of}
 use Rattle.cell_tiles_joining.proofs.GreatestLemmas.{has-areas}
 use Rattle.cell_tiles_joining.specs.Sizes.{size_of_area}
@@ -36,7 +37,7 @@ use Rattle.cell_tiles_sizes_law.specs.WholeSizes.{SizesOfTheWhole, band_areas, t
 
 -- ---- the entries of numbers are listed as they are printed
 
-same-entries : (n : ℕ) (sizes : List ℕ) → number_entries n sizes ≡ entries_from n sizes
+pub same-entries : (n : ℕ) (sizes : List ℕ) → number_entries n sizes ≡ entries_from n sizes
 same-entries n [] = refl
 same-entries n (size ∷ sizes) = ap (λ (l : Pairs). (Some (pos n) ∷ [], size) ∷ l) (same-entries (n + 1) sizes)
 
@@ -65,7 +66,7 @@ areas-list (s ∷ stretches) sizes nulls many null =
     ∙ ap (λ (l : List ℕ). take n sizes ++ l) (areas-list stretches (drop n sizes) nulls rest null)
     ∙ take-append-drop n sizes
 
-parts-list : (band : ℕ) (parts : List BandSizes) (tables : List Pairs) → AreTablesOfBands band parts (map table_read tables)
+pub parts-list : (band : ℕ) (parts : List BandSizes) (tables : List Pairs) → AreTablesOfBands band parts (map table_read tables)
     → flat_map (λ (part : BandSizes). part.sizes) parts ≡ flat_map listed_sizes tables
 parts-list band [] [] are = refl
 parts-list band [] (table ∷ tables) are = absurd are
@@ -229,14 +230,23 @@ no-number-of-bands-is-left-out exists j whole bands edges cut filled numbers tel
 
 -- ---- the law
 
+-- each number has in the whole as many cells as its sizes in the tables are together
+pub size-listed : (j : Joining) (whole : Grid) (bands : List Band) (edges : List BandEdges) → IsCutInto j whole bands edges
+    → IsFilled whole.region whole.rows → (skip : Skip) (tables : List Pairs)
+    → AllZip (IsBandTable skip whole.region.cols) bands tables
+    → (numbers : List ℕ) → TellNumbers j whole bands edges numbers → (numbered : Grid) → IsClumping j whole numbered
+    → (n : ℕ) → 0 < n
+    → size_of_number numbered whole.region.rows whole.region.cols n
+    ≡ size_of_area n numbers (flat_map listed_sizes tables)
+size-listed j whole bands edges cut filled skip tables are numbers tell numbered is n one =
+    let cols = whole.region.cols in
+    ap (λ (k : ℕ). size_of_number numbered k whole.region.cols n) (sym filled.count)
+    ∙ size-of-whole j whole bands edges cut numbers tell numbered is cols n one
+    ∙ ap (size_of_area n numbers) (sym (tables-list j skip cols bands edges tables cut.all are))
+
 pub sizes-of-the-whole : SizesOfTheWhole
 sizes-of-the-whole j whole bands edges cut filled skip tables are numbers many join sizes have numbered is =
-    let rows = whole.region.rows in
-    let cols = whole.region.cols in
-    let listed = flat_map listed_sizes tables in
-    let of_bands : listed ≡ sizes_of_bands cols bands edges = tables-list j skip cols bands edges tables cut.all are in
-    sizes-are-listed j whole numbered is filled numbers listed sizes (tally-of (band_areas edges) numbers many tables sizes have)
-    (some-in skip cols bands tables are)
-    (λ n one. ap (λ (k : ℕ). size_of_number numbered k cols n) (sym filled.count)
-    ∙ size-of-whole j whole bands edges cut numbers (join whole bands cut) numbered is cols n one
-    ∙ ap (size_of_area n numbers) (sym of_bands))
+    sizes-are-listed j whole numbered is filled numbers (flat_map listed_sizes tables) sizes
+    (tally-of (band_areas edges) numbers many tables sizes have)
+    (some-in skip whole.region.cols bands tables are)
+    (size-listed j whole bands edges cut filled skip tables are numbers (join whole bands cut) numbered is)

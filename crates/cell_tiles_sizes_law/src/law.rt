@@ -1,6 +1,7 @@
 //! What is written of an areas text and the tables of bands says of the undivided map.
 
 ghost use Rattle.cell_tiles_sizes_law.specs.AllNumbers.{NoNumberOfBandsIsLeftOut};
+ghost use Rattle.cell_tiles_sizes_law.specs.ExistingSizes.{SizesExist};
 ghost use Rattle.cell_tiles_sizes_law.specs.WholeSizes.{SizesOfTheWhole};
 
 use cell_cats_areas_law::law::clumping_exists;
@@ -18,3 +19,11 @@ pub fn no_number_of_bands_is_left_out()
 pub fn sizes_of_the_whole()
     ensures { SizesOfTheWhole }
 {}
+
+/// A map is cut into bands, each is clumped and counted, and the areas text is that of the numbers that the joining of the bands
+/// promises: there are sizes to be added up, and none is of more cells than the map has.
+pub fn sizes_exist()
+    ensures { SizesExist }
+{
+    clumping_exists();
+}

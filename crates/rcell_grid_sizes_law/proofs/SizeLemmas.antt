@@ -28,10 +28,9 @@ use Rattle.cell_tiles_sizes.specs.SizeTexts.{HaveSizes, number_entries}
 use Rattle.cell_tiles_sizes_law.specs.WholeSizes.{table_read}
 use Rattle.cell_tiles_areas_law.proofs.MapLemmas.{denoted-filled, one-map}
 use Rattle.cell_tiles_areas_law.proofs.RangeLemmas.{denoted-region}
-use Rattle.cell_tiles_grid_areas_law.proofs.SizedLemmas.{texts-filled, texts-regions}
 use Rattle.cell_tiles_grid_areas_law.specs.TileGrids.{all_tiles}
 use Rattle.cell_tiles_grid_areas_law.specs.WrittenTiles.{all_counts}
-use Rattle.cell_tiles_grid_sizes_law.proofs.WholeLemmas.{are-joined, joined, numbers-joined, sizes-of-the-grid}
+use Rattle.cell_tiles_grid_sizes_law.proofs.WholeLemmas.{numbers-few, sizes-of-the-grid}
 use Rattle.cell_tiles_grid_sizes_law.specs.GridSizes.{HasTileTable, grid_areas_read}
 use Rattle.rcell_script_commands.specs.declared.command.StatsOptions.{StatsOptions}
 use Rattle.rcell_script.specs.ScriptLaw.{OneScript}
@@ -43,7 +42,7 @@ use Rattle.rcell_grid_law.specs.TileRuns.{TileRun, all_runs, sides_texts, tile_o
 use Rattle.rcell_sizes_law.proofs.SizeLemmas.{printed-as-whole}
 use Rattle.rcell_sizes_law.proofs.TableLemmas.{run-counts}
 use Rattle.rcell_sizes_law.specs.SizedBands.{CountsAreas, table_texts}
-use Rattle.rcell_grid_sizes_law.proofs.NumberLemmas.{counts-long, counts-low, numbers-good}
+use Rattle.rcell_grid_sizes_law.proofs.NumberLemmas.{counts-long, counts-low}
 use Rattle.rcell_grid_sizes_law.specs.SizedTiles.{CountsTile, SizesAreThoseOfTheGrid}
 
 -- ---- the tables of tiles
@@ -113,8 +112,6 @@ sizes-are-those-of-the-grid one script counting undivided names place joining op
     subst (λ (l : List Band). AllZip (HasTileTable options.skip) l read.tables) (sym (all-tiles script place runs))
     read.are in
     let texts = texts-of-tiles script place runs in
-    let solid = texts-filled (all_tiles tiles) (sides_texts runs) texts in
-    let regions = texts-regions (all_tiles tiles) (sides_texts runs) texts in
     let numbered = tiles-numbered one script names place joining script_is runs are in
     let told = told-of-grid one script names place joining script_is runs are whole rows areas areas_written has in
     taken-is (entries_text (format_of options) (number_entries 1 added.sizes)) sizes added.taken
@@ -123,11 +120,9 @@ sizes-are-those-of-the-grid one script counting undivided names place joining op
     let most = greatest_of 0 own.rows in
     let whole_areas = has-areas joining whole own clumping in
     let few = is.few most whole_areas in
-    let all = joined joining whole tiles are.make rows is.filled numbered solid regions areas told in
-    let place_all = are-joined joining whole tiles are.make rows is.filled numbered solid regions areas told in
-    let good = subst (All (λ (n : ℕ). (0 < n) × (n ≤ greatest_of 0 own.rows)))
-    (numbers-joined joining whole tiles are.make rows is.filled numbered solid regions areas told)
-    (numbers-good joining whole most whole_areas all place_all.joined) in
+    let good =
+    numbers-few joining whole tiles are.make rows is.filled numbered options.skip read.tables lists areas told most
+    whole_areas in
     let low : All (λ (n : ℕ). (0 < n) × (n < 2 ^ 64)) told.numbers =
     All-weaker (λ (n : ℕ). (0 < n) × (n ≤ most)) (λ (n : ℕ). (0 < n) × (n < 2 ^ 64))
     (λ n both. (both.0, let bound = both.1 in omega (arith, bound, few))) told.numbers good in

@@ -1,4 +1,3 @@
 -- Lemmas on runs that count areas.
-pub mod CutLemmas
 pub mod SizeLemmas
 pub mod TableLemmas

@@ -48,7 +48,7 @@ use Rattle.rcell_script_commands.specs.declared.command.StatsOptions.{StatsOptio
 use Rattle.rcell_script.specs.ScriptLaw.{OneScript}
 use Rattle.rcell.specs.Output.{IsOutput, format_of}
 use Rattle.rcell_areas_law.proofs.BandLemmas.{numbers-are, taken-is, texts-of-bands}
-use Rattle.rcell_sizes_law.proofs.CutLemmas.{numbers-good}
+use Rattle.cell_tiles_sizes_law.proofs.NumberLemmas.{numbers-good}
 use Rattle.rcell_sizes_law.proofs.TableLemmas.{entries-printed, run-counts, two-counted}
 use Rattle.rcell_areas_law.specs.BandRuns.{BandRun, MapRun, NumbersAreas, band_of_run, bands_of_runs, edges_texts}
 use Rattle.rcell_areas_law.specs.BandRuns.{written_text}

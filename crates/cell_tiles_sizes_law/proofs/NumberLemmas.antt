@@ -1,4 +1,4 @@
--- The numbers of the areas of bands are those of areas of the whole, and bands are as wide as the whole.
+-- The numbers of the areas of bands are those of areas of the whole.
 use Rattle.std.proofs.Common.{◌≡◌, ℕ, zero, suc, ◌+◌, ◌-◌, ◌<◌, ◌≤◌, List, [], ◌∷◌, length, get_or, take}
 use Rattle.std.proofs.Common.{Some, refl, subst, arith, ◌⊎◌, inl, inr}
 use Rattle.std.specs.Prelude.{All, Contains, slice_get, sum_by}
