@@ -1,21 +1,25 @@
 -- The areas text of bands and the tables of their numbers have sizes: those of the areas of the undivided map.
-use Rattle.std.proofs.Common.{◌≡◌, ℕ, ◌+◌, ◌<◌, ◌≤◌, ◌*◌, List, [], ◌∷◌, length, map, flat_map, get_or, None, pos, Some}
-use Rattle.std.proofs.Common.{refl, ap, sym, ◌∙◌, subst, arith}
-use Rattle.std.specs.Prelude.{All, sum}
+use Rattle.std.proofs.Common.{◌≡◌, ℕ, ◌+◌, ◌<◌, ◌≤◌, ◌*◌, List, [], ◌∷◌, length, map, flat_map, get_or, None}
+use Rattle.std.proofs.Common.{pos, suc, Some}
+use Rattle.std.proofs.Common.{refl, ap, sym, ◌∙◌, subst, arith, length-append}
+use Rattle.std.specs.Prelude.{All, sum, sum_by}
 use Rattle.std.specs.List.{AllZip, Contains}
 use Rattle.std.specs.Ordering.{eq_by_cmp}
-use Rattle.std.proofs.lemmas.List.Elements.{All-from_get_or}
+use Rattle.std.proofs.lemmas.List.Elements.{All-contains_itself, All-from_get_or, All-head, All-tail, All-weaker}
 use Rattle.std.proofs.lemmas.List.FromFn.{get_or-map-range_with_len, length-map-range_with_len}
-use Rattle.std.proofs.lemmas.List.Sums.{count_by-le-length, sum-map}
+use Rattle.std.proofs.lemmas.List.Sums.{count_by-le-length, sum-map, sum_by-cons}
 use Rattle.cell_core.specs.Grid.{Grid, IsFilled}
 use Rattle.cell_cats_areas.specs.declared.clump.Joining.{Joining}
 use Rattle.cell_cats_areas.specs.Areas.{IsClumping}
 use Rattle.cell_cats_areas_law.specs.ExistsLaw.{ClumpingExists}
 use Rattle.cell_stats_combinations.specs.declared.skip.Skip.{Skip}
-use Rattle.cell_stats_combinations.specs.Combinations.{combination_cmp}
+use Rattle.cell_stats_combinations.specs.declared.skip.Skip.TheVariants.{Nothing}
+use Rattle.cell_stats_combinations.specs.Combinations.{Combination, combination_cmp}
 use Rattle.cell_stats_counts.specs.Counts.{count_of}
 use Rattle.cell_stats_counts.proofs.WalkLemmas.{length_all}
 use Rattle.cell_stats.specs.CategoryTables.{IsTable, Pairs}
+use Rattle.cell_stats.proofs.LawLemmas.{counts-add-up}
+use Rattle.cell_stats.proofs.TableLemmas.{table_is}
 use Rattle.cell_cats_law.specs.AreaLaw.{cells_of}
 use Rattle.cell_tiles_joining.specs.declared.edges.BandEdges.{BandEdges}
 use Rattle.cell_tiles_joining.specs.Bands.{Band, HasAreas, HaveEdges}
@@ -23,7 +27,8 @@ use Rattle.cell_tiles_joining.specs.parts.Greatest.{greatest_of}
 use Rattle.cell_tiles_joining.specs.Sizes.{size_of_area}
 use Rattle.cell_tiles_joining.proofs.GreatestLemmas.{has-areas}
 use Rattle.cell_tiles_joining_law.specs.SizeLaw.{size_of_number, sizes_of_areas}
-use Rattle.cell_tiles_joining_law.specs.NumberTables.{IsBandTable, listed_sizes}
+use Rattle.cell_tiles_joining_law.specs.NumberTables.{IsBandTable, entries_from, entry_of_null, listed_sizes}
+use Rattle.cell_tiles_joining_law.specs.NumberTables.{number_table}
 use Rattle.cell_tiles_joining_law.proofs.NumberTableLemmas.{numbers-are-listed}
 use Rattle.cell_tiles_numbering.specs.AreasText.{stretches_of}
 use Rattle.cell_tiles_numbering.proofs.ToldLemmas.{numbers-are-told}
@@ -142,6 +147,48 @@ have-sizes j whole numbered is filled skip counts numbers tables many are area g
       };
       most = most j whole numbered is filled numbers listed area good;
     }
+
+-- ---- no more areas than cells
+
+some-counted : (table : Pairs) → All (λ (e : Combination × ℕ). 0 < e.1) table
+    → length table ≤ sum_by (λ (e : Combination × ℕ). e.1) table
+some-counted [] all = omega arith
+some-counted (e ∷ table) all =
+    omega (
+      arith,
+      All-head (λ (p : Combination × ℕ). 0 < p.1) e table all,
+      some-counted table (All-tail (λ (p : Combination × ℕ). 0 < p.1) e table all),
+      sum_by-cons (λ (p : Combination × ℕ). p.1) e table,
+    )
+
+entries-long : (n : ℕ) (sizes : List ℕ) → length (entries_from n sizes) ≡ length sizes
+entries-long n [] = refl
+entries-long n (size ∷ sizes) = ap suc (entries-long (n + 1) sizes)
+
+pub areas-few : (j : Joining) (whole numbered : Grid) → IsClumping j whole numbered → IsFilled whole.region whole.rows
+    → (areas : ℕ) → HasAreas j whole areas → areas ≤ whole.region.rows * whole.region.cols
+areas-few j whole numbered is filled areas has =
+    let rows = whole.region.rows in
+    let cols = whole.region.cols in
+    let sizes = sizes_of_areas areas numbered whole.region.rows whole.region.cols in
+    let nulls = count_of (None ∷ []) (cells_of numbered whole.region.rows whole.region.cols) in
+    let table = number_table Nothing sizes nulls in
+    let own : IsTable Nothing (cells_of numbered rows cols) table =
+    (numbers-are-listed j whole numbered is filled areas has Nothing table).1 refl in
+    let some : All (λ (e : Combination × ℕ). 0 < e.1) table =
+    All-weaker (Contains table) (λ (e : Combination × ℕ). 0 < e.1)
+    (λ e there. ((own.counted e.0 e.1).0 there).1.0) table (All-contains_itself table) in
+    let total : sum_by (λ (e : Combination × ℕ). e.1) table ≡ rows * cols =
+    ap (sum_by (λ (e : Combination × ℕ). e.1)) (table_is Nothing (cells_of numbered rows cols) table own)
+    ∙ counts-add-up (numbered ∷ []) (0 ∷ []) rows cols in
+    omega (
+      arith,
+      some-counted table some,
+      total,
+      length-append (entries_from 1 sizes) (entry_of_null Nothing nulls),
+      entries-long 1 sizes,
+      length-map-range_with_len (size_of_number numbered rows cols) 1 areas,
+    )
 
 -- ---- the law
 

@@ -1,10 +1,10 @@
 -- What is added up of the tables of tiles is what the script writes over the undivided map.
-use Rattle.std.proofs.Common.{◌≡◌, ℕ, ◌<◌, ◌≤◌, ◌^◌, List, [], ◌∷◌, length, map, refl, ap, sym, ◌∙◌, subst}
+use Rattle.std.proofs.Common.{◌≡◌, ℕ, ◌*◌, ◌<◌, ◌^◌, List, [], ◌∷◌, length, map, refl, ap, sym, ◌∙◌, subst}
 use Rattle.std.proofs.Common.{arith}
 use Rattle.std.specs.Prelude.{All}
 use Rattle.std.specs.List.{AllZip}
 use Rattle.std.proofs.lemmas.List.{length-map}
-use Rattle.std.proofs.lemmas.List.Elements.{All-head, All-tail, All-weaker}
+use Rattle.std.proofs.lemmas.List.Elements.{All-head, All-tail}
 use Rattle.cell_core_devices.specs.Device.{Coming}
 use Rattle.cell_core_values.specs.Region.{RegionValue}
 use Rattle.cell_core.specs.Grid.{Grid}
@@ -12,6 +12,7 @@ use Rattle.cell_ascii_meaning.specs.GridText.{Denotes}
 use Rattle.cell_cats_areas.proofs.LawLemmas.{clumping_is_one}
 use Rattle.cell_cats_areas.specs.Areas.{IsClumping}
 use Rattle.cell_cats_areas.specs.declared.clump.Joining.{Joining}
+use Rattle.cell_cats_areas_law.specs.ExistsLaw.{ClumpingExists}
 use Rattle.cell_cats_law.specs.AreaLaw.{cells_of}
 use Rattle.cell_stats.proofs.TableLemmas.{table_of-IsTable}
 use Rattle.cell_stats.specs.CategoryTables.{Pairs, table_of}
@@ -21,15 +22,15 @@ use Rattle.cell_tiles_joining.specs.parts.Greatest.{greatest_of}
 use Rattle.cell_tiles_lines.specs.LineReading.{TableReading, reading_of}
 use Rattle.cell_tiles_lines.specs.TableLines.{entries_text}
 use Rattle.cell_tiles_numbering.specs.AreasReading.{AreasReading, areas_reading_of}
-use Rattle.cell_tiles_numbering.specs.AreasText.{stretches_of}
-use Rattle.cell_tiles_numbering_law.proofs.OrderLemmas.{stretches-are-readable}
-use Rattle.cell_tiles_numbering_law.proofs.WrittenLemmas.{text-reads-as-itself}
 use Rattle.cell_tiles_sizes.specs.SizeTexts.{HaveSizes, number_entries}
 use Rattle.cell_tiles_sizes_law.specs.WholeSizes.{table_read}
+use Rattle.cell_tiles_sizes_law.proofs.ExistLemmas.{areas-few}
 use Rattle.cell_tiles_areas_law.proofs.MapLemmas.{denoted-filled, one-map}
 use Rattle.cell_tiles_areas_law.proofs.RangeLemmas.{denoted-region}
 use Rattle.cell_tiles_grid_areas_law.specs.TileGrids.{all_tiles}
 use Rattle.cell_tiles_grid_areas_law.specs.WrittenTiles.{all_counts}
+use Rattle.cell_tiles_grid_areas_law.proofs.SizedLemmas.{grid-sized, texts-filled, texts-regions}
+use Rattle.cell_tiles_grid_sizes_law.proofs.ExistLemmas.{grid-sizes-exist}
 use Rattle.cell_tiles_grid_sizes_law.proofs.WholeLemmas.{numbers-few, sizes-of-the-grid}
 use Rattle.cell_tiles_grid_sizes_law.specs.GridSizes.{HasTileTable, grid_areas_read}
 use Rattle.rcell_script_commands.specs.declared.command.StatsOptions.{StatsOptions}
@@ -39,10 +40,13 @@ use Rattle.rcell_areas_law.proofs.BandLemmas.{numbers-are, taken-is}
 use Rattle.rcell_areas_law.specs.BandRuns.{MapRun, NumbersAreas, written_text}
 use Rattle.rcell_grid_law.proofs.TileLemmas.{all-tiles, texts-of-tiles, tiles-numbered, told-of-grid}
 use Rattle.rcell_grid_law.specs.TileRuns.{TileRun, all_runs, sides_texts, tile_of_run, tiles_of_runs}
+use Rattle.rcell_sizes_law.proofs.AddedLemmas.{added-up, reads-as-told}
 use Rattle.rcell_sizes_law.proofs.SizeLemmas.{printed-as-whole}
 use Rattle.rcell_sizes_law.proofs.TableLemmas.{run-counts}
 use Rattle.rcell_sizes_law.specs.SizedBands.{CountsAreas, table_texts}
-use Rattle.rcell_grid_sizes_law.proofs.NumberLemmas.{counts-long, counts-low}
+use Rattle.rcell_grid_sizes_law.proofs.CellLemmas.{cells-few}
+use Rattle.rcell_grid_sizes_law.proofs.NumberLemmas.{in-range}
+use Rattle.rcell_grid_sizes_law.specs.AddedTiles.{TablesOfTilesAreAddedUp}
 use Rattle.rcell_grid_sizes_law.specs.SizedTiles.{CountsTile, SizesAreThoseOfTheGrid}
 
 -- ---- the tables of tiles
@@ -101,6 +105,11 @@ module _ (one : OneScript) (script counting : Coming) (names : List (List ℕ)) 
         read = λ i. here.2 i ∷ rest.read i;
       }
 
+tiles-long : (script : Coming) (place : ℕ) (runs : List (List (TileRun script place)))
+    → length (all_tiles (tiles_of_runs runs)) ≡ length (all_runs runs)
+tiles-long script place runs =
+    ap (λ (l : List Band). length l) (all-tiles script place runs) ∙ length-map (all_runs runs) tile_of_run
+
 pub sizes-are-those-of-the-grid : OneScript → SizesAreThoseOfTheGrid
 sizes-are-those-of-the-grid one script counting undivided names place joining options whole_options script_is
     tile_counts counts alike skips runs are short tables listed shelf whole is rows areas areas_written has sizes
@@ -123,17 +132,11 @@ sizes-are-those-of-the-grid one script counting undivided names place joining op
     let good =
     numbers-few joining whole tiles are.make rows is.filled numbered options.skip read.tables lists areas told most
     whole_areas in
-    let low : All (λ (n : ℕ). (0 < n) × (n < 2 ^ 64)) told.numbers =
-    All-weaker (λ (n : ℕ). (0 < n) × (n ≤ most)) (λ (n : ℕ). (0 < n) × (n < 2 ^ 64))
-    (λ n both. (both.0, let bound = both.1 in omega (arith, bound, few))) told.numbers good in
-    let many : length (all_counts told.counts) ≡ length (all_runs runs) =
-    counts-long joining tiles told.counts told.have
-    ∙ ap (λ (l : List Band). length l) (all-tiles script place runs) ∙ length-map (all_runs runs) tile_of_run in
+    let range = in-range joining whole tiles (sides_texts runs) texts numbered
+    (omega (arith, short, tiles-long script place runs)) areas told most few good in
     let reading : areas_reading_of (written_text areas) ≡ grid_areas_read told.counts told.numbers =
     ap (λ (t : List ℕ). areas_reading_of (written_text t)) told.is
-    ∙ text-reads-as-itself (stretches_of (all_counts told.counts) told.numbers)
-    (stretches-are-readable (all_counts told.counts) told.numbers (omega (arith, short, many))
-    (counts-low joining tiles (sides_texts runs) told.counts texts numbered told.have) low) in
+    ∙ reads-as-told (all_counts told.counts) told.numbers range in
     let have : HaveSizes (grid_areas_read told.counts told.numbers) (map table_read read.tables) added.sizes =
     subst (λ (r : AreasReading). HaveSizes r (map table_read read.tables) added.sizes) reading
     (subst (λ (l : List TableReading). HaveSizes (areas_reading_of (written_text areas)) l added.sizes) read.read
@@ -141,3 +144,39 @@ sizes-are-those-of-the-grid one script counting undivided names place joining op
     sizes-of-the-grid joining whole tiles are.make rows is.filled numbered options.skip read.tables lists areas told
     added.sizes have own clumping)
     text output
+
+-- ---- the tables of tiles are added up
+
+pub tables-of-tiles-are-added-up : OneScript → ClumpingExists → TablesOfTilesAreAddedUp
+tables-of-tiles-are-added-up one exists script counting names place joining options script_is tile_counts runs are short
+    tables listed whole filled rows areas areas_written has fault is =
+    let tiles = tiles_of_runs runs in
+    let read = tiles-read one script counting names place joining options script_is tile_counts (all_runs runs)
+    are.named tables listed in
+    let lists : AllZip (HasTileTable options.skip) (all_tiles (tiles_of_runs runs)) read.tables =
+    subst (λ (l : List Band). AllZip (HasTileTable options.skip) l read.tables) (sym (all-tiles script place runs))
+    read.are in
+    let texts = texts-of-tiles script place runs in
+    let solid = texts-filled (all_tiles tiles) (sides_texts runs) texts in
+    let regions = texts-regions (all_tiles tiles) (sides_texts runs) texts in
+    let numbered = tiles-numbered one script names place joining script_is runs are in
+    let told = told-of-grid one script names place joining script_is runs are whole rows areas areas_written has in
+    let many = tiles-long script place runs in
+    let cells : whole.region.rows * whole.region.cols < 2 ^ 64 =
+    omega (arith, cells-few whole tiles rows filled (grid-sized tiles solid are.make) regions, many, short) in
+    let own = exists joining whole filled in
+    let most = greatest_of 0 own.0.rows in
+    let all = has-areas joining whole own.0 own.1.1 in
+    let few : greatest_of 0 own.0.rows < 2 ^ 64 =
+    omega (arith, cells, areas-few joining whole own.0 own.1.1 filled most all) in
+    let good =
+    numbers-few joining whole tiles are.make rows filled numbered options.skip read.tables lists areas told most all in
+    let range = in-range joining whole tiles (sides_texts runs) texts numbered (omega (arith, short, many)) areas told
+    most few good in
+    added-up (format_of options) (written_text areas) (table_texts tables) (all_counts told.counts) told.numbers
+    read.tables (whole.region.rows * whole.region.cols)
+    (ap (λ (t : List ℕ). areas_reading_of (written_text t)) told.is
+    ∙ reads-as-told (all_counts told.counts) told.numbers range)
+    read.read range
+    (grid-sizes-exist exists joining whole tiles are.make rows filled numbered options.skip read.tables lists areas
+    told) cells fault is

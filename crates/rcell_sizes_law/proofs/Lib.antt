@@ -1,3 +1,4 @@
 -- Lemmas on runs that count areas.
+pub mod AddedLemmas
 pub mod SizeLemmas
 pub mod TableLemmas

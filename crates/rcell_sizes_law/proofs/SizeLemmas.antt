@@ -1,5 +1,5 @@
 -- What is added up of the tables of bands is what the script writes over the undivided map.
-use Rattle.std.proofs.Common.{◌≡◌, ℕ, suc, ◌+◌, ◌<◌, ◌≤◌, ◌^◌, List, [], ◌∷◌, ◌++◌, length, map, Some, None}
+use Rattle.std.proofs.Common.{◌≡◌, ℕ, suc, ◌+◌, ◌*◌, ◌<◌, ◌≤◌, ◌^◌, List, [], ◌∷◌, ◌++◌, length, map, Some}
 use Rattle.std.proofs.Common.{refl, ap, sym, ◌∙◌, subst, arith, length-append}
 use Rattle.std.specs.Prelude.{All, flat_map, sum, sum_by}
 use Rattle.std.specs.List.{AllZip}
@@ -15,6 +15,7 @@ use Rattle.cell_ascii_meaning.specs.GridText.{Denotes}
 use Rattle.cell_cats_areas.proofs.LawLemmas.{clumping_is_one}
 use Rattle.cell_cats_areas.specs.Areas.{IsClumping}
 use Rattle.cell_cats_areas.specs.declared.clump.Joining.{Joining}
+use Rattle.cell_cats_areas_law.specs.ExistsLaw.{ClumpingExists}
 use Rattle.cell_cats_law.specs.AreaLaw.{cells_of}
 use Rattle.cell_stats_combinations.specs.Combinations.{Combination}
 use Rattle.cell_stats_combinations.specs.declared.skip.Skip.{Skip}
@@ -31,11 +32,10 @@ use Rattle.cell_tiles_lines.specs.LineReading.{TableReading, reading_of}
 use Rattle.cell_tiles_lines.specs.TableLines.{entries_text}
 use Rattle.cell_tiles_numbering.specs.AreasReading.{AreasReading, areas_reading_of}
 use Rattle.cell_tiles_numbering.specs.AreasText.{areas_text, stretches_of}
-use Rattle.cell_tiles_numbering_law.proofs.OrderLemmas.{stretches-are-readable}
-use Rattle.cell_tiles_numbering_law.proofs.WrittenLemmas.{text-reads-as-itself}
 use Rattle.cell_tiles_sizes.specs.SizeTexts.{HaveSizes, number_entries}
 use Rattle.cell_tiles_sizes_law.proofs.WholeLemmas.{sizes-of-the-whole}
-use Rattle.cell_tiles_sizes_law.specs.WholeSizes.{areas_read_of, table_read}
+use Rattle.cell_tiles_sizes_law.specs.WholeSizes.{areas_read_of, band_areas, table_read}
+use Rattle.cell_tiles_sizes_law.proofs.ExistLemmas.{areas-few, sizes-exist}
 use Rattle.cell_tiles_edges.specs.declared.edges_text.EdgesText.{EdgesText}
 use Rattle.cell_tiles_areas.proofs.BandLemmas.{areas-twice}
 use Rattle.cell_tiles_areas.specs.AreasOfTexts.{HasWrittenAreas}
@@ -49,9 +49,11 @@ use Rattle.rcell_script.specs.ScriptLaw.{OneScript}
 use Rattle.rcell.specs.Output.{IsOutput, format_of}
 use Rattle.rcell_areas_law.proofs.BandLemmas.{numbers-are, taken-is, texts-of-bands}
 use Rattle.cell_tiles_sizes_law.proofs.NumberLemmas.{numbers-good}
+use Rattle.rcell_sizes_law.proofs.AddedLemmas.{AreInRange, added-up, reads-as-told, text_read}
 use Rattle.rcell_sizes_law.proofs.TableLemmas.{entries-printed, run-counts, two-counted}
 use Rattle.rcell_areas_law.specs.BandRuns.{BandRun, MapRun, NumbersAreas, band_of_run, bands_of_runs, edges_texts}
 use Rattle.rcell_areas_law.specs.BandRuns.{written_text}
+use Rattle.rcell_sizes_law.specs.AddedBands.{TablesOfBandsAreAddedUp}
 use Rattle.rcell_sizes_law.specs.SizedBands.{CountsAreas, CountsBand, IsUndivided, SizesAreThoseOfTheWhole}
 use Rattle.rcell_sizes_law.specs.SizedBands.{table_texts}
 
@@ -168,6 +170,7 @@ record IsReadAreas (joining : Joining) (whole : Grid) (bands : List Band) (readi
   cut : IsCutInto joining whole bands edges
   many : length numbers ≡ sum (map (λ (e : BandEdges). e.areas) edges)
   join : JoinNumbers joining edges numbers
+  range : AreInRange (map (λ (e : BandEdges). e.areas) edges) numbers
   read : reading ≡ areas_read_of edges numbers
 
 sum-areas : (bands : List EdgesText) → sum_by (λ (one : BandEdges). one.areas) (edges_of bands) ≡ sum (areas_of bands)
@@ -193,10 +196,13 @@ read-areas joining whole bands texts are rows short areas has few text written i
     (λ n both. (both.0, let most = both.1 in omega (arith, most, few))) numbers good in
     let many : length (areas_of told) ≡ length texts =
     length-map told (λ (t : EdgesText). t.edges.areas) ∙ as-many texts told spelled in
-    let own : areas_reading_of (written_text (areas_text (stretches_of (areas_of told) numbers)))
-    ≡ record { stretches = stretches_of (areas_of told) numbers; fault = None } =
-    text-reads-as-itself (stretches_of (areas_of told) numbers)
-    (stretches-are-readable (areas_of told) numbers (omega (arith, short, many)) (areas-low texts told spelled) low) in
+    let range : AreInRange (areas_of told) numbers =
+    record {
+      short = omega (arith, short, many);
+      few = areas-low texts told spelled;
+      good = low;
+      many = is.is.are.many ∙ ap sum counts;
+    } in
     let bytes : text ≡ areas_text (stretches_of (areas_of told) numbers) =
     taken-is is.text text is.taken ∙ is.is.is
     ∙ ap (λ (l : List ℕ). areas_text (stretches_of l numbers)) counts in
@@ -206,8 +212,9 @@ read-areas joining whole bands texts are rows short areas has few text written i
       cut = cut;
       many = is.is.are.many ∙ ap sum counts ∙ ap sum (sym (areas-twice told));
       join = is.is.are.join;
-      read = ap (λ (t : List ℕ). areas_reading_of (written_text t)) bytes ∙ own
-          ∙ ap (λ (l : List ℕ). record { stretches = stretches_of l numbers; fault = None }) (sym (areas-twice told));
+      range = subst (λ (l : List ℕ). AreInRange l numbers) (sym (areas-twice told)) range;
+      read = ap (λ (t : List ℕ). areas_reading_of (written_text t)) bytes ∙ reads-as-told (areas_of told) numbers range
+          ∙ ap (λ (l : List ℕ). text_read l numbers) (sym (areas-twice told));
     }
 
 -- sizes that are listed as the table of the undivided map are printed as the script does over it
@@ -264,3 +271,51 @@ sizes-are-those-of-the-whole one script counting undivided names place joining o
     sizes-of-the-whole joining whole bands told.edges told.cut is.filled options.skip read.tables read.are
     told.numbers told.many told.join added.sizes have numbered clumping)
     text output
+
+-- ---- the tables of bands are added up
+
+-- a map of bands has fewer cells than 2^31 for each
+cells-few : {script : Coming} {place : ℕ} (cols : ℕ) (runs : List (BandRun script place))
+    → All (IsWide cols) (flat_map (λ (band : Band). band.map.rows) (bands_of_runs runs))
+    → length (flat_map (λ (band : Band). band.map.rows) (bands_of_runs runs)) * cols ≤ length runs * 2147483647
+cells-few cols [] wide = omega arith
+cells-few cols (b ∷ runs) wide =
+    let others = flat_map (λ (band : Band). band.map.rows) (bands_of_runs runs) in
+    let cells = b.drawn.are.cells_denoted in
+    let count = (denoted-filled b.run.grid.1 b.drawn.cells cells).count in
+    let same = wide-as-rows b.run.grid.1 b.drawn.cells cols cells
+    (all-front (IsWide cols) b.drawn.cells.rows others wide) in
+    let most = (denoted-region b.run.grid.1 b.drawn.cells cells).cells_most in
+    let own : length b.drawn.cells.rows * cols ≤ 2147483647 =
+    subst (λ (n : ℕ). n * cols ≤ 2147483647) (sym count)
+    (subst (λ (n : ℕ). b.drawn.cells.region.rows * n ≤ 2147483647) same most) in
+    let rest : length others * cols ≤ length runs * 2147483647 =
+    cells-few cols runs (all-back (IsWide cols) b.drawn.cells.rows others wide) in
+    subst (λ (n : ℕ). n * cols ≤ suc (length runs) * 2147483647) (sym (length-append b.drawn.cells.rows others))
+    (omega (arith, own, rest))
+
+pub tables-of-bands-are-added-up : OneScript → ClumpingExists → TablesOfBandsAreAddedUp
+tables-of-bands-are-added-up one exists script counting names place joining options script_is counts runs are short
+    tables listed whole filled rows areas areas_written has fault is =
+    let bands = bands_of_runs runs in
+    let cols = whole.region.cols in
+    let wide = subst (λ (l : List (List CellValue)). All (IsWide cols) l) rows filled.width in
+    let read = bands-read one script counting names place joining options script_is counts cols runs are.named tables
+    listed wide in
+    let cells : whole.region.rows * whole.region.cols < 2 ^ 64 =
+    subst (λ (n : ℕ). n * whole.region.cols < 2 ^ 64)
+    (sym (ap (λ (l : List (List CellValue)). length l) rows) ∙ filled.count)
+    (omega (arith, cells-few cols runs wide, short)) in
+    let own = exists joining whole filled in
+    let most = greatest_of 0 own.0.rows in
+    let all = has-areas joining whole own.0 own.1.1 in
+    let few : most < 2 ^ 64 = omega (arith, cells, areas-few joining whole own.0 own.1.1 filled most all) in
+    let told = read-areas joining whole bands (edges_texts runs)
+    (texts-of-bands one script names place joining script_is runs are.named) rows
+    (let many = length-map runs (λ (b : BandRun script place). written_text b.edges) in omega (arith, short, many))
+    most all few areas areas_written has in
+    added-up (format_of options) (written_text areas) (table_texts tables) (band_areas told.edges) told.numbers
+    read.tables (whole.region.rows * whole.region.cols) told.read read.read told.range
+    (sizes-exist exists joining whole bands told.edges told.cut filled options.skip read.tables read.are told.numbers
+    told.many told.join)
+    cells fault is

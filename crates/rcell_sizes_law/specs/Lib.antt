@@ -1,2 +1,3 @@
 -- Sizes of areas that runs counted band by band.
+pub mod AddedBands
 pub mod SizedBands
