@@ -7,7 +7,7 @@ use Rattle.std.proofs.lemmas.List.{length-map}
 use Rattle.std.proofs.lemmas.List.Elements.{All-head, All-tail}
 use Rattle.cell_core_devices.specs.Device.{Coming}
 use Rattle.cell_core_values.specs.Region.{RegionValue}
-use Rattle.cell_core.specs.Grid.{Grid}
+use Rattle.cell_core.specs.Grid.{Grid, IsFilled}
 use Rattle.cell_ascii_meaning.specs.GridText.{Denotes}
 use Rattle.cell_cats_areas.proofs.LawLemmas.{clumping_is_one}
 use Rattle.cell_cats_areas.specs.Areas.{IsClumping}
@@ -24,7 +24,6 @@ use Rattle.cell_tiles_lines.specs.TableLines.{entries_text}
 use Rattle.cell_tiles_numbering.specs.AreasReading.{AreasReading, areas_reading_of}
 use Rattle.cell_tiles_sizes.specs.SizeTexts.{HaveSizes, number_entries}
 use Rattle.cell_tiles_sizes_law.specs.WholeSizes.{table_read}
-use Rattle.cell_tiles_sizes_law.proofs.ExistLemmas.{areas-few}
 use Rattle.cell_tiles_areas_law.proofs.MapLemmas.{denoted-filled, one-map}
 use Rattle.cell_tiles_areas_law.proofs.RangeLemmas.{denoted-region}
 use Rattle.cell_tiles_grid_areas_law.specs.TileGrids.{all_tiles}
@@ -39,9 +38,10 @@ use Rattle.rcell.specs.Output.{format_of}
 use Rattle.rcell_areas_law.proofs.BandLemmas.{numbers-are, taken-is}
 use Rattle.rcell_areas_law.specs.BandRuns.{MapRun, NumbersAreas, written_text}
 use Rattle.rcell_grid_law.proofs.TileLemmas.{all-tiles, texts-of-tiles, tiles-numbered, told-of-grid}
-use Rattle.rcell_grid_law.specs.TileRuns.{TileRun, all_runs, sides_texts, tile_of_run, tiles_of_runs}
+use Rattle.rcell_grid_law.specs.TileNumbers.{HasTiles}
+use Rattle.rcell_grid_law.specs.TileRuns.{AreTileRuns, TileRun, all_runs, sides_texts, tile_of_run, tiles_of_runs}
 use Rattle.rcell_sizes_law.proofs.AddedLemmas.{added-up, reads-as-told}
-use Rattle.rcell_sizes_law.proofs.SizeLemmas.{printed-as-whole}
+use Rattle.rcell_sizes_law.proofs.SizeLemmas.{areas-fit, printed-as-whole}
 use Rattle.rcell_sizes_law.proofs.TableLemmas.{run-counts}
 use Rattle.rcell_sizes_law.specs.SizedBands.{CountsAreas, table_texts}
 use Rattle.rcell_grid_sizes_law.proofs.CellLemmas.{cells-few}
@@ -110,6 +110,22 @@ tiles-long : (script : Coming) (place : ℕ) (runs : List (List (TileRun script 
 tiles-long script place runs =
     ap (λ (l : List Band). length l) (all-tiles script place runs) ∙ length-map (all_runs runs) tile_of_run
 
+-- a map of fewer than 2^31 tiles has fewer cells than 2^64
+tiles-few : (script : Coming) (names : List (List ℕ)) (place : ℕ) (runs : List (List (TileRun script place)))
+    → AreTileRuns script names place runs → length (all_runs runs) < 2 ^ 31 → (whole : Grid)
+    → IsFilled whole.region whole.rows → HasTiles whole runs → whole.region.rows * whole.region.cols < 2 ^ 64
+tiles-few script names place runs are short whole filled rows =
+    let tiles = tiles_of_runs runs in
+    let texts = texts-of-tiles script place runs in
+    let solid = texts-filled (all_tiles tiles) (sides_texts runs) texts in
+    let regions = texts-regions (all_tiles tiles) (sides_texts runs) texts in
+    omega (
+      arith,
+      cells-few whole tiles rows filled (grid-sized tiles solid are.make) regions,
+      tiles-long script place runs,
+      short,
+    )
+
 pub sizes-are-those-of-the-grid : OneScript → SizesAreThoseOfTheGrid
 sizes-are-those-of-the-grid one script counting undivided names place joining options whole_options script_is
     tile_counts counts alike skips runs are short tables listed shelf whole is rows areas areas_written has sizes
@@ -128,7 +144,8 @@ sizes-are-those-of-the-grid one script counting undivided names place joining op
     (λ own clumping.
     let most = greatest_of 0 own.rows in
     let whole_areas = has-areas joining whole own clumping in
-    let few = is.few most whole_areas in
+    let few = areas-fit joining whole own clumping is.filled
+    (tiles-few script names place runs are short whole is.filled rows) most whole_areas in
     let good =
     numbers-few joining whole tiles are.make rows is.filled numbered options.skip read.tables lists areas told most
     whole_areas in
@@ -157,22 +174,17 @@ tables-of-tiles-are-added-up one exists script counting names place joining opti
     subst (λ (l : List Band). AllZip (HasTileTable options.skip) l read.tables) (sym (all-tiles script place runs))
     read.are in
     let texts = texts-of-tiles script place runs in
-    let solid = texts-filled (all_tiles tiles) (sides_texts runs) texts in
-    let regions = texts-regions (all_tiles tiles) (sides_texts runs) texts in
     let numbered = tiles-numbered one script names place joining script_is runs are in
     let told = told-of-grid one script names place joining script_is runs are whole rows areas areas_written has in
-    let many = tiles-long script place runs in
-    let cells : whole.region.rows * whole.region.cols < 2 ^ 64 =
-    omega (arith, cells-few whole tiles rows filled (grid-sized tiles solid are.make) regions, many, short) in
+    let cells = tiles-few script names place runs are short whole filled rows in
     let own = exists joining whole filled in
     let most = greatest_of 0 own.0.rows in
     let all = has-areas joining whole own.0 own.1.1 in
-    let few : greatest_of 0 own.0.rows < 2 ^ 64 =
-    omega (arith, cells, areas-few joining whole own.0 own.1.1 filled most all) in
+    let few = areas-fit joining whole own.0 own.1.1 filled cells most all in
     let good =
     numbers-few joining whole tiles are.make rows filled numbered options.skip read.tables lists areas told most all in
-    let range = in-range joining whole tiles (sides_texts runs) texts numbered (omega (arith, short, many)) areas told
-    most few good in
+    let range = in-range joining whole tiles (sides_texts runs) texts numbered
+    (omega (arith, short, tiles-long script place runs)) areas told most few good in
     added-up (format_of options) (written_text areas) (table_texts tables) (all_counts told.counts) told.numbers
     read.tables (whole.region.rows * whole.region.cols)
     (ap (λ (t : List ℕ). areas_reading_of (written_text t)) told.is

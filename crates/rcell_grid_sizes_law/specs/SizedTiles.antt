@@ -36,7 +36,7 @@ SizesAreThoseOfTheGrid =
     → (runs : List (List (TileRun script place))) → AreTileRuns script names place runs
     → length (all_runs runs) < 2 ^ 31
     → (tables : List (MapRun counting place)) → AllZip (CountsTile names) (all_runs runs) tables
-    → (shelf : ShelfValue) (whole : Grid) → IsUndivided shelf names place joining whole → HasTiles whole runs
+    → (shelf : ShelfValue) (whole : Grid) → IsUndivided shelf names place whole → HasTiles whole runs
     → (areas : List ℕ) (areas_written : ℕ)
     → HasWrittenTiles joining (sides_texts runs) (Some []) (Some areas) areas_written
     → (sizes : List ℕ) (sizes_written : ℕ)

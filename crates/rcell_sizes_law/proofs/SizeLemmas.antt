@@ -9,7 +9,7 @@ use Rattle.std.proofs.lemmas.List.Sums.{sum-map}
 use Rattle.std.proofs.lemmas.List.Elements.{All-cons, All-head, All-nil, All-tail, All-weaker}
 use Rattle.cell_core_devices.specs.Device.{Coming}
 use Rattle.cell_core_values.specs.Region.{RegionValue}
-use Rattle.cell_core.specs.Grid.{CellValue, Grid}
+use Rattle.cell_core.specs.Grid.{CellValue, Grid, IsFilled}
 use Rattle.cell_core.specs.Shelf.{ShelfValue}
 use Rattle.cell_ascii_meaning.specs.GridText.{Denotes}
 use Rattle.cell_cats_areas.proofs.LawLemmas.{clumping_is_one}
@@ -51,6 +51,7 @@ use Rattle.rcell_areas_law.proofs.BandLemmas.{numbers-are, taken-is, texts-of-ba
 use Rattle.cell_tiles_sizes_law.proofs.NumberLemmas.{numbers-good}
 use Rattle.rcell_sizes_law.proofs.AddedLemmas.{AreInRange, added-up, reads-as-told, text_read}
 use Rattle.rcell_sizes_law.proofs.TableLemmas.{entries-printed, run-counts, two-counted}
+use Rattle.rcell_areas_law.specs.BandNumbers.{HasBands}
 use Rattle.rcell_areas_law.specs.BandRuns.{BandRun, MapRun, NumbersAreas, band_of_run, bands_of_runs, edges_texts}
 use Rattle.rcell_areas_law.specs.BandRuns.{written_text}
 use Rattle.rcell_sizes_law.specs.AddedBands.{TablesOfBandsAreAddedUp}
@@ -77,6 +78,44 @@ wide-as-rows text m cols denotes wide =
     let count = filled.count in
     let some = (denoted-region text m denotes).rows_least in
     sym (filled.width 0 [] (omega (arith, count, some))) ∙ wide 0 [] (omega (arith, count, some))
+
+-- ---- there are few cells
+
+-- a map of bands has fewer cells than 2^31 for each
+cells-few : {script : Coming} {place : ℕ} (cols : ℕ) (runs : List (BandRun script place))
+    → All (IsWide cols) (flat_map (λ (band : Band). band.map.rows) (bands_of_runs runs))
+    → length (flat_map (λ (band : Band). band.map.rows) (bands_of_runs runs)) * cols ≤ length runs * 2147483647
+cells-few cols [] wide = omega arith
+cells-few cols (b ∷ runs) wide =
+    let others = flat_map (λ (band : Band). band.map.rows) (bands_of_runs runs) in
+    let cells = b.drawn.are.cells_denoted in
+    let count = (denoted-filled b.run.grid.1 b.drawn.cells cells).count in
+    let same = wide-as-rows b.run.grid.1 b.drawn.cells cols cells
+    (all-front (IsWide cols) b.drawn.cells.rows others wide) in
+    let most = (denoted-region b.run.grid.1 b.drawn.cells cells).cells_most in
+    let own : length b.drawn.cells.rows * cols ≤ 2147483647 =
+    subst (λ (n : ℕ). n * cols ≤ 2147483647) (sym count)
+    (subst (λ (n : ℕ). b.drawn.cells.region.rows * n ≤ 2147483647) same most) in
+    let rest : length others * cols ≤ length runs * 2147483647 =
+    cells-few cols runs (all-back (IsWide cols) b.drawn.cells.rows others wide) in
+    subst (λ (n : ℕ). n * cols ≤ suc (length runs) * 2147483647) (sym (length-append b.drawn.cells.rows others))
+    (omega (arith, own, rest))
+
+-- a map of fewer than 2^31 bands has fewer cells than 2^64
+bands-few : {script : Coming} {place : ℕ} (runs : List (BandRun script place)) → length runs < 2 ^ 31 → (whole : Grid)
+    → IsFilled whole.region whole.rows → HasBands whole runs → whole.region.rows * whole.region.cols < 2 ^ 64
+bands-few runs short whole filled rows =
+    let wide = subst (λ (l : List (List CellValue)). All (IsWide whole.region.cols) l) rows filled.width in
+    subst (λ (n : ℕ). n * whole.region.cols < 2 ^ 64)
+    (sym (ap (λ (l : List (List CellValue)). length l) rows) ∙ filled.count)
+    (omega (arith, cells-few whole.region.cols runs wide, short))
+
+-- and a map of so few cells has as few areas
+pub areas-fit : (joining : Joining) (whole numbered : Grid) → IsClumping joining whole numbered
+    → IsFilled whole.region whole.rows → whole.region.rows * whole.region.cols < 2 ^ 64
+    → (areas : ℕ) → HasAreas joining whole areas → areas < 2 ^ 64
+areas-fit joining whole numbered clumping filled cells areas has =
+    omega (arith, cells, areas-few joining whole numbered clumping filled areas has)
 
 -- ---- the tables of bands
 
@@ -221,7 +260,7 @@ read-areas joining whole bands texts are rows short areas has few text written i
 pub printed-as-whole : (undivided : Coming) (names : List (List ℕ)) (place : ℕ) (joining : Joining)
     (options whole_options : StatsOptions) (counts : CountsAreas undivided names place joining whole_options)
     → format_of whole_options ≡ format_of options → whole_options.skip ≡ AnyNull → (shelf : ShelfValue) (whole : Grid)
-    → IsUndivided shelf names place joining whole → (sizes : List ℕ)
+    → IsUndivided shelf names place whole → (sizes : List ℕ)
     → ((numbered : Grid) → IsClumping joining whole numbered
     → IsTable AnyNull (cells_of numbered whole.region.rows whole.region.cols) (number_entries 1 sizes))
     → (text : List ℕ) → IsOutput shelf (counts.clump ∷ counts.stats ∷ []) text
@@ -260,10 +299,12 @@ sizes-are-those-of-the-whole one script counting undivided names place joining o
     (λ numbered clumping.
     let own = has-areas joining whole numbered clumping in
     let most = greatest_of 0 numbered.rows in
+    let few = areas-fit joining whole numbered clumping is.filled
+    (bands-few runs short whole is.filled rows) most own in
     let told = read-areas joining whole bands (edges_texts runs)
     (texts-of-bands one script names place joining script_is runs are.named) rows
     (let many = length-map runs (λ (b : BandRun script place). written_text b.edges) in omega (arith, short, many))
-    most own (is.few most own) areas areas_written has in
+    most own few areas areas_written has in
     let have : HaveSizes (areas_read_of told.edges told.numbers) (map table_read read.tables) added.sizes =
     subst (λ (r : AreasReading). HaveSizes r (map table_read read.tables) added.sizes) told.read
     (subst (λ (l : List TableReading). HaveSizes (areas_reading_of (written_text areas)) l added.sizes) read.read
@@ -274,26 +315,6 @@ sizes-are-those-of-the-whole one script counting undivided names place joining o
 
 -- ---- the tables of bands are added up
 
--- a map of bands has fewer cells than 2^31 for each
-cells-few : {script : Coming} {place : ℕ} (cols : ℕ) (runs : List (BandRun script place))
-    → All (IsWide cols) (flat_map (λ (band : Band). band.map.rows) (bands_of_runs runs))
-    → length (flat_map (λ (band : Band). band.map.rows) (bands_of_runs runs)) * cols ≤ length runs * 2147483647
-cells-few cols [] wide = omega arith
-cells-few cols (b ∷ runs) wide =
-    let others = flat_map (λ (band : Band). band.map.rows) (bands_of_runs runs) in
-    let cells = b.drawn.are.cells_denoted in
-    let count = (denoted-filled b.run.grid.1 b.drawn.cells cells).count in
-    let same = wide-as-rows b.run.grid.1 b.drawn.cells cols cells
-    (all-front (IsWide cols) b.drawn.cells.rows others wide) in
-    let most = (denoted-region b.run.grid.1 b.drawn.cells cells).cells_most in
-    let own : length b.drawn.cells.rows * cols ≤ 2147483647 =
-    subst (λ (n : ℕ). n * cols ≤ 2147483647) (sym count)
-    (subst (λ (n : ℕ). b.drawn.cells.region.rows * n ≤ 2147483647) same most) in
-    let rest : length others * cols ≤ length runs * 2147483647 =
-    cells-few cols runs (all-back (IsWide cols) b.drawn.cells.rows others wide) in
-    subst (λ (n : ℕ). n * cols ≤ suc (length runs) * 2147483647) (sym (length-append b.drawn.cells.rows others))
-    (omega (arith, own, rest))
-
 pub tables-of-bands-are-added-up : OneScript → ClumpingExists → TablesOfBandsAreAddedUp
 tables-of-bands-are-added-up one exists script counting names place joining options script_is counts runs are short
     tables listed whole filled rows areas areas_written has fault is =
@@ -302,14 +323,11 @@ tables-of-bands-are-added-up one exists script counting names place joining opti
     let wide = subst (λ (l : List (List CellValue)). All (IsWide cols) l) rows filled.width in
     let read = bands-read one script counting names place joining options script_is counts cols runs are.named tables
     listed wide in
-    let cells : whole.region.rows * whole.region.cols < 2 ^ 64 =
-    subst (λ (n : ℕ). n * whole.region.cols < 2 ^ 64)
-    (sym (ap (λ (l : List (List CellValue)). length l) rows) ∙ filled.count)
-    (omega (arith, cells-few cols runs wide, short)) in
+    let cells = bands-few runs short whole filled rows in
     let own = exists joining whole filled in
     let most = greatest_of 0 own.0.rows in
     let all = has-areas joining whole own.0 own.1.1 in
-    let few : most < 2 ^ 64 = omega (arith, cells, areas-few joining whole own.0 own.1.1 filled most all) in
+    let few = areas-fit joining whole own.0 own.1.1 filled cells most all in
     let told = read-areas joining whole bands (edges_texts runs)
     (texts-of-bands one script names place joining script_is runs are.named) rows
     (let many = length-map runs (λ (b : BandRun script place). written_text b.edges) in omega (arith, short, many))

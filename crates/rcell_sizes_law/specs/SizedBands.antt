@@ -7,7 +7,6 @@ use Rattle.cell_core.specs.Grid.{Grid, IsFilled}
 use Rattle.cell_core.specs.Shelf.{ShelfValue}
 use Rattle.cell_cats_areas.specs.declared.clump.Joining.{Joining}
 use Rattle.cell_stats_combinations.specs.declared.skip.Skip.TheVariants.{AnyNull}
-use Rattle.cell_tiles_joining.specs.Bands.{HasAreas}
 use Rattle.cell_tiles_lines.specs.LineReading.{reading_of}
 use Rattle.cell_tiles_numbering.specs.AreasReading.{areas_reading_of}
 use Rattle.cell_tiles_sizes.specs.SizeTexts.{HasWrittenSizes}
@@ -42,14 +41,12 @@ pub record CountsBand {script counting : Coming} {place : ℕ} (names : List (Li
 abbrev pub table_texts : {counting : Coming} {place : ℕ} → List (MapRun counting place) → List Coming
 table_texts runs = map (λ run. written_text run.text) runs
 
--- the undivided map, of fewer areas than 2^64, on a shelf whose maps have these names
-pub record IsUndivided (shelf : ShelfValue) (names : List (List ℕ)) (place : ℕ) (joining : Joining)
-    (whole : Grid) : Type 0 where
+-- the undivided map, on a shelf whose maps have these names
+pub record IsUndivided (shelf : ShelfValue) (names : List (List ℕ)) (place : ℕ) (whole : Grid) : Type 0 where
   pub many : length shelf.maps ≡ length names
   pub there : slice_get shelf.maps place ≡ Some whole
   pub region : whole.region ≡ shelf.region
   pub filled : IsFilled whole.region whole.rows
-  pub few : (areas : ℕ) → HasAreas joining whole areas → areas < 2 ^ 64
 
 -- what is written of the areas text of fewer than 2^31 bands and of their tables is the output over the undivided map of a
 -- script that prints its table so, without null; also where the map is too large for a run
@@ -62,7 +59,7 @@ SizesAreThoseOfTheWhole =
     → format_of whole_options ≡ format_of options → whole_options.skip ≡ AnyNull
     → (runs : List (BandRun script place)) → AreBandRuns script names place runs → length runs < 2 ^ 31
     → (tables : List (MapRun counting place)) → AllZip (CountsBand names) runs tables
-    → (shelf : ShelfValue) (whole : Grid) → IsUndivided shelf names place joining whole → HasBands whole runs
+    → (shelf : ShelfValue) (whole : Grid) → IsUndivided shelf names place whole → HasBands whole runs
     → (areas : List ℕ) (areas_written : ℕ)
     → HasWrittenAreas joining (edges_texts runs) (Some []) (Some areas) areas_written
     → (sizes : List ℕ) (sizes_written : ℕ)
