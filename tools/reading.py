@@ -1,16 +1,18 @@
 #!/usr/bin/env python3
 """Prints what has to be believed of the program: the definitions that its theorem stands on, in reading order.
 
-    reading.py [--count] [COMMAND]
+    reading.py [--count | --check] [COMMAND]
 
 The theorem is the clause `headline` of rcell::run. From it the definitions and the declarations of Rust types are followed
 that it cites, each printed after those that it stands on, with its comment and under the name of its file. COMMAND (r.mapcalc,
 r.reclass, r.clump, r.stats, r.out.ascii) leaves out what the other commands alone stand on, with the equations and constructors
 that are theirs, and r.stats what its lines of single cells (-1) alone do: it is the table that is read. The last line is
 'N lines of definitions, M with comments, T of Rust types'; with --count it is the only one. What the standard library and
-the language define is not printed.
+the language define is not printed. --check prints each name that a printed definition uses and that is not printed itself, and
+ends with status 1 if there is one.
 """
 import argparse
+import itertools
 import re
 import signal
 import sys
@@ -56,13 +58,15 @@ class Reading:
                     self.given_on.update({(sources.module_of(path), name): (match.group(1), name) for name in names})
 
     def find_types(self):
-        """The declarations of public structs and enums, by crate, module and name."""
+        """The declarations of public structs, enums and constants, by crate, module and name."""
         for crate, path, text in sources.read_files("src"):
             module = path[len(crate) + len("/src/"):].removesuffix(".rt").replace("/", ".")
             blanked = sources.blank_literals(text)
             for match in sources.RUST_TYPE.finditer(blanked):
                 end = sources.closing_place(blanked, match.end() - 1)
                 self.types[(crate, module, match.group(1))] = (path, text[match.start():end + 1])
+            for match in sources.RUST_CONSTANT.finditer(blanked):
+                self.types[(crate, module, match.group(1))] = (path, text[match.start():match.end()])
 
     def resolve(self, target):
         """The definition or the type that a (module, name) pair stands for, or None."""
@@ -75,7 +79,7 @@ class Reading:
         match = re.match(r"(\w+)\.specs\.declared\.([\w.]+)", target[0])
         if match is None:
             return None
-        crate, parts = match.group(1), [it for it in match.group(2).split(".") if it != "TheVariants"]
+        crate, parts = match.group(1), [it for it in match.group(2).split(".") if it not in ("TheVariants", "TheConstants")]
         places = [(crate, ".".join(parts[:end - 1]), parts[end - 1]) for end in range(len(parts), 1, -1)]
         return next((it for it in [*places, (crate, ".".join(parts), target[1])] if it in self.types), None)
 
@@ -92,12 +96,15 @@ class Reading:
         """What a definition cites, in the order of its words."""
         it, found = self.definitions[key], {}
         for word in sources.words_of(sources.without_comment("\n".join(self.lines_without(key, stops)))):
-            head = word.strip(".:").split(".")[0]
-            targets = it.imports.targets(word)
-            if head in self.own[it.module] or (it.module, head) in self.constructors:
-                targets = [*targets, (it.module, head)]
-            found.update({resolved: None for target in targets if (resolved := self.resolve(target)) not in (None, key)})
+            found.update({resolved: None for target in self.targets_of(it, word) if (resolved := self.resolve(target)) not in (None, key)})
         return list(found)
+
+    def targets_of(self, definition, word):
+        """The (module, name) pairs that a word of a definition may stand for, imported or of its own module."""
+        head, targets = word.strip(".:").split(".")[0], definition.imports.targets(word)
+        if head in self.own[definition.module] or (definition.module, head) in self.constructors:
+            targets = [*targets, (definition.module, head)]
+        return targets
 
     def starts(self):
         """What the headline cites."""
@@ -126,6 +133,31 @@ class Reading:
         return order
 
 
+def unprinted(reading, order):
+    """The names that printed definitions use and that are not printed: PATH: DEFINITION uses NAME.
+
+    A definition is read again from its file up to a blank line, so that what the reader of sources leaves out is found.
+    """
+    found, printed, crates = [], set(order), sources.crate_names(True)
+    for key in order:
+        if key not in reading.definitions:
+            continue
+        it = reading.definitions[key]
+        for word in words_up_to_blank(sources.CRATES / it.path, it.line):
+            targets = reading.targets_of(it, word)
+            resolved = [target for target in map(reading.resolve, targets) if target]
+            is_ours = any(module.partition(".")[0] in crates for module, _ in targets)
+            if any(target not in printed for target in resolved) or (is_ours and not resolved):
+                found.append(f"{it.path}: {it.name} uses {word}")
+    return found
+
+
+def words_up_to_blank(path, line):
+    """The words of a file from a line to the next blank line, without comments."""
+    lines = path.read_text(encoding="utf-8").split("\n")[line - 1:]
+    return sources.words_of(sources.without_comment("\n".join(itertools.takewhile(str.strip, lines))))
+
+
 def lines_of_code(text):
     return [line for line in text.split("\n") if line.strip() and not line.strip().startswith("//")]
 
@@ -148,6 +180,7 @@ def main():
     signal.signal(signal.SIGPIPE, signal.SIG_DFL)
     parser = argparse.ArgumentParser(description=__doc__.splitlines()[0])
     parser.add_argument("--count", action="store_true", help="print the numbers of lines alone")
+    parser.add_argument("--check", action="store_true", help="print the names that a printed definition uses and that are not printed")
     parser.add_argument("command", nargs="?", choices=[*BEGINNINGS, []], default=[], metavar="COMMAND", help=", ".join(BEGINNINGS))
     words = parser.parse_args()
     reading = Reading()
@@ -155,12 +188,18 @@ def main():
     stops.update(BESIDES.get(words.command, []) if words.command else [])
     headline, starts = reading.starts()
     order = reading.walk(starts, stops)
+    if words.check:
+        missing = unprinted(reading, order)
+        print("\n".join([*missing, f"{len(missing)} names are not printed"]))
+        return 1 if missing else 0
     if not words.count:
         print_reading(reading, headline, order, stops)
     found = [key for key in order if key in reading.definitions]
     lines = sum(1 for key in found for line in reading.lines_without(key, stops) if line.strip())
     types = sum(len(lines_of_code(reading.types[key][1])) for key in order if key in reading.types)
-    print(f"{lines} lines of definitions, {lines + sum(len(reading.definitions[key].comments) for key in found)} with comments, {types} of Rust types")
+    commented = lines + sum(len(reading.definitions[key].comments) for key in found)
+    print(f"{lines} lines of definitions, {commented} with comments, {types} of Rust types")
+    return 0
 
 
 if __name__ == "__main__":

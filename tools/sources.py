@@ -21,6 +21,7 @@ WORD = re.compile(r"[^\s(){}\[\],;=]+")
 DEFINITION = re.compile(r"(\s*)(abbrev |unfoldable )?(pub )?([^\s:(){}]+) (?:\([^:]*\) )*: ")
 TYPE_DEFINITION = re.compile(r"(\s*)(?:abbrev |unfoldable )?(pub )?(record|data) ([\w'\-]+)")
 RUST_TYPE = re.compile(r"^pub (?:struct|enum) (\w+)[^{;\n]*\{", re.MULTILINE)
+RUST_CONSTANT = re.compile(r"^pub const (\w+): [^;]*;", re.MULTILINE)
 LITERAL = re.compile(r"'(\\x..|\\.|[^\\'])'")
 CLOSING = {"{": "}", "(": ")", "[": "]"}
 
@@ -228,7 +229,7 @@ def read_imports(text):
 
 
 def definitions_of(crate, path, text):
-    """The definitions of a file in their order."""
+    """The definitions of a file in their order. A blank line ends one; a comment inside one is a part of it."""
     imports, found, current, comments, outermost = read_imports(text), [], None, [], 0
     for number, line in enumerate(text.split("\n"), 1):
         words, indent = line.strip(), len(line) - len(line.lstrip())
@@ -240,20 +241,21 @@ def definitions_of(crate, path, text):
             current, comments = None, []
             continue
         if words.startswith("--"):
-            comments.append(words)
-            current = None
+            comments.append(line)
             continue
         outermost = min(outermost, indent)
         of_type, of_value = TYPE_DEFINITION.match(line), DEFINITION.match(line)
         if of_type and indent == outermost:
             kind, name = of_type.group(3), of_type.group(4)
-        elif of_value and current is None and indent == outermost and not re.match(r"\s*unfolding", line):
+        elif of_value and (current is None or comments) and indent == outermost and not re.match(r"\s*unfolding", line):
             kind, name = ("definition" if of_value.group(2) or outermost else "lemma"), of_value.group(4)
         else:
             if current is not None:
-                current.lines.append(line)
+                current.lines += [*comments, line]
+            comments = []
             continue
-        current = Definition(crate, path, module_of(path), name, kind, number, comments, [line], imports)
+        above = [comment.strip() for comment in comments]
+        current = Definition(crate, path, module_of(path), name, kind, number, above, [line], imports)
         comments = []
         found.append(current)
     return found
