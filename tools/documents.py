@@ -15,7 +15,8 @@ Of docs/DIFFERENCES.md the program's side of each table is run, too (tools/diffe
 docs/COMMANDS.md and the manual pages name are tried (tools/command_options.py). What needs no program is tried
 first, and with --texts alone: docs/COMMANDS.md has the table of helpers/messages.json (tools/messages.py), docs/crates.svg the
 crates of crates.txt (tools/crate_graph.py), docs/PROOFS.md and README.md the numbers of lines that have to be believed
-(tools/reading.py), README.md the figures of docs/SPEED.md, and the manual pages pass the warnings of man where it is installed.
+(tools/reading.py), README.md the figures of docs/SPEED.md, the edits, clauses and laws that the documents cite exist (tools/citations.py), and the
+manual pages pass the warnings of man where it is installed.
 The last line is 'N passed, M failed'.
 """
 import argparse
@@ -29,6 +30,7 @@ import sys
 import tempfile
 from dataclasses import dataclass, field
 
+import citations
 import command_options
 import crate_graph
 import differences
@@ -292,7 +294,7 @@ def main():
     settings = words.parse_args()
     program, joiner = os.path.abspath(settings.program), os.path.abspath(settings.joiner)
     programs = {"rcell": program, "rcell-join": joiner}
-    texts = [("the messages", messages.check), ("the picture of the crates", crate_graph.check), ("the manual pages", check_pages),
+    texts = [("the messages", messages.check), ("the citations", citations.check), ("the picture of the crates", crate_graph.check), ("the manual pages", check_pages),
              ("the numbers of lines", lambda: check_reading(settings.write)), ("the figures", lambda: check_speed(settings.write))]
     runs = [(name, lambda name=name: run_document(name, programs, settings.write)) for name in settings.documents or DOCUMENTS]
     if not settings.documents:
