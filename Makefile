@@ -3,7 +3,7 @@
 # make uninstall removes them
 # make example   builds the program, and runs it on the land cover of examples/land-cover
 # make documents runs each example of the documents on bin/rcell and bin/rcell-join, and compares
-# make check     the gate: every proof from nothing, then the programs on each case, example and document, and the release
+# make check     the gate: every proof, then the programs, documents, release and fronts; PARTS="lint documents" for some parts, PARTS=list
 # make static    links bin/rcell-static and bin/rcell-join-static, each from the object of its program: for each Linux on x86-64
 # make dist      makes the release: dist/rcell-VERSION-linux-x86_64.tar.gz, dist/rcell_VERSION_amd64.deb, dist/SHA256SUMS
 # make debian11  runs the release's quick start in a root of Debian 11 (as root, with debootstrap)
@@ -23,6 +23,7 @@
 PREFIX ?= /usr/local
 DESTDIR ?=
 JOBS ?=
+PARTS ?=
 # Of Debian: python3-matplotlib, which is not seen by a Python of one's own.
 PICTURES = /usr/bin/python3 tools/pictures.py
 
@@ -56,7 +57,8 @@ documents: all
 	python3 tools/documents.py
 
 check:
-	@sh tools/check.sh
+	@sh tools/needs.sh || { echo '0 passed, 1 failed, 0 skipped'; exit 1; }
+	@python3 tools/check.py $(PARTS)
 
 # Of what was built last: whoever packs the program (the wheel of Python, the package of R) takes bin/rcell-static.
 static:

@@ -3,13 +3,11 @@
 
 .PHONY: r r-speed
 
-R_PACKAGES = r-base-core r-cran-codetools r-cran-terra r-cran-data.table r-cran-processx r-cran-tinytest
-
 r: static
-	@sh tools/debian.sh $(R_PACKAGES)
+	@sh tools/debian.sh -f r/packages.txt
 	@sh r/build.sh dist
 	@sh r/check.sh
 
 r-speed: bin/rcell
-	@sh tools/debian.sh $(R_PACKAGES)
+	@sh tools/debian.sh -f r/packages.txt
 	@room=$$(mktemp -d) && R CMD INSTALL --library=$$room r/rcell > $$room/log 2>&1 && R_LIBS=$$room RCELL=$(CURDIR)/bin/rcell Rscript bench/r.R $(SHORT); status=$$?; rm -rf "$$room"; exit $$status

@@ -18,11 +18,11 @@ import subprocess
 import sys
 import tempfile
 
+import check
 import documents
 
 ROOT = os.path.dirname(os.path.dirname(os.path.abspath(__file__)))
 HELPERS = f"{ROOT}/tools/test_helpers.py"
-COUNTS = re.compile(r"^(\d+) passed, (\d+) failed$")
 PATH_WITHOUT_KIT = "/usr/bin:/bin"
 RUNS = "300"
 KIND_OF_INTERPRETER = 3  # PT_INTERP of an ELF file
@@ -35,26 +35,27 @@ TABLE_OF_THE_WHOLE = "-1 1\n5 3\n7 2\n9 1\n* 2\n"
 
 
 class Count:
-    """How many checks passed and failed so far; each is told on a line as soon as it is known."""
+    """How many checks passed, failed and were skipped so far; each is told on a line as soon as it is known."""
 
     def __init__(self):
-        self.passed = self.failed = 0
+        self.passed = self.failed = self.skipped = 0
 
     def add(self, what, fault):
         self.passed, self.failed = self.passed + (not fault), self.failed + bool(fault)
         print(f"{what}: {'FAILED: ' + fault if fault else 'ok'}", flush=True)
 
+    def skip(self, needs, packages):
+        self.skipped += 1
+        print(f"{check.SKIPPED}release: {needs}; install: apt-get install {packages}", flush=True)
+
     def add_run(self, what, words):
-        """Runs a check of its own, whose last line has its counts."""
-        ran = subprocess.run(words, cwd=ROOT, stdout=subprocess.PIPE, stderr=subprocess.STDOUT, text=True, errors="replace")
-        *lines, last = ran.stdout.rstrip("\n").split("\n")
-        counts = COUNTS.match(last)
-        if not counts:
-            self.add(what, f"no counts on its last line:\n{ran.stdout}")
-            return
-        passed, failed = int(counts[1]), int(counts[2])
-        self.passed, self.failed = self.passed + passed, self.failed + failed + (ran.returncode != 0 and failed == 0)
-        print(f"{what}: {last}" + ("\n" + "\n".join(lines) if failed or ran.returncode else ""), flush=True)
+        """Runs a check that ends in its counts."""
+        ran = subprocess.run(words, cwd=ROOT, stdout=subprocess.PIPE, stderr=subprocess.PIPE, text=True, errors="replace")
+        lines = ran.stdout.splitlines(keepends=True)
+        passed, failed, skipped = check.counts_of(lines, ran.returncode, has_counts=True)
+        self.passed, self.failed, self.skipped = self.passed + passed, self.failed + failed, self.skipped + skipped
+        print("".join(lines if failed else [line for line in lines if line.startswith(check.SKIPPED)]), end="")
+        print((ran.stderr if failed else "") + f"{what}: {passed} passed, {failed} failed, {skipped} skipped", flush=True)
 
 
 def check_static(count):
@@ -127,9 +128,6 @@ def fault_of_page(prefix, name):
     found = next(iter(glob.glob(f"{prefix}/{PAGES}/{name}.1*")), None)
     if found is None:
         return f"{name}.1 is missing"
-    if not documents.has_man():
-        print(f"man or groff: not installed, {name}.1 is not shown")
-        return ""
     with open(f"{ROOT}/VERSION", encoding="utf-8") as file:
         wanted = [f"{name.upper()}(1)", f"rcell {file.read().strip()}", "SYNOPSIS", "EXIT STATUS", "SEE ALSO"]
     environment = {**os.environ, "LC_ALL": "C.UTF-8", "MANWIDTH": "80"}
@@ -137,8 +135,11 @@ def fault_of_page(prefix, name):
     return "; ".join([*documents.warnings_of_man(found), *(f"{name}.1 shows no {word}" for word in wanted if word not in shown)])
 
 
-def fault_of_pages(prefix):
-    return "; ".join(filter(None, (fault_of_page(prefix, name) for name in PROGRAMS)))
+def check_pages(count, what, prefix):
+    if documents.has_man():
+        count.add(what, "; ".join(filter(None, (fault_of_page(prefix, name) for name in PROGRAMS))))
+    else:
+        count.skip(f"man or groff is not installed, for {what}", "man-db groff")
 
 
 def check_unpacked(count, room, folder, names):
@@ -151,7 +152,7 @@ def check_unpacked(count, room, folder, names):
         here = f"{room}/{kind}"
         count.add_run(f"quick start of the {kind}", [sys.executable, "tools/quick_start.py", file, "--room", here])
         found = next(iter(glob.glob(f"{here}/{programs}")), f"{here}/{programs}")
-        count.add(f"the manual pages of the {kind}", fault_of_pages(os.path.dirname(found)))
+        check_pages(count, f"the manual pages of the {kind}", os.path.dirname(found))
         count.add(f"rcell-join of the {kind}", fault_of_joining(found, room))
         if os.path.exists(HELPERS):
             count.add_run(f"helpers of the {kind}", [sys.executable, HELPERS, "--bin", found])
@@ -170,14 +171,14 @@ def check_install(count, room):
         return subprocess.run(words, cwd=copy, env=environment, capture_output=True, text=True)
 
     if shutil.which("make", path=PATH_WITHOUT_KIT) is None:
-        print("make install: make is not installed, it is not tried")
+        count.skip("make is not installed, for make install", "make")
         return
     ran = run("make", "-s", "install", f"PREFIX={prefix}")
     count.add("make install without rt, with a source that is newer", ran.stderr.strip() if ran.returncode else "")
     wanted = [*(f"bin/{name}" for name in PROGRAMS), *(f"{PAGES}/{name}.1" for name in PROGRAMS),
               "share/doc/rcell/examples/islands/archipelago.txt", "share/doc/rcell/docs/GUIDE.md"]
     count.add("what make install puts", " ".join(name for name in wanted if not os.path.exists(f"{prefix}/{name}")))
-    count.add("the installed manual pages", fault_of_pages(prefix))
+    check_pages(count, "the installed manual pages", prefix)
     count.add("the installed rcell-join", fault_of_joining(f"{prefix}/bin", room))
     land = f"{prefix}/share/doc/rcell/examples/land-cover"
     ran = run(f"{prefix}/bin/rcell", f"{land}/script", f"landuse={land}/landuse.txt")
@@ -218,7 +219,7 @@ def main():
             if wanted.keep:
                 shutil.copytree(folder, wanted.keep, dirs_exist_ok=True)
         check_install(count, room)
-    print(f"{count.passed} passed, {count.failed} failed")
+    print(f"{count.passed} passed, {count.failed} failed, {count.skipped} skipped")
     return 1 if count.failed else 0
 
 

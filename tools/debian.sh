@@ -1,9 +1,15 @@
 #!/bin/sh
-# Installs the named packages of Debian that are missing here, and says so: the checks ask for what they need by name.
+# Installs the packages of Debian that are missing here, and says so.
 #
 #     tools/debian.sh PACKAGE...
+#     tools/debian.sh -f FILE...       the packages that files list, one a line; '#' begins a comment
 #
 # Status 0: all are there. Status 1: some are missing and cannot be installed, and standard error says which and why.
+if [ "$1" = -f ]; then
+    shift
+    # shellcheck disable=SC2046
+    set -- $(sed 's/#.*//' "$@" | sort -u)
+fi
 missing=
 for package in "$@"; do
     dpkg-query -W -f '${Status}\n' "$package" 2> /dev/null | grep -q '^install ok installed$' || missing="$missing $package"

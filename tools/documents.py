@@ -7,7 +7,7 @@ A document is run in a folder of its own that has bin/rcell, bin/rcell-join, the
 Its fenced blocks are taken from the top:
     console          lines that begin with `$ ` are given to sh, those with `> ` go on with the command above; the lines
                      after a command are what it must print, standard output and standard error together
-    console needs=A,B  the same where the programs A and B are installed (or files, by their paths); else it is told, and left out
+    console needs=A,B  the same where the programs A and B are installed (or files, by their paths); else it is skipped
     text file=PATH   a file (also python file=PATH); the commands of later blocks find it
     text, sh         shown and not run: such a block has no command with its output
 The folder that a block goes to by `cd` is that of the next. With --write what is printed takes the place of what is shown.
@@ -45,6 +45,7 @@ READING_ROW = re.compile(r"(`make reading(?: COMMAND=(?P<command>\S+))?` \| )(\d
 READING_SENTENCE = re.compile(r"(for a table of (?P<command>r\.\w+) )(\d+)( lines, )(\d+)( with comments)")
 SPEED_ROW = re.compile(r"^\| ([^|]+) \| ([^|]+ cells) \| (.*?) \|$", re.MULTILINE)
 LANGUAGES = {"console", "text", "python", "sh"}
+PACKAGES = {"gdal_retile.py": "python3-gdal"}
 SECONDS = 600  # only what hangs takes longer, also on a machine with much other work
 END_OF_COMMAND = "==== a command of a document has ended ===="
 
@@ -143,7 +144,8 @@ def judge(block, room):
         return None, block.text
     missing = [name for name in block.needs if not shutil.which(name) and not os.path.isfile(name)]
     if missing:
-        print(f"left out, since {', '.join(missing)} is not installed: the block at line {block.line}")
+        packages = " ".join(PACKAGES.get(name, name) for name in missing)
+        print(f"skipped  documents: {', '.join(missing)} is not installed, for the block at line {block.line}; install: apt-get install {packages}")
         return None, block.text
     if block.language != "console":
         has_command = re.search(r"^\$ ", block.text, re.MULTILINE)
@@ -277,7 +279,7 @@ def has_man():
 def check_pages():
     """Whether man has nothing to warn of on the manual pages, also those of the helpers, where it is installed."""
     if not has_man():
-        print("man or groff: not installed, the manual pages are not tried")
+        print("skipped  documents: man or groff is not installed, for the manual pages; install: apt-get install man-db groff")
         return 0, []
     pages = sorted(os.path.relpath(path, ROOT) for folder in ("docs", "helpers") for path in glob.glob(f"{ROOT}/{folder}/*.1"))
     faults = [warnings_of_man(page) for page in pages]

@@ -220,7 +220,7 @@ def test_back(room, tally):
 
 def test(room, tally):
     if not has_gdal():
-        print("rcell-tif: GDAL's Python is not installed (apt-get install python3-gdal), left out")
+        print("skipped  helpers/rcell-tif: GDAL for Python is not installed; install: apt-get install python3-gdal python3-numpy")
         return
     for part in (test_maps, test_transforms, test_options, test_back):
         part(room, tally)

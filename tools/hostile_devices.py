@@ -249,7 +249,7 @@ def full_disks(report: Report, program: Program) -> None:
     for size in (4096, 8192, 16384):
         got = on_a_full_disk(program, made, size)
         if got is None:
-            print("outputs: no file system may be mounted here, so no disk was filled")
+            print("skipped  hostile/disks: no file system may be mounted here; install: apt-get install mount")
             return
         report.runs += 1
         report.check(f"a disk of {size} bytes", "" if got == written(expected, size) else f"{got.status}, {got.told!r}, {len(got.output)} bytes")

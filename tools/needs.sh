@@ -1,5 +1,5 @@
 #!/bin/sh
-# Whether all is there that a build needs: rt of the kit, the kit's clang, and Python 3.11 or later.
+# Whether all is there that a build needs: rt of the kit, the kit's clang, git, and Python 3.11 or later.
 # What is missing is said in one line on standard error, and the status is 1.
 kit='rattle-kit-13f logic dac8208d650f15bf'
 
@@ -9,6 +9,7 @@ missing() {
 }
 
 command -v rt > /dev/null || missing "rt is missing: put the kit's folder bin/ on the path (kit: $kit)"
+command -v git > /dev/null || missing "git is missing: install git"
 command -v python3 > /dev/null || missing "python3 is missing: install Python 3.11 or later"
 python3 -c 'import sys; sys.exit(sys.version_info < (3, 11))' || missing "$(python3 --version) is too old: install Python 3.11 or later"
 clang="$(dirname "$(rt doc)")/toolchain/bin/clang"

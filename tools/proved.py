@@ -10,7 +10,6 @@ commit and these programs, that is said. What is proved, only tested and trusted
 import collections
 import glob
 import hashlib
-import os
 import re
 import subprocess
 import sys

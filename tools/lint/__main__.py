@@ -61,16 +61,19 @@ def write_exceptions(rule, comments, findings, allowed):
 
 
 def python_faults():
-    """What ruff and mypy say of the Python of the tools, where they are installed."""
-    faults = []
-    for name, words in (("ruff", ["check", "--quiet", "tools", "bench"]), ("mypy", ["--no-error-summary", "tools/lint", "tools/reading.py"])):
-        program = shutil.which(name)
-        if program is None:
-            print(f"{name} is not installed, and was left out")
+    """Errors of ruff (without it, pyflakes) and mypy in the Python of the tools, and how many of the two are not installed."""
+    typed = ["mypy", "--no-error-summary", "tools/lint", "tools/reading.py"]
+    checks = ([["ruff", "check", "--quiet", "tools", "bench"], ["pyflakes3", "tools", "bench"]], [typed])
+    faults, skipped = [], 0
+    for choices in checks:
+        words = next((it for it in choices if shutil.which(it[0])), None)
+        if words is None:
+            name, skipped = choices[-1][0], skipped + 1
+            print(f"skipped  lint: {name} is not installed; install: apt-get install {name}")
             continue
-        done = subprocess.run([program, *words], cwd=ROOT, capture_output=True, text=True, check=False)
+        done = subprocess.run(words, cwd=ROOT, capture_output=True, text=True, check=False)
         faults += done.stdout.splitlines() if done.returncode else []
-    return faults
+    return faults, skipped
 
 
 def main():
@@ -90,10 +93,11 @@ def main():
         for fault in faults:
             print(f"{rule}: {fault}")
         print(f"{rule}: {total(rule, findings)} found, {total(rule, allowed)} listed{'' if faults else ', good'}")
-    for fault in (of_python := [] if words.rules else python_faults()):
+    of_python, skipped = ([], 0) if words.rules else python_faults()
+    for fault in of_python:
         print(f"python: {fault}")
     failed += bool(of_python)
-    print(f"{len(words.rules or rules.ALL) + (not words.rules) - failed} passed, {failed} failed")
+    print(f"{len(words.rules or rules.ALL) + (not words.rules) - failed} passed, {failed} failed, {skipped} skipped")
     return 1 if failed else 0
 
 

@@ -1,0 +1,195 @@
+#!/usr/bin/env python3
+"""The gate: every proof, then the proved programs on the cases, the documents and the release, and each front.
+
+    check.py [--complete] [PART..]
+
+Without names all parts are run; `list` prints their names. A part is a program that ends in 'N passed, M failed' or
+'N passed, M failed, K skipped' on standard output; its standard error is shown and never counted. What is not installed is
+skipped, with a line 'skipped  PART: NEEDS; install: apt-get install PACKAGES'. At the end there is a table of the parts with
+their processor seconds, and a closing line of all counts: the status is 0 if nothing failed and, with --complete, nothing was
+skipped. The closing line of a whole run is kept in .gate/COMMIT, where PROVED.txt of the release finds it.
+"""
+import argparse
+import os
+import re
+import resource
+import shutil
+import subprocess
+import sys
+import time
+from dataclasses import dataclass
+
+ROOT = os.path.dirname(os.path.dirname(os.path.abspath(__file__)))
+COUNTS = re.compile(r"(\d+) passed, (\d+) failed(?:, (\d+) skipped)?\n?")
+SKIPPED = "skipped  "
+PROGRAMS = {"rcell_program": "rcell", "rcell_join": "rcell-join"}
+PYTHON = [sys.executable]
+CLANG = "CLANG"  # stands for the kit's clang in a command
+
+
+@dataclass
+class Part:
+    """A part of the gate: its name, what it tries, and its commands; without counts each command is one check."""
+
+    name: str
+    tries: str
+    commands: list
+    has_counts: bool = True
+    needs_programs: bool = True
+
+
+@dataclass
+class Result:
+    """The counts of a part, its processor seconds, and what its proofs said of what ran and what was kept."""
+
+    name: str
+    passed: int = 0
+    failed: int = 0
+    skipped: int = 0
+    seconds: float = 0
+    note: str = ""
+
+    def add(self, passed, failed, skipped):
+        self.passed, self.failed, self.skipped = self.passed + passed, self.failed + failed, self.skipped + skipped
+
+
+def tool(name, *words):
+    return [*PYTHON, f"tools/{name}", *words]
+
+
+# Those before the proofs take seconds: if one fails, the gate ends there.
+EARLY = [
+    Part("stale_edits", "the edits outside the gate still fit their files", [tool("stale_edits.py")], has_counts=False, needs_programs=False),
+    Part("texts", "messages, figures and pages that need no program", [tool("documents.py", "--texts")], needs_programs=False),
+    Part("lint", "widths, names, limits, licences", [tool("lint")], needs_programs=False),
+]
+PROOFS = Part("proofs", "each proof, each edit that must fail, each test", [["rt", "ci"]], needs_programs=False)
+LATE = [
+    Part("cases", "rcell on each case, with each growth refused in turn", [tool("cases.py", CLANG)]),
+    Part("joined", "rcell-join beside a plain model and full maps", [tool("test_join.py", CLANG)]),
+    Part("documents", "each example of the documents", [tool("documents.py")]),
+    Part("hostile", "broken devices, bytes, sizes and memory, in short", [tool("hostile.py", "--short", "--clang", CLANG)]),
+    Part("models", "rcell beside the plain model of the definitions",
+         [tool("compare.py", "--cases"), tool("compare.py", "--runs", "3000", "--seed", "1"),
+          tool("compare.py", "--runs", "500", "--seed", "1", "--maps", "stretches", "--pieces", CLANG)], has_counts=False),
+    Part("laws", "laws of a report, on outputs", [tool("laws")]),
+    Part("objects", "the objects that the programs were linked from", [tool("program_object.py")], has_counts=False),
+    Part("release", "the release, without the kit and the sources", [tool("check_release.py")]),
+    *[Part(front, f"what {front}/ has of its own", [["sh", f"{front}/gate.sh"]]) for front in ("python", "r", "qgis", "grass", "fronts")],
+]
+PARTS = [*EARLY, PROOFS, *LATE]
+
+
+def processor_seconds():
+    used = resource.getrusage(resource.RUSAGE_CHILDREN)
+    return used.ru_utime + used.ru_stime
+
+
+def kit():
+    return os.path.dirname(subprocess.check_output(["rt", "doc"], text=True).strip())
+
+
+def counts_of(lines, status, has_counts):
+    """The counts of a command, by the last line of its standard output that has their form."""
+    found = [it for it in map(COUNTS.fullmatch, lines) if it] if has_counts else []
+    listed = sum(line.startswith(SKIPPED) for line in lines)
+    if not found:
+        return (1, 0, listed) if status == 0 and not has_counts else (0, 1, listed)
+    passed, failed, skipped = (int(it or 0) for it in found[-1].groups())
+    return passed, max(failed, int(status != 0)), max(skipped, listed)
+
+
+def run(part):
+    """Runs a part and shows what it prints."""
+    print(f"== {part.name}: {part.tries}", flush=True)
+    result, begun = Result(part.name), processor_seconds()
+    for command in part.commands:
+        words = [f"{kit()}/toolchain/bin/clang" if it == CLANG else it for it in command]
+        with subprocess.Popen(words, cwd=ROOT, stdin=subprocess.DEVNULL, stdout=subprocess.PIPE, text=True, errors="replace") as ran:
+            lines = []
+            for line in ran.stdout:
+                lines.append(line)
+                print(line, end="", flush=True)
+        result.add(*counts_of(lines, ran.returncode, part.has_counts))
+        result.note = next((it[len("rt: ok; "):].strip() for it in reversed(lines) if it.startswith("rt: ok; ")), result.note)
+    result.seconds = processor_seconds() - begun
+    return result
+
+
+def take_programs():
+    """Puts the programs that `rt ci` built into bin/."""
+    os.makedirs(f"{ROOT}/bin", exist_ok=True)
+    for crate, name in PROGRAMS.items():
+        shutil.copy2(f"{ROOT}/crates/{crate}/out/{crate}", f"{ROOT}/bin/{name}.new")
+        os.replace(f"{ROOT}/bin/{name}.new", f"{ROOT}/bin/{name}")
+
+
+def run_all(parts):
+    """Runs parts in order, to the first that the others cannot do without."""
+    results = []
+    for part in parts:
+        if part.needs_programs and not all(os.path.exists(f"{ROOT}/bin/{name}") for name in PROGRAMS.values()):
+            print(f"{part.name}: bin/rcell or bin/rcell-join is missing: run make first")
+            return [*results, Result(part.name, failed=1)]
+        results.append(run(part))
+        if part in [*EARLY, PROOFS] and results[-1].failed:
+            return results
+        if part is PROOFS:
+            take_programs()
+    return results
+
+
+def said_by(*words):
+    return subprocess.run(words, cwd=ROOT, capture_output=True, text=True, check=False).stdout.strip()
+
+
+def sum_of(name):
+    return said_by("sha256sum", f"bin/{name}").split(" ")[0]
+
+
+def keep_closing(results, closing):
+    """Keeps the closing line with its commit, kit and programs, unless the sources are changed."""
+    commit = said_by("git", "rev-parse", "HEAD")
+    if not commit or said_by("git", "status", "--porcelain"):
+        return
+    os.makedirs(f"{ROOT}/.gate", exist_ok=True)
+    proofs = next(it.note for it in results if it.name == PROOFS.name)
+    with open(f"{ROOT}/.gate/{commit}", "w", encoding="utf-8") as file:
+        file.write(f"commit: {commit}\nkit: {said_by('rt', 'version')}\nprogram: {sum_of('rcell')}\njoiner: {sum_of('rcell-join')}\n"
+                   f"proofs: {proofs}\nclosing: {closing}\n")
+
+
+def table(results, wall):
+    rows = [("part", "passed", "failed", "skipped", "processor s")]
+    rows += [(it.name, it.passed, it.failed, it.skipped, f"{it.seconds:.0f}") for it in results]
+    rows += [("all", *(sum(getattr(it, key) for it in results) for key in ("passed", "failed", "skipped")),
+              f"{sum(it.seconds for it in results):.0f}")]
+    lines = ["{:<12}{:>8}{:>8}{:>9}{:>13}".format(*row) for row in rows]
+    notes = [f"{it.name}: {it.note}" for it in results if it.note]
+    others = "the other parts keep nothing: each check was run" if len(results) > len(notes) else ""
+    return "\n".join([*lines, *notes, *filter(None, [others]), f"{wall / 60:.0f} minutes on {len(os.sched_getaffinity(0))} processors"])
+
+
+def main():
+    words = argparse.ArgumentParser(description=__doc__, formatter_class=argparse.RawDescriptionHelpFormatter)
+    words.add_argument("--complete", action="store_true", help="what is skipped counts as a failure of the run")
+    words.add_argument("parts", nargs="*", metavar="PART")
+    given, begun = words.parse_args(), time.monotonic()
+    names = [part.name for part in PARTS]
+    if given.parts == ["list"]:
+        print(*names, sep="\n")
+        return 0
+    if unknown := set(given.parts) - set(names):
+        words.error(f"no part is called {' '.join(sorted(unknown))}; the parts are {' '.join(names)}")
+    results = run_all([part for part in PARTS if not given.parts or part.name in given.parts])
+    passed, failed, skipped = (sum(getattr(it, key) for it in results) for key in ("passed", "failed", "skipped"))
+    closing = f"{passed} passed, {failed} failed, {skipped} skipped"
+    print(table(results, time.monotonic() - begun))
+    if len(results) == len(PARTS):
+        keep_closing(results, closing)
+    print(closing, flush=True)
+    return 1 if failed or (given.complete and skipped) else 0
+
+
+if __name__ == "__main__":
+    sys.exit(main())
