@@ -1,3 +1,5 @@
+# SPDX-License-Identifier: Apache-2.0 OR GPL-2.0-or-later
+
 # make           proves and builds the programs, bin/rcell and bin/rcell-join; JOBS=1 where memory is short
 # make install   puts the programs, helpers, manual pages, documents and examples below PREFIX (/usr/local; DESTDIR goes before it)
 # make uninstall removes them

@@ -1,3 +1,4 @@
+# SPDX-License-Identifier: Apache-2.0 OR GPL-2.0-or-later
 """What rcell-explain says: faults with their causes from messages.json, and how a line with its marks is shown."""
 import difflib
 import json

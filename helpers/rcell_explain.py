@@ -1,3 +1,4 @@
+# SPDX-License-Identifier: Apache-2.0 OR GPL-2.0-or-later
 """What rcell-explain does: it runs rcell, and explains its message."""
 import difflib
 import os

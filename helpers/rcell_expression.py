@@ -1,3 +1,4 @@
+# SPDX-License-Identifier: Apache-2.0 OR GPL-2.0-or-later
 """Assignments of r.mapcalc with all their faults: what is known by its looks is told, mended, and the rest is read on.
 
     judge_assignment(script, number, line, begin)   tells the script the faults of a line, whose command ends at `begin`

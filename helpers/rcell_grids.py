@@ -1,3 +1,4 @@
+# SPDX-License-Identifier: Apache-2.0 OR GPL-2.0-or-later
 """Grid files: what a file is by its first bytes, the header of a grid, and which cause a refused one has.
 
     kind_of(start)                   a Kind, or None where it may be a grid

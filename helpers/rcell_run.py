@@ -1,3 +1,4 @@
+# SPDX-License-Identifier: Apache-2.0 OR GPL-2.0-or-later
 """Runs rcell, and keeps of what it reads through pipes what its message may be about.
 
     found_program(folder)     the path of rcell

@@ -1,3 +1,4 @@
+# SPDX-License-Identifier: Apache-2.0 OR GPL-2.0-or-later
 """Scripts of rcell with all their faults: each line is judged, mended as far as it can be, and the next one too.
 
     judged(text, grids, path)   a Script: its faults, warnings and statements

@@ -1,3 +1,4 @@
+# SPDX-License-Identifier: Apache-2.0 OR GPL-2.0-or-later
 """What rcell-split does: it marks the outputs of a script, runs rcell, and writes each output to a file of its own.
 
 A map of nulls prints its null_value as the only line of its table, so a statement can print any word. The word of the marks

@@ -1,3 +1,4 @@
+# SPDX-License-Identifier: Apache-2.0 OR GPL-2.0-or-later
 """Rasters that GDAL reads as grids of rcell, and grids as GeoTIFFs. Needs numpy; GDAL's Python only where a file is opened.
 
     CellText(null_values).of(block, null)   a block of an array as the rows of a grid

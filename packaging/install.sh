@@ -19,7 +19,7 @@ list() {
         echo "644 docs/$name.1 $pages/$name.1"
     done
     helpers
-    for file in README.md CHANGELOG.md VERSION; do
+    for file in README.md CHANGELOG.md LICENSE.md CITATION.cff VERSION; do
         echo "644 $file $documents/$file"
     done
     for file in docs/*.md docs/*.png docs/*.svg; do

@@ -1,7 +1,8 @@
 """rcell-explain: what it hands on, pipes, signals, that it never says more of a script than rcell would."""
 import os
 
-PAGE = os.path.join(os.path.dirname(os.path.dirname(os.path.abspath(__file__))), "helpers", "rcell-explain.1")
+ROOT = os.path.dirname(os.path.dirname(os.path.abspath(__file__)))
+PAGE = os.path.join(ROOT, "helpers", "rcell-explain.1")
 TOO_LONG = "r.stats -c input=land\n" + "r.mapcalc x = " + "land + " * 200 + "lend\n"
 
 
@@ -11,7 +12,7 @@ def test_handed_on(room, tally):
     tally.same("output and status", (ran.returncode, ran.stdout, ran.stderr), (0, plain.stdout, b""))
     ran = room.shell("rcell-explain script land=land.txt > /dev/full")
     tally.same("a full disk", (ran.returncode, ran.stderr.split(b"\n")[0]), (4, b"rcell: output:0: write failed after 0 bytes"))
-    for words in ([], ["script"], ["--version"], ["script", "land"], ["script", "land=no.txt"]):
+    for words in ([], ["script"], ["script", "land"], ["script", "land=no.txt"]):
         plain, ran = (room.run(program, *words) for program in ("rcell", "rcell-explain"))
         tally.same(f"words {words}", (ran.returncode, ran.stderr.startswith(plain.stderr)), (plain.returncode, True))
     room.environment["RCELL"] = "/nowhere/rcell"
@@ -22,6 +23,14 @@ def test_handed_on(room, tally):
     ran = room.run("rcell-explain", "script", "land=land.txt")
     tally.same("a killed program", (ran.returncode, b"killed by signal 9" in ran.stderr), (137, True))
     room.environment["RCELL"] = room.rcell
+
+
+def test_versions(room, tally):
+    with open(f"{ROOT}/VERSION", encoding="ascii") as file:
+        version = file.read()
+    for name in ("rcell-aaigrid", "rcell-explain", "rcell-split", "rcell-tif"):
+        ran = room.run(name, "--version")
+        tally.same(f"{name} --version", (ran.returncode, ran.stdout.decode(), ran.stderr), (0, f"{name} {version}", b""))
 
 
 def test_pipes(room, tally):
@@ -71,5 +80,5 @@ def test_page(room, tally):
 
 
 def test(room, tally):
-    for part in (test_handed_on, test_pipes, test_hostile, test_page):
+    for part in (test_handed_on, test_versions, test_pipes, test_hostile, test_page):
         part(room, tally)

@@ -1,11 +1,16 @@
 #!/usr/bin/env python3
+# SPDX-License-Identifier: Apache-2.0 OR GPL-2.0-or-later
 
 ############################################################################
 #
 # MODULE:    r.rcell
-# AUTHOR(S): Nibzoqel maintainers
+# AUTHOR(S): Nibzoqel authors
 # PURPOSE:   Runs an rcell script on raster maps of the current region
 #            and imports the maps that it makes
+# COPYRIGHT: (C) 2026 by the Nibzoqel authors
+#
+#            This program is free software under the GNU General Public
+#            License (>=v2) or the Apache License 2.0, at your choice.
 #
 ############################################################################
 

@@ -1,3 +1,4 @@
+# SPDX-License-Identifier: Apache-2.0 OR GPL-2.0-or-later
 """Layers of QGIS as maps: what the user sees of a layer goes before what its file says."""
 
 from __future__ import annotations

@@ -1,3 +1,4 @@
+# SPDX-License-Identifier: Apache-2.0 OR GPL-2.0-or-later
 """The plugin: it has no menu and no window of its own, and adds its algorithms to the toolbox."""
 
 from __future__ import annotations

@@ -1,3 +1,4 @@
+# SPDX-License-Identifier: Apache-2.0 OR GPL-2.0-or-later
 """What the algorithms leave: rasters with a legend, and tables."""
 
 from __future__ import annotations

@@ -3,6 +3,7 @@ import pathlib
 import re
 from collections import Counter, defaultdict
 
+import licences as licences_of_files
 import sources
 
 CLAUSE_COLUMNS, LONGEST_CLAUSE, PROOF_COLUMNS = 100, 120, 120
@@ -200,5 +201,6 @@ def unused_edges():
     return found
 
 
-ALL = {it.__name__: it for it in (wide_clauses, widest_clauses, wide_proofs, crate_limits, undocumented, names, uncited, dead_lemmas, parts, steps, unused_edges)}
+ALL = {it.__name__: it for it in (wide_clauses, widest_clauses, wide_proofs, crate_limits, undocumented, names, uncited, dead_lemmas, parts, steps,
+                                  unused_edges, licences_of_files.licences)}
 COUNTED = {"wide_clauses", "widest_clauses", "wide_proofs"}

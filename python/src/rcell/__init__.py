@@ -1,3 +1,4 @@
+# SPDX-License-Identifier: Apache-2.0 OR GPL-2.0-or-later
 """rcell for Python: tables, maps and areas of rasters of whole numbers, counted by the proved program.
 
 A script is run over maps of one region, which are given by name: paths of GeoTIFFs, arrays, DataArrays.

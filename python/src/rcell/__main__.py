@@ -1,3 +1,4 @@
+# SPDX-License-Identifier: Apache-2.0 OR GPL-2.0-or-later
 """The command line: `python3 -m rcell csv|tif|picture|tiles`."""
 
 from __future__ import annotations

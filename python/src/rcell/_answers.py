@@ -1,3 +1,4 @@
+# SPDX-License-Identifier: Apache-2.0 OR GPL-2.0-or-later
 """The calls: run, table, grid and areas."""
 
 from __future__ import annotations

@@ -1,3 +1,4 @@
+# SPDX-License-Identifier: Apache-2.0 OR GPL-2.0-or-later
 """What of a coordinate reference system matters for areas: whether it is in degrees, and how long its unit is."""
 
 from __future__ import annotations

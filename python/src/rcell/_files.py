@@ -1,3 +1,4 @@
+# SPDX-License-Identifier: Apache-2.0 OR GPL-2.0-or-later
 """Files that are written whole or not at all."""
 
 from __future__ import annotations

@@ -1,3 +1,4 @@
+# SPDX-License-Identifier: Apache-2.0 OR GPL-2.0-or-later
 """The joiner: where it is, and runs of it over texts that are held in memory.
 
 `rcell-join` is proved from bytes to bytes: the texts that `r.stats -c` prints of the parts of a map are joined to the text that it

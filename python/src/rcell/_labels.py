@@ -1,3 +1,4 @@
+# SPDX-License-Identifier: Apache-2.0 OR GPL-2.0-or-later
 """Labels of the categories of a raster: GDAL's category names and its attribute tables.
 
 rasterio has no call for them. GDAL's own Python (`osgeo`) reads and writes them where it is installed; without it they are

@@ -1,3 +1,4 @@
+# SPDX-License-Identifier: Apache-2.0 OR GPL-2.0-or-later
 """Libraries that some calls need and the package does not."""
 
 from __future__ import annotations

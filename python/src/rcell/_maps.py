@@ -1,3 +1,4 @@
+# SPDX-License-Identifier: Apache-2.0 OR GPL-2.0-or-later
 """Maps in: what a caller gives, as cells that the program takes."""
 
 from __future__ import annotations

@@ -1,3 +1,4 @@
+# SPDX-License-Identifier: Apache-2.0 OR GPL-2.0-or-later
 """numpy's masked arrays, which numpy gives no types to."""
 
 from __future__ import annotations

@@ -1,3 +1,4 @@
+# SPDX-License-Identifier: Apache-2.0 OR GPL-2.0-or-later
 """Tables added by numpy: the second opinion on rcell-join, and the reader of what it writes."""
 
 from __future__ import annotations

@@ -1,3 +1,4 @@
+# SPDX-License-Identifier: Apache-2.0 OR GPL-2.0-or-later
 """Text to whole numbers: all words of a text at once.
 
 A word of digits is loaded as one number of the 8 (or 4) bytes that end with it, and three multiplications turn its digits into

@@ -1,3 +1,4 @@
+# SPDX-License-Identifier: Apache-2.0 OR GPL-2.0-or-later
 """Rasters that rasterio opens, as maps: read by windows, never whole."""
 
 from __future__ import annotations

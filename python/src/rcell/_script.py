@@ -1,3 +1,4 @@
+# SPDX-License-Identifier: Apache-2.0 OR GPL-2.0-or-later
 """What a script asks for: its outputs, and the lines that go to the program in its place.
 
 The program judges a script. This module only finds the lines that write something, so that their outputs can be parted and

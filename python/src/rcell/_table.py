@@ -1,3 +1,4 @@
+# SPDX-License-Identifier: Apache-2.0 OR GPL-2.0-or-later
 """Tables: what r.stats answers, as numbers with names."""
 
 from __future__ import annotations

@@ -1,3 +1,4 @@
+# SPDX-License-Identifier: Apache-2.0 OR GPL-2.0-or-later
 """Grids of the program's own form, which go to it as they are."""
 
 from __future__ import annotations

@@ -1,3 +1,4 @@
+# SPDX-License-Identifier: Apache-2.0 OR GPL-2.0-or-later
 """The version of the package, which is that of the program that its wheel brings."""
 
 from __future__ import annotations

@@ -1,3 +1,4 @@
+# SPDX-License-Identifier: Apache-2.0 OR GPL-2.0-or-later
 """DataArrays of xarray, as maps and as answers."""
 
 from __future__ import annotations

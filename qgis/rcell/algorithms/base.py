@@ -1,3 +1,4 @@
+# SPDX-License-Identifier: Apache-2.0 OR GPL-2.0-or-later
 """What the algorithms have in common: how rasters come in, how a run is watched, how a refusal is told."""
 
 from __future__ import annotations

@@ -1,3 +1,4 @@
+# SPDX-License-Identifier: Apache-2.0 OR GPL-2.0-or-later
 """rcell:mode, the commonest class around each cell."""
 
 from __future__ import annotations

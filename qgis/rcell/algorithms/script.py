@@ -1,3 +1,4 @@
+# SPDX-License-Identifier: Apache-2.0 OR GPL-2.0-or-later
 """rcell:script, a script of the program over rasters."""
 
 from __future__ import annotations

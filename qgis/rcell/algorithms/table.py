@@ -1,3 +1,4 @@
+# SPDX-License-Identifier: Apache-2.0 OR GPL-2.0-or-later
 """rcell:table, the counts of combinations of categories."""
 
 from __future__ import annotations

@@ -1,3 +1,4 @@
+# SPDX-License-Identifier: Apache-2.0 OR GPL-2.0-or-later
 """Cells to words.
 
 A cell goes to the program as a word of one width for the whole map, zeros in front and a blank behind, so that many cells are

@@ -1,3 +1,4 @@
+# SPDX-License-Identifier: Apache-2.0 OR GPL-2.0-or-later
 """What goes wrong, each with a name of its own: the words are those of the packages for Python and R."""
 
 from __future__ import annotations

@@ -1,3 +1,4 @@
+# SPDX-License-Identifier: Apache-2.0 OR GPL-2.0-or-later
 """Rasters that are written: a file has its name only when all of it is there."""
 
 from __future__ import annotations

@@ -1,3 +1,4 @@
+# SPDX-License-Identifier: Apache-2.0 OR GPL-2.0-or-later
 """Labels of the categories of a raster: GDAL's category names and its tables of attributes."""
 
 from __future__ import annotations

@@ -1,3 +1,4 @@
+# SPDX-License-Identifier: Apache-2.0 OR GPL-2.0-or-later
 """The program: where it is, and a run of it over pipes.
 
 No grid is written to a file and no thread is started. The program reads the grids in their order and then the script, and writes nothing

@@ -1,3 +1,4 @@
+# SPDX-License-Identifier: Apache-2.0 OR GPL-2.0-or-later
 # A script over maps, and what comes back of it.
 
 PIECE_BYTES <- 4194304L

@@ -1,3 +1,4 @@
+# SPDX-License-Identifier: Apache-2.0 OR GPL-2.0-or-later
 # What goes wrong: conditions, each with a class of its own.
 
 # Ends the call with an error of the given class and fields.

@@ -1,3 +1,4 @@
+# SPDX-License-Identifier: Apache-2.0 OR GPL-2.0-or-later
 # Maps that are written: a file has its name only when all of it is there.
 
 check_filename <- function(filename, overwrite) {

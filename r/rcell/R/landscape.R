@@ -1,3 +1,4 @@
+# SPDX-License-Identifier: Apache-2.0 OR GPL-2.0-or-later
 # What ecologists ask of a map: connected areas, patches, adjacency, a cross table.
 
 DIRECTIONS <- c(4, 8)

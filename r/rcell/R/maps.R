@@ -1,3 +1,4 @@
+# SPDX-License-Identifier: Apache-2.0 OR GPL-2.0-or-later
 # Maps that go in: rasters of terra, paths and matrices, and grids of the program's own form.
 
 BLOCK_CELLS <- 1048576L

@@ -1,3 +1,4 @@
+# SPDX-License-Identifier: Apache-2.0 OR GPL-2.0-or-later
 # The program: where it is, and a run of it in a temporary folder of its own.
 
 known_programs <- new.env(parent = emptyenv())

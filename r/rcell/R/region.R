@@ -1,3 +1,4 @@
+# SPDX-License-Identifier: Apache-2.0 OR GPL-2.0-or-later
 # The region of a map: its edges as the program sees them, texts of eight decimals, and its rows and columns.
 
 DECIMALS <- 8L

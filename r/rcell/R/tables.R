@@ -1,3 +1,4 @@
+# SPDX-License-Identifier: Apache-2.0 OR GPL-2.0-or-later
 # What a table gets beside its counts: areas, percentages, the shape of a matrix.
 
 UNITS <- c(m2 = 1, ha = 1e4, km2 = 1e6)

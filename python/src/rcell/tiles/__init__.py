@@ -1,3 +1,4 @@
+# SPDX-License-Identifier: Apache-2.0 OR GPL-2.0-or-later
 """Maps of any size: tiles of them go to a Dask cluster, and the answers are those of the undivided map.
 
 What holds of tiles is proved, in the crate `cell_tiles_law` of this project: tables add up, a halo is enough, areas join along

@@ -1,3 +1,4 @@
+# SPDX-License-Identifier: Apache-2.0 OR GPL-2.0-or-later
 """`python3 -m rcell.tiles`, the same as `python3 -m rcell tiles`."""
 
 import sys

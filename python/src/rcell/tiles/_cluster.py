@@ -1,3 +1,4 @@
+# SPDX-License-Identifier: Apache-2.0 OR GPL-2.0-or-later
 """Dask: processes of this machine, or a cluster that is there already.
 
 The processes of this machine stand below one of their own, `python3 -m rcell.tiles._cluster`, which holds Dask's

@@ -1,3 +1,4 @@
+# SPDX-License-Identifier: Apache-2.0 OR GPL-2.0-or-later
 """`python3 -m rcell tiles`: tables, maps and areas of maps of any size."""
 
 from __future__ import annotations

@@ -1,3 +1,4 @@
+# SPDX-License-Identifier: Apache-2.0 OR GPL-2.0-or-later
 """Tasks handed to Dask, and their answers taken back; what is lost on the way is Dask's business."""
 
 from __future__ import annotations

@@ -1,3 +1,4 @@
+# SPDX-License-Identifier: Apache-2.0 OR GPL-2.0-or-later
 """What a task takes of memory, known before it starts."""
 
 from __future__ import annotations

@@ -1,3 +1,4 @@
+# SPDX-License-Identifier: Apache-2.0 OR GPL-2.0-or-later
 """GeoTIFFs written by windows: beside their name, read back, and renamed at the end."""
 
 from __future__ import annotations

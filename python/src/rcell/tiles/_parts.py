@@ -1,3 +1,4 @@
+# SPDX-License-Identifier: Apache-2.0 OR GPL-2.0-or-later
 """Parts of a map, bands or the tiles of a grid: their areas are joined by the proved program, and their sizes added up by it.
 
 What it reads of a part is a grid text: of a band, a tile as wide as the map, that of its edges as `rcell-join edges` writes it, with the

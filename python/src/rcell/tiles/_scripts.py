@@ -1,3 +1,4 @@
+# SPDX-License-Identifier: Apache-2.0 OR GPL-2.0-or-later
 """Scripts as tiles run them: how far they read, and what `row()` and its like are told.
 
 A script comes here after the program has taken it, so what is read here is known to be well formed: `statements` finds the

@@ -1,3 +1,4 @@
+# SPDX-License-Identifier: Apache-2.0 OR GPL-2.0-or-later
 """The files of a mosaic: one grid of cells, read by windows."""
 
 from __future__ import annotations

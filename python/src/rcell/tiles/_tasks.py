@@ -1,3 +1,4 @@
+# SPDX-License-Identifier: Apache-2.0 OR GPL-2.0-or-later
 """What a worker does with a tile. Each function stands alone: a task that is run again gives the same."""
 
 from __future__ import annotations

@@ -1,3 +1,4 @@
+# SPDX-License-Identifier: Apache-2.0 OR GPL-2.0-or-later
 """What tiles of a map say of the whole: tables merged, areas joined and numbered.
 
 Four functions do all of it, over numpy arrays alone: `merge` adds tables, `edges` takes from the areas of a tile

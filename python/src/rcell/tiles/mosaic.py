@@ -1,3 +1,4 @@
+# SPDX-License-Identifier: Apache-2.0 OR GPL-2.0-or-later
 """Maps larger than a machine: tiles of them, worked on by Dask, with the answers of the undivided map."""
 
 from __future__ import annotations
