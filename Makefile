@@ -1,13 +1,16 @@
 # SPDX-License-Identifier: Apache-2.0 OR GPL-2.0-or-later
 
-# make           proves and builds the programs, bin/rcell and bin/rcell-join; JOBS=1 where memory is short
+# make           proves and builds the programs, bin/rcell and bin/rcell-join; JOBS=1 if memory is short
 # make install   puts the programs, helpers, manual pages, documents and examples below PREFIX (/usr/local; DESTDIR goes before it)
 # make uninstall removes them
-# make example   builds the program, and runs it on the land cover of examples/land-cover
+# make try       compiles and runs the example; nothing is proved, and nothing is put into bin/ (two minutes)
+# make example   proves and builds bin/rcell alone, and runs it on the land cover of examples/land-cover
+#                OBJECTS=FILE, for make and make example: takes the proved objects of a release if they are of exactly these sources
 # make documents runs each example of the documents on bin/rcell and bin/rcell-join, and compares
-# make check     the gate: every proof, then the programs, documents, release and fronts; PARTS="lint documents" for some parts, PARTS=list
+# make check     the gate: every proof, then the programs, the documents, the release and the fronts
+#                PARTS="lint documents" runs these parts alone, PARTS=list names them
 # make static    links bin/rcell-static and bin/rcell-join-static, each from the object of its program: for each Linux on x86-64
-# make dist      makes the release: dist/rcell-VERSION-linux-x86_64.tar.gz, dist/rcell_VERSION_amd64.deb, dist/SHA256SUMS
+# make dist      makes the release in dist/: tarball, package of Debian, wheel, packages for R and QGIS, objects, bill of materials
 # make debian11  runs the release's quick start in a root of Debian 11 (as root, with debootstrap)
 # make edits     tries the edits of crates/NAME/edits/, which the gate leaves alone: each must be refused
 # make hostile   uses the program as an enemy would: each growth, read, write and byte in turn, and the greatest inputs (an hour)
@@ -26,6 +29,7 @@ PREFIX ?= /usr/local
 DESTDIR ?=
 JOBS ?=
 PARTS ?=
+OBJECTS ?=
 # Of Debian: python3-matplotlib, which is not seen by a Python of one's own.
 PICTURES = /usr/bin/python3 tools/pictures.py
 
@@ -33,17 +37,19 @@ PICTURES = /usr/bin/python3 tools/pictures.py
 CRATES = $(filter-out %_tests %/cell_core_test_maps,$(wildcard crates/*))
 SOURCES = crates.txt $(shell find $(wildcard $(CRATES:%=%/src) $(CRATES:%=%/specs) $(CRATES:%=%/proofs)) -type f)
 
-.PHONY: all install uninstall example documents check static dist debian11 edits hostile fuzz bench figures pictures exchange clean help
+.PHONY: all try install uninstall example documents check static dist debian11 edits hostile fuzz bench figures pictures exchange clean help
 
 all: bin/rcell bin/rcell-join
 
+# rcell first: it needs fewer crates, and what both need is proved once.
 bin/rcell-join: bin/rcell
-	@test -x $@ || python3 tools/build.py $(if $(JOBS),--jobs $(JOBS))
-
-# Both are built.
-bin/rcell: $(SOURCES)
+bin/rcell bin/rcell-join: $(SOURCES)
 	@sh tools/needs.sh
-	@python3 tools/build.py $(if $(JOBS),--jobs $(JOBS))
+	@$(if $(OBJECTS),python3 tools/objects.py --from $(OBJECTS) $(@F) ||) python3 tools/build.py $(if $(JOBS),--jobs $(JOBS)) $(@F)
+
+try:
+	@sh tools/needs.sh
+	@python3 tools/try.py
 
 # It stands on no source, so that it needs no kit: what is built is installed, also where a source is newer.
 install:
@@ -67,6 +73,7 @@ static:
 	@sh tools/static.sh bin
 
 dist: all static
+	@sh tools/debian.sh python3-hatchling r-base-core
 	@sh tools/dist.sh dist
 
 debian11: dist
@@ -108,6 +115,6 @@ clean:
 	rm -rf bin dist bench/out crates/*/out
 
 help:
-	@sed -n 's/^# make/make/p' $(MAKEFILE_LIST)
+	@sed -n 's/^# \(make\|   \)/\1/p' $(MAKEFILE_LIST)
 
 -include */targets.mk

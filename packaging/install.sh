@@ -1,6 +1,6 @@
 #!/bin/sh
-# Installs what a user gets below PREFIX, or removes it: the programs, the helpers, the manual pages, the documents, the
-# examples and the add-on for GRASS. `make install`, the tarball and the package all use this one list.
+# Installs what a user gets below PREFIX, or removes what was installed there: the programs, the helpers, the manual pages, the
+# documents, the examples and the add-on for GRASS. `make install`, the tarball and the package all use this one list.
 #
 #     packaging/install.sh PREFIX [ENDING]         bin/rcell and bin/rcell-join, or with -static as ENDING the static ones
 #     packaging/install.sh --remove PREFIX
@@ -9,10 +9,16 @@ cd "$(dirname "$0")/.."
 
 documents=share/doc/rcell
 shared=share/rcell
+installed=$shared/installed
 pages=share/man/man1
 programs='rcell rcell-join'
 
-# A line for each file: its mode, where it stands here, and where below PREFIX it goes. $1 is what the programs here end in.
+# The files of the repository below some paths: those that git tracks, or all if this is no clone.
+files() {
+    if [ -e .git ]; then git ls-files -- "$@"; else find "$@" -name __pycache__ -prune -o -type f -print; fi | LC_ALL=C sort
+}
+
+# A line for each file: its mode, its path here, and its path below PREFIX. $1 is what the programs here end in.
 list() {
     for name in $programs; do
         echo "755 bin/$name$1 bin/$name"
@@ -22,17 +28,17 @@ list() {
     for file in README.md CHANGELOG.md LICENSE.md CITATION.cff VERSION; do
         echo "644 $file $documents/$file"
     done
-    for file in docs/*.md docs/*.png docs/*.svg; do
-        [ ! -f "$file" ] || echo "644 $file $documents/$file"
+    files docs | grep -E '^docs/[^/]*\.(md|png|svg)$' | while read -r file; do echo "644 $file $documents/$file"; done
+    files examples grass/r.rcell | grep -Ev '\.(mk|pyc)$' | while read -r file; do
+        mode=644
+        [ ! -x "$file" ] || mode=755
+        echo "$mode $file $documents/$file"
     done
-    tree examples "$documents/examples"
-    tree grass/r.rcell "$documents/grass/r.rcell"
 }
 
-# The helpers go where programs go, their pages to the others, and what they share below share/rcell.
+# The helpers go to bin, their pages to the others, and their modules below share/rcell.
 helpers() {
-    for file in helpers/*; do
-        [ -f "$file" ] || continue
+    files helpers | while read -r file; do
         name=${file#helpers/}
         case $name in
             *.1) echo "644 $file $pages/$name" ;;
@@ -40,16 +46,6 @@ helpers() {
             rcell-*) echo "755 $file bin/$name" ;;
             *) echo "644 $file $shared/$name" ;;
         esac
-    done
-}
-
-# All files of a folder, those that can be run with their mode.
-tree() {
-    [ -d "$1" ] || return 0
-    find "$1" -name __pycache__ -prune -o -type f ! -name '*.mk' ! -name '*.pyc' -print | LC_ALL=C sort | while read -r file; do
-        mode=644
-        [ ! -x "$file" ] || mode=755
-        echo "$mode $file $2/${file#"$1"/}"
     done
 }
 
@@ -69,8 +65,11 @@ put() {
 case ${1:-} in
     --remove)
         prefix=${2:?PREFIX}
-        list '' | while read -r mode file target; do rm -f "$prefix/$target"; done
-        rm -rf "${prefix:?}/$documents" "${prefix:?}/$shared"
+        [ -f "$prefix/$installed" ] || { echo "rcell: nothing is installed below $prefix: $installed is not there" >&2; exit 1; }
+        while read -r target; do rm -f "${prefix:?}/$target"; done < "$prefix/$installed"
+        rm "$prefix/$installed"
+        # Only folders of our own, and only those that are empty now.
+        find "$prefix/$documents" "$prefix/$shared" -depth -type d -exec rmdir {} + 2> /dev/null || true
         ;;
     '')
         echo 'usage: packaging/install.sh PREFIX [ENDING], or packaging/install.sh --remove PREFIX' >&2
@@ -86,5 +85,6 @@ case ${1:-} in
         done
         umask 022
         list "$ending" | while read -r mode file target; do put "$mode" "$file" "$prefix/$target"; done
+        list "$ending" | cut -d ' ' -f 3 > "$prefix/$installed"
         ;;
 esac

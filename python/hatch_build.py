@@ -3,6 +3,7 @@
 from __future__ import annotations
 
 import os
+import pathlib
 from typing import Any
 
 from hatchling.builders.hooks.plugin.interface import BuildHookInterface
@@ -12,19 +13,30 @@ STATIC_TAG = "py3-none-manylinux2014_x86_64.musllinux_1_1_x86_64"
 DYNAMIC_TAG = "py3-none-linux_x86_64"
 
 
+HERE = pathlib.Path(__file__).resolve().parent
 PROGRAMS = {"rcell": "RCELL_PROGRAM", "rcell-join": "RCELL_JOIN_PROGRAM"}
 """The scripts, and the environment variables that may name what they are made of."""
 
 
+def _found(name: str) -> pathlib.Path:
+    """A file of the source archive, or of the repository that python/ is a folder of."""
+    return next((path for path in (HERE / name, HERE.parent / name) if path.is_file()), HERE / name)
+
+
+def version() -> str:
+    """Return the version of the package."""
+    return _found("VERSION").read_text(encoding="ascii").strip()
+
+
 class ProgramHook(BuildHookInterface):  # type: ignore[misc]
-    """Adds ../bin/rcell-static and ../bin/rcell-join-static, or what RCELL_PROGRAM and RCELL_JOIN_PROGRAM name."""
+    """Adds bin/rcell-static and bin/rcell-join-static, or what RCELL_PROGRAM and RCELL_JOIN_PROGRAM name."""
 
     def initialize(self, version: str, build_data: dict[str, Any]) -> None:
         if version == "editable":
             return
         are_static = True
         for script, variable in PROGRAMS.items():
-            path = os.environ.get(variable) or os.path.join(self.root, "..", "bin", f"{script}-static")
+            path = os.environ.get(variable) or str(_found(f"bin/{script}-static"))
             if not os.path.isfile(path):
                 raise FileNotFoundError(f"{path}: the program is not there (make static)")
             name = f"{self.metadata.core.name}-{self.metadata.version}.data/scripts/{script}"

@@ -1,4 +1,4 @@
-# make wheel     makes dist/rcell-VERSION-py3-none-..x86_64.whl, the Python package with the static programs in it
+# make wheel     makes dist/rcell-VERSION-py3-none-..x86_64.whl and dist/rcell-VERSION.tar.gz, the Python package with the static programs in it
 # make python    installs the wheel into an empty environment, and runs its tests, types, notebook and document there
 # make python-debian12  the same in a root of Debian 12 that has nothing but its base (as root, with debootstrap)
 # make python-speed  times the Python package beside numpy and GDAL, and writes docs/SPEED.md

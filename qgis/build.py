@@ -12,6 +12,7 @@ import pathlib
 import re
 import subprocess
 import sys
+import tempfile
 import time
 import zipfile
 
@@ -20,24 +21,36 @@ REPOSITORY = HERE.parent
 KINDS = (".py", ".txt", ".svg")
 
 
+def said_by(*words: str) -> str:
+    return subprocess.run(words, cwd=REPOSITORY, capture_output=True, text=True, check=True).stdout
+
+
 def moment() -> tuple[int, int, int, int, int, int]:
-    """The time of the last commit, which all files get; without a history the first that a zip has."""
-    told = subprocess.run(["git", "log", "-1", "--format=%ct"], cwd=REPOSITORY, capture_output=True, text=True, check=False).stdout.strip()
-    seconds = int(os.environ.get("SOURCE_DATE_EPOCH") or told or 0)
-    first = (1980, 1, 1, 0, 0, 0)
-    return max(first, time.gmtime(seconds)[:6])
+    """The time of the last commit, which all files get."""
+    return time.gmtime(int(said_by("git", "log", "-1", "--format=%ct")))[:6]
+
+
+def licences() -> dict[str, bytes]:
+    """The licences and notices, by their names in the zip."""
+    with tempfile.TemporaryDirectory() as room:
+        folder = pathlib.Path(room) / "licenses"
+        said_by(sys.executable, "tools/linked.py", str(folder))
+        found = {f"rcell/licenses/{path.relative_to(folder).as_posix()}": path.read_bytes() for path in folder.rglob("*") if path.is_file()}
+    return {**found, "rcell/LICENSE": (REPOSITORY / "LICENSE.md").read_bytes()}
 
 
 def files(program: pathlib.Path) -> dict[str, tuple[bytes, int]]:
     """The bytes and the mode of each file, by its name in the zip."""
     version = (REPOSITORY / "VERSION").read_text(encoding="utf-8").strip()
     found = {}
-    for path in sorted((HERE / "rcell").rglob("*")):
-        if path.is_file() and path.suffix in KINDS and "__pycache__" not in path.parts:
+    for name in said_by("git", "ls-files", "qgis/rcell").splitlines():
+        path = REPOSITORY / name
+        if path.suffix in KINDS:
             content = path.read_bytes()
             if path.name == "metadata.txt":
                 content = re.sub(rb"(?m)^version=.*$", b"version=" + version.encode(), content)
             found[path.relative_to(HERE).as_posix()] = content, 0o644
+    found |= {name: (content, 0o644) for name, content in licences().items()}
     found["rcell/bin/rcell"] = program.read_bytes(), 0o755
     return found
 
@@ -57,6 +70,7 @@ def main() -> int:
             entry.create_system = 3
             entry.external_attr = (0o100000 | mode) << 16
             archive.writestr(entry, content, zipfile.ZIP_DEFLATED)
+    part.chmod(0o644)
     part.replace(target)
     print(f"dist: {target.name}, the plugin for QGIS")
     return 0

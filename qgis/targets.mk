@@ -1,14 +1,17 @@
-# make qgis      builds dist/rcell-qgis-VERSION.zip, the plugin for QGIS with the static program in it, and runs its tests without a screen
+# make qgis-zip  builds dist/rcell-qgis-VERSION.zip, the plugin for QGIS with the static program in it
+# make qgis      the same, and runs its tests without a screen
 # make qgis-speed  times the plugin beside QGIS's own algorithms; SHORT=--short is small, WRITE=--write puts the tables into docs/SPEED.md
 # make qgis-pictures  draws the pictures of docs/QGIS.md
 
-.PHONY: qgis qgis-speed qgis-pictures
+.PHONY: qgis qgis-zip qgis-speed qgis-pictures
 
 QGIS_PACKAGES = qgis python3-qgis python3-gdal python3-numpy grass-core xvfb xauth
 
-qgis: static
-	@sh tools/debian.sh $(QGIS_PACKAGES) python3-mypy
+qgis-zip: static
 	@python3 qgis/build.py dist
+
+qgis: qgis-zip
+	@sh tools/debian.sh $(QGIS_PACKAGES) python3-mypy
 	@sh qgis/check.sh
 
 qgis-speed: bin/rcell

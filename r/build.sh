@@ -1,26 +1,22 @@
 #!/bin/sh
-# Builds the package for R, with the static program in it: build.sh [FOLDER], dist/ where it is left out.
+# Builds the package for R, with the static program in it: build.sh [FOLDER], dist/ if it is not given.
 set -eu
-folder=${1:-$(dirname "$0")/../dist}
-mkdir -p "$folder"
-folder=$(cd "$folder" && pwd)
 cd "$(dirname "$0")/.."
-version=$(cat VERSION)
-program=bin/rcell-static
-[ -x "$program" ] || { echo "rcell: $program is missing: run make static first" >&2; exit 1; }
-
-room=$(mktemp -d)
-trap 'rm -rf "$room"' EXIT
-cp -r r/rcell "$room/rcell"
-rm -rf "$room/rcell/inst/bin"
-mkdir -p "$room/rcell/inst/bin"
-install -m 755 "$program" "$room/rcell/inst/bin/rcell"
+dist=${1:-dist}
+. packaging/same.sh
+copy_tracked r/rcell "$room/source/rcell"
+inst=$room/source/rcell/inst
+install -D -m 755 bin/rcell-static "$inst/bin/rcell"
 # The maps that docs/R.md works with, and that the tests hold against terra.
-mkdir -p "$room/rcell/inst/extdata"
-cp examples/rasters/* "$room/rcell/inst/extdata/"
-sed -i "s/^Version: .*/Version: $version/" "$room/rcell/DESCRIPTION"
+copy_tracked examples/rasters "$inst/extdata"
+python3 tools/linked.py --with-islands "$inst/licenses"
+install -m 644 LICENSE.md "$inst/COPYRIGHTS"
+sed -i "s/^Version: .*/Version: $version/" "$room/source/rcell/DESCRIPTION"
 # R warns of a program in a package unless it is declared.
-echo inst/bin/rcell > "$room/rcell/BinaryFiles"
-(cd "$room" && R CMD build --no-build-vignettes rcell > build.log 2>&1) || { cat "$room/build.log" >&2; exit 1; }
-install -m 644 "$room/rcell_$version.tar.gz" "$folder/rcell_$version.tar.gz"
+echo inst/bin/rcell > "$room/source/rcell/BinaryFiles"
+(cd "$room/source" && R CMD build --no-build-vignettes rcell > build.log 2>&1) || { cat "$room/source/build.log" >&2; exit 1; }
+# R notes who packed it and when.
+tar -C "$room" -xzf "$room/source/rcell_$version.tar.gz"
+sed -i "s/^Packaged: .*/Packaged: $(date -u -d "@$SOURCE_DATE_EPOCH" '+%Y-%m-%d %H:%M:%S UTC'); the Nibzoqel authors/" "$room/rcell/DESCRIPTION"
+pack rcell "$dist/rcell_$version.tar.gz"
 echo "dist: rcell_$version.tar.gz, the package for R"

@@ -1,11 +1,15 @@
-# make r         builds dist/rcell_VERSION.tar.gz, the package for R with the static program in it, and runs R CMD check, its tests and docs/R.md
+# make r-package builds dist/rcell_VERSION.tar.gz, the package for R with the static program in it
+# make r         the same, and runs R CMD check, its tests and docs/R.md
 # make r-speed   times the package for R beside terra, and beside other ways of writing and reading cells; SHORT=--short is small
 
-.PHONY: r r-speed
+.PHONY: r r-package r-speed
 
-r: static
-	@sh tools/debian.sh -f r/packages.txt
+r-package: static
+	@sh tools/debian.sh r-base-core
 	@sh r/build.sh dist
+
+r: r-package
+	@sh tools/debian.sh -f r/packages.txt
 	@sh r/check.sh
 
 r-speed: bin/rcell

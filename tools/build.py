@@ -1,16 +1,15 @@
 #!/usr/bin/env python3
-"""Proves the crates that the programs are built from, several at a time, and builds bin/rcell and bin/rcell-join.
+"""Proves the crates that a program needs, and puts the program into bin/.
 
-    build.py [--jobs N]
+    build.py [--jobs N] PROGRAM..       PROGRAM is rcell or rcell-join
+    build.py --list PROGRAM|all         the crates that it needs, each after those below it
 
-N is how many processes prove at a time: without it, one for each processor, as far as memory allows. Where fewer crates
-can be proved, they share the processes; the last get half of N at the least, so that for a short time there may be more
-than N. It says which crates are proved and how long all took so far. Each is proved by the kit's rattle over the statements
-of the crates below it, and again only where one of them has changed. What is made of a crate and the log of its proof lie in
-crates/NAME/out/build; where a proof fails, the end of its log is printed.
+The proofs are those of `rt ci`, in a folder that has these crates alone, without tests and edits: what passes is kept on this
+machine and counts for the gate, and what the gate passed counts here. A line names each crate that is done; the whole log is
+bin/PROGRAM.log.
 """
 import argparse
-import concurrent.futures
+import contextlib
 import functools
 import hashlib
 import os
@@ -19,26 +18,29 @@ import re
 import shutil
 import subprocess
 import sys
+import tempfile
+import threading
 import time
 
 ROOT = os.path.dirname(os.path.dirname(os.path.abspath(__file__)))
-PROGRAM = "rcell_program"
-PROGRAMS = {PROGRAM: "rcell", "rcell_join": "rcell-join"}
-TARGET = "x86_64-unknown-linux-gnu"
+PROGRAMS = {"rcell_program": "rcell", "rcell_join": "rcell-join"}
+PROVED = ("src", "specs", "proofs")
+RUN_ON = ("stdin", "args", "data", "status", "stdout")
 LINES_OF_A_LOG = 40
 SECONDS_BETWEEN_NEWS = 60
-BYTES_OF_A_PROOF = 1_500_000_000
-# What reading the crates below costs, as if it were lines of source.
-LINES_OF_A_START = 100
+# What a check costs before it proves anything, and a line of proofs, in lines of source.
+LINES_OF_A_START, LINES_OF_A_PROOF = 150, 0.2
+LEAST_SHARE = 0.1  # of the work, before what is left is estimated
+DONE = re.compile(r"rt: (\w+) (proved|NOT PROVED|is kept)")
+HERE = "proved on this machine"
 
 
 class Crate:
-    """A crate of the repository: its name, the crates right below it, and the kit's libraries that it uses."""
+    """A crate of a repository: its line of crates.txt, the crates right below it, and the kit's libraries that it uses."""
 
-    def __init__(self, name, uses, crates):
-        self.name, self.folder = name, f"{ROOT}/crates/{name}"
-        self.out = f"{self.folder}/out/build"
-        self.made = f"{self.out}/{name}.{'o' if name in PROGRAMS else 'rlib'}"
+    def __init__(self, name, uses, crates, root=ROOT):
+        self.name, self.folder, self.line = name, f"{root}/crates/{name}", f"{name}: {' '.join(uses)}\n"
+        self.rlib = f"{self.folder}/out/rlib/{name}.rlib"
         self.below = [crates[it] for it in uses if it in crates]
         self.of_kit = ["std", *[it for it in uses if it not in crates]]
 
@@ -48,51 +50,30 @@ class Crate:
 
     @functools.cached_property
     def files(self):
-        parts = [f"{self.folder}/{part}" for part in ("src", "specs", "proofs")]
-        found = [f"{at}/{name}" for part in parts for at, _, names in os.walk(part) for name in names]
-        return {os.path.relpath(it, ROOT): pathlib.Path(it).read_bytes() for it in sorted(found)}
+        found = [f"{at}/{name}" for part in PROVED for at, _, names in os.walk(f"{self.folder}/{part}") for name in names]
+        return {os.path.relpath(it, self.folder): pathlib.Path(it).read_bytes() for it in sorted(found)}
 
     @functools.cached_property
-    def lines(self):
-        return LINES_OF_A_START + sum(text.count(b"\n") for path, text in self.files.items() if path.endswith(".rt"))
+    def work(self):
+        """How much there is to prove, in lines of source."""
+        lines = {path: text.count(b"\n") for path, text in self.files.items()}
+        return LINES_OF_A_START + sum(it if path.endswith(".rt") else LINES_OF_A_PROOF * it for path, it in lines.items())
 
     @functools.cached_property
     def stamp(self):
         """A sum of all that the crate's proof depends on."""
-        parts = [kit_version(), self.of_kit, self.files, [it.stamp for it in self.below]]
+        parts = [kit_version(), self.of_kit, self.name, self.files, [it.stamp for it in self.below]]
         return hashlib.sha256(repr(parts).encode()).hexdigest()
 
-    def is_proved(self):
-        try:
-            with open(f"{self.out}/stamp", encoding="utf-8") as file:
-                return os.path.exists(self.made) and file.read() == self.stamp
-        except OSError:
-            return False
-
-    def command(self, jobs):
-        """What proves the crate, and makes a library's statements or a program's object file."""
-        words = [f"{kit()}/bin/rattle", "build", "--crate-name", self.name, f"src/{'main' if self.name in PROGRAMS else 'lib'}.rt"]
+    def command(self, verb, jobs=1):
+        """The command that proves the crate (`check`), or also compiles it (`build`), over the libraries below it that `rt` left."""
+        words = [f"{kit()}/bin/rattle", verb, "--crate-name", self.name, f"src/{'main' if self.name in PROGRAMS else 'lib'}.rt"]
         words += [word for it in self.of_kit for word in ("--extern", f"{it}={kit()}/rlibs/{it}.rlib")]
-        words += [word for it in self.below for word in ("--extern", f"{it.name}={it.made}")]
+        words += [word for it in self.below for word in ("--extern", f"{it.name}={it.rlib}")]
         words += ["-L", f"dependency={kit()}/rlibs"]
-        words += [word for it in self.all_below.values() for word in ("-L", f"dependency={it.out}")]
+        words += [word for it in self.all_below.values() for word in ("-L", f"dependency={os.path.dirname(it.rlib)}")]
         words += ["--antt-project", f"{kit()}/rattle/logic/antt-project.json", "--logic-built", f"{kit()}/logic_built"]
-        words += ["--toolchain", f"{kit()}/toolchain"] if self.name in PROGRAMS else ["--statements"]
-        return [*words, "--links", f"{self.name}=", "--jobs", str(jobs), "-o", self.made]
-
-    def prove(self, jobs):
-        """Proves the crate if that was not done before, and returns what to say of it, or None where it is not proved."""
-        if self.is_proved():
-            return "proved before"
-        shutil.rmtree(self.out, ignore_errors=True)
-        os.makedirs(self.out)
-        with open(f"{self.out}/log", "w", encoding="utf-8") as log:
-            status = subprocess.call(self.command(jobs), cwd=self.folder, stdin=subprocess.DEVNULL, stdout=log, stderr=log)
-        if status:
-            return None
-        with open(f"{self.out}/stamp", "w", encoding="utf-8") as file:
-            file.write(self.stamp)
-        return "proved"
+        return [*words, "--links", f"{self.name}=", "--jobs", str(jobs)]
 
 
 @functools.cache
@@ -103,11 +84,11 @@ def kit():
 
 @functools.cache
 def kit_version():
-    return subprocess.check_output(["rt", "version"], text=True)
+    return subprocess.check_output(["rt", "version"], text=True).strip()
 
 
-def crates_of(programs, kind=Crate):
-    """The crates that programs stand on and themselves, each after those below it."""
+def crates_of(programs, root=ROOT):
+    """The crates that programs need and themselves, each after those below it."""
     with open(f"{ROOT}/crates.txt", encoding="utf-8") as file:
         lines = [line.split("#")[0].split(":") for line in file if ":" in line]
     uses, crates = {name.strip(): used.split() for name, used in lines}, {}
@@ -116,130 +97,138 @@ def crates_of(programs, kind=Crate):
         for it in uses[name]:
             if it in uses and it not in crates:
                 visit(it)
-        crates[name] = kind(name, uses[name], crates)
+        crates[name] = Crate(name, uses[name], crates, root)
 
     for program in programs:
         visit(program)
     return list(crates.values())
 
 
-def crates_of_the_program(kind=Crate):
-    """Those of rcell, its own the last."""
-    return crates_of([PROGRAM], kind)
-
-
-def ways(crates):
-    """The lines of source on the longest way from each crate up to a program."""
-    found = {}
-    for crate in reversed(crates):
-        found[crate] = crate.lines + max((found[it] for it in found if crate in it.below), default=0)
-    return found
-
-
-def at_once():
-    """How many processes prove at a time."""
-    try:
-        with open("/proc/meminfo", encoding="utf-8") as file:
-            free = 1024 * int(re.search(r"MemAvailable: *(\d+)", file.read())[1])
-    except (OSError, TypeError):
-        free = BYTES_OF_A_PROOF
-    return max(1, min(len(os.sched_getaffinity(0)), free // BYTES_OF_A_PROOF))
+@contextlib.contextmanager
+def cut(crates):
+    """A folder that has these crates alone: what is proved of them, and what their programs are run on."""
+    with tempfile.TemporaryDirectory(prefix="rcell-build-") as folder:
+        shutil.copy(f"{ROOT}/HANDLES", folder)
+        pathlib.Path(folder, "crates.txt").write_text("".join(it.line for it in crates), encoding="utf-8")
+        for it in crates:
+            for part in (*PROVED, *RUN_ON):
+                if os.path.isdir(f"{it.folder}/{part}"):
+                    shutil.copytree(f"{it.folder}/{part}", f"{folder}/crates/{it.name}/{part}")
+                elif os.path.exists(f"{it.folder}/{part}"):
+                    shutil.copy(f"{it.folder}/{part}", f"{folder}/crates/{it.name}/{part}")
+        yield folder
 
 
 class News:
-    """What is proved and what is being proved: a line rewritten each second on a terminal, else one for each crate and each minute."""
+    """Says which crates are done, the time so far, and an estimate of what is left; each minute also where nothing is new."""
 
-    def __init__(self):
-        self.start, self.is_terminal = time.monotonic(), sys.stdout.isatty()
-        self.every = 1 if self.is_terminal else SECONDS_BETWEEN_NEWS
+    def __init__(self, crates):
+        self.left, self.begun, self.done = {it.name: it.work for it in crates}, time.monotonic(), 0
+        self.all, self.proved, self.told = len(crates), 0, time.monotonic()
+        self.ended = threading.Event()
+        self.clock = threading.Thread(target=self.tick, daemon=True)
 
-    def say(self, text, passes=False):
-        minutes, seconds = divmod(int(time.monotonic() - self.start), 60)
-        text = f"{text}, {f'{minutes} min {seconds:02} s' if minutes else f'{seconds} s'} so far"
-        if self.is_terminal:
-            print(f"\r\033[K{text}", end="" if passes else "\n", flush=True)
-        else:
-            print(text, flush=True)
+    def __enter__(self):
+        self.clock.start()
+        return self
 
+    def __exit__(self, *_):
+        self.ended.set()
+        self.clock.join()
 
-def next_of(ready, free, jobs, unfinished):
-    """The first of the crates that can be proved, and as many processes as the others leave it: half of all at the least
-    where fewer crates are left beside it than there are processes, since those end before it and nothing takes their place."""
-    crate, own = ready[0], -(-free // min(len(ready), free))
-    beside = [it for it in unfinished if it is not crate and crate.name not in it.all_below]
-    return crate, own if len(beside) >= jobs else max(own, jobs // 2)
+    def tick(self):
+        while not self.ended.wait(1):
+            if time.monotonic() - self.told > SECONDS_BETWEEN_NEWS:
+                self.say("still proving")
 
+    def say(self, text):
+        self.told = time.monotonic()
+        spent, left = self.told - self.begun, sum(self.left.values())
+        is_known = left and self.proved > LEAST_SHARE * (self.proved + left)
+        rest = f", about {minutes(spent * left / self.proved)} left" if is_known else ""
+        print(f"{self.done:2} of {self.all}  {text}, {minutes(spent)} so far{rest}", flush=True)
 
-def prove_all(crates, jobs, news):
-    """Proves each crate once all below it are, those first that the longest way stands on. Returns those that are not proved."""
-    way, waiting, running, failed = ways(crates), list(crates), {}, []
-    with concurrent.futures.ThreadPoolExecutor(jobs) as pool:
-        while running or (waiting and not failed):
-            under_way = [crate for crate, _ in running.values()]
-            ready = [it for it in waiting if not {*it.below} & {*waiting, *under_way}]
-            free = jobs - sum(own for _, own in running.values())
-            if ready and free > 0 and not failed:
-                crate, own = next_of(sorted(ready, key=way.get, reverse=True), free, jobs, [*waiting, *under_way])
-                waiting.remove(crate)
-                running[pool.submit(crate.prove, own)] = crate, own
-                continue
-            ended, _ = concurrent.futures.wait(running, news.every, concurrent.futures.FIRST_COMPLETED)
-            for run in ended:
-                (crate, _), word = running.pop(run), run.result()
-                failed += [] if word else [crate]
-                news.say(f"{len(crates) - len(waiting) - len(running):2} of {len(crates)}  {crate.name}: {word or 'NOT proved'}")
-            if not ended:
-                news.say("          proving " + ", ".join(it.name for it in under_way), passes=True)
-    return failed
+    def take(self, line):
+        """Notes what a line of rt's log says of a crate."""
+        found = DONE.match(line)
+        if found and found[1] in self.left:
+            work, self.done = self.left.pop(found[1]), self.done + 1
+            self.proved += work if found[2] == "proved" else 0
+            self.say(f"{found[1]}: {'proved before' if found[2] == 'is kept' else found[2]}")
 
 
-def linked(made, output):
-    """Links an object of the program as the kit does, and returns how that ended."""
-    words = [f"{kit()}/bin/rattle-link", "--target", TARGET, "--toolchain", f"{kit()}/toolchain", "-o", output]
-    words += [made, f"{kit()}/c/libos_c.a", f"{kit()}/c/liblibc_c.a"]
-    return subprocess.run(words, cwd=ROOT, stdout=subprocess.PIPE, stderr=subprocess.STDOUT, text=True, errors="replace")
+def minutes(seconds):
+    return f"{seconds / 60:.0f} min" if seconds >= 100 else f"{seconds:.0f} s"
 
 
-def link(program):
-    """Links a program to its place in bin/, and returns the linker's status."""
+def failure(lines):
+    """What rt says of the first crate that is not proved."""
+    at = next((number for number, line in enumerate(lines) if " NOT PROVED" in line), len(lines) - 1)
+    begin = max((number for number in range(at) if lines[number].startswith("== ")), default=0)
+    return "".join(lines[max(begin, at + 1 - LINES_OF_A_LOG) : at + 1])
+
+
+def prove(folder, crates, jobs, log):
+    """Runs `rt ci` over the crates of a folder with news of it, and returns its status."""
+    environment = {**os.environ, **({"RT_JOBS": str(jobs)} if jobs else {})}
+    with News(crates) as news, open(log, "w", encoding="utf-8") as file:
+        with subprocess.Popen(["rt", "ci"], cwd=folder, env=environment, stdin=subprocess.DEVNULL, stdout=subprocess.PIPE,
+                              stderr=subprocess.STDOUT, text=True, errors="replace") as ran:
+            lines = []
+            for line in ran.stdout:
+                lines.append(line.replace(folder, "."))
+                file.write(lines[-1])
+                news.take(line)
+    if ran.returncode:
+        print(f"NOT proved; the whole log is {os.path.relpath(log, ROOT)}", failure(lines), "".join(lines[-3:]), sep="\n")
+        print("If this names no error, memory or disk may have run out: try make JOBS=1.")
+    return ran.returncode
+
+
+def put(path, name):
+    """Puts a file into bin/ in one step."""
+    shutil.copyfile(path, f"{ROOT}/bin/{name}.new")
+    os.chmod(f"{ROOT}/bin/{name}.new", 0o644 if "." in name else 0o755)
+    os.replace(f"{ROOT}/bin/{name}.new", f"{ROOT}/bin/{name}")
+
+
+def take_built(crate, root, where=HERE):
+    """Puts a program that `rt ci` built below a root into bin/, with its object if this run made one."""
+    name, out = PROGRAMS[crate], f"{root}/crates/{crate}/out/{crate}"
     os.makedirs(f"{ROOT}/bin", exist_ok=True)
-    output = f"{ROOT}/bin/{PROGRAMS[program.name]}"
-    run = linked(program.made, f"{output}.new")
-    if run.returncode:
-        print(run.stdout, end="")
-    else:
-        os.replace(f"{output}.new", output)
-        # The static program of the release is linked from the same object.
-        shutil.copyfile(program.made, f"{output}.o")
-    return run.returncode
+    if os.path.exists(f"{out}.o"):
+        put(f"{out}.o", f"{name}.o")
+    pathlib.Path(ROOT, "bin", f"{name}.origin").write_text(f"{where}\n", encoding="utf-8")
+    put(out, name)
 
 
-def build(jobs):
-    """Proves and builds all, and returns the status of the process."""
-    crates, news = crates_of(PROGRAMS), News()
-    by = "1 process" if jobs == 1 else f"{jobs} processes at a time"
-    print(f"Proving {len(crates)} crates by {by}, and building bin/rcell and bin/rcell-join.", flush=True)
-    failed = prove_all(crates, jobs, news)
-    for crate in failed:
-        with open(f"{crate.out}/log", encoding="utf-8", errors="replace") as log:
-            end = log.readlines()[-LINES_OF_A_LOG:]
-        print(f"{crate.name} is NOT proved. The end of {crate.out}/log:", "".join(end), sep="\n")
-    if failed:
-        print("Where that says nothing of a fault, memory may have run out: try make JOBS=1.")
-        return 1
-    status = 0
-    for program in (it for it in crates if it.name in PROGRAMS):
-        refused = link(program)
-        news.say(f"bin/{PROGRAMS[program.name]} is {'NOT linked' if refused else 'built'}")
-        status = status or refused
+def build(program, jobs):
+    """Proves a program, puts it into bin/, and returns the status of the process."""
+    crates, name = crates_of([program]), PROGRAMS[program]
+    print(f"Proving {len(crates)} crates, then building bin/{name}.", flush=True)
+    os.makedirs(f"{ROOT}/bin", exist_ok=True)
+    with cut(crates) as folder:
+        status = prove(folder, crates, jobs, f"{ROOT}/bin/{name}.log")
+        if not status:
+            take_built(program, folder)
+            print(f"bin/{name} is proved and built", flush=True)
     return status
 
 
 def main():
-    parser = argparse.ArgumentParser(description="Proves the crates that the programs are built from, and builds them.")
-    parser.add_argument("--jobs", type=int, default=at_once(), help="how many processes prove at a time")
-    sys.exit(build(max(1, parser.parse_args().jobs)))
+    words = argparse.ArgumentParser(description=__doc__, formatter_class=argparse.RawDescriptionHelpFormatter)
+    words.add_argument("--jobs", type=int, default=0, help="how many crates are proved at a time; else one a processor, as memory allows")
+    words.add_argument("--list", choices=[*PROGRAMS.values(), "all"])
+    words.add_argument("programs", nargs="*", choices=[*PROGRAMS.values(), []], metavar="PROGRAM")
+    given = words.parse_args()
+    if given.list:
+        print(*(it.name for it in crates_of(crate for crate, name in PROGRAMS.items() if given.list in (name, "all"))), sep="\n")
+        return 0
+    for crate in (crate for crate, name in PROGRAMS.items() if name in given.programs):
+        if status := build(crate, given.jobs):
+            return status
+    return 0
 
 
 if __name__ == "__main__":
-    main()
+    sys.exit(main())

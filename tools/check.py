@@ -7,22 +7,22 @@ Without names all parts are run; `list` prints their names. A part is a program 
 'N passed, M failed, K skipped' on standard output; its standard error is shown and never counted. What is not installed is
 skipped, with a line 'skipped  PART: NEEDS; install: apt-get install PACKAGES'. At the end there is a table of the parts with
 their processor seconds, and a closing line of all counts: the status is 0 if nothing failed and, with --complete, nothing was
-skipped. The closing line of a whole run is kept in .gate/COMMIT, where PROVED.txt of the release finds it.
+skipped. The closing line of a whole run is kept in bin/gate, where PROVED.txt of the release finds it.
 """
 import argparse
 import os
 import re
 import resource
-import shutil
 import subprocess
 import sys
 import time
 from dataclasses import dataclass
 
-ROOT = os.path.dirname(os.path.dirname(os.path.abspath(__file__)))
+import build
+
+ROOT = build.ROOT
 COUNTS = re.compile(r"(\d+) passed, (\d+) failed(?:, (\d+) skipped)?\n?")
 SKIPPED = "skipped  "
-PROGRAMS = {"rcell_program": "rcell", "rcell_join": "rcell-join"}
 PYTHON = [sys.executable]
 CLANG = "CLANG"  # stands for the kit's clang in a command
 
@@ -73,7 +73,7 @@ LATE = [
          [tool("compare.py", "--cases"), tool("compare.py", "--runs", "3000", "--seed", "1"),
           tool("compare.py", "--runs", "500", "--seed", "1", "--maps", "stretches", "--pieces", CLANG)], has_counts=False),
     Part("laws", "laws of a report, on outputs", [tool("laws")]),
-    Part("objects", "the objects that the programs were linked from", [tool("program_object.py")], has_counts=False),
+    Part("objects", "the objects that the programs were linked from", [tool("objects.py")], has_counts=False),
     Part("release", "the release, without the kit and the sources", [tool("check_release.py")]),
     *[Part(front, f"what {front}/ has of its own", [["sh", f"{front}/gate.sh"]]) for front in ("python", "r", "qgis", "grass", "fronts")],
 ]
@@ -83,10 +83,6 @@ PARTS = [*EARLY, PROOFS, *LATE]
 def processor_seconds():
     used = resource.getrusage(resource.RUSAGE_CHILDREN)
     return used.ru_utime + used.ru_stime
-
-
-def kit():
-    return os.path.dirname(subprocess.check_output(["rt", "doc"], text=True).strip())
 
 
 def counts_of(lines, status, has_counts):
@@ -104,7 +100,7 @@ def run(part):
     print(f"== {part.name}: {part.tries}", flush=True)
     result, begun = Result(part.name), processor_seconds()
     for command in part.commands:
-        words = [f"{kit()}/toolchain/bin/clang" if it == CLANG else it for it in command]
+        words = [f"{build.kit()}/toolchain/bin/clang" if it == CLANG else it for it in command]
         with subprocess.Popen(words, cwd=ROOT, stdin=subprocess.DEVNULL, stdout=subprocess.PIPE, text=True, errors="replace") as ran:
             lines = []
             for line in ran.stdout:
@@ -116,26 +112,19 @@ def run(part):
     return result
 
 
-def take_programs():
-    """Puts the programs that `rt ci` built into bin/."""
-    os.makedirs(f"{ROOT}/bin", exist_ok=True)
-    for crate, name in PROGRAMS.items():
-        shutil.copy2(f"{ROOT}/crates/{crate}/out/{crate}", f"{ROOT}/bin/{name}.new")
-        os.replace(f"{ROOT}/bin/{name}.new", f"{ROOT}/bin/{name}")
-
-
 def run_all(parts):
     """Runs parts in order, to the first that the others cannot do without."""
     results = []
     for part in parts:
-        if part.needs_programs and not all(os.path.exists(f"{ROOT}/bin/{name}") for name in PROGRAMS.values()):
+        if part.needs_programs and not all(os.path.exists(f"{ROOT}/bin/{name}") for name in build.PROGRAMS.values()):
             print(f"{part.name}: bin/rcell or bin/rcell-join is missing: run make first")
             return [*results, Result(part.name, failed=1)]
         results.append(run(part))
         if part in [*EARLY, PROOFS] and results[-1].failed:
             return results
         if part is PROOFS:
-            take_programs()
+            for crate in build.PROGRAMS:
+                build.take_built(crate, ROOT)
     return results
 
 
@@ -152,9 +141,8 @@ def keep_closing(results, closing):
     commit = said_by("git", "rev-parse", "HEAD")
     if not commit or said_by("git", "status", "--porcelain"):
         return
-    os.makedirs(f"{ROOT}/.gate", exist_ok=True)
     proofs = next(it.note for it in results if it.name == PROOFS.name)
-    with open(f"{ROOT}/.gate/{commit}", "w", encoding="utf-8") as file:
+    with open(f"{ROOT}/bin/gate", "w", encoding="utf-8") as file:
         file.write(f"commit: {commit}\nkit: {said_by('rt', 'version')}\nprogram: {sum_of('rcell')}\njoiner: {sum_of('rcell-join')}\n"
                    f"proofs: {proofs}\nclosing: {closing}\n")
 

@@ -1,6 +1,6 @@
 #!/usr/bin/env python3
-"""Makes the release of what is built twice, and tries it: the static programs beside the documents and the models, the same bytes
-twice, the quick start, the helpers and the joiner from the unpacked files, `make install`.
+"""Makes the release of what is built, and tries it: the static programs beside the documents and the models, its files
+(tools/check_artefacts.py), the quick start, the helpers and the joiner from the unpacked files, `make install`.
 
     check_release.py [--keep FOLDER]
 
@@ -8,9 +8,9 @@ It wants bin/rcell and bin/rcell-join and the objects that they were linked from
 the files of the release in the folder. The last line is 'N passed, M failed'.
 """
 import argparse
-import filecmp
 import glob
 import os
+import pathlib
 import re
 import shutil
 import struct
@@ -19,6 +19,7 @@ import sys
 import tempfile
 
 import check
+import check_artefacts
 import documents
 
 ROOT = os.path.dirname(os.path.dirname(os.path.abspath(__file__)))
@@ -85,25 +86,13 @@ def check_needs(count, folder, names):
         count.add(f"the static {name} needs no library", f"it names {found} loaders" if found else "")
     package = next(name for name in names if name.endswith(".deb"))
     depends = subprocess.run(["dpkg-deb", "-f", f"{folder}/{package}", "Depends"], capture_output=True, text=True)
-    count.add("the package depends on no other", (depends.stdout + depends.stderr).strip())
+    said = (depends.stdout + depends.stderr).strip()
+    count.add("the package depends on python3 alone, for the helpers", "" if said == "python3" else said)
 
 
 def make(folder):
     ran = subprocess.run(["sh", "tools/dist.sh", folder], cwd=ROOT, stdout=subprocess.PIPE, stderr=subprocess.STDOUT, text=True)
     return ran.stdout.strip() or f"status {ran.returncode}" if ran.returncode else ""
-
-
-def check_same(count, room):
-    """Two releases have the same files and bytes, and the sums that SHA256SUMS says."""
-    folders = [f"{room}/once", f"{room}/twice"]
-    for folder in folders:
-        count.add(f"the release, made {os.path.basename(folder)}", make(folder))
-    names = sorted(os.listdir(folders[0]))
-    _, differing, missing = filecmp.cmpfiles(*folders, names, shallow=False)
-    count.add(f"the same bytes twice, {len(names)} files", " ".join(differing + missing))
-    told = subprocess.run(["sha256sum", "--check", "--quiet", "SHA256SUMS"], cwd=folders[0], capture_output=True, text=True)
-    count.add("the sums of SHA256SUMS", told.stdout + told.stderr)
-    return folders[0], names
 
 
 def fault_of_joining(programs, room):
@@ -163,7 +152,7 @@ def check_unpacked(count, room, folder, names):
 def check_install(count, room):
     """`make install` takes what is built, without the kit, also where a source is newer; `make uninstall` removes all of it."""
     copy, prefix = f"{room}/copy", f"{room}/prefix"
-    shutil.copytree(ROOT, copy, symlinks=True, ignore=shutil.ignore_patterns(".git", "out", "dist", ".gate", "cases", "__pycache__"))
+    shutil.copytree(ROOT, copy, symlinks=True, ignore=shutil.ignore_patterns(".git", "out", "dist", "cases", "__pycache__"))
     os.utime(f"{copy}/crates.txt")
     environment = {"PATH": PATH_WITHOUT_KIT, "HOME": room}
 
@@ -184,9 +173,12 @@ def check_install(count, room):
     ran = run(f"{prefix}/bin/rcell", f"{land}/script", f"landuse={land}/landuse.txt")
     with open(f"{ROOT}/examples/land-cover/stdout", encoding="ascii") as file:
         count.add("the installed program", "" if ran.stdout == file.read() else f"it printed {ran.stdout!r}, {ran.stderr!r}")
+    others = {f"{prefix}/share/rcell/theirs", f"{prefix}/share/doc/rcell/examples/theirs", f"{prefix}/bin/theirs"}
+    for name in others:
+        open(name, "w", encoding="ascii").close()
     run("make", "-s", "uninstall", f"PREFIX={prefix}")
-    left = [f"{at}/{name}" for at, _, names in os.walk(prefix) for name in names]
-    count.add("what make uninstall leaves", " ".join(left))
+    left = {f"{at}/{name}" for at, _, names in os.walk(prefix) for name in names}
+    count.add("make uninstall removes what was installed, and nothing else", " ".join(left ^ others))
 
 
 def check_version(count):
@@ -213,7 +205,10 @@ def main():
     with tempfile.TemporaryDirectory(prefix="rcell-release-") as room:
         if not ran.returncode:
             check_static(count)
-            folder, names = check_same(count, room)
+            folder = f"{room}/made"
+            count.add("the release", make(folder))
+            names = sorted(os.listdir(folder))
+            check_artefacts.check_all(count, pathlib.Path(folder), room)
             check_needs(count, folder, names)
             check_unpacked(count, room, folder, names)
             if wanted.keep:

@@ -59,7 +59,7 @@ def tables():
 def messages_of_the_code():
     """The texts of faults in the sources of the program, with N for a number; those that only hand on another text are left out."""
     found = set()
-    for path in [it for crate in build.crates_of_the_program() for it in glob.glob(f"{crate.folder}/src/**/*.rt", recursive=True)]:
+    for path in [it for crate in build.crates_of(["rcell_program"]) for it in glob.glob(f"{crate.folder}/src/**/*.rt", recursive=True)]:
         with open(path, encoding="utf-8") as file:
             texts = re.findall(r'(?:#\[error\(|Fault::\w+ => )"([^"]*)"', file.read())
         found |= {re.sub(r"\{written\}", "N", text) for text in texts if not re.search(r"\{(0|text|kind|line)\}", text)}

@@ -3,7 +3,7 @@
 
     proof_times.py CRATE [--most N]
 
-It proves the crate by one process from nothing, in a folder of its own, over the crates below as `make` left them, and prints
+It proves the crate by one process from nothing, over the libraries below it that `rt check` or `rt lib` left, and prints
 the seconds of each function and each file of lemmas, the slowest first: how long its states take (what the prover knows of
 each local at each place where the paths of a function meet, so they grow with both), the goals that are left to a search, the
 answers that are written, and all else. What it tells is the time from one kept module to the next, so it wants an idle
@@ -21,17 +21,6 @@ import build
 MOST_ROWS = 30
 # The columns, and a function's modules that count in each; all others count as the rest.
 COLUMNS = {"states": {"Lts", "View"}, "search": {"Proof", "Goals"}, "answers": {"Answers", "Invariants"}, "rest": set()}
-
-
-def check(crate, kept):
-    """What proves the crate and keeps each module that it checks in a folder."""
-    words = crate.command(1)
-    words[words.index("build")] = "check"
-    for flag, count in (("-o", 2), ("--statements", 1), ("--toolchain", 2)):
-        if flag in words:
-            at = words.index(flag)
-            del words[at : at + count]
-    return [*words, "--incremental", kept]
 
 
 def modules(kept):
@@ -68,15 +57,12 @@ def main():
     parser.add_argument("crate", help="the name of the crate")
     parser.add_argument("--most", type=int, default=MOST_ROWS, help="how many rows to print")
     given = parser.parse_args()
-    crates = {it.name: it for it in build.crates_of_the_program()}
-    if given.crate not in crates:
-        parser.error(f"the program does not stand on {given.crate}")
-    crate = crates[given.crate]
-    if not all(it.is_proved() for it in crate.all_below.values()):
-        sys.exit("rcell: run make first, so that the crates below are proved")
+    crate = build.crates_of([given.crate])[-1]
+    if not all(os.path.isdir(it.rlib) for it in crate.all_below.values()):
+        sys.exit("rcell: run rt check in the crate's folder first: it builds the libraries below")
     with tempfile.TemporaryDirectory() as kept:
         how = {"cwd": crate.folder, "stdin": subprocess.DEVNULL, "stdout": subprocess.PIPE, "stderr": subprocess.STDOUT}
-        run = subprocess.run(check(crate, kept), text=True, **how)
+        run = subprocess.run([*crate.command("check"), "--incremental", kept], text=True, **how)
         if run.returncode:
             sys.exit(run.stdout[-2000:])
         rows = times(crate, kept)

@@ -4,10 +4,9 @@
     proved.py
 
 The programs, dynamic and static, and their objects are those in bin/. The commit, the kit and the libraries of Debian are those of
-this machine now. The closing line of the gate is that of .gate/COMMIT, which `make check` leaves; where there is none for this
-commit and these programs, that is said. What is proved, only tested and trusted is the section of the README.
+this machine now. The closing line of the gate is that of bin/gate, which `make check` leaves; if there is none for this commit
+and these programs, the page says so. What is proved, only tested and trusted is the section of the README.
 """
-import collections
 import glob
 import hashlib
 import re
@@ -49,22 +48,16 @@ def sources():
 
 def gate_record(commit):
     """What the gate left for this commit and these programs, by its keys; None where it left nothing."""
-    lines = read(f"{ROOT}/.gate/{commit}").splitlines()
-    record = dict(line.split(": ", 1) for line in lines if ": " in line)
-    return record if all(record.get(key) == sum_of(name) for name, key in KEYS.items()) else None
+    record = dict(line.split(": ", 1) for line in read(f"{ROOT}/bin/gate").splitlines() if ": " in line)
+    return record if record.get("commit") == commit and all(record.get(key) == sum_of(name) for name, key in KEYS.items()) else None
 
 
 def counted():
     crates = build.crates_of(build.PROGRAMS)
     edits = glob.glob(f"{ROOT}/crates/*/must-fail/*.edit")
-    functions = collections.Counter()
-    for crate in crates:
-        found = re.findall(r"^logic=proved functions=(\d+)", read(f"{crate.out}/log"), re.MULTILINE)
-        functions[crate.name] = int(found[-1]) if found else 0
-    proved = f" ({sum(functions.values())} functions with their contracts)" if all(functions.values()) else ""
     lines = read(f"{ROOT}/crates.txt").splitlines()
     every = sum(":" in line.split("#")[0] for line in lines)
-    return f"""{every} crates, {len(crates)} of which make up the programs{proved};
+    return f"""{every} crates, {len(crates)} of which make up the programs;
             {len(edits)} edits that each change a meaning, and that the proof must refuse"""
 
 
@@ -73,6 +66,12 @@ def gate_text(record):
         return """left no closing line for this commit and these programs where this page was made;
             `make check` in the sources makes it"""
     return f"{record['closing']}\n            (proofs: {record.get('proofs', 'not told')})"
+
+
+def origins():
+    """Where the programs were proved, as the build left it."""
+    said = {read(f"{ROOT}/bin/{name}.origin", "it is not known where they were proved").strip() for name in KEYS}
+    return "; ".join(sorted(said))
 
 
 def sums(ending=""):
@@ -95,7 +94,7 @@ Gate        {gate_text(gate_record(commit))}
 Programs    {sums("-static")}
             linked statically (static-pie) from the objects
             {sums(".o")}
-            by the kit's ld.lld with the C library of Debian ({versions}).
+            by the kit's ld.lld with the C library of Debian ({versions}); {origins()}.
 Tested ones {sums()}
             linked dynamically from the same objects by the kit: rcell is the one that the gate runs on all cases, with
             each growth of memory refused in turn (which LD_PRELOAD does, and a static program does not heed), rcell-join

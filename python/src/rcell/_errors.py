@@ -210,6 +210,8 @@ class Killed(RcellError):
     >>> import rcell
     >>> print(rcell.Killed(9))
     the program was killed by signal 9 (SIGKILL): too little memory, or someone ended it
+    >>> print(rcell.Killed(4))
+    the program was killed by signal 4 (SIGILL): the processor is older than x86-64-v2, which the program needs
     """
 
     def __init__(self, signal: int) -> None:
@@ -220,7 +222,8 @@ class Killed(RcellError):
         from signal import Signals
 
         name = next((f" ({known.name})" for known in Signals if known == self.signal), "")
-        cause = "too little memory, or someone ended it" if self.signal == 9 else "someone ended it"
+        causes = {4: "the processor is older than x86-64-v2, which the program needs", 9: "too little memory, or someone ended it"}
+        cause = causes.get(self.signal, "someone ended it")
         return f"the program was killed by signal {self.signal}{name}: {cause}"
 
 

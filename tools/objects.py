@@ -1,0 +1,108 @@
+#!/usr/bin/env python3
+"""The objects that bin/rcell and bin/rcell-join were linked from, bin/rcell.o and bin/rcell-join.o: the static programs of the
+release are linked from them.
+
+    objects.py                          puts into bin/ those that are missing or that are of other programs
+    objects.py --from FILE PROGRAM..    puts programs into bin/ that are linked from the objects of a release
+    objects.py --stamps FOLDER          writes PROGRAM.stamp for each program
+
+An object is right if the kit links it to the bytes of its program. One is left where a program was proved; where the proofs were
+kept from an earlier run, the program's own crate is proved and compiled once more over the libraries that were kept.
+With --from, the stamp of an object must be that of these sources: a sum of the kit's version and all that the proof reads.
+"""
+import argparse
+import filecmp
+import os
+import pathlib
+import subprocess
+import sys
+import tarfile
+import tempfile
+
+import build
+
+TARGET = "x86_64-unknown-linux-gnu"
+ELSEWHERE = "NOT proved on this machine"
+
+
+def linked(made, output):
+    """Links an object of a program as the kit does, and returns how that ended."""
+    words = [f"{build.kit()}/bin/rattle-link", "--target", TARGET, "--toolchain", f"{build.kit()}/toolchain", "-o", output]
+    words += [made, f"{build.kit()}/c/libos_c.a", f"{build.kit()}/c/liblibc_c.a"]
+    return subprocess.run(words, cwd=build.ROOT, stdout=subprocess.PIPE, stderr=subprocess.STDOUT, text=True, errors="replace")
+
+
+def is_right(made, program, room):
+    if not os.path.exists(made) or linked(made, f"{room}/linked").returncode:
+        return False
+    return filecmp.cmp(f"{room}/linked", program, shallow=False)
+
+
+def compiled(crate, room):
+    """The object of a program, from the sources of its crate over the libraries that are kept."""
+    crates, made = build.crates_of([crate]), f"{room}/{crate}.o"
+    with build.cut(crates) as folder:
+        if build.prove(folder, crates, 0, f"{build.ROOT}/bin/{build.PROGRAMS[crate]}.log"):
+            return made
+        program = build.crates_of([crate], folder)[-1]
+        words = program.command("build", len(os.sched_getaffinity(0)))
+        subprocess.run([*words, "--toolchain", f"{build.kit()}/toolchain", "-o", made], cwd=program.folder, stdin=subprocess.DEVNULL, stdout=subprocess.PIPE, stderr=subprocess.STDOUT)
+    return made
+
+
+def put(crate, name, room):
+    """Puts the object of a program into bin/, and returns whether one was right."""
+    program = f"{build.ROOT}/bin/{name}"
+    left = f"{build.ROOT}/crates/{crate}/out/{crate}.o"
+    for candidate in (lambda: f"{program}.o", lambda: left, lambda: compiled(crate, room)):
+        made = candidate()
+        if is_right(made, program, room):
+            if made != f"{program}.o":
+                build.put(made, f"{name}.o")
+            return True
+    print(f"rcell: no object links to the bytes of bin/{name}: run make again", file=sys.stderr)
+    return False
+
+
+def take(crate, archive, room):
+    """Puts a program into bin/ that is linked from an archive of objects, and returns whether that is of exactly these sources."""
+    name, at = build.PROGRAMS[crate.name], pathlib.Path(room, "crates", crate.name, "out")
+    with tarfile.open(archive) as files:
+        members = {os.path.basename(it.name): it for it in files if it.isfile()}
+        made, stamp = (files.extractfile(members[it]).read() if it in members else b"" for it in (f"{name}.o", f"{name}.stamp"))
+    if stamp.decode().strip() != crate.stamp:
+        print(f"{archive}: {name}.o is of other sources or another kit, so {name} is proved here")
+        return False
+    at.mkdir(parents=True)
+    (at / f"{crate.name}.o").write_bytes(made)
+    ran = linked(f"{at}/{crate.name}.o", f"{at}/{crate.name}")
+    if ran.returncode:
+        print(ran.stdout, end="")
+        return False
+    build.take_built(crate.name, room, f"{ELSEWHERE}: linked from {os.path.basename(archive)}")
+    print(f"bin/{name} is {ELSEWHERE}: it is linked from an object of {archive}, which was proved elsewhere, of exactly these sources"
+          f" (stamp {stamp.decode()[:12]}).\nTo prove it here: rm -r bin; make")
+    return True
+
+
+def main():
+    words = argparse.ArgumentParser(description=__doc__, formatter_class=argparse.RawDescriptionHelpFormatter)
+    words.add_argument("--from", dest="archive", metavar="FILE")
+    words.add_argument("--stamps", type=pathlib.Path, metavar="FOLDER")
+    words.add_argument("programs", nargs="*", metavar="PROGRAM")
+    given = words.parse_args()
+    if given.stamps:
+        for crate, name in build.PROGRAMS.items():
+            (given.stamps / f"{name}.stamp").write_text(f"{build.crates_of([crate])[-1].stamp}\n", encoding="ascii")
+        return 0
+    with tempfile.TemporaryDirectory(prefix="rcell-objects-") as room:
+        if given.archive:
+            wanted = [crate for crate, name in build.PROGRAMS.items() if name in given.programs]
+            done = [take(build.crates_of([crate])[-1], given.archive, room) for crate in wanted]
+        else:
+            done = [put(crate, name, room) for crate, name in build.PROGRAMS.items()]
+    return 0 if all(done) else 1
+
+
+if __name__ == "__main__":
+    sys.exit(main())
