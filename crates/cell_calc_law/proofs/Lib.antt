@@ -1,8 +1,10 @@
 pub mod ColumnLemmas
 pub mod FollowLemmas
+pub mod HaloLemmas
 pub mod LineLemmas
 pub mod LocalLemmas
 pub mod MapLemmas
+pub mod ReachLemmas
 pub mod ShiftLemmas
 pub mod TallyLemmas
 pub mod TileLemmas

@@ -2,8 +2,8 @@
 use Rattle.std.proofs.Common.{◌≡◌, ℕ, ◌+◌, ◌-◌, ◌<◌, ◌≤◌, min, ap, sym, ◌∙◌, arith}
 use Rattle.cell_calc_operators.specs.Applied.{spot}
 use Rattle.cell_calc_binding.specs.Value.{value}
-use Rattle.cell_tiles_law.specs.ReachParts.{reach_of, spot_in}
-use Rattle.cell_tiles_law.proofs.ReachLemmas.{its-reach-is-enough}
+use Rattle.cell_calc_law.specs.ReachParts.{reach_of, spot_in}
+use Rattle.cell_calc_law.proofs.ReachLemmas.{its-reach-is-enough}
 use Rattle.cell_calc_law.specs.TileLaw.{haloed_rectangle, TilesMakeTheMap}
 
 inside : (total first n up down i rows : ℕ)

@@ -3,9 +3,9 @@ use Rattle.std.specs.Prelude.{ℕ, ◌≡◌, ◌-◌, false, All}
 use Rattle.cell_core.specs.Grid.{Grid, IsFilled, cell_at}
 use Rattle.cell_core.specs.Shelf.{ShelfValue}
 use Rattle.cell_calc_binding.specs.Formula.{Formula}
-use Rattle.cell_tiles_law.specs.HaloParts.{calls, asks_rows, asks_cols}
+use Rattle.cell_calc_law.specs.HaloParts.{calls, asks_rows, asks_cols}
 use Rattle.cell_tiles_law.specs.Parts.{Rectangle, AreCutOut}
-use Rattle.cell_tiles_law.specs.ReachParts.{reach_of, with_halo, IsCellInside}
+use Rattle.cell_calc_law.specs.ReachParts.{reach_of, with_halo, IsCellInside}
 use Rattle.rcell_making.specs.Making.{AreValues}
 
 -- a tile with its halo: as many rows and columns around it as an expression reaches, as far as the region goes

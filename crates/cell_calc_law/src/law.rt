@@ -1,6 +1,8 @@
-//! What local expressions and shifts make of maps, in the subject's words.
+//! What local expressions, shifts and expressions over tiles make of maps, in the subject's words.
 
+ghost use Rattle.cell_calc_law.specs.HaloParts.{HaloIsEnough, ReachIsEnough, ToldOfItself};
 ghost use Rattle.cell_calc_law.specs.LocalLaw.{CopyIsTheMap, CountsFollow, EitherWayIsTheSame, LocalGoesByCombinations, OneMapOfValues, OneValueACombination, TableHasItsValues};
+ghost use Rattle.cell_calc_law.specs.ReachParts.{ItsReachIsEnough, ItsReachIsEnoughTold, MapsAreWithinReach};
 ghost use Rattle.cell_calc_law.specs.ShiftLaw.{NullBeyondTheEdge, ShiftsAddUp, ShiftsOnlyLose};
 ghost use Rattle.cell_calc_law.specs.TileLaw.{TilesMakeTheMap};
 
@@ -54,6 +56,40 @@ pub fn null_beyond_the_edge()
 /// After `x = g[a,b]`, no category has more cells in x than in g.
 pub fn shifts_only_lose()
     ensures { ShiftsOnlyLose }
+{}
+
+/// A halo is enough: an expression has the same value over a part of maps as over the whole, where what it reads lies in
+/// the part or the maps end.
+pub fn halo_is_enough()
+    ensures { HaloIsEnough }
+{}
+
+/// Where `row()` and its like are told of another spot than offsets are counted from: told of that spot itself, the value is
+/// the value.
+pub fn told_of_itself()
+    ensures { ToldOfItself }
+{}
+
+/// Told of the spot in the whole, any expression has the same value over a part as over the whole, where what it reads lies
+/// in the part or the maps end.
+pub fn reach_is_enough()
+    ensures { ReachIsEnough }
+{}
+
+/// No map is read further than the expression reaches.
+pub fn maps_are_within_reach()
+    ensures { MapsAreWithinReach }
+{}
+
+/// With a halo of its reach, as many rows and columns around a rectangle as the region has there, an expression that does
+/// not ask for rows and columns has the values of the whole in the rectangle.
+pub fn its_reach_is_enough()
+    ensures { ItsReachIsEnough }
+{}
+
+/// And any expression does, where `row()` and its like are told of the cell in the whole.
+pub fn its_reach_is_enough_told()
+    ensures { ItsReachIsEnoughTold }
 {}
 
 /// `x = f` over the whole and `y = f` over a tile with its halo: in the tile, y has the cells of x, if f asks for no row or

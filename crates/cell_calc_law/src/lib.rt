@@ -1,4 +1,4 @@
-//! Laws of the values of expressions: local ones go by combinations, and neighbours are shifts.
+//! Laws of the values of expressions: local ones go by combinations, neighbours are shifts, and a halo is enough for a tile.
 #![tactic(auto)]
 
 pub mod law;

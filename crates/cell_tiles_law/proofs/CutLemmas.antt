@@ -9,7 +9,27 @@ use Rattle.cell_stats_combinations.specs.Combinations.{cell_of_map}
 use Rattle.cell_cats_areas.specs.Areas.{cell_at_spot}
 use Rattle.cell_tiles_law.specs.Parts.{Rectangle, cut_out, CutOutsAreParts, Cut, IsCutBelow, CutsAreParts}
 use Rattle.cell_tiles_law.specs.AreaParts.{CutOutsAreTiles}
-use Rattle.cell_tiles_law.proofs.HaloLemmas.{length-take-most, row-cut, nothing-cut, first-or}
+
+pub length-take-most : {A : Type 0} (n : ℕ) (xs : List A) → length (take n xs) ≤ n
+length-take-most (suc n) (x ∷ xs) = omega (arith, length-take-most n xs)
+length-take-most _ _ = omega arith
+
+pub nothing-cut : (n m : ℕ) → ◌≡◌ {A = List CellValue} (take n (drop m [])) []
+nothing-cut zero m = refl
+nothing-cut (suc n) zero = refl
+nothing-cut (suc n) (suc m) = refl
+
+pub row-cut : (r : Rectangle) (rows : List (List CellValue)) (i : ℕ) → get_or (cut_out r rows) i [] ≡ take r.cols (drop r.left (get_or (take r.rows (drop r.top rows)) i []))
+row-cut r rows i = mapped (take r.rows (drop r.top rows)) i
+  where
+    mapped : (xs : List (List CellValue)) (i : ℕ) → get_or (map (λ row. take r.cols (drop r.left row)) xs) i [] ≡ take r.cols (drop r.left (get_or xs i []))
+    mapped [] i = sym (nothing-cut r.cols r.left)
+    mapped (x ∷ xs) zero = refl
+    mapped (x ∷ xs) (suc i) = mapped xs i
+
+abbrev pub first-or : {X : Type 0} → X → List X → X
+first-or d [] = d
+first-or d (x ∷ xs) = x
 
 cell-there : (r : Rectangle) (rows : List (List CellValue)) (row col : ℕ) → row < r.rows → col < r.cols → get_or (get_or (cut_out r rows) row []) col None ≡ get_or (get_or rows (r.top + row) []) (r.left + col) None
 cell-there r rows row col high wide =

@@ -3,7 +3,5 @@ pub mod BlockLemmas
 pub mod CutAreaLemmas
 pub mod CutLemmas
 pub mod GridLemmas
-pub mod HaloLemmas
 pub mod MergeLemmas
-pub mod ReachLemmas
 pub mod SumLemmas

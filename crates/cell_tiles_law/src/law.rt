@@ -1,9 +1,7 @@
 //! What the parts of maps say of the whole.
 
 ghost use Rattle.cell_tiles_law.specs.AreaParts.{AreasJoin, AreasJoinAtCut, CutOutsAreTiles, FirstsAreFirsts, FirstsOfTheWhole, NumbersJoin};
-ghost use Rattle.cell_tiles_law.specs.HaloParts.{HaloIsEnough, ReachIsEnough, ToldOfItself};
 ghost use Rattle.cell_tiles_law.specs.Parts.{CutOutsAreParts, CutsAreParts, GridsCover};
-ghost use Rattle.cell_tiles_law.specs.ReachParts.{ItsReachIsEnough, ItsReachIsEnoughTold, MapsAreWithinReach};
 ghost use Rattle.cell_tiles_law.specs.TableParts.{BandTablesMerge, BandsAddUp, CountsAddByCols, CountsAddByRows, PartsAddUp, TablesMerge, TablesMergeByRows};
 
 /// Cut between rows and columns wherever, the rectangles cover each cell once.
@@ -54,40 +52,6 @@ pub fn parts_add_up()
 /// And the table of the whole is the merge of the tables of the parts, and no other list is.
 pub fn tables_merge()
     ensures { TablesMerge }
-{}
-
-/// A halo is enough: an expression has the same value over a part of maps as over the whole, where what it reads lies in
-/// the part or the maps end.
-pub fn halo_is_enough()
-    ensures { HaloIsEnough }
-{}
-
-/// Where `row()` and its like are told of another spot than offsets are counted from: told of that spot itself, the value is
-/// the value.
-pub fn told_of_itself()
-    ensures { ToldOfItself }
-{}
-
-/// Told of the spot in the whole, any expression has the same value over a part as over the whole, where what it reads lies
-/// in the part or the maps end.
-pub fn reach_is_enough()
-    ensures { ReachIsEnough }
-{}
-
-/// No map is read further than the expression reaches.
-pub fn maps_are_within_reach()
-    ensures { MapsAreWithinReach }
-{}
-
-/// With a halo of its reach, as many rows and columns around a rectangle as the region has there, an expression that does
-/// not ask for rows and columns has the values of the whole in the rectangle.
-pub fn its_reach_is_enough()
-    ensures { ItsReachIsEnough }
-{}
-
-/// And any expression does, where `row()` and its like are told of the cell in the whole.
-pub fn its_reach_is_enough_told()
-    ensures { ItsReachIsEnoughTold }
 {}
 
 /// A map cut between two rows: a path joins two cells exactly where a chain of links does, each a path within one part or a

@@ -1,5 +1,4 @@
-//! Laws by which maps of any size are worked on in parts: tables add up, areas join along a cut, and a halo is enough
-//! for the values of an expression.
+//! Laws by which maps of any size are worked on in parts: tables add up, and areas join along a cut.
 #![tactic(auto)]
 
 pub mod law;

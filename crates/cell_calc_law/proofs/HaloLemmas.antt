@@ -16,13 +16,10 @@ use Rattle.cell_calc_binding.specs.Formula.{Formula, Number, Map, Negated, Not, 
 use Rattle.cell_calc_binding.specs.Reach.{up_of, down_of, up_of_all, down_of_all}
 use Rattle.cell_calc_binding.specs.Value.{value, argument_values}
 use Rattle.cell_tiles_law.specs.Parts.{Rectangle, AreCutOut, cut_out}
-use Rattle.cell_tiles_law.specs.HaloParts.{left_of, left_of_all, right_of, right_of_all, calls, call_any, asks_rows, asks_cols, HaloIsEnough, value_told, values_told, ToldOfItself, ReachIsEnough}
+use Rattle.cell_tiles_law.proofs.CutLemmas.{length-take-most, nothing-cut, row-cut, first-or}
+use Rattle.cell_calc_law.specs.HaloParts.{left_of, left_of_all, right_of, right_of_all, calls, call_any, asks_rows, asks_cols, HaloIsEnough, value_told, values_told, ToldOfItself, ReachIsEnough}
 
 -- ---- an item of a stretch of a list, by an offset
-
-pub length-take-most : {A : Type 0} (n : ℕ) (xs : List A) → length (take n xs) ≤ n
-length-take-most (suc n) (x ∷ xs) = omega (arith, length-take-most n xs)
-length-take-most _ _ = omega arith
 
 -- by a number from 0
 window : {A : Type 0} (outside : A) (xs : List A) (first height total i : ℕ) → length xs ≤ total → ((total ≤ first + height) ⊎ (i < height)) → get_or (take height (drop first xs)) i outside ≡ get_or xs (first + i) outside
@@ -70,19 +67,6 @@ module _ {A : Type 0} (outside : A) (xs : List A) (first height total p : ℕ) (
 
 -- ---- a cell of a part, by offsets
 
-pub nothing-cut : (n m : ℕ) → ◌≡◌ {A = List CellValue} (take n (drop m [])) []
-nothing-cut zero m = refl
-nothing-cut (suc n) zero = refl
-nothing-cut (suc n) (suc m) = refl
-
-pub row-cut : (r : Rectangle) (rows : List (List CellValue)) (i : ℕ) → get_or (cut_out r rows) i [] ≡ take r.cols (drop r.left (get_or (take r.rows (drop r.top rows)) i []))
-row-cut r rows i = mapped (take r.rows (drop r.top rows)) i
-  where
-    mapped : (xs : List (List CellValue)) (i : ℕ) → get_or (map (λ row. take r.cols (drop r.left row)) xs) i [] ≡ take r.cols (drop r.left (get_or xs i []))
-    mapped [] i = sym (nothing-cut r.cols r.left)
-    mapped (x ∷ xs) zero = refl
-    mapped (x ∷ xs) (suc i) = mapped xs i
-
 -- the row of a part, by any number
 row-item : (r : Rectangle) (rows : List (List CellValue)) (z : ℤ) → item_at [] (cut_out r rows) z ≡ take r.cols (drop r.left (item_at [] (take r.rows (drop r.top rows)) z))
 row-item r rows (pos i) = row-cut r rows i
@@ -95,10 +79,6 @@ row-length cols rows wide (pos i) =
     (λ past. let e : length (get_or rows i []) ≡ 0 = ap length (get_or_past rows i [] past) in omega (arith, e))
     (cases_lt i (length rows))
 row-length cols rows wide (negsuc i) = omega arith
-
-abbrev pub first-or : {X : Type 0} → X → List X → X
-first-or d [] = d
-first-or d (x ∷ xs) = x
 
 -- ---- the conditions, of any part of an expression
 
