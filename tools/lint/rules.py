@@ -7,7 +7,7 @@ import licences as licences_of_files
 import sources
 
 CLAUSE_COLUMNS, LONGEST_CLAUSE, PROOF_COLUMNS = 100, 120, 120
-MOST_FUNCTIONS, MOST_CODE, MOST_PROOFS = 50, 800, 2500
+MOST_FUNCTIONS, MOST_CODE, MOST_PROOFS = 100, 1600, 5000
 # Names that mean the same wherever they stand: Rust's own, and those that std's traits ask for.
 COMMON_FUNCTIONS = {"new", "len", "get", "next", "from", "is_empty", "bytes", "drop", "clone"}
 COMMON_FILES = {"lib", "main", "law"}
@@ -48,7 +48,7 @@ def wide_proofs():
 
 
 def crate_limits():
-    """Crates over 50 functions, 800 lines of code or 2,500 lines of proofs."""
+    """Crates over 100 functions, 1,600 lines of code or 5,000 lines of proofs."""
     functions, code, proofs = Counter(it.crate for it in sources.read_functions()), Counter(), Counter()
     for crate, _, text in sources.read_files("src"):
         code[crate] += sum(1 for line in text.split("\n") if line.strip() and not line.strip().startswith("//"))

@@ -15,8 +15,8 @@ use Rattle.cell_calc_operators.specs.Offsets.{item_at, cell_at_offset, cell_in}
 use Rattle.cell_calc_binding.specs.Formula.{Formula, Number, Map, Negated, Not, Binary, Call, Formulas, NoTrees, Then}
 use Rattle.cell_calc_binding.specs.Reach.{up_of, down_of, up_of_all, down_of_all}
 use Rattle.cell_calc_binding.specs.Value.{value, argument_values}
-use Rattle.cell_tiles_law.specs.Parts.{Rectangle, AreCutOut, cut_out}
-use Rattle.cell_tiles_law.proofs.CutLemmas.{length-take-most, nothing-cut, row-cut, first-or}
+use Rattle.cell_parts.specs.Parts.{Rectangle, AreCutOut, cut_out}
+use Rattle.cell_parts.proofs.CutLemmas.{length-take-most, nothing-cut, row-cut, first-or}
 use Rattle.cell_calc_law.specs.HaloParts.{left_of, left_of_all, right_of, right_of_all, calls, call_any, asks_rows, asks_cols, HaloIsEnough, value_told, values_told, ToldOfItself, ReachIsEnough}
 
 -- ---- an item of a stretch of a list, by an offset

@@ -4,7 +4,7 @@ use Rattle.std.proofs.Common.{refl, ap, sym, ◌∙◌, arith, zero-add, add-zer
 use Rattle.std.proofs.Math.IntN.{sub_ℕ}
 use Rattle.std.proofs.lemmas.Bool.{lt-ltb}
 use Rattle.cell_calc_law.proofs.HaloLemmas.{sub-pos}
-use Rattle.cell_tiles_law.proofs.SumLemmas.{line, line-same, line-none, line-cut}
+use Rattle.cell_parts.proofs.SumLemmas.{line, line-same, line-none, line-cut}
 
 pub line-most : (g h : ℕ → ℕ) (a n : ℕ) → ((i : ℕ) → a ≤ i → i < a + n → g i ≤ h i) → line g a n ≤ line h a n
 line-most g h a zero most = omega arith

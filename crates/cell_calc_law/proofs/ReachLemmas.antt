@@ -10,7 +10,7 @@ use Rattle.cell_calc_binding.specs.Formula.{Formula, Formulas}
 use Rattle.cell_calc_binding.specs.Reach.{up_of, down_of, up_of_all, down_of_all}
 use Rattle.cell_calc_binding.specs.Value.{value}
 use Rattle.cell_calc_law.specs.HaloParts.{left_of, right_of, left_of_all, right_of_all, ReadsWithin, value_told}
-use Rattle.cell_tiles_law.specs.Parts.{Rectangle}
+use Rattle.cell_parts.specs.Parts.{Rectangle}
 use Rattle.cell_calc_law.specs.ReachParts as reached
 use Rattle.cell_calc_law.specs.ReachParts.{Halo, reach_of, reach_of_all, IsWithinReach, with_halo, IsCellInside}
 use Rattle.cell_calc_law.proofs.HaloLemmas.{halo-is-enough, reach-is-enough}

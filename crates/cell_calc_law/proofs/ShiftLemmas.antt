@@ -16,7 +16,7 @@ use Rattle.cell_stats_counts.specs.Counts.{count_of}
 use Rattle.cell_calc_law.specs.LocalLaw.{cells_alone, cells_of_shelf}
 use Rattle.cell_calc_law.specs.ShiftLaw.{ShiftsAddUp, NullBeyondTheEdge, ShiftsOnlyLose}
 use Rattle.cell_calc_law.proofs.LineLemmas.{line-most, line-shifted, total, total-same}
-use Rattle.cell_tiles_law.proofs.SumLemmas.{line, line-same, line-none, count-line, count-lines}
+use Rattle.cell_parts.proofs.SumLemmas.{line, line-same, line-none, count-line, count-lines}
 
 -- ---- offsets add up
 

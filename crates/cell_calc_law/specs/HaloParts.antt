@@ -11,7 +11,7 @@ use Rattle.cell_calc_grammar.specs.Tree.{fold_maps, fold_all}
 use Rattle.cell_calc_binding.specs.Formula.{Formula, Number, Map, Negated, Not, Binary, Call, Formulas, NoTrees, Then}
 use Rattle.cell_calc_binding.specs.Reach.{up_of, down_of}
 use Rattle.cell_calc_binding.specs.Value.{value}
-use Rattle.cell_tiles_law.specs.Parts.{Rectangle, AreCutOut}
+use Rattle.cell_parts.specs.Parts.{Rectangle, AreCutOut}
 
 -- the columns to the left that an offset for a place asks for
 abbrev pub left_at : ℕ → (place : ℕ) (down right : ℤ) → ℕ

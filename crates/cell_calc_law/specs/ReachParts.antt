@@ -8,7 +8,7 @@ use Rattle.cell_calc_binding.specs.Formula.{Formula, Number, Map, Negated, Not, 
 use Rattle.cell_calc_binding.specs.Reach.{up_of, down_of}
 use Rattle.cell_calc_binding.specs.Value.{value}
 use Rattle.cell_calc_law.specs.HaloParts.{left_of, right_of, calls, asks_rows, asks_cols, value_told}
-use Rattle.cell_tiles_law.specs.Parts.{Rectangle, AreCutOut}
+use Rattle.cell_parts.specs.Parts.{Rectangle, AreCutOut}
 
 -- so many rows up and down, and columns to the left and to the right
 pub record Halo : Type 0 where

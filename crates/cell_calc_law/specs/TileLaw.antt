@@ -4,7 +4,7 @@ use Rattle.cell_core.specs.Grid.{Grid, IsFilled, cell_at}
 use Rattle.cell_core.specs.Shelf.{ShelfValue}
 use Rattle.cell_calc_binding.specs.Formula.{Formula}
 use Rattle.cell_calc_law.specs.HaloParts.{calls, asks_rows, asks_cols}
-use Rattle.cell_tiles_law.specs.Parts.{Rectangle, AreCutOut}
+use Rattle.cell_parts.specs.Parts.{Rectangle, AreCutOut}
 use Rattle.cell_calc_law.specs.ReachParts.{reach_of, with_halo, IsCellInside}
 use Rattle.rcell_making.specs.Making.{AreValues}
 

@@ -44,7 +44,7 @@ use Rattle.cell_stats_combinations.specs.LeftOut.{is_left_out}
 use Rattle.cell_stats_combinations.proofs.OrderLemmas.{combination_cmp-exact, is_equal}
 use Rattle.cell_stats.specs.CategoryTables.{Pairs, IsTable}
 use Rattle.cell_cats_areas.proofs.MeetingLemmas.{some_of}
-use Rattle.cell_tiles_law.proofs.AreaLemmas.{is-some}
+use Rattle.cell_parts.proofs.AreaLemmas.{is-some}
 use Rattle.cell_stats_law.proofs.CountLemmas.{counts-same, counted-cell, entry-at, table-sums}
 use Rattle.cell_cats_law.specs.AreaLaw.{
   NumbersHaveOneCategory,

@@ -48,7 +48,7 @@ use Rattle.cell_cats_areas.proofs.PathLemmas.{AreJoined-first, AreJoined-last, A
 use Rattle.cell_cats_areas.proofs.LawLemmas.{IsBefore-asym, cases_before, within_le}
 use Rattle.cell_cats_law.specs.AreaLaw.{IsWithout, NumbersCloseUp}
 use Rattle.cell_cats_areas.proofs.MeetingLemmas.{some_of}
-use Rattle.cell_tiles_law.proofs.AreaLemmas.{before-then, is-some}
+use Rattle.cell_parts.proofs.AreaLemmas.{before-then, is-some}
 use Rattle.cell_cats_law.proofs.AreaLemmas.{some-below}
 use Rattle.cell_cats_law.proofs.WithoutLemmas.{gone, kept-cell, stays-some, some-before, joined-before, joined-after}
 

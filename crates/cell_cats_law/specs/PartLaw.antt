@@ -5,7 +5,7 @@ use Rattle.cell_cats.specs.Rule.{RuleValue}
 use Rattle.cell_cats.specs.Reclass.{reclassed_map}
 use Rattle.cell_stats.specs.CategoryTables.{Pairs}
 use Rattle.cell_stats.specs.TableText.{FormatValue, table_text}
-use Rattle.cell_tiles_law.specs.Parts.{Rectangle, AreCutOut}
+use Rattle.cell_parts.specs.Parts.{Rectangle, AreCutOut}
 
 -- maps that have the labels of others
 abbrev pub HaveTheLabels : (whole part : List Grid) → Type 0

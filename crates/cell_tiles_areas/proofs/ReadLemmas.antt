@@ -10,9 +10,9 @@ use Rattle.cell_cats_areas.specs.declared.clump.Joining.{Joining}
 use Rattle.cell_tiles_joining.specs.Bands.{JoinNumbers}
 use Rattle.cell_tiles_cuts.specs.CutBands.{AreCutBands, AreStretchesOf, areas_of_each}
 use Rattle.cell_tiles_joining.specs.declared.edges.BandEdges.{BandEdges}
-use Rattle.cell_tiles_numbering.specs.AreasText.{areas_text, stretches_of}
-use Rattle.cell_tiles_numbering.specs.declared.stretch.Stretch.{Stretch}
-use Rattle.cell_tiles_texts.specs.JoinedTexts.{Give}
+use Rattle.cell_join_lines.specs.AreasText.{areas_text, stretches_of}
+use Rattle.cell_join_lines.specs.declared.stretch.Stretch.{Stretch}
+use Rattle.cell_join_tables.specs.JoinedTexts.{Give}
 use Rattle.cell_tiles_edges.specs.declared.edges_text.EdgesText.{EdgesText}
 use Rattle.cell_tiles_areas.specs.BandTexts.{AreBandsOf, FitsBelow, SpellsBand, areas_of, edges_of, regions_of}
 use Rattle.cell_tiles_areas.specs.AreasOfTexts.{HasOtherColumns, IsAreasJoinFault, IsAreasTextOf, IsNotBelow}

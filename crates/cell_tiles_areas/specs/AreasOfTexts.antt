@@ -6,7 +6,7 @@ use Rattle.cell_core_devices.specs.Device.{Coming, append_known}
 use Rattle.cell_core_values.specs.Region.{RegionValue}
 use Rattle.cell_cats_areas.specs.declared.clump.Joining.{Joining}
 use Rattle.cell_tiles_joining.specs.Bands.{JoinNumbers}
-use Rattle.cell_tiles_numbering.specs.AreasText.{areas_text, stretches_of}
+use Rattle.cell_join_lines.specs.AreasText.{areas_text, stretches_of}
 use Rattle.cell_tiles_edges.specs.EdgesFaults.{IsEdgesFault}
 use Rattle.cell_tiles_edges.specs.declared.edges_text.EdgesText.{EdgesText}
 use Rattle.cell_tiles_edges.specs.declared.edges_fault.EdgesFault.TheVariants as edges_faults

@@ -2,8 +2,8 @@
 
 ghost use Rattle.std.specs.Prelude.{◌≡◌, ◌≢◌, ◌+◌, ◌^◌, ◌<◌, List, None, Some, IfErr, IfOk, IfSome, false, true};
 ghost use Rattle.cell_core_devices.specs.Device.{Coming, has_failed};
-ghost use Rattle.cell_tiles_texts.specs.JoinedTexts.{Give};
-ghost use Rattle.cell_tiles_numbering.specs.AreasText.{areas_text, stretches_of};
+ghost use Rattle.cell_join_tables.specs.JoinedTexts.{Give};
+ghost use Rattle.cell_join_lines.specs.AreasText.{areas_text, stretches_of};
 ghost use Rattle.cell_tiles_areas.specs.AreasOfTexts.{HasAreasPrefix, HasWrittenAreas, IsAreasJoinFault, IsAreasTextOf};
 ghost use Rattle.cell_tiles_areas.specs.PutAreas.{HasPut};
 ghost use Rattle.cell_tiles_areas.specs.parts.ReadBands.{HaveBeenRead};
@@ -14,8 +14,8 @@ use cell_cats_areas::clump::Joining;
 use cell_core::block::OutputBlock;
 use cell_core::sink::Sink;
 use cell_core::source::Source;
-use cell_tiles_numbering::stretch::Stretch;
-use cell_tiles_numbering::writing::{write_areas, write_stretches};
+use cell_join_lines::stretch::Stretch;
+use cell_join_lines::writing::{write_areas, write_stretches};
 use std::alloc::Global;
 
 /// What the joining did.

@@ -8,7 +8,7 @@ use Rattle.cell_cats_areas.specs.declared.clump.Joining.{Joining}
 use Rattle.cell_cats_areas.specs.Areas.{IsClumping}
 use Rattle.cell_tiles_joining.specs.Bands.{Band, HaveEdges, TellNumbers}
 use Rattle.cell_tiles_joining.specs.declared.edges.BandEdges.{BandEdges}
-use Rattle.cell_tiles_numbering.specs.AreasText.{areas_text, stretches_of}
+use Rattle.cell_join_lines.specs.AreasText.{areas_text, stretches_of}
 use Rattle.cell_tiles_edges.specs.EdgesText.{edges_text}
 use Rattle.cell_tiles_edges.specs.WrittenEdges.{AreEdgesOf}
 use Rattle.cell_tiles_edges.specs.declared.edges_text.EdgesText.{EdgesText}

@@ -11,8 +11,8 @@ use Rattle.cell_tiles_joining.specs.declared.edges.BandEdges.{BandEdges}
 use Rattle.cell_tiles_joining.specs.parts.TileLabels.{LeadTo, after_all}
 use Rattle.cell_tiles_joining.specs.parts.TileMeetings.{all_meetings}
 use Rattle.cell_tiles_joining_law.specs.SparseLabels.{AreTouching, IsSparse, areas_of_bands, labels_before}
-use Rattle.cell_tiles_numbering.specs.AreasText.{stretches_of}
-use Rattle.cell_tiles_numbering.specs.declared.stretch.Stretch.{Stretch}
+use Rattle.cell_join_lines.specs.AreasText.{stretches_of}
+use Rattle.cell_join_lines.specs.declared.stretch.Stretch.{Stretch}
 use Rattle.cell_tiles_cuts.specs.CutBands.{AreCutBands, AreStretchesOf, CutJoinerValue}
 use Rattle.cell_tiles_cuts.specs.parts.EdgeAreas.{IsRankedBand}
 use Rattle.cell_tiles_cuts.specs.parts.ReadyCutJoiners.{IsCutJoinerReady}

@@ -2,9 +2,9 @@
 use Rattle.std.proofs.Common.{◌≡◌, ℕ, zero, suc, ◌+◌, ◌<◌, ◌==◌, List, [], ◌∷◌, ◌++◌, Some, None, true, false}
 use Rattle.std.proofs.Common.{Option, refl, ap, sym, ◌∙◌, arith, append_assoc, append-nil, eq-eqb, eqb-true}
 use Rattle.std.specs.List.{range_with_len}
-use Rattle.cell_tiles_numbering.specs.declared.stretch.Stretch.{Stretch}
-use Rattle.cell_tiles_numbering.specs.AreasText.{stretches_behind, stretches_in}
-use Rattle.cell_tiles_numbering.proofs.WritingLemmas.{goes-on, begins-anew}
+use Rattle.cell_join_lines.specs.declared.stretch.Stretch.{Stretch}
+use Rattle.cell_join_lines.specs.AreasText.{stretches_behind, stretches_in}
+use Rattle.cell_join_lines.proofs.WritingLemmas.{goes-on, begins-anew}
 use Rattle.cell_tiles_cuts.specs.declared.band_lines.Line.{Line}
 use Rattle.cell_tiles_cuts.specs.parts.BandLines.{AreLined, stretches_after}
 

@@ -18,8 +18,8 @@ use Rattle.cell_tiles_joining_law.specs.SparseLabels.{AreTouching, IsSparse, are
 use Rattle.cell_tiles_joining_law.specs.SparseLabels.{labels_before, number_among, sparse_areas, sparse_number}
 use Rattle.cell_tiles_joining_law.proofs.PlaceLemmas.{before-all, place-is}
 use Rattle.cell_tiles_joining_law.proofs.SparseLemmas.{sparse-bands-number, sparse-places-number}
-use Rattle.cell_tiles_numbering.specs.declared.stretch.Stretch.{Stretch}
-use Rattle.cell_tiles_numbering.specs.AreasText.{stretches_from, stretches_in}
+use Rattle.cell_join_lines.specs.declared.stretch.Stretch.{Stretch}
+use Rattle.cell_join_lines.specs.AreasText.{stretches_from, stretches_in}
 use Rattle.cell_tiles_cuts.specs.parts.Walks.{AreAllNumbered, count_before}
 
 module _ (n : ℕ) (pairs : List (ℕ × ℕ)) (ts table : List ℕ) (touching : AreTouching n pairs ts) (is : IsSparse pairs

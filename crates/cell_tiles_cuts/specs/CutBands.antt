@@ -4,8 +4,8 @@ use Rattle.cell_cats_areas.specs.declared.clump.Joining.{Joining}
 use Rattle.cell_tiles_joining.specs.Bands.{JoinNumbers}
 use Rattle.cell_tiles_joining.specs.BandsSoFar.{JoinerValue, AreJoinedBands}
 use Rattle.cell_tiles_joining.specs.declared.edges.BandEdges.{BandEdges}
-use Rattle.cell_tiles_numbering.specs.AreasText.{stretches_of}
-use Rattle.cell_tiles_numbering.specs.declared.stretch.Stretch.{Stretch}
+use Rattle.cell_join_lines.specs.AreasText.{stretches_of}
+use Rattle.cell_join_lines.specs.declared.stretch.Stretch.{Stretch}
 use Rattle.cell_tiles_cuts.specs.parts.EdgeAreas.{AreRanked}
 
 -- the bands as if they had no other areas, the labels of these areas, how many areas each band has, and how many all have

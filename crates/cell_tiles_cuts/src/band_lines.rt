@@ -2,11 +2,11 @@
 
 ghost use Rattle.std.specs.Prelude.{◌≡◌, ◌+◌, ◌<◌, ◌^◌, ◌++◌, ℕ, List, IfOk};
 ghost use Rattle.std.specs.List.{range_with_len};
-ghost use Rattle.cell_tiles_numbering.specs.declared.stretch.Stretch.{Stretch};
+ghost use Rattle.cell_join_lines.specs.declared.stretch.Stretch.{Stretch};
 ghost use Rattle.cell_tiles_cuts.specs.parts.BandLines.{AreLined, areas_of_line};
 
 use cell_core::memory::Memory;
-use cell_tiles_numbering::stretch::{Stretch, is_next};
+use cell_join_lines::stretch::{Stretch, is_next};
 
 // The last stretch of a band so far, which may go on, and the number of its last area.
 #[derive(Clone, Copy)]

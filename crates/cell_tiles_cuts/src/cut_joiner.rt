@@ -4,7 +4,7 @@ ghost use Rattle.std.specs.Prelude.{◌≡◌, ◌+◌, ◌<◌, ◌^◌, ◌++�
 ghost use Rattle.cell_cats_areas.specs.parts.Labels.{PointDown};
 ghost use Rattle.cell_tiles_joining.specs.Bands.{JoinAreas};
 ghost use Rattle.cell_tiles_joining.specs.declared.edges.BandEdges.{BandEdges};
-ghost use Rattle.cell_tiles_numbering.specs.AreasText.{stretches_of};
+ghost use Rattle.cell_join_lines.specs.AreasText.{stretches_of};
 ghost use Rattle.cell_tiles_cuts.specs.CutBands.{AreCutBands, AreStretchesOf};
 ghost use Rattle.cell_tiles_cuts.specs.parts.Walks.{AreAllNumbered, count_before};
 
@@ -14,7 +14,7 @@ use cell_cats_areas::clump::Joining;
 use cell_core::memory::Memory;
 use cell_tiles_joining::edges::BandEdges;
 use cell_tiles_joining::joiner::BandJoiner;
-use cell_tiles_numbering::stretch::Stretch;
+use cell_join_lines::stretch::Stretch;
 use std::alloc::Global;
 use std::marker::Model;
 

@@ -3,14 +3,14 @@
 ghost use Rattle.std.specs.Prelude.{◌≡◌, ◌+◌, ◌-◌, ◌<◌, ◌≤◌, ◌^◌, ◌↔◌, ◌++◌, ℕ, List, IfOk, IsTrue, drop, length, slice_index, take};
 ghost use Rattle.cell_tiles_joining.specs.parts.LabelNumbers.{PointDownFrom};
 ghost use Rattle.cell_tiles_joining_law.specs.SparseLabels.{labels_before};
-ghost use Rattle.cell_tiles_numbering.specs.AreasText.{stretches_in};
-ghost use Rattle.cell_tiles_numbering.specs.declared.stretch.Stretch.{Stretch};
+ghost use Rattle.cell_join_lines.specs.AreasText.{stretches_in};
+ghost use Rattle.cell_join_lines.specs.declared.stretch.Stretch.{Stretch};
 ghost use Rattle.cell_tiles_cuts.specs.parts.BandLines.{areas_of_line};
 ghost use Rattle.cell_tiles_cuts.specs.parts.Walks.{AreAllNumbered, IsBandWalked, IsWalkReady, IsWalked};
 
 use crate::band_lines::{Line, Run, add_run};
 use cell_core::memory::Memory;
-use cell_tiles_numbering::stretch::Stretch;
+use cell_join_lines::stretch::Stretch;
 
 // How far the areas were numbered.
 #[derive(Clone, Copy)]

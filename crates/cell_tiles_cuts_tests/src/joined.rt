@@ -6,7 +6,7 @@ use cell_tiles_cuts::cut_joiner::{CutJoiner, JoinedStretches};
 use cell_tiles_joining::clumped::clump_band;
 use cell_tiles_joining::edges::BandEdges;
 use cell_tiles_joining::joining::join_bands;
-use cell_tiles_numbering::stretch::Stretch;
+use cell_join_lines::stretch::Stretch;
 use std::alloc::{AllocGlobal, Global};
 use std::process::Abort;
 use std::test::Fail;

@@ -10,9 +10,9 @@ use Rattle.cell_cats_areas.specs.declared.clump.Joining.TheVariants.{Edges, Edge
 use Rattle.cell_cats_areas.specs.Areas.{Position, cell_at_spot, AreNeighbours, AreAdjacent}
 use Rattle.cell_cats_areas.specs.parts.CellPlaces.{position}
 use Rattle.cell_cats_areas.proofs.PathLemmas.{AreAdjacent-sym}
-use Rattle.cell_tiles_law.specs.AreaParts.{moved_position}
-use Rattle.cell_tiles_law.proofs.AreaLemmas.{is-some}
-use Rattle.cell_tiles_law.proofs.CutAreaLemmas.{rows-near}
+use Rattle.cell_parts.specs.AreaParts.{moved_position}
+use Rattle.cell_parts.proofs.AreaLemmas.{is-some}
+use Rattle.cell_parts.proofs.CutAreaLemmas.{rows-near}
 use Rattle.cell_tiles_joining.specs.Bands.{Band}
 use Rattle.cell_tiles_joining.specs.Labelled.{IsMeeting, AreLabelled}
 use Rattle.cell_tiles_joining.proofs.MeetingLemmas.{Touch}

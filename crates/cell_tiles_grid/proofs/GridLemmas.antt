@@ -10,7 +10,7 @@ use Rattle.cell_cats_areas.specs.Areas.{Position, cell_at_spot, IsEarlierCell, A
 use Rattle.cell_cats_areas.specs.ClumpLaw.{AreFirsts}
 use Rattle.cell_cats_areas.specs.parts.CellPlaces.{position}
 use Rattle.cell_cats_areas.proofs.MeetingLemmas.{some_of}
-use Rattle.cell_tiles_law.specs.AreaParts.{moved_position}
+use Rattle.cell_parts.specs.AreaParts.{moved_position}
 use Rattle.cell_tiles_joining.specs.Bands.{Band}
 use Rattle.cell_tiles_joining.proofs.AreaLemmas.{Spot, spot-own, first-some}
 use Rattle.cell_tiles_joining.proofs.BandLemmas.{AreStarts}

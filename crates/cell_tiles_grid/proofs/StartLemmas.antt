@@ -13,7 +13,7 @@ use Rattle.cell_cats_areas.specs.ClumpLaw.{AreFirsts}
 use Rattle.cell_cats_areas.specs.parts.CellPlaces.{position}
 use Rattle.cell_cats_areas.proofs.PathLemmas.{AreJoined-sym}
 use Rattle.cell_cats_areas.proofs.LawLemmas.{IsBefore-asym, cases_before, within_le}
-use Rattle.cell_tiles_law.proofs.AreaLemmas.{before-then}
+use Rattle.cell_parts.proofs.AreaLemmas.{before-then}
 use Rattle.cell_tiles_grid.specs.declared.sides.AreaStart.{AreaStart}
 use Rattle.cell_tiles_grid.specs.Grids.{start_position}
 use Rattle.cell_tiles_grid.specs.parts.GridStarts.{more_starts, row_starts, map_starts}

@@ -7,7 +7,7 @@ use Rattle.cell_core.specs.Grid.{CellValue}
 use Rattle.cell_cats_areas.specs.declared.clump.Joining.{Joining}
 use Rattle.cell_cats_areas.specs.Areas.{Position, cell_at_spot, HasNumber}
 use Rattle.cell_cats_areas.proofs.MeetingLemmas.{some_of}
-use Rattle.cell_tiles_law.specs.AreaParts.{moved_position}
+use Rattle.cell_parts.specs.AreaParts.{moved_position}
 use Rattle.cell_tiles_joining.specs.Labelled.{NumberLabels, CountLabels}
 use Rattle.cell_tiles_grid.specs.declared.sides.AreaStart.{AreaStart}
 use Rattle.cell_tiles_grid.specs.declared.grid_places.Place.{Place}

@@ -11,9 +11,9 @@ use Rattle.cell_cats_areas.specs.declared.clump.Joining.TheVariants.{Edges, Edge
 use Rattle.cell_cats_areas.specs.Areas.{Position, cell_at_spot, IsEarlierCell, ShareEdge, AreAdjacent, AreJoined}
 use Rattle.cell_cats_areas.specs.parts.CellPlaces.{position}
 use Rattle.cell_cats_areas.proofs.PathLemmas.{AreJoined-adjacent}
-use Rattle.cell_tiles_law.specs.Parts.{Rectangle}
-use Rattle.cell_tiles_law.specs.AreaParts.{Tile, IsTile, moved_position}
-use Rattle.cell_tiles_law.proofs.AreaLemmas.{neighbours-moved, neighbours-back, same-back, is-some, joined-by}
+use Rattle.cell_parts.specs.Parts.{Rectangle}
+use Rattle.cell_parts.specs.AreaParts.{Tile, IsTile, moved_position}
+use Rattle.cell_parts.proofs.AreaLemmas.{neighbours-moved, neighbours-back, same-back, is-some, joined-by}
 use Rattle.cell_tiles_joining.specs.Bands.{Band}
 use Rattle.cell_tiles_joining.proofs.AreaLemmas.{Spot, spot-of}
 use Rattle.cell_tiles_grid.specs.declared.sides.AreaStart.{AreaStart}

@@ -6,8 +6,8 @@ use Rattle.cell_cats_areas.specs.declared.clump.Joining.{Joining}
 use Rattle.cell_cats_areas.specs.Areas.{Position, cell_at_spot, HasNumber, IsClumping}
 use Rattle.cell_cats_areas.specs.ClumpLaw.{AreFirsts}
 use Rattle.cell_cats_areas.specs.parts.CellPlaces.{position}
-use Rattle.cell_tiles_law.specs.Parts.{Rectangle}
-use Rattle.cell_tiles_law.specs.AreaParts.{IsTile, moved_position}
+use Rattle.cell_parts.specs.Parts.{Rectangle}
+use Rattle.cell_parts.specs.AreaParts.{IsTile, moved_position}
 use Rattle.cell_tiles_joining.specs.Bands.{Band, HasAreas}
 use Rattle.cell_tiles_grid.specs.declared.sides.TileSide.{TileSide}
 use Rattle.cell_tiles_grid.specs.declared.sides.AreaStart.{AreaStart}

@@ -7,7 +7,7 @@ use Rattle.std.specs.Global.{Global}
 use Rattle.std.proofs.lemmas.List.{length_push, map-append}
 use Rattle.std.proofs.lemmas.List.Elements.{All-nil}
 use Rattle.cell_core_devices.specs.Device.{Coming}
-use Rattle.cell_tiles_texts.specs.JoinedTexts.{Give}
+use Rattle.cell_join_tables.specs.JoinedTexts.{Give}
 use Rattle.cell_tiles_sides.specs.declared.sides_text.SidesText.{SidesText}
 use Rattle.cell_tiles_grid_areas.specs.TileTexts.{AreGridOf, LieBeside, SpellsTile}
 use Rattle.cell_tiles_grid_areas.specs.BegunGrids.{HaveBegun, last_row}

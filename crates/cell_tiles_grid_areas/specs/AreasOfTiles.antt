@@ -4,7 +4,7 @@ use Rattle.std.specs.List.{last_or}
 use Rattle.cell_core_devices.specs.Blocks.{capped_count}
 use Rattle.cell_core_devices.specs.Device.{Coming, append_known}
 use Rattle.cell_cats_areas.specs.declared.clump.Joining.{Joining}
-use Rattle.cell_tiles_numbering.specs.AreasText.{areas_text, stretches_of}
+use Rattle.cell_join_lines.specs.AreasText.{areas_text, stretches_of}
 use Rattle.cell_tiles_grid.specs.Grids.{GridNumbers, TileRows}
 use Rattle.cell_tiles_sides.specs.SidesFaults.{IsSidesFault}
 use Rattle.cell_tiles_sides.specs.declared.sides_text.SidesText.{SidesText}

@@ -2,7 +2,7 @@
 
 ghost use Rattle.std.specs.Prelude.{◌≡◌, ◌≢◌, List, None, Some, IfErr, IfOk, IfSome, true};
 ghost use Rattle.cell_core_devices.specs.Device.{Coming, has_failed};
-ghost use Rattle.cell_tiles_texts.specs.JoinedTexts.{Give};
+ghost use Rattle.cell_join_tables.specs.JoinedTexts.{Give};
 ghost use Rattle.cell_tiles_grid_areas.specs.AreasOfTiles.{AreGridNumbersOf, HasTilesPrefix, HasWrittenTiles, IsTilesJoinFault};
 ghost use Rattle.cell_tiles_grid_areas.specs.parts.ReadTiles.{AreParted, AreRowParted, HaveBeenPlaced};
 

@@ -12,8 +12,8 @@ use Rattle.std.proofs.lemmas.List.FromFn.{get_or-map-range_with_len, length-map-
 use Rattle.std.proofs.lemmas.List.Sums.{sum_by-cons}
 use Rattle.cell_core.specs.Grid.{CellValue, Grid, IsFilled, row_at}
 use Rattle.cell_cats_areas.specs.Areas.{Position, cell_at_spot}
-use Rattle.cell_tiles_law.specs.Parts.{Rectangle}
-use Rattle.cell_tiles_law.specs.AreaParts.{IsTile, moved_position}
+use Rattle.cell_parts.specs.Parts.{Rectangle}
+use Rattle.cell_parts.specs.AreaParts.{IsTile, moved_position}
 use Rattle.cell_tiles_joining.specs.Bands.{Band}
 use Rattle.cell_tiles_edges.proofs.GridLemmas.{wide-row}
 use Rattle.cell_tiles_grid.specs.Grids.{tile_place}

@@ -14,10 +14,10 @@ use Rattle.cell_core_devices.specs.Device.{Coming}
 use Rattle.cell_core.specs.Grid.{CellValue, Grid, no_labels}
 use Rattle.cell_cats_areas.specs.declared.clump.Joining.{Joining}
 use Rattle.cell_cats_areas.specs.Areas.{HasNumber, cell_at_spot}
-use Rattle.cell_tiles_law.specs.AreaParts.{moved_position}
+use Rattle.cell_parts.specs.AreaParts.{moved_position}
 use Rattle.cell_tiles_joining.specs.Bands.{Band, HasAreas}
 use Rattle.cell_tiles_areas_law.specs.WrittenBands.{map_regions}
-use Rattle.cell_tiles_numbering.specs.AreasText.{areas_text, stretches_of}
+use Rattle.cell_join_lines.specs.AreasText.{areas_text, stretches_of}
 use Rattle.cell_tiles_grid.specs.Grids.{HasSides, IsGrid, IsTileOf, TileRows, areas_before_tile, areas_in}
 use Rattle.cell_tiles_grid.specs.Grids.{start_position}
 use Rattle.cell_tiles_grid.specs.Grids.{tile_place}

@@ -5,9 +5,9 @@ use Rattle.cell_core_devices.specs.Device.{Coming}
 use Rattle.cell_core.specs.Grid.{Grid}
 use Rattle.cell_cats_areas.specs.declared.clump.Joining.{Joining}
 use Rattle.cell_cats_areas.specs.Areas.{HasNumber, IsClumping, Position, cell_at_spot}
-use Rattle.cell_tiles_law.specs.AreaParts.{moved_position}
+use Rattle.cell_parts.specs.AreaParts.{moved_position}
 use Rattle.cell_tiles_joining.specs.Bands.{Band, HasAreas}
-use Rattle.cell_tiles_numbering.specs.AreasText.{areas_text, stretches_of}
+use Rattle.cell_join_lines.specs.AreasText.{areas_text, stretches_of}
 use Rattle.cell_tiles_grid.specs.Grids.{tile_place}
 use Rattle.cell_tiles_grid.specs.declared.sides.TileSides.{TileSides}
 use Rattle.cell_tiles_sides.specs.SidesText.{sides_text}

@@ -10,8 +10,8 @@ use Rattle.cell_stats.specs.CategoryTables.{Pairs}
 use Rattle.cell_tiles_joining.specs.Bands.{Band, HasAreas}
 use Rattle.cell_tiles_joining.specs.parts.Greatest.{greatest_of}
 use Rattle.cell_tiles_joining.proofs.GreatestLemmas.{has-areas}
-use Rattle.cell_tiles_sizes_law.proofs.EntryLemmas.{Lists}
-use Rattle.cell_tiles_sizes_law.proofs.ExistLemmas.{have-sizes, lists}
+use Rattle.cell_join_sizes_law.proofs.EntryLemmas.{Lists}
+use Rattle.cell_join_sizes_law.proofs.ExistLemmas.{have-sizes, lists}
 use Rattle.cell_tiles_grid_areas_law.specs.TileGrids.{all_tiles}
 use Rattle.cell_tiles_grid_areas_law.specs.WrittenTiles.{IsNumberedTile, all_counts}
 use Rattle.cell_tiles_grid_areas_law.proofs.PlaceLemmas.{zip-flat}

@@ -12,8 +12,8 @@ use Rattle.cell_core.specs.Grid.{Grid}
 use Rattle.cell_cats_areas.specs.declared.clump.Joining.{Joining}
 use Rattle.cell_cats_areas.specs.Areas.{HasNumber, IsClumping, Position, cell_at_spot}
 use Rattle.cell_cats_areas.proofs.CountLemmas.{numbers_count_areas}
-use Rattle.cell_tiles_law.specs.Parts.{Rectangle, stretches}
-use Rattle.cell_tiles_law.specs.AreaParts.{IsTile, moved_position}
+use Rattle.cell_parts.specs.Parts.{Rectangle, stretches}
+use Rattle.cell_parts.specs.AreaParts.{IsTile, moved_position}
 use Rattle.cell_tiles_joining.specs.Bands.{Band, HasAreas}
 use Rattle.cell_tiles_joining_law.specs.TileSizes.{IsJoinedTile, JoinedTile, numbers_of_tiles, place_of_tile}
 use Rattle.cell_tiles_grid_areas_law.specs.TileGrids.{all_tiles, row_height, tile_heights}

@@ -6,10 +6,10 @@ use Rattle.std.proofs.lemmas.List.Elements.{All-append, All-from_get_or, All-hea
 use Rattle.cell_core.specs.Grid.{Grid}
 use Rattle.cell_cats_areas.proofs.CountLemmas.{numbers_count_areas}
 use Rattle.cell_cats_areas.specs.declared.clump.Joining.{Joining}
-use Rattle.cell_tiles_law.specs.AreaParts.{moved_position}
+use Rattle.cell_parts.specs.AreaParts.{moved_position}
 use Rattle.cell_tiles_joining.specs.Bands.{HasAreas}
 use Rattle.cell_tiles_joining_law.specs.TileSizes.{IsJoinedTile, JoinedTile, numbers_of_tiles, place_of_tile}
-use Rattle.cell_tiles_sizes_law.proofs.NumberLemmas.{number-within}
+use Rattle.cell_join_sizes_law.proofs.NumberLemmas.{number-within}
 
 module _ (j : Joining) (whole : Grid) (areas : ℕ) (has : HasAreas j whole areas) where
   abbrev IsOfWhole : ℕ → Type 0

@@ -13,8 +13,8 @@ use Rattle.cell_cats_areas_law.specs.ExistsLaw.{ClumpingExists}
 use Rattle.cell_stats_combinations.specs.declared.skip.Skip.{Skip}
 use Rattle.cell_stats.specs.CategoryTables.{IsTable, Pairs}
 use Rattle.cell_cats_law.specs.AreaLaw.{cells_of}
-use Rattle.cell_tiles_law.specs.Parts.{AreTiling, grid_of_cuts}
-use Rattle.cell_tiles_law.proofs.GridLemmas.{grids-cover}
+use Rattle.cell_parts.specs.Parts.{AreTiling, grid_of_cuts}
+use Rattle.cell_parts.proofs.GridLemmas.{grids-cover}
 use Rattle.cell_tiles_joining.specs.Bands.{Band, HasAreas}
 use Rattle.cell_tiles_joining.specs.Sizes.{size_of_area}
 use Rattle.cell_tiles_joining_law.specs.NumberTables.{listed_sizes}
@@ -23,7 +23,7 @@ use Rattle.cell_tiles_joining_law.specs.TileSizes.{AreJoinedTiles, IsTileTable, 
 use Rattle.cell_tiles_joining_law.specs.TileSizes.{sizes_of_tile}
 use Rattle.cell_tiles_joining_law.proofs.TileSizeLemmas.{counts-in-tiles, tile-sizes, tile-tables-list}
 use Rattle.cell_tiles_grid.specs.Grids.{tile_place}
-use Rattle.cell_tiles_sizes_law.proofs.WholeLemmas.{has-size, sizes-are-listed, table-some, tally-of}
+use Rattle.cell_join_sizes_law.proofs.WholeLemmas.{has-size, sizes-are-listed, table-some, tally-of}
 use Rattle.cell_tiles_grid_areas_law.specs.TileGrids.{MakeGrid, all_tiles, row_height, rows_of_tiles, tile_heights}
 use Rattle.cell_tiles_grid_areas_law.specs.TileGrids.{tile_regions, tile_widths}
 use Rattle.cell_tiles_grid_areas_law.specs.WrittenTiles.{IsAreasTextOfGrid, IsNumberedTile, all_counts}

@@ -6,8 +6,8 @@ use Rattle.cell_cats_areas.specs.declared.clump.Joining.{Joining}
 use Rattle.cell_stats_combinations.specs.declared.skip.Skip.{Skip}
 use Rattle.cell_stats.specs.CategoryTables.{Pairs}
 use Rattle.cell_tiles_joining.specs.Bands.{Band}
-use Rattle.cell_tiles_sizes_law.specs.ExistingSizes.{HaveSizesUpTo}
-use Rattle.cell_tiles_sizes_law.specs.WholeSizes.{table_read}
+use Rattle.cell_join_sizes_law.specs.ExistingSizes.{HaveSizesUpTo}
+use Rattle.cell_join_sizes_law.specs.WholeSizes.{table_read}
 use Rattle.cell_tiles_grid_areas_law.specs.TileGrids.{MakeGrid, all_tiles, rows_of_tiles, tile_regions}
 use Rattle.cell_tiles_grid_areas_law.specs.WrittenTiles.{IsAreasTextOfGrid, IsNumberedTile}
 use Rattle.cell_tiles_grid_sizes_law.specs.GridSizes.{HasTileTable, grid_areas_read}

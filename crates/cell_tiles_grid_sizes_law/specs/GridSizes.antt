@@ -10,10 +10,10 @@ use Rattle.cell_stats_combinations.specs.declared.skip.Skip.TheVariants.{AnyNull
 use Rattle.cell_stats.specs.CategoryTables.{Pairs, IsTable}
 use Rattle.cell_cats_law.specs.AreaLaw.{cells_of}
 use Rattle.cell_tiles_joining.specs.Bands.{Band}
-use Rattle.cell_tiles_numbering.specs.AreasReading.{AreasReading}
-use Rattle.cell_tiles_numbering.specs.AreasText.{stretches_of}
-use Rattle.cell_tiles_sizes.specs.SizeTexts.{HaveSizes, number_entries}
-use Rattle.cell_tiles_sizes_law.specs.WholeSizes.{table_read}
+use Rattle.cell_join_lines.specs.AreasReading.{AreasReading}
+use Rattle.cell_join_lines.specs.AreasText.{stretches_of}
+use Rattle.cell_join_sizes.specs.SizeTexts.{HaveSizes, number_entries}
+use Rattle.cell_join_sizes_law.specs.WholeSizes.{table_read}
 use Rattle.cell_tiles_grid_areas_law.specs.TileGrids.{MakeGrid, all_tiles, rows_of_tiles, tile_regions}
 use Rattle.cell_tiles_grid_areas_law.specs.WrittenTiles.{IsAreasTextOfGrid, IsNumberedTile, all_counts}
 

@@ -9,9 +9,9 @@ use Rattle.cell_core.specs.Grid.{Grid, CellValue}
 use Rattle.cell_cats_areas.specs.declared.clump.Joining.{Joining}
 use Rattle.cell_cats_areas.specs.Areas.{Position, cell_at_spot, IsEarlierCell, AreJoined}
 use Rattle.cell_cats_areas.proofs.MeetingLemmas.{some_of}
-use Rattle.cell_tiles_law.specs.AreaParts.{lowered_position}
-use Rattle.cell_tiles_law.proofs.AreaLemmas.{joined-by}
-use Rattle.cell_tiles_law.proofs.CutAreaLemmas.{adjacent-lowered, upper-cell, lower-cell, in-upper}
+use Rattle.cell_parts.specs.AreaParts.{lowered_position}
+use Rattle.cell_parts.proofs.AreaLemmas.{joined-by}
+use Rattle.cell_parts.proofs.CutAreaLemmas.{adjacent-lowered, upper-cell, lower-cell, in-upper}
 use Rattle.cell_tiles_joining.specs.declared.edges.BandEdges.{BandEdges}
 use Rattle.cell_tiles_joining.specs.Bands.{Band, HasEdges, HaveEdges}
 use Rattle.cell_tiles_joining.proofs.AreaLemmas.{Spot, spot-of, spot-own, first-some}

@@ -12,8 +12,8 @@ use Rattle.cell_cats_areas.specs.declared.clump.Joining.TheVariants.{Edges, Edge
 use Rattle.cell_cats_areas.specs.Areas.{Position, cell_at_spot, AreAdjacent}
 use Rattle.cell_cats_areas.specs.parts.CellPlaces.{position}
 use Rattle.cell_cats_areas.proofs.PathLemmas.{AreJoined-adjacent, AreAdjacent-sym}
-use Rattle.cell_tiles_law.specs.AreaParts.{lowered_position}
-use Rattle.cell_tiles_law.proofs.CutAreaLemmas.{adjacent-lowered, adjacent-raised, rows-near, beside-cut, back}
+use Rattle.cell_parts.specs.AreaParts.{lowered_position}
+use Rattle.cell_parts.proofs.CutAreaLemmas.{adjacent-lowered, adjacent-raised, rows-near, beside-cut, back}
 use Rattle.cell_tiles_joining.specs.declared.edges.EdgeRow.{EdgeRow}
 use Rattle.cell_tiles_joining.specs.declared.edges.BandEdges.{BandEdges}
 use Rattle.cell_tiles_joining.specs.declared.edges.Mark.{Mark}

@@ -7,7 +7,7 @@ use Rattle.std.proofs.Math.Seq.{take-append_seam}
 use Rattle.cell_core.specs.Grid.{Grid, CellValue}
 use Rattle.cell_cats_areas.specs.declared.clump.Joining.{Joining}
 use Rattle.cell_cats_areas.specs.Areas.{Position, cell_at_spot, HasNumber}
-use Rattle.cell_tiles_law.specs.AreaParts.{lowered_position}
+use Rattle.cell_parts.specs.AreaParts.{lowered_position}
 use Rattle.cell_tiles_joining.specs.declared.edges.BandEdges.{BandEdges}
 use Rattle.cell_tiles_joining.specs.Bands.{Band, HasAreas, HasEdges, HaveEdges, IsCutInto, TellNumbers, rows_before, areas_before}
 use Rattle.cell_tiles_joining.specs.parts.TileLabels.{LeadTo, after_all}

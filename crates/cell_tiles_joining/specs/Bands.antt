@@ -4,7 +4,7 @@ use Rattle.cell_core.specs.Grid.{Grid, row_at}
 use Rattle.cell_cats_areas.specs.declared.clump.Joining.{Joining}
 use Rattle.cell_cats_areas.specs.Areas.{Position, cell_at_spot, HasNumber, IsClumping}
 use Rattle.cell_cats_areas.specs.ClumpLaw.{AreFirsts}
-use Rattle.cell_tiles_law.specs.AreaParts.{lowered_position}
+use Rattle.cell_parts.specs.AreaParts.{lowered_position}
 use Rattle.cell_tiles_joining.specs.declared.edges.EdgeRow.{EdgeRow}
 use Rattle.cell_tiles_joining.specs.declared.edges.BandEdges.{BandEdges}
 use Rattle.cell_tiles_joining.specs.parts.Greatest.{greatest_of}

@@ -17,7 +17,7 @@ use Rattle.cell_stats.specs.CategoryTables.{Pairs}
 use Rattle.cell_stats_law.proofs.CountLemmas.{counts-same}
 use Rattle.cell_cats_law.specs.AreaLaw.{cells_of}
 use Rattle.cell_cats_law.proofs.AreaLemmas.{some-below, first-cell}
-use Rattle.cell_tiles_law.specs.TableParts.{BandPart, count_in}
+use Rattle.cell_parts.specs.TableParts.{BandPart, count_in}
 use Rattle.cell_tiles_joining.specs.declared.edges.BandEdges.{BandEdges}
 use Rattle.cell_tiles_joining.specs.Bands.{Band, HasEdges, HaveEdges}
 use Rattle.cell_tiles_joining.specs.Sizes.{AddUp}

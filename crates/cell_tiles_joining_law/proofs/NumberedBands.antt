@@ -39,11 +39,11 @@ use Rattle.cell_cats_areas.proofs.LawLemmas.{HasNumber-one}
 use Rattle.cell_stats_combinations.specs.Combinations.{Combination, all_combinations}
 use Rattle.cell_stats_counts.specs.Counts.{count_of}
 use Rattle.cell_cats_law.specs.AreaLaw.{cells_of}
-use Rattle.cell_tiles_law.proofs.AreaLemmas.{is-some}
-use Rattle.cell_tiles_law.specs.AreaParts.{lowered_position}
-use Rattle.cell_tiles_law.specs.Parts.{IsPart}
-use Rattle.cell_tiles_law.specs.TableParts.{BandPart, AreBandsFrom}
-use Rattle.cell_tiles_law.proofs.BlockLemmas.{bands-add-up}
+use Rattle.cell_parts.proofs.AreaLemmas.{is-some}
+use Rattle.cell_parts.specs.AreaParts.{lowered_position}
+use Rattle.cell_parts.specs.Parts.{IsPart}
+use Rattle.cell_parts.specs.TableParts.{BandPart, AreBandsFrom}
+use Rattle.cell_parts.proofs.BlockLemmas.{bands-add-up}
 use Rattle.cell_tiles_joining.specs.declared.edges.BandEdges.{BandEdges}
 use Rattle.cell_tiles_joining.specs.Bands.{Band, HaveEdges, IsCutInto, TellNumbers, rows_before, areas_before}
 use Rattle.cell_tiles_joining.proofs.BandLemmas.{rows_of}

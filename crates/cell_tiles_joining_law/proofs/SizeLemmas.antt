@@ -26,7 +26,7 @@ use Rattle.cell_stats.proofs.SortedLemmas.{both_true}
 use Rattle.cell_stats_law.proofs.CountLemmas.{one-if, count_by-cons, counts-same}
 use Rattle.cell_cats_law.specs.AreaLaw.{cells_of}
 use Rattle.cell_cats_law.proofs.AreaLemmas.{first-cell}
-use Rattle.cell_tiles_law.specs.TableParts.{BandPart}
+use Rattle.cell_parts.specs.TableParts.{BandPart}
 use Rattle.cell_tiles_joining.specs.declared.edges.BandEdges.{BandEdges}
 use Rattle.cell_tiles_joining.specs.Bands.{Band, HasAreas, HaveEdges, IsCutInto, TellNumbers}
 use Rattle.cell_tiles_joining.specs.Sizes.{size_for, size_of_area}

@@ -11,7 +11,7 @@ use Rattle.cell_stats_combinations.specs.LeftOut.{is_left_out}
 use Rattle.cell_stats_counts.specs.Counts.{count_of}
 use Rattle.cell_stats.specs.CategoryTables.{Pairs, IsTable}
 use Rattle.cell_cats_law.specs.AreaLaw.{cells_of}
-use Rattle.cell_tiles_law.specs.TableParts.{count_in}
+use Rattle.cell_parts.specs.TableParts.{count_in}
 use Rattle.cell_tiles_joining.specs.declared.edges.BandEdges.{BandEdges}
 use Rattle.cell_tiles_joining.specs.Bands.{Band, HasAreas, IsCutInto, JoinNumbers, JoinAreas}
 use Rattle.cell_tiles_joining.specs.Sizes.{AddUp}

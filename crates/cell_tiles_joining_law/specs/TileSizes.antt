@@ -8,9 +8,9 @@ use Rattle.cell_cats_areas.specs.Areas.{Position, cell_at_spot, HasNumber, IsClu
 use Rattle.cell_stats_combinations.specs.declared.skip.Skip.{Skip}
 use Rattle.cell_stats.specs.CategoryTables.{Pairs, IsTable}
 use Rattle.cell_cats_law.specs.AreaLaw.{cells_of}
-use Rattle.cell_tiles_law.specs.Parts.{Rectangle, AreTiling}
-use Rattle.cell_tiles_law.specs.AreaParts.{IsTile, Numbered, moved_position}
-use Rattle.cell_tiles_law.specs.TableParts.{count_in}
+use Rattle.cell_parts.specs.Parts.{Rectangle, AreTiling}
+use Rattle.cell_parts.specs.AreaParts.{IsTile, Numbered, moved_position}
+use Rattle.cell_parts.specs.TableParts.{count_in}
 use Rattle.cell_tiles_joining.specs.Bands.{HasAreas}
 use Rattle.cell_tiles_joining.specs.Sizes.{AddUp}
 use Rattle.cell_tiles_joining_law.specs.SizeLaw.{sizes_of_areas}

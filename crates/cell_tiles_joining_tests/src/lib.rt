@@ -1,4 +1,4 @@
-//! Tests of maps in bands: the areas and the tables of the undivided map beside those that are joined and merged.
+//! Tests of maps in bands: the areas of the undivided map beside those that are joined.
 #![tactic(auto)]
 
 #[cfg(test)]
@@ -9,7 +9,5 @@ mod bands;
 mod chance;
 #[cfg(test)]
 mod joined;
-#[cfg(test)]
-mod merged;
 #[cfg(test)]
 mod shapes;

@@ -9,7 +9,7 @@ use Rattle.cell_core.specs.Grid.{CellValue, Grid, IsFilled, row_at}
 use Rattle.cell_cats_areas.specs.Areas.{Position, cell_at_spot, IsEarlierCell}
 use Rattle.cell_cats_areas.specs.parts.CellPlaces.{position}
 use Rattle.cell_cats_areas.proofs.LawLemmas.{cases_before}
-use Rattle.cell_tiles_law.proofs.AreaLemmas.{before-then}
+use Rattle.cell_parts.proofs.AreaLemmas.{before-then}
 use Rattle.cell_tiles_edges.proofs.GridLemmas.{wide-row}
 use Rattle.cell_tiles_grid.proofs.StartLemmas.{before-next, later-next}
 use Rattle.cell_tiles_sides.specs.FirstNumbers.{AreStarts, IsFirstOutOfOrder, IsFirstWith, IsOutOfOrder}

@@ -12,7 +12,7 @@ use Rattle.cell_ascii_meaning.specs.GridText.{Denotes}
 use Rattle.cell_cats_areas.proofs.CountLemmas.{no_number_is_left_out}
 use Rattle.cell_cats_areas.specs.Areas.{IsClumping, Position, cell_at_spot}
 use Rattle.cell_cats_areas.specs.declared.clump.Joining.{Joining}
-use Rattle.cell_tiles_law.proofs.AreaLemmas.{is-some}
+use Rattle.cell_parts.proofs.AreaLemmas.{is-some}
 use Rattle.cell_tiles_edges.specs.EdgesFaults.{most_areas}
 use Rattle.cell_tiles_edges.specs.PairFaults.{IsFirstOfMaps, number_fault, pair_fault}
 use Rattle.cell_tiles_edges.specs.WrittenEdges.{IsBandFault}

@@ -9,8 +9,8 @@ use Rattle.cell_core.specs.Grid.{CellValue, Grid}
 use Rattle.cell_cats_areas.proofs.LawLemmas.{HasNumber-one}
 use Rattle.cell_cats_areas.specs.Areas.{HasNumber, IsClumping, Position, cell_at_spot}
 use Rattle.cell_cats_areas.specs.declared.clump.Joining.{Joining}
-use Rattle.cell_tiles_law.proofs.AreaLemmas.{is-some}
-use Rattle.cell_tiles_law.specs.AreaParts.{lowered_position}
+use Rattle.cell_parts.proofs.AreaLemmas.{is-some}
+use Rattle.cell_parts.specs.AreaParts.{lowered_position}
 use Rattle.cell_tiles_joining.specs.Bands.{Band, HaveEdges, areas_before, rows_before}
 use Rattle.cell_tiles_joining.specs.declared.edges.BandEdges.{BandEdges}
 use Rattle.rcell_script.specs.ScriptLaw.{OneScript}

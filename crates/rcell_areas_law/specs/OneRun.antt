@@ -5,7 +5,7 @@ use Rattle.cell_core.specs.Grid.{CellValue, Grid}
 use Rattle.cell_ascii_meaning.specs.GridText.{Denotes}
 use Rattle.cell_cats_areas.specs.declared.clump.Joining.{Joining}
 use Rattle.cell_cats_areas.specs.Areas.{Position, cell_at_spot}
-use Rattle.cell_tiles_law.specs.AreaParts.{lowered_position}
+use Rattle.cell_parts.specs.AreaParts.{lowered_position}
 use Rattle.cell_tiles_joining.specs.Bands.{Band, areas_before, rows_before}
 use Rattle.cell_tiles_joining.specs.declared.edges.BandEdges.{BandEdges}
 use Rattle.cell_tiles_areas.specs.AreasOfTexts.{HasWrittenAreas}

@@ -7,7 +7,7 @@ use Rattle.cell_cats_areas.specs.Areas.{HasNumber, IsClumping, IsEarlierCell, Po
 use Rattle.cell_cats_areas.proofs.CountLemmas.{no_number_is_left_out}
 use Rattle.cell_cats_areas.proofs.LawLemmas.{IsBefore-asym, cases_before, within_le}
 use Rattle.cell_cats_areas.proofs.PathLemmas.{AreJoined-sym}
-use Rattle.cell_tiles_law.proofs.AreaLemmas.{before-then}
+use Rattle.cell_parts.proofs.AreaLemmas.{before-then}
 use Rattle.cell_tiles_sides.specs.FirstNumbers.{IsOutOfOrder}
 
 -- a cell that has a number is not null

@@ -1,6 +1,6 @@
 -- The numbers that the areas text of tiles tells are those of one run over the undivided map.
 use Rattle.std.proofs.Common.{◌<◌, get_or, sym, arith}
-use Rattle.cell_tiles_law.specs.AreaParts.{moved_position}
+use Rattle.cell_parts.specs.AreaParts.{moved_position}
 use Rattle.cell_tiles_grid.specs.Grids.{tile_place}
 use Rattle.cell_tiles_grid_areas_law.proofs.GlueLemmas.{height-at, is-tile, tile-sized}
 use Rattle.cell_tiles_grid_areas_law.proofs.PlaceLemmas.{one-of, row-of-all}

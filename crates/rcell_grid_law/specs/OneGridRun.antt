@@ -5,7 +5,7 @@ use Rattle.cell_core.specs.Grid.{Grid}
 use Rattle.cell_ascii_meaning.specs.GridText.{Denotes}
 use Rattle.cell_cats_areas.specs.declared.clump.Joining.{Joining}
 use Rattle.cell_cats_areas.specs.Areas.{Position, cell_at_spot}
-use Rattle.cell_tiles_law.specs.AreaParts.{moved_position}
+use Rattle.cell_parts.specs.AreaParts.{moved_position}
 use Rattle.cell_tiles_joining.specs.Bands.{Band}
 use Rattle.cell_tiles_grid.specs.Grids.{tile_place}
 use Rattle.cell_tiles_grid_areas.specs.AreasOfTiles.{HasWrittenTiles}

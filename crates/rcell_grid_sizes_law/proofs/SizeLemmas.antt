@@ -19,11 +19,11 @@ use Rattle.cell_stats.specs.CategoryTables.{Pairs, table_of}
 use Rattle.cell_tiles_joining.proofs.GreatestLemmas.{has-areas}
 use Rattle.cell_tiles_joining.specs.Bands.{Band}
 use Rattle.cell_tiles_joining.specs.parts.Greatest.{greatest_of}
-use Rattle.cell_tiles_lines.specs.LineReading.{TableReading, reading_of}
-use Rattle.cell_tiles_lines.specs.TableLines.{entries_text}
-use Rattle.cell_tiles_numbering.specs.AreasReading.{AreasReading, areas_reading_of}
-use Rattle.cell_tiles_sizes.specs.SizeTexts.{HaveSizes, number_entries}
-use Rattle.cell_tiles_sizes_law.specs.WholeSizes.{table_read}
+use Rattle.cell_join_lines.specs.LineReading.{TableReading, reading_of}
+use Rattle.cell_join_lines.specs.TableLines.{entries_text}
+use Rattle.cell_join_lines.specs.AreasReading.{AreasReading, areas_reading_of}
+use Rattle.cell_join_sizes.specs.SizeTexts.{HaveSizes, number_entries}
+use Rattle.cell_join_sizes_law.specs.WholeSizes.{table_read}
 use Rattle.cell_tiles_areas_law.proofs.MapLemmas.{denoted-filled, one-map}
 use Rattle.cell_tiles_areas_law.proofs.RangeLemmas.{denoted-region}
 use Rattle.cell_tiles_grid_areas_law.specs.TileGrids.{all_tiles}

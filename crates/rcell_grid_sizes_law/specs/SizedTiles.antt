@@ -7,9 +7,9 @@ use Rattle.cell_core.specs.Grid.{Grid}
 use Rattle.cell_core.specs.Shelf.{ShelfValue}
 use Rattle.cell_cats_areas.specs.declared.clump.Joining.{Joining}
 use Rattle.cell_stats_combinations.specs.declared.skip.Skip.TheVariants.{AnyNull}
-use Rattle.cell_tiles_lines.specs.LineReading.{reading_of}
-use Rattle.cell_tiles_numbering.specs.AreasReading.{areas_reading_of}
-use Rattle.cell_tiles_sizes.specs.SizeTexts.{HasWrittenSizes}
+use Rattle.cell_join_lines.specs.LineReading.{reading_of}
+use Rattle.cell_join_lines.specs.AreasReading.{areas_reading_of}
+use Rattle.cell_join_sizes.specs.SizeTexts.{HasWrittenSizes}
 use Rattle.cell_tiles_grid_areas.specs.AreasOfTiles.{HasWrittenTiles}
 use Rattle.rcell_script_commands.specs.declared.command.StatsOptions.{StatsOptions}
 use Rattle.rcell.specs.Output.{IsOutput, format_of}

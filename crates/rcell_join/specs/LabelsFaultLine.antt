@@ -1,7 +1,7 @@
 -- Where a fault of joining tables with labels is told, by what text, and with which status (profile).
 use Rattle.std.specs.Prelude.{ℕ, List, Option, Some, None}
-use Rattle.cell_tiles_labels.specs.declared.label_fault.LabelFault.{LabelFault}
-use Rattle.cell_tiles_labels.specs.declared.label_fault.LabelFault.TheVariants.{Join, OtherLabel}
+use Rattle.cell_join_tables.specs.declared.label_fault.LabelFault.{LabelFault}
+use Rattle.cell_join_tables.specs.declared.label_fault.LabelFault.TheVariants.{Join, OtherLabel}
 use Rattle.rcell_join_lines.specs.FaultLines.{path_at_place}
 use Rattle.rcell_join.specs.TablesFaultLine.{tables_fault_line_number, tables_fault_source, tables_fault_status, tables_fault_text}
 use Rattle.rcell_join.specs.declared.labels_fault_line.LabelsFaultText.{LabelsFaultText}

@@ -1,7 +1,7 @@
 -- Where a fault of adding sizes is told, by what text, and with which status (profile).
 use Rattle.std.specs.Prelude.{ℕ, List, Option, Some, None, codes}
-use Rattle.cell_tiles_sizes.specs.declared.size_fault.SizesFault.{SizesFault}
-use Rattle.cell_tiles_sizes.specs.declared.size_fault.SizesFault.TheVariants.{Areas, NumberLeftOut, NoTable, Table, OtherArea, TooGreat, TooLong, Memory, Write}
+use Rattle.cell_join_sizes.specs.declared.size_fault.SizesFault.{SizesFault}
+use Rattle.cell_join_sizes.specs.declared.size_fault.SizesFault.TheVariants.{Areas, NumberLeftOut, NoTable, Table, OtherArea, TooGreat, TooLong, Memory, Write}
 use Rattle.rcell_join_lines.specs.FaultLines.{path_at_place}
 use Rattle.rcell_join_lines.specs.KindStatuses.{areas_kind_status, table_kind_status}
 use Rattle.rcell_join.specs.declared.sizes_fault_line.SizesFaultText.{SizesFaultText}

@@ -1,7 +1,7 @@
 -- Where a fault of joining tables is told, by what text, and with which status (profile).
 use Rattle.std.specs.Prelude.{ℕ, List, Option, Some, None, codes}
-use Rattle.cell_tiles_texts.specs.declared.join_fault.JoinFault.{JoinFault}
-use Rattle.cell_tiles_texts.specs.declared.join_fault.JoinFault.TheVariants.{Text, TooMany, TooLong, Memory, Write}
+use Rattle.cell_join_tables.specs.declared.join_fault.JoinFault.{JoinFault}
+use Rattle.cell_join_tables.specs.declared.join_fault.JoinFault.TheVariants.{Text, TooMany, TooLong, Memory, Write}
 use Rattle.rcell_join_lines.specs.FaultLines.{path_at_place}
 use Rattle.rcell_join_lines.specs.KindStatuses.{table_kind_status}
 use Rattle.rcell_join.specs.declared.tables_fault_line.TablesFaultText.{TablesFaultText}

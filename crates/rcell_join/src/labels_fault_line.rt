@@ -8,8 +8,8 @@ use crate::tables_fault_line::{
     tables_fault_text,
 };
 use bstr::ByteSlice;
-use cell_tiles_labels::label_fault::{LabelFault, OtherLabel};
-use cell_tiles_labels::label_joining::LabelOutcome;
+use cell_join_tables::label_fault::{LabelFault, OtherLabel};
+use cell_join_tables::label_joining::LabelOutcome;
 use rcell_join_lines::fault_line::{FaultLine, path_at};
 use std::fmt;
 use thiserror::Error;

@@ -4,9 +4,9 @@ ghost use Rattle.std.specs.Prelude.{◌≡◌, is_some, IfSome, map};
 ghost use Rattle.rcell_join.specs.TablesFaultLine.{tables_fault_line_number, tables_fault_source, tables_fault_status, tables_fault_text, tables_status};
 
 use cell_stats_combinations::combination::Combo;
-use cell_tiles_lines::table_fault::TableKind;
-use cell_tiles_tables::table_joining::JoinOutcome;
-use cell_tiles_texts::join_fault::JoinFault;
+use cell_join_lines::table_fault::TableKind;
+use cell_join_tables::table_joining::JoinOutcome;
+use cell_join_tables::join_fault::JoinFault;
 use rcell_join_lines::fault_line::{FaultLine, path_at};
 use rcell_join_lines::kind_status::table_kind_status;
 use std::fmt;

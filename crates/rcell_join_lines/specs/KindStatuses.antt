@@ -2,10 +2,10 @@
 use Rattle.std.specs.Prelude.{ℕ}
 use Rattle.cell_ascii_meaning.specs.declared.grid_fault.GridKind.{GridKind}
 use Rattle.cell_ascii_meaning.specs.declared.grid_fault.GridKind.TheVariants as grid_kinds
-use Rattle.cell_tiles_lines.specs.declared.table_fault.TableKind.{TableKind}
-use Rattle.cell_tiles_lines.specs.declared.table_fault.TableKind.TheVariants as table_kinds
-use Rattle.cell_tiles_numbering.specs.declared.areas_fault.AreasKind.{AreasKind}
-use Rattle.cell_tiles_numbering.specs.declared.areas_fault.AreasKind.TheVariants as areas_kinds
+use Rattle.cell_join_lines.specs.declared.table_fault.TableKind.{TableKind}
+use Rattle.cell_join_lines.specs.declared.table_fault.TableKind.TheVariants as table_kinds
+use Rattle.cell_join_lines.specs.declared.areas_fault.AreasKind.{AreasKind}
+use Rattle.cell_join_lines.specs.declared.areas_fault.AreasKind.TheVariants as areas_kinds
 
 -- of a table
 abbrev pub table_kind_status : TableKind → ℕ

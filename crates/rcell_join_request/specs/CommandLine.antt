@@ -7,7 +7,7 @@ use Rattle.cell_cats_areas.specs.declared.clump.Joining.TheVariants as joinings
 use Rattle.cell_core_text.specs.Answers.{◌>>=◌}
 use Rattle.cell_core_values.specs.Letters.{byte}
 use Rattle.cell_stats.specs.TableText.{FormatValue}
-use Rattle.cell_tiles_lines.specs.ClearFormats.{is_clear}
+use Rattle.cell_join_lines.specs.ClearFormats.{is_clear}
 use Rattle.rcell_script_options.specs.OptionReading.{Given, options_of}
 use Rattle.rcell_script_options.specs.Options.{value_in}
 use Rattle.rcell_script_options.specs.declared.option_fault.OptionFault.{OptionFault}

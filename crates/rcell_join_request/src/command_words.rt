@@ -13,7 +13,7 @@ use crate::refusal::{Refusal, Usage};
 use crate::request::{Request, TableFormat};
 use cell_cats_areas::clump::Joining;
 use cell_core_text::words::pair_of;
-use cell_tiles_lines::clear_formats::is_clear;
+use cell_join_lines::clear_formats::is_clear;
 use clap::error::ErrorKind;
 use clap::{Arg, ArgAction, ArgMatches, Command};
 use rcell_script_options::option_fault::OptionFault;

@@ -8,24 +8,24 @@ use Rattle.std.proofs.lemmas.List.Sums.{sum_by-le}
 use Rattle.cell_core_devices.specs.Device.{Coming}
 use Rattle.cell_stats.specs.CategoryTables.{Pairs}
 use Rattle.cell_stats.specs.TableText.{FormatValue}
-use Rattle.cell_tiles_lines.specs.LineReading.{TableReading, reading_of}
-use Rattle.cell_tiles_numbering.specs.AreasReading.{AreasReading, areas_reading_of}
-use Rattle.cell_tiles_numbering.specs.AreasText.{areas_text, numbers_told, stretch_numbers, stretches_of}
-use Rattle.cell_tiles_numbering.specs.declared.stretch.Stretch.{Stretch}
-use Rattle.cell_tiles_numbering.proofs.ToldLemmas.{numbers-are-told}
-use Rattle.cell_tiles_numbering_law.proofs.OrderLemmas.{stretches-are-readable}
-use Rattle.cell_tiles_numbering_law.proofs.WrittenLemmas.{text-reads-as-itself}
-use Rattle.cell_tiles_numbering_law.specs.WrittenAreas.{AreReadable}
-use Rattle.cell_tiles_sizes.specs.SizeFaults.{IsFirstSizesFault, IsSizesFault, IsTooLong}
-use Rattle.cell_tiles_sizes.specs.SizeTexts.{HaveSizes, stretches_of_parts}
-use Rattle.cell_tiles_sizes.specs.declared.size_fault.SizesFault.{SizesFault}
-use Rattle.cell_tiles_sizes.specs.declared.size_fault.SizesFault.TheVariants.{Areas, NumberLeftOut, NoTable, Table}
-use Rattle.cell_tiles_sizes.specs.declared.size_fault.SizesFault.TheVariants.{OtherArea, TooGreat, TooLong, Memory}
-use Rattle.cell_tiles_sizes.specs.declared.size_fault.SizesFault.TheVariants.{Write}
-use Rattle.cell_tiles_sizes_law.specs.ExistingSizes.{HaveSizesUpTo}
-use Rattle.cell_tiles_sizes_law.specs.WholeSizes.{table_read}
-use Rattle.cell_tiles_sizes_law_faults.proofs.RightLemmas.{right-texts-are-added-up}
-use Rattle.cell_tiles_sizes_law_faults.specs.RightTexts.{IsOfNoText}
+use Rattle.cell_join_lines.specs.LineReading.{TableReading, reading_of}
+use Rattle.cell_join_lines.specs.AreasReading.{AreasReading, areas_reading_of}
+use Rattle.cell_join_lines.specs.AreasText.{areas_text, numbers_told, stretch_numbers, stretches_of}
+use Rattle.cell_join_lines.specs.declared.stretch.Stretch.{Stretch}
+use Rattle.cell_join_lines.proofs.ToldLemmas.{numbers-are-told}
+use Rattle.cell_join_tables_law.proofs.OrderLemmas.{stretches-are-readable}
+use Rattle.cell_join_tables_law.proofs.WrittenLemmas.{text-reads-as-itself}
+use Rattle.cell_join_tables_law.specs.WrittenAreas.{AreReadable}
+use Rattle.cell_join_sizes.specs.SizeFaults.{IsFirstSizesFault, IsSizesFault, IsTooLong}
+use Rattle.cell_join_sizes.specs.SizeTexts.{HaveSizes, stretches_of_parts}
+use Rattle.cell_join_sizes.specs.declared.size_fault.SizesFault.{SizesFault}
+use Rattle.cell_join_sizes.specs.declared.size_fault.SizesFault.TheVariants.{Areas, NumberLeftOut, NoTable, Table}
+use Rattle.cell_join_sizes.specs.declared.size_fault.SizesFault.TheVariants.{OtherArea, TooGreat, TooLong, Memory}
+use Rattle.cell_join_sizes.specs.declared.size_fault.SizesFault.TheVariants.{Write}
+use Rattle.cell_join_sizes_law.specs.ExistingSizes.{HaveSizesUpTo}
+use Rattle.cell_join_sizes_law.specs.WholeSizes.{table_read}
+use Rattle.cell_join_sizes_law.proofs.RightLemmas.{right-texts-are-added-up}
+use Rattle.cell_join_sizes_law.specs.RightTexts.{IsOfNoText}
 use Rattle.rcell_areas_law.specs.BandRuns.{written_text}
 
 -- how many areas bands have, and their numbers in the whole, of which an areas text can be read

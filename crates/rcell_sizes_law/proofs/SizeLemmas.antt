@@ -28,14 +28,14 @@ use Rattle.cell_tiles_joining.specs.Bands.{Band, HasAreas, IsCutInto, JoinNumber
 use Rattle.cell_tiles_joining.specs.declared.edges.BandEdges.{BandEdges}
 use Rattle.cell_tiles_joining.specs.parts.Greatest.{greatest_of}
 use Rattle.cell_tiles_joining_law.specs.NumberTables.{IsBandTable}
-use Rattle.cell_tiles_lines.specs.LineReading.{TableReading, reading_of}
-use Rattle.cell_tiles_lines.specs.TableLines.{entries_text}
-use Rattle.cell_tiles_numbering.specs.AreasReading.{AreasReading, areas_reading_of}
-use Rattle.cell_tiles_numbering.specs.AreasText.{areas_text, stretches_of}
-use Rattle.cell_tiles_sizes.specs.SizeTexts.{HaveSizes, number_entries}
-use Rattle.cell_tiles_sizes_law.proofs.WholeLemmas.{sizes-of-the-whole}
-use Rattle.cell_tiles_sizes_law.specs.WholeSizes.{areas_read_of, band_areas, table_read}
-use Rattle.cell_tiles_sizes_law.proofs.ExistLemmas.{areas-few, sizes-exist}
+use Rattle.cell_join_lines.specs.LineReading.{TableReading, reading_of}
+use Rattle.cell_join_lines.specs.TableLines.{entries_text}
+use Rattle.cell_join_lines.specs.AreasReading.{AreasReading, areas_reading_of}
+use Rattle.cell_join_lines.specs.AreasText.{areas_text, stretches_of}
+use Rattle.cell_join_sizes.specs.SizeTexts.{HaveSizes, number_entries}
+use Rattle.cell_join_sizes_law.proofs.WholeLemmas.{sizes-of-the-whole}
+use Rattle.cell_join_sizes_law.specs.WholeSizes.{areas_read_of, band_areas, table_read}
+use Rattle.cell_join_sizes_law.proofs.ExistLemmas.{areas-few, sizes-exist}
 use Rattle.cell_tiles_edges.specs.declared.edges_text.EdgesText.{EdgesText}
 use Rattle.cell_tiles_areas.proofs.BandLemmas.{areas-twice}
 use Rattle.cell_tiles_areas.specs.AreasOfTexts.{HasWrittenAreas}
@@ -48,7 +48,7 @@ use Rattle.rcell_script_commands.specs.declared.command.StatsOptions.{StatsOptio
 use Rattle.rcell_script.specs.ScriptLaw.{OneScript}
 use Rattle.rcell.specs.Output.{IsOutput, format_of}
 use Rattle.rcell_areas_law.proofs.BandLemmas.{numbers-are, taken-is, texts-of-bands}
-use Rattle.cell_tiles_sizes_law.proofs.NumberLemmas.{numbers-good}
+use Rattle.cell_join_sizes_law.proofs.NumberLemmas.{numbers-good}
 use Rattle.rcell_sizes_law.proofs.AddedLemmas.{AreInRange, added-up, reads-as-told, text_read}
 use Rattle.rcell_sizes_law.proofs.TableLemmas.{entries-printed, run-counts, two-counted}
 use Rattle.rcell_areas_law.specs.BandNumbers.{HasBands}

@@ -20,13 +20,13 @@ use Rattle.cell_stats_combinations.specs.Combinations.{Combination, all_combinat
 use Rattle.cell_stats.proofs.TableLemmas.{table_of-IsTable}
 use Rattle.cell_stats.specs.CategoryTables.{Pairs, table_of}
 use Rattle.cell_stats.specs.TableText.{FormatValue, table_text}
-use Rattle.cell_tiles_lines.specs.LineReading.{reading_of}
-use Rattle.cell_tiles_lines.specs.TableLines.{entries_text}
-use Rattle.cell_tiles_lines_law.proofs.PrintedTableLemmas.{printed-reads, prints-as-tables}
-use Rattle.cell_tiles_texts_law.proofs.PartCellLemmas.{IsOfCells, whole-of-cells}
-use Rattle.cell_tiles_texts_law.proofs.PartEntryLemmas.{entry-printed, entry-wide}
-use Rattle.cell_tiles_texts_law.specs.PrintedParts.{CanBeReadBack, text_of_maps}
-use Rattle.cell_tiles_sizes_law.specs.WholeSizes.{table_read}
+use Rattle.cell_join_lines.specs.LineReading.{reading_of}
+use Rattle.cell_join_lines.specs.TableLines.{entries_text}
+use Rattle.cell_join_tables_law.proofs.PrintedTableLemmas.{printed-reads, prints-as-tables}
+use Rattle.cell_join_tables_law.proofs.PartCellLemmas.{IsOfCells, whole-of-cells}
+use Rattle.cell_join_tables_law.proofs.PartEntryLemmas.{entry-printed, entry-wide}
+use Rattle.cell_join_tables_law.specs.PrintedParts.{CanBeReadBack, text_of_maps}
+use Rattle.cell_join_sizes_law.specs.WholeSizes.{table_read}
 use Rattle.rcell_making.specs.Making.{AreNumbers, IsOfMap, with_map}
 use Rattle.rcell_script_commands.specs.declared.command.Command.{Command}
 use Rattle.rcell_script_commands.specs.declared.command.Command.TheVariants.{Clump}

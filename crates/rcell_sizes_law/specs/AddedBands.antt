@@ -4,11 +4,11 @@ use Rattle.std.specs.List.{AllZip}
 use Rattle.cell_core_devices.specs.Device.{Coming}
 use Rattle.cell_core.specs.Grid.{Grid, IsFilled}
 use Rattle.cell_cats_areas.specs.declared.clump.Joining.{Joining}
-use Rattle.cell_tiles_lines.specs.LineReading.{reading_of}
-use Rattle.cell_tiles_numbering.specs.AreasReading.{areas_reading_of}
-use Rattle.cell_tiles_sizes.specs.SizeFaults.{IsSizesFault}
-use Rattle.cell_tiles_sizes.specs.declared.size_fault.SizesFault.{SizesFault}
-use Rattle.cell_tiles_sizes.specs.declared.size_fault.SizesFault.TheVariants.{Memory, Write}
+use Rattle.cell_join_lines.specs.LineReading.{reading_of}
+use Rattle.cell_join_lines.specs.AreasReading.{areas_reading_of}
+use Rattle.cell_join_sizes.specs.SizeFaults.{IsSizesFault}
+use Rattle.cell_join_sizes.specs.declared.size_fault.SizesFault.{SizesFault}
+use Rattle.cell_join_sizes.specs.declared.size_fault.SizesFault.TheVariants.{Memory, Write}
 use Rattle.cell_tiles_areas.specs.AreasOfTexts.{HasWrittenAreas}
 use Rattle.rcell_script_commands.specs.declared.command.StatsOptions.{StatsOptions}
 use Rattle.rcell.specs.Output.{format_of}

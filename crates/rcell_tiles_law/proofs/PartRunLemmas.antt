@@ -7,8 +7,8 @@ use Rattle.cell_core.specs.Grid.{Grid}
 use Rattle.cell_core.specs.Shelf.{ShelfValue}
 use Rattle.cell_stats.specs.CategoryTables.{table_of}
 use Rattle.cell_stats.specs.TableText.{table_text, printed_pairs, cell_lines}
-use Rattle.cell_tiles_texts_law.specs.PrintedParts.{JoinTo, text_of_maps, text_of_part}
-use Rattle.cell_tiles_texts_law.proofs.JoinedPartLemmas.{joined-as-one, printed-parts-join}
+use Rattle.cell_join_tables_law.specs.PrintedParts.{JoinTo, text_of_maps, text_of_part}
+use Rattle.cell_join_tables_law.proofs.JoinedPartLemmas.{joined-as-one, printed-parts-join}
 use Rattle.rcell_script.specs.declared.statement.Statement.{Statement}
 use Rattle.rcell_script_commands.specs.declared.command.StatsOptions.{StatsOptions}
 use Rattle.rcell.specs.Output.{IsOutput, combinations_of, command_text, format_of, stats_text}

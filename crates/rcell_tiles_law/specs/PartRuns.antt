@@ -4,10 +4,10 @@ use Rattle.cell_core_devices.specs.Blocks.{capped_count}
 use Rattle.cell_core_devices.specs.Device.{Coming, append_known}
 use Rattle.cell_core.specs.Grid.{AreCells}
 use Rattle.cell_core.specs.Shelf.{ShelfValue}
-use Rattle.cell_tiles_law.specs.Parts.{Rectangle}
-use Rattle.cell_tiles_law.specs.TableParts.{Part, AreParts}
-use Rattle.cell_tiles_texts.specs.JoinedTexts.{AreJoinedTexts, readings_of}
-use Rattle.cell_tiles_texts_law.specs.PrintedParts.{CanBeReadBack, JoinTo}
+use Rattle.cell_parts.specs.Parts.{Rectangle}
+use Rattle.cell_parts.specs.TableParts.{Part, AreParts}
+use Rattle.cell_join_tables.specs.JoinedTexts.{AreJoinedTexts, readings_of}
+use Rattle.cell_join_tables_law.specs.PrintedParts.{CanBeReadBack, JoinTo}
 use Rattle.rcell_script.specs.declared.statement.Statement.{Statement}
 use Rattle.rcell_script_commands.specs.declared.command.Command.TheVariants.{Stats}
 use Rattle.rcell_script_commands.specs.declared.command.StatsOptions.{StatsOptions}

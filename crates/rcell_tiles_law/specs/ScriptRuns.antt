@@ -4,9 +4,9 @@ use Rattle.std.specs.Prelude.{ℕ, ◌≡◌, ◌<◌, ◌-◌, ◌*◌, ◌^◌
 use Rattle.cell_core_devices.specs.Device.{Coming}
 use Rattle.cell_core.specs.Grid.{AreCells}
 use Rattle.cell_core.specs.Shelf.{ShelfValue}
-use Rattle.cell_tiles_law.specs.Parts.{Rectangle}
-use Rattle.cell_tiles_law.specs.TableParts.{AreParts}
-use Rattle.cell_tiles_texts_law.specs.PrintedParts.{JoinTo}
+use Rattle.cell_parts.specs.Parts.{Rectangle}
+use Rattle.cell_parts.specs.TableParts.{AreParts}
+use Rattle.cell_join_tables_law.specs.PrintedParts.{JoinTo}
 use Rattle.rcell_loading.specs.Sources.{Named}
 use Rattle.rcell_script.specs.Scripts.{IsScript}
 use Rattle.rcell_script.specs.declared.statement.Statement.{Statement}

@@ -5,7 +5,7 @@ use Rattle.cell_core_devices.specs.Device.{Coming}
 use Rattle.cell_core_values.specs.Region.{RegionValue}
 use Rattle.cell_cats_areas.specs.declared.clump.Joining.{Joining}
 use Rattle.cell_tiles_joining.specs.declared.edges.BandEdges.{BandEdges}
-use Rattle.cell_tiles_texts.specs.JoinedTexts.{Give}
+use Rattle.cell_join_tables.specs.JoinedTexts.{Give}
 use Rattle.cell_tiles_cuts.specs.CutBands.{AreCutBands}
 use Rattle.cell_tiles_edges.specs.EdgesFaults.{IsEdgesFault}
 use Rattle.cell_tiles_edges.specs.declared.edges_text.EdgesText.{EdgesText}

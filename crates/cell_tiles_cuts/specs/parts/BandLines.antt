@@ -1,7 +1,7 @@
 -- The stretches of a band of which the last may go on.
 use Rattle.std.specs.Prelude.{ℕ, ◌≡◌, List, ◌++◌, Option, Some, None}
-use Rattle.cell_tiles_numbering.specs.AreasText.{stretches_behind, stretches_in}
-use Rattle.cell_tiles_numbering.specs.declared.stretch.Stretch.{Stretch}
+use Rattle.cell_join_lines.specs.AreasText.{stretches_behind, stretches_in}
+use Rattle.cell_join_lines.specs.declared.stretch.Stretch.{Stretch}
 use Rattle.cell_tiles_cuts.specs.declared.band_lines.Line.{Line}
 
 -- how many areas of its band come before the end of a line

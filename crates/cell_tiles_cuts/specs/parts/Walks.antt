@@ -2,7 +2,7 @@
 use Rattle.std.specs.Prelude.{ℕ, false, ◌≡◌, ◌+◌, ◌-◌, ◌<◌, ◌≤◌, List, length, take, drop, slice_index, AllPairs}
 use Rattle.cell_tiles_joining.specs.parts.LabelNumbers.{PointDownFrom, open_below}
 use Rattle.cell_tiles_joining_law.specs.SparseLabels.{labels_before, is_touching}
-use Rattle.cell_tiles_numbering.specs.declared.stretch.Stretch.{Stretch}
+use Rattle.cell_join_lines.specs.declared.stretch.Stretch.{Stretch}
 use Rattle.cell_tiles_cuts.specs.declared.walks.Walk.{Walk}
 use Rattle.cell_tiles_cuts.specs.declared.walks.BandWalk.{BandWalk}
 use Rattle.cell_tiles_cuts.specs.parts.BandLines.{AreLined}

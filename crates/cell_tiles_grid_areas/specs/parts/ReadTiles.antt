@@ -2,7 +2,7 @@
 use Rattle.std.specs.Prelude.{ℕ, ◌≡◌, ◌≢◌, List, [], ◌∷◌, ◌++◌, length, map, Option, Some, IfSome, Vec, slice_get, ◌⊎◌}
 use Rattle.std.specs.Global.{Global}
 use Rattle.cell_core_devices.specs.Device.{Coming}
-use Rattle.cell_tiles_texts.specs.JoinedTexts.{Give}
+use Rattle.cell_join_tables.specs.JoinedTexts.{Give}
 use Rattle.cell_tiles_grid.specs.Grids as Grids
 use Rattle.cell_tiles_grid.specs.declared.sides.TileSides.{TileSides}
 use Rattle.cell_tiles_sides.specs.SidesFaults.{IsSidesFault}

@@ -9,7 +9,7 @@ The tables of tiles are joined by the proved program rcell-join (`rcell._joiner`
 (`rcell.tiles._parts`), unless there are too many of either. There `merge` and `join` are the second opinion in the tests; where there are
 too many, `join` joins the areas and `merge` adds their sizes.
 
-The laws that the steps follow are proved in the crate `cell_tiles_law` of this project; each is named beside its step.
+The laws that the steps follow are proved in the crate `cell_parts` of this project; each is named beside its step.
 """
 
 from __future__ import annotations

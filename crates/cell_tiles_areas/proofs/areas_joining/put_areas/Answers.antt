@@ -3,7 +3,7 @@ use Rattle.std.specs.Prelude.{IfSome}
 use Rattle.cell_core_devices.specs.Blocks.{Appended}
 use Rattle.cell_core_devices.specs.Device.{has_failed}
 use Rattle.cell_core_devices.proofs.BlockLemmas.{appends_then}
-use Rattle.cell_tiles_numbering.specs.AreasText.{areas_text, stretches_of}
+use Rattle.cell_join_lines.specs.AreasText.{areas_text, stretches_of}
 use Rattle.cell_tiles_areas.proofs.PutLemmas.{put}
 use Rattle.cell_tiles_areas.proofs.areas_joining.put_areas.Goals as goal
 

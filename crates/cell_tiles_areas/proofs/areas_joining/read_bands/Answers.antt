@@ -1,6 +1,6 @@
 use Rattle.std.proofs.Common.{rules, ◌≡◌, map, [], length, ap, sym, ◌∙◌, arith}
 use Rattle.std.specs.Vec.Iter.{into_iter_items}
-use Rattle.cell_tiles_texts.proofs.OpeningLemmas.{no-more}
+use Rattle.cell_join_tables.proofs.OpeningLemmas.{no-more}
 use Rattle.cell_tiles_areas.proofs.ReadLemmas.{read-all, read-fault, read-more, read-none}
 use Rattle.cell_tiles_areas.proofs.areas_joining.read_bands.Goals as goal
 

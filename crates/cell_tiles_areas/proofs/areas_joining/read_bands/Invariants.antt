@@ -1,7 +1,7 @@
 use Rattle.std.proofs.Common.{◌≡◌, ◌+◌, List, length}
 use Rattle.std.specs.Vec.Iter.{into_iter_items, into_iter_len}
 use Rattle.cell_core_devices.specs.Device.{Coming}
-use Rattle.cell_tiles_texts.specs.JoinedTexts.{Give}
+use Rattle.cell_join_tables.specs.JoinedTexts.{Give}
 use Rattle.cell_tiles_areas.specs.parts.ReadBands.{HasReadBands}
 use Rattle.cell_tiles_areas.proofs.areas_joining.read_bands.Given as goal
 

@@ -1,6 +1,6 @@
 use Rattle.std.proofs.Common.{List, ◌++◌, Option, Some, sym, ◌∙◌, subst}
 use Rattle.std.specs.List.{range_with_len}
-use Rattle.cell_tiles_numbering.specs.declared.stretch.Stretch.{Stretch}
+use Rattle.cell_join_lines.specs.declared.stretch.Stretch.{Stretch}
 use Rattle.cell_tiles_cuts.specs.declared.band_lines.Line.{Line}
 use Rattle.cell_tiles_cuts.specs.parts.BandLines.{AreLined}
 use Rattle.cell_tiles_cuts.proofs.LineLemmas.{lined-first, lined-next, lined-other, other_line}

@@ -3,8 +3,8 @@ use Rattle.std.specs.Prelude.{sum}
 use Rattle.std.proofs.Math.ListN.{drop_of_length-le}
 use Rattle.std.proofs.lemmas.List.{drop-drop}
 use Rattle.cell_tiles_joining_law.proofs.PlaceLemmas.{before-zero}
-use Rattle.cell_tiles_numbering.specs.AreasText.{stretches_from, stretches_of}
-use Rattle.cell_tiles_numbering.specs.declared.stretch.Stretch.{Stretch}
+use Rattle.cell_join_lines.specs.AreasText.{stretches_from, stretches_of}
+use Rattle.cell_join_lines.specs.declared.stretch.Stretch.{Stretch}
 use Rattle.cell_tiles_cuts.specs.parts.Walks.{count_before}
 use Rattle.cell_tiles_cuts.proofs.WalkLemmas.{walked-none}
 use Rattle.cell_tiles_cuts.proofs.WholeLemmas.{bands-more, sum-all, sum-few, sum-more}

@@ -1,6 +1,6 @@
 use Rattle.std.proofs.Common.{◌≡◌, ◌+◌, ◌++◌, ℕ, List, drop, length, take}
 use Rattle.std.specs.Prelude.{sum}
-use Rattle.cell_tiles_numbering.specs.AreasText.{stretches_from, stretches_of}
+use Rattle.cell_join_lines.specs.AreasText.{stretches_from, stretches_of}
 use Rattle.cell_tiles_cuts.specs.parts.Walks.{AreAllNumbered, IsWalkReady, IsWalked}
 use Rattle.cell_tiles_cuts.proofs.cut_joiner.number_bands.Given as goal
 

@@ -2,7 +2,7 @@ use Rattle.std.proofs.Common.{rules, ◌≡◌, ◌++◌, ℕ, List, [], length,
 use Rattle.std.specs.Prelude.{Vec}
 use Rattle.std.specs.Global.{Global}
 use Rattle.std.specs.Vec.Iter.{into_iter_items}
-use Rattle.cell_tiles_texts.proofs.OpeningLemmas.{no-more}
+use Rattle.cell_join_tables.proofs.OpeningLemmas.{no-more}
 use Rattle.cell_tiles_sides.specs.declared.sides_text.SidesText.{SidesText}
 use Rattle.cell_tiles_grid.specs.Grids.{TileRows}
 use Rattle.cell_tiles_grid_areas.specs.TileTexts.{tile_areas, sides_of, tiles_in}

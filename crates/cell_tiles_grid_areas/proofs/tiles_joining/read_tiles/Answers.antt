@@ -1,6 +1,6 @@
 use Rattle.std.proofs.Common.{rules, ◌≡◌, map, [], length, ap, sym, ◌∙◌, arith}
 use Rattle.std.specs.Vec.Iter.{into_iter_items}
-use Rattle.cell_tiles_texts.proofs.OpeningLemmas.{no-more}
+use Rattle.cell_join_tables.proofs.OpeningLemmas.{no-more}
 use Rattle.cell_tiles_grid_areas.proofs.ReadLemmas.{more-some, read-all, read-fault, read-more, read-none}
 use Rattle.cell_tiles_grid_areas.proofs.tiles_joining.read_tiles.Goals as goal
 

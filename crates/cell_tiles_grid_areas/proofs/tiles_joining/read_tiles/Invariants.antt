@@ -1,7 +1,7 @@
 use Rattle.std.proofs.Common.{◌≡◌, ◌+◌, List, [], length}
 use Rattle.std.specs.Vec.Iter.{into_iter_items, into_iter_len}
 use Rattle.cell_core_devices.specs.Device.{Coming}
-use Rattle.cell_tiles_texts.specs.JoinedTexts.{Give}
+use Rattle.cell_join_tables.specs.JoinedTexts.{Give}
 use Rattle.cell_tiles_grid_areas.specs.parts.ReadTiles.{HasReadTiles}
 use Rattle.cell_tiles_grid_areas.proofs.tiles_joining.read_tiles.Given as goal
 

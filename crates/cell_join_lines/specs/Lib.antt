@@ -1,0 +1,12 @@
+-- Texts of tables and of numberings: what their lines are, and how they are read.
+pub mod AreasReading
+pub mod AreasText
+pub mod ClearFormats
+pub mod LineFields
+pub mod LineLabels
+pub mod LineReading
+pub mod SourceLines
+pub mod TableLines
+pub mod TextOfAreas
+pub mod TextReading
+pub mod parts

@@ -1,0 +1,24 @@
+-- What an areas text is still read as, its head first.
+use Rattle.std.specs.Prelude.{ℕ, Option, Some, None}
+use Rattle.std.specs.Option.{option_map}
+use Rattle.cell_join_lines.specs.LineReading.{TableReading}
+use Rattle.cell_join_lines.specs.declared.stretch.Stretch.{Stretch}
+use Rattle.cell_join_lines.specs.AreasReading.{AreasReading, areas_ended, areas_read, with_stretch}
+
+-- the stretch that was read last, the number of the line behind it, and what is read behind it as a table, where that is known
+pub record AreasTextValue : Type 0 where
+  pub head : Option Stretch
+  pub line : ℕ
+  pub rest : Option TableReading
+
+-- what is read behind the head
+abbrev pub areas_behind : AreasTextValue → Option AreasReading
+areas_behind text = option_map (areas_read text.line text.head) text.rest
+
+-- and from it on; a text without a head is at its end
+abbrev pub areas_from_head : AreasTextValue → Option Stretch → Option AreasReading
+areas_from_head text None = option_map (λ rest. areas_ended) text.rest
+areas_from_head text (Some s) = option_map (λ rest. with_stretch s (areas_read text.line (Some s) rest)) text.rest
+
+abbrev pub areas_from : AreasTextValue → Option AreasReading
+areas_from text = areas_from_head text text.head

@@ -1,0 +1,36 @@
+//! Formats whose lines can be read back.
+
+ghost use Rattle.std.specs.Prelude.{◌≡◌, ◌==◌, not};
+ghost use Rattle.std.specs.List.{list_all};
+ghost use Rattle.cell_join_lines.specs.ClearFormats.{is_clear, is_clear_byte};
+
+use crate::line_fields::category_of;
+use cell_stats::format::Format;
+
+// Whether a byte is neither of a number nor a line feed.
+fn is_clear_byte(byte: u8) -> bool
+    ensures { result ≡ is_clear_byte byte }
+{
+    !((b'0' <= byte && byte <= b'9') || (byte == b'-' || byte == b'\n'))
+}
+
+// Whether a byte stands nowhere in a text.
+fn is_without(text: &[u8], byte: u8) -> bool
+    ensures { result ≡ list_all (λ b. not (b == byte)) text.now }
+{
+    text.iter().all(|b| *b != byte)
+}
+
+/// Whether what is printed so can be read back: the separator stands in no field, nor in the label of null where labels are
+/// printed, and the null text is no category.
+pub fn is_clear(format: &Format) -> bool
+    ensures { result ≡ is_clear format.now }
+{
+    let separator = format.separator();
+    let null_text = format.null_text();
+    is_clear_byte(separator)
+        && is_without(null_text, separator)
+        && is_without(null_text, b'\n')
+        && category_of(null_text).is_none()
+        && (!format.labels() || is_without(b"no data", separator))
+}

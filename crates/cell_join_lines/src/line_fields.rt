@@ -1,0 +1,156 @@
+//! The entry of a line, field by field.
+
+ghost use Rattle.std.specs.Prelude.{◌≡◌, ◌≢◌, ◌<◌, Ok, Err, IfOk, IfErr, option_map};
+ghost use Rattle.cell_join_lines.specs.LineFields.{capped_value, category_of_field, cell_of_field, count_of_field, entry_of_line, labelled_cell, labelled_entry_of_line, spelled_entry};
+
+use crate::places::cut_at;
+use crate::table_fault::TableKind;
+use cell_core::cell::Cell;
+use cell_core_text::whole_numbers::whole_in_range;
+use cell_stats::format::Format;
+use itoa::Buffer;
+
+// The category that is printed so.
+pub(crate) fn category_of(field: &[u8]) -> Option<i32>
+    ensures { result ≡ category_of_field field.now }
+{
+    match whole_in_range(field) {
+        Some(category) if Buffer::new().format(category).as_bytes() == field => Some(category),
+        _ => None,
+    }
+}
+
+// The cell that is printed so.
+fn cell_of(null_text: &[u8], field: &[u8]) -> Option<Cell>
+    ensures { result ≡ cell_of_field null_text.now field.now }
+{
+    if field == null_text {
+        return Some(Cell::null());
+    }
+    match category_of(field) {
+        Some(category) => Cell::value(category),
+        None => None,
+    }
+}
+
+// The value of digits, or the greatest number of 64 bits where it is greater.
+fn capped_value(field: &[u8]) -> u64
+    ensures { result ≡ capped_value field.now }
+{
+    let mut value = 0u64;
+    for b in field {
+        value = value
+            .saturating_mul(10)
+            .saturating_add((*b).saturating_sub(b'0') as u64);
+    }
+    value
+}
+
+// The count above 0 that is printed so.
+fn count_of(field: &[u8]) -> Option<u64>
+    ensures { result ≡ count_of_field field.now }
+{
+    let count = capped_value(field);
+    if 0 < count && Buffer::new().format(count).as_bytes() == field {
+        return Some(count);
+    }
+    None
+}
+
+// The cell that is printed so with a label behind it.
+fn labelled_cell_of(null_text: &[u8], field: &[u8], label: &[u8]) -> Option<Cell>
+    ensures { result ≡ labelled_cell null_text.now field.now label.now }
+{
+    if field == null_text {
+        if label == b"no data".as_slice() {
+            return Some(Cell::null());
+        }
+        return None;
+    }
+    match category_of(field) {
+        Some(category) => Cell::value(category),
+        None => None,
+    }
+}
+
+// The entry of a line without labels.
+fn read_plain_line(
+    separator: u8,
+    null_text: &[u8],
+    line: &[u8],
+    cells: &mut Vec<Cell>,
+) -> Result<u64, TableKind>
+    ensures ok { IfOk result (λ count. entry_of_line separator null_text.now line.now ≡ Ok
+        (cells.new.items, count)) }
+    ensures err { IfErr result (λ kind. kind ≢ TableKind.Memory → entry_of_line separator
+        null_text.now line.now ≡ Err kind) }
+{
+    cells.clear();
+    let mut rest = line;
+    while let Some((field, others)) = cut_at(separator, rest) {
+        let cell = match cell_of(null_text, field) {
+            Some(cell) => cell,
+            None => return Err(TableKind::BadCell),
+        };
+        if cells.push(cell).is_err() {
+            return Err(TableKind::Memory);
+        }
+        rest = others;
+    }
+    match count_of(rest) {
+        Some(count) => Ok(count),
+        None => Err(TableKind::BadCount),
+    }
+}
+
+// The entry of a line with labels.
+fn read_labelled_line(
+    separator: u8,
+    null_text: &[u8],
+    line: &[u8],
+    cells: &mut Vec<Cell>,
+) -> Result<u64, TableKind>
+    ensures ok { IfOk result (λ count. labelled_entry_of_line separator null_text.now line.now ≡ Ok
+        (cells.new.items, count)) }
+    ensures err { IfErr result (λ kind. kind ≢ TableKind.Memory → labelled_entry_of_line separator
+        null_text.now line.now ≡ Err kind) }
+{
+    cells.clear();
+    let mut rest = line;
+    while let Some((field, others)) = cut_at(separator, rest) {
+        let Some((label, behind)) = cut_at(separator, others) else {
+            return Err(TableKind::BadCount);
+        };
+        let Some(cell) = labelled_cell_of(null_text, field, label) else {
+            return Err(TableKind::BadCell);
+        };
+        if cells.push(cell).is_err() {
+            return Err(TableKind::Memory);
+        }
+        rest = behind;
+    }
+    match count_of(rest) {
+        Some(count) => Ok(count),
+        None => Err(TableKind::BadCount),
+    }
+}
+
+/// The entry that a line spells, without its line feed: its cells are put in the place of those that are given, and its
+/// count is returned. Where labels are printed, each cell has one behind it.
+///
+/// # Errors
+///
+/// The first field that is no cell or, at the end, no count; [`TableKind::Memory`] where memory is refused.
+pub fn read_line(format: &Format, line: &[u8], cells: &mut Vec<Cell>) -> Result<u64, TableKind>
+    ensures ok { IfOk result
+        (λ count. spelled_entry format.now line.now ≡ Ok (cells.new.items, count)) }
+    ensures err { IfErr result
+        (λ kind. kind ≢ TableKind.Memory → spelled_entry format.now line.now ≡ Err kind) }
+{
+    let separator = format.separator();
+    let null_text = format.null_text();
+    if format.labels() {
+        return read_labelled_line(separator, null_text, line, cells);
+    }
+    read_plain_line(separator, null_text, line, cells)
+}

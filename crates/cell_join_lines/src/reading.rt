@@ -1,0 +1,215 @@
+//! The areas text read.
+
+ghost use Rattle.std.specs.Prelude.{◌≡◌, ◌≢◌, ◌-◌, None, IfErr, IfOk, IfSome, OnOk, Ok, Err, option_map, slice_index_or};
+ghost use Rattle.cell_join_lines.specs.LineReading.{line_after};
+ghost use Rattle.cell_join_lines.specs.AreasReading.{areas_fault, areas_format, areas_reading_of, areas_stopped, comes_next, in_sequence, number_in_column, number_of_cell, stretch_of_entry};
+ghost use Rattle.cell_join_lines.specs.TextOfAreas.{areas_behind, areas_from};
+ghost use Rattle.cell_join_lines.specs.parts.HeadStretch.{stretch_of_head};
+
+use crate::areas_fault::{AreasFault, AreasKind, areas_kind};
+use crate::stretch::{Stretch, is_next};
+use cell_core::cell::Cell;
+use cell_core::source::Source;
+use cell_stats::format::Format;
+use cell_stats_combinations::combination::Combo;
+use crate::table_fault::TableFault;
+use crate::text::TableText;
+use std::alloc::Global;
+use std::marker::Model;
+
+// Four fields with a space between two.
+fn areas_format<'a>() -> Format<'a>
+    ensures { result ≡ areas_format }
+{
+    Format::new(b' ', b"*", false, true)
+}
+
+// The number that a cell is, above 0.
+fn number_of(cell: Cell) -> Option<u64>
+    ensures { result ≡ number_of_cell cell }
+{
+    let category = cell.get()?;
+    match u64::try_from(category) {
+        Ok(number) if 0 < number => Some(number),
+        _ => None,
+    }
+}
+
+// That of the cell at a place.
+fn number_in_column(cells: &[Cell], place: usize) -> Option<u64>
+    ensures { result ≡ number_in_column cells.now place }
+{
+    match cells.get(place) {
+        Some(cell) => number_of(*cell),
+        None => None,
+    }
+}
+
+// The stretch that an entry spells.
+fn stretch_of(combo: &Combo, number: u64) -> Result<Stretch, AreasKind>
+    ensures { result ≡ stretch_of_entry (combo.now, number) }
+{
+    let cells = combo.cells();
+    let Some(band) = number_in_column(cells, 0) else {
+        return Err(AreasKind::NotNumbers);
+    };
+    let Some(first) = number_in_column(cells, 1) else {
+        return Err(AreasKind::NotNumbers);
+    };
+    let Some(last) = number_in_column(cells, 2) else {
+        return Err(AreasKind::NotNumbers);
+    };
+    Ok(Stretch {
+        band,
+        first,
+        last,
+        number,
+    })
+}
+
+// Whether a stretch begins where the one before it says.
+fn comes_next(before: Option<Stretch>, stretch: Stretch) -> bool
+    ensures { result ≡ comes_next before stretch }
+{
+    match before {
+        Some(before) if before.band == stretch.band => is_next(before.last, stretch.first),
+        _ => stretch.first == 1,
+    }
+}
+
+// A stretch behind another one, if there is one.
+fn in_sequence(before: Option<Stretch>, stretch: Stretch) -> Result<Stretch, AreasKind>
+    ensures { result ≡ in_sequence before stretch }
+{
+    if stretch.last < stretch.first {
+        return Err(AreasKind::Reversed);
+    }
+    if comes_next(before, stretch) {
+        return Ok(stretch);
+    }
+    Err(AreasKind::NotNext)
+}
+
+// The stretch that an entry spells behind another one; None where there is no entry.
+fn stretch_of_head(
+    before: Option<Stretch>,
+    head: &Option<(Combo, u64)>,
+) -> Result<Option<Stretch>, AreasKind>
+    ensures { result ≡ stretch_of_head before head.now }
+{
+    let Some((combo, number)) = head else {
+        return Ok(None);
+    };
+    match stretch_of(combo, *number) {
+        Ok(stretch) => match in_sequence(before, stretch) {
+            Ok(stretch) => Ok(Some(stretch)),
+            Err(kind) => Err(kind),
+        },
+        Err(kind) => Err(kind),
+    }
+}
+
+// What a fault of a table is of an areas text.
+fn of_table(fault: TableFault) -> AreasFault
+    ensures { result ≡ areas_fault fault }
+{
+    AreasFault {
+        line: fault.line,
+        kind: areas_kind(fault.kind),
+    }
+}
+
+/// An areas text that is read as it goes: the stretch that was read last, and what is to come behind it.
+#[derive(Drop)]
+pub struct AreasText<R: Source> {
+    text: TableText<R>,
+    line: u64,
+    head: Option<Stretch>,
+}
+
+impl<R: Source> Model for AreasText<R> {
+    ghost use Rattle.cell_join_lines.specs.TextReading.{reading_behind};
+    ghost use Rattle.cell_join_lines.specs.AreasReading.{areas_format};
+    ghost use Rattle.cell_join_lines.specs.TextOfAreas.{AreasTextValue};
+
+    ghost Value = { AreasTextValue };
+
+    ghost view = { λ areas. record {
+      head = areas.head;
+      line = areas.line;
+      rest = reading_behind areas_format areas.text;
+    } };
+}
+
+impl<R: Source> AreasText<R> {
+    /// A text of which the first stretch was read. It takes the memory of a block and a line.
+    ///
+    /// # Errors
+    ///
+    /// The fault of the first line.
+    pub fn begin(alloc: Global, source: R) -> Result<AreasText<R>, AreasFault>
+    where
+        R: Drop,
+        ensures read { IfOk result (λ areas. option_map areas_reading_of (R.coming source)
+            ≡ areas_from areas) }
+        ensures fault { IfErr result (λ fault. fault.kind ≢ AreasKind.Memory → IfSome (R.coming
+            source) (λ coming. areas_reading_of coming ≡ areas_stopped fault.line fault.kind)) }
+        ensures line { IfOk result (λ areas. areas.line ≡ 2) }
+        ensures sequence { IfOk result (λ areas. IfSome areas.head
+            (λ stretch. in_sequence None stretch ≡ Ok stretch)) }
+    {
+        let text = match TableText::from_source(alloc, &areas_format(), 3, source) {
+            Ok(text) => text,
+            Err(fault) => return Err(of_table(fault)),
+        };
+        match stretch_of_head(None, text.head()) {
+            Ok(head) => Ok(AreasText {
+                text,
+                line: 2,
+                head,
+            }),
+            Err(kind) => Err(AreasFault { line: 1, kind }),
+        }
+    }
+
+    /// The stretch that was read last, or None at the end of the text.
+    pub fn stretch(&self) -> Option<Stretch>
+        ensures { result ≡ self.now.head }
+    {
+        self.head
+    }
+
+    /// The number of the line of the stretch that was read last.
+    pub fn stretch_line(&self) -> u64
+        ensures { result ≡ self.now.line - 1 }
+    {
+        self.line.saturating_sub(1)
+    }
+
+    /// Reads the next stretch.
+    ///
+    /// # Errors
+    ///
+    /// The first fault of the text, after which it is not to be read on.
+    pub fn next(&mut self, alloc: Global) -> Result<(), AreasFault>
+        ensures read { OnOk result (areas_behind self.old ≡ areas_from self.new) }
+        ensures fault { IfErr result (λ fault. fault.kind ≢ AreasKind.Memory → IfSome
+            (areas_behind self.old) (λ reading. reading ≡ areas_stopped fault.line fault.kind)) }
+        ensures line { OnOk result (self.new.line ≡ line_after self.old.line) }
+        ensures sequence { OnOk result (IfSome self.new.head
+            (λ stretch. in_sequence self.old.head stretch ≡ Ok stretch)) }
+    {
+        let line = self.line;
+        if let Err(fault) = self.text.next(alloc, &areas_format()) {
+            return Err(of_table(fault));
+        }
+        match stretch_of_head(self.head, self.text.head()) {
+            Ok(head) => {
+                self.head = head;
+                self.line = line.saturating_add(1);
+                Ok(())
+            }
+            Err(kind) => Err(AreasFault { line, kind }),
+        }
+    }
+}

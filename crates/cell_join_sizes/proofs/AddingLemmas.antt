@@ -1,0 +1,193 @@
+-- Tables read one after another.
+use Rattle.std.proofs.Common.{◌≡◌, ℕ, ◌+◌, ◌-◌, ◌<◌, List, [], ◌∷◌, ◌++◌, length, get_or, map, flat_map, Option, Some, None, refl, ap, sym, ◌∙◌, subst, arith, append-nil, append_assoc, length-append, option_map, ⊎_elim}
+use Rattle.std.specs.Prelude.{All, IfSome}
+use Rattle.std.specs.List.{Contains}
+use Rattle.std.proofs.lemmas.Bool.{cases_lt}
+use Rattle.std.proofs.lemmas.List.{length_push}
+use Rattle.std.proofs.lemmas.List.Concat.{flat_map-append}
+use Rattle.cell_core_devices.specs.Device.{Coming}
+use Rattle.cell_stats.specs.TableText.{FormatValue}
+use Rattle.cell_join_lines.specs.LineReading.{TableReading, reading_of}
+use Rattle.cell_join_lines.specs.declared.stretch.Stretch.{Stretch}
+use Rattle.cell_join_lines.specs.AreasReading.{AreasReading, areas_ended, areas_reading_of}
+use Rattle.cell_join_lines.specs.AreasText.{numbers_told, stretch_numbers}
+use Rattle.cell_join_lines.specs.TextOfAreas.{AreasTextValue, areas_from, areas_from_head}
+use Rattle.cell_tiles_joining.specs.Sizes.{size_of_area}
+use Rattle.cell_join_tables.specs.JoinedTexts.{Give}
+use Rattle.cell_join_sizes.specs.SizeTexts.{AreTablesOfBands, BandSizes, HasSums, HaveSizes, IsTableOfBand, sizes_of_parts, stretches_of_parts}
+use Rattle.cell_join_sizes.specs.SizeFaults.{HasNumberLeftOut}
+use Rattle.cell_join_sizes.specs.parts.Counting.{HasAddedTables, HasReadBand, with_stretches}
+use Rattle.cell_join_sizes.specs.parts.Tally.{IsFirstWithoutSize, Tallies}
+use Rattle.cell_join_sizes.proofs.CountLemmas.{readings-counted, sizes-counted}
+use Rattle.cell_join_sizes.proofs.TallyLemmas.{size-some, tallied, tallies-none, tallies-then, told-with-size}
+use Rattle.cell_join_sizes.proofs.CountingLemmas.{stretches-both, stretches-none}
+
+pub flat-push : {A B : Type 0} (f : A → List B) (xs : List A) (x : A) → flat_map f (xs ++ x ∷ []) ≡ flat_map f xs ++ f x
+flat-push {A} {B} f xs x = flat_map-append f xs (x ∷ []) ∙ ap (λ (l : List B). flat_map f xs ++ l) (append-nil (f x))
+
+tables-push : (band : ℕ) (parts : List BandSizes) (readings : List TableReading) (part : BandSizes)
+    (reading : TableReading)
+    → AreTablesOfBands band parts readings → IsTableOfBand (band + length parts) part reading
+    → AreTablesOfBands band (parts ++ part ∷ []) (readings ++ reading ∷ [])
+tables-push band [] [] part reading are is = (subst (λ (b : ℕ). IsTableOfBand b part reading) (omega arith) is, tt)
+tables-push band [] (r ∷ readings) part reading are is = absurd are
+tables-push band (p ∷ parts) [] part reading are is = absurd are
+tables-push band (p ∷ parts) (r ∷ readings) part reading are is = (
+  are.0,
+  tables-push (band + 1) parts readings part reading are.1
+      (subst (λ (b : ℕ). IsTableOfBand b part reading) (omega arith) is),
+)
+
+pub no-others : (others : List Coming) → map Some others ≡ [] → others ≡ []
+no-others [] e = refl
+no-others (one ∷ others) e = cc
+
+module _ {R : Type 0} (coming : R → Option Coming) (format : FormatValue) (text : Coming) (texts : List Coming) where
+  pub added-none : (sources : List R) (areas : AreasTextValue) → Give coming sources texts
+      → Some (areas_reading_of text) ≡ areas_from areas
+      → areas.line ≡ 2 → HasAddedTables coming format text texts areas sources 0 []
+  added-none sources areas give opened line = record {
+    others = texts;
+    give = give;
+    first = [];
+    readings = refl;
+    parts = [];
+    count = refl;
+    listed = tt;
+    told = opened ∙ sym (stretches-none (areas_from areas));
+    areas_line = line;
+    tallies = tallies-none [];
+  }
+
+  pub added-more : (source : R) (left all : List R) (areas after : AreasTextValue) (place : ℕ) (old new : List ℕ)
+      → all ≡ source ∷ left → HasAddedTables coming format text texts areas all place old
+      → HasReadBand (place + 1) areas.line after.line (areas_from areas) (areas_from after)
+      (option_map (reading_of format 1) (coming source)) old new
+      → HasAddedTables coming format text texts after left (place + 1) new
+  added-more source left all areas after place old new is so band = by so.others
+      (sym (ap (map coming) is) ∙ so.give) so.readings
+    where
+      by : (others : List Coming) → coming source ∷ map coming left ≡ map Some others
+          → map (reading_of format 1) texts ≡ so.first ++ map (reading_of format 1) others
+          → HasAddedTables coming format text texts after left (place + 1) new
+      by [] give readings = cc
+      by (one ∷ others) give readings =
+          let here : coming source ≡ Some one = cc in
+          let rest : map coming left ≡ map Some others = cc in
+          let reading = reading_of format 1 one in
+          let listed : IsTableOfBand (place + 1) band.part reading =
+          subst (λ (o : Option TableReading). IfSome o (IsTableOfBand (place + 1) band.part))
+          (ap (option_map (reading_of format 1)) here) band.listed in
+          record {
+            others = others;
+            give = rest;
+            first = so.first ++ reading ∷ [];
+            readings = readings ∙ sym (append_assoc so.first (reading ∷ []) (map (reading_of format 1) others));
+            parts = so.parts ++ band.part ∷ [];
+            count = length_push so.parts band.part ∙ ap (λ (k : ℕ). k + 1) so.count;
+            listed = tables-push 1 so.parts so.first band.part reading so.listed
+                (subst (λ (b : ℕ). IsTableOfBand b band.part reading) (omega (arith, so.count)) listed);
+            told = so.told ∙ ap (option_map (with_stretches (stretches_of_parts so.parts))) band.told
+                ∙ stretches-both (stretches_of_parts so.parts) band.part.stretches (areas_from after)
+                ∙ ap (λ (l : List Stretch). option_map (with_stretches l) (areas_from after))
+                (sym (flat-push (λ (part : BandSizes). part.stretches) so.parts band.part));
+            areas_line =
+                let long = ap (λ (l : List Stretch). length l)
+                (flat-push (λ (part : BandSizes). part.stretches) so.parts band.part)
+                ∙ length-append (stretches_of_parts so.parts) band.part.stretches in
+                omega (arith, so.areas_line, band.areas_line, long);
+            tallies =
+                let stretches = stretches_of_parts so.parts in
+                let together = tallies-then [] old new (numbers_told stretches) (numbers_told band.part.stretches)
+                (sizes_of_parts so.parts) band.part.sizes so.tallies band.tallies in
+                subst (λ (l : List ℕ). Tallies [] l (sizes_of_parts (so.parts ++ band.part ∷ [])) new)
+                (sym (flat_map-append stretch_numbers stretches band.part.stretches)
+                ∙ ap numbers_told (sym (flat-push (λ (part : BandSizes). part.stretches) so.parts band.part)))
+                (subst (λ (l : List ℕ). Tallies [] (numbers_told stretches ++ numbers_told band.part.stretches) l new)
+                (sym (flat-push (λ (part : BandSizes). part.sizes) so.parts band.part)) together);
+          }
+
+  module _ (left : List R) (areas : AreasTextValue) (place : ℕ) (sizes : List ℕ) (none : left ≡ [])
+      (ended : areas.head ≡ None) (so : HasAddedTables coming format text texts areas left place sizes) where
+    pub all-listed : AreTablesOfBands 1 so.parts (map (reading_of format 1) texts)
+    all-listed =
+        let empty : so.others ≡ [] = no-others so.others (sym so.give ∙ ap (map coming) none) in
+        let readings : map (reading_of format 1) texts ≡ so.first = so.readings
+        ∙ ap (λ (l : List Coming). so.first ++ map (reading_of format 1) l) empty ∙ append-nil so.first in
+        subst (AreTablesOfBands 1 so.parts) (sym readings) so.listed
+
+    pub all-told : areas_reading_of text ≡ record { stretches = stretches_of_parts so.parts; fault = None }
+    all-told = by areas.rest (so.told ∙ ap (λ (head : Option Stretch). option_map
+        (with_stretches (stretches_of_parts so.parts)) (areas_from_head areas head)) ended)
+      where
+        by : (rest : Option TableReading) → Some (areas_reading_of text) ≡ option_map
+            (with_stretches (stretches_of_parts so.parts)) (option_map (λ (r : TableReading). areas_ended) rest)
+            → areas_reading_of text ≡ record { stretches = stretches_of_parts so.parts; fault = None }
+        by None e = cc
+        by (Some r) e =
+            let same : areas_reading_of text ≡ record { stretches = stretches_of_parts so.parts ++ []; fault = None }
+            = cc in
+            same ∙ ap (λ (l : List Stretch). record { stretches = l; fault = None })
+            (append-nil (stretches_of_parts so.parts))
+
+    -- as the text tells them
+    abbrev pub numbers : List ℕ
+    numbers = numbers_told (areas_reading_of text).stretches
+
+    pub all-sums : HasSums numbers (sizes_of_parts so.parts) sizes
+    all-sums = subst (λ (l : List Stretch). HasSums (numbers_told l) (sizes_of_parts so.parts) sizes)
+        (sym (ap (λ (r : AreasReading). r.stretches) all-told))
+        (tallied (numbers_told (stretches_of_parts so.parts)) (sizes_of_parts so.parts) sizes so.tallies)
+
+    -- every number has a size
+    pub added-all : ((n : ℕ) → n < length sizes → 0 < get_or sizes n 0)
+        → HaveSizes (areas_reading_of text) (map (reading_of format 1) texts) sizes
+    added-all some = record {
+      whole = ap (λ (r : AreasReading). r.fault) all-told;
+      parts = so.parts;
+      all = ap (λ (r : AreasReading). r.stretches) all-told;
+      listed = all-listed;
+      tally = record {
+        sums = all-sums;
+        each = λ n lt. told-with-size (n + 1) numbers (sizes_of_parts so.parts)
+            (omega (arith, some n lt, all-sums.adds.each n lt));
+      };
+    }
+
+    -- the first without one is left out, since no size that is read is 0
+    pub left-out : (number : ℕ) → IsFirstWithoutSize sizes number
+        → HasNumberLeftOut (areas_reading_of text) (map (reading_of format 1) texts) number
+    left-out number is =
+        let all = sizes_of_parts so.parts in
+        let counted : All (λ k. 0 < k) all = sizes-counted 1 so.parts (map (reading_of format 1) texts) all-listed
+        (readings-counted format texts) in
+        let zero : size_of_area number numbers all ≡ 0 =
+        ap (λ (k : ℕ). size_of_area k numbers all) (omega (arith, is.within))
+        ∙ sym (all-sums.adds.each (number - 1) (omega (arith, is.within))) ∙ is.none in
+        let none : Contains numbers number → ⊥ = λ told.
+        omega (arith, zero, size-some number numbers all told.0 told.1 told.2 all-sums.same counted) in
+        record {
+          read = record {
+            parts = so.parts;
+            good = all-listed;
+            stretches = ap (λ (r : AreasReading). r.stretches) all-told
+                ∙ sym (append-nil (stretches_of_parts so.parts));
+            sizes = sizes;
+            sums = tallied (numbers_told (stretches_of_parts so.parts)) all sizes so.tallies;
+          };
+          ended = ap (λ (r : AreasReading). r.fault) all-told;
+          below =
+              let last : (number ≡ length sizes) → ⊥ = λ at.
+              none (subst (Contains numbers) (sym at) (all-sums.greatest (omega (arith, is.within)))) in (
+                is.within.0,
+                ⊎_elim (λ less. less) (λ least. absurd (last (omega (arith, least, is.within))))
+                    (cases_lt number (length sizes)),
+              );
+          none = none;
+          before = λ n one less. told-with-size n numbers all (omega (
+            arith,
+            ap (λ (k : ℕ). size_of_area k numbers all) (let e : n - 1 + 1 ≡ n = omega (arith, one) in e),
+            all-sums.adds.each (n - 1) (omega (arith, one, less, is.within)),
+            is.before (n - 1) (omega (arith, one, less)),
+          ));
+        }

@@ -1,0 +1,4 @@
+-- Sizes added up of a numbering and of tables.
+pub mod SizeFaults
+pub mod SizeTexts
+pub mod parts

@@ -1,0 +1,205 @@
+-- Why sizes are not added up: the areas text and the tables are read side by side, and the first that is wrong is told.
+use Rattle.std.specs.Prelude.{ℕ, pos, ◌≡◌, ◌≢◌, ◌+◌, ◌-◌, ◌^◌, ◌<◌, ◌≤◌, ◌⊎◌, min, List, [], ◌∷◌, ◌++◌, length, slice_index, All, Option, Some, None}
+use Rattle.std.specs.List.{Contains, range_with_len}
+use Rattle.cell_stats_combinations.specs.Combinations.{Combination}
+use Rattle.cell_stats.specs.CategoryTables.{Pairs}
+use Rattle.cell_join_lines.specs.LineReading.{TableReading}
+use Rattle.cell_join_lines.specs.declared.table_fault.TableFault.{TableFault}
+use Rattle.cell_join_lines.specs.AreasReading.{AreasReading}
+use Rattle.cell_join_lines.specs.AreasText.{numbers_told}
+use Rattle.cell_join_lines.specs.declared.stretch.Stretch.{Stretch}
+use Rattle.cell_join_lines.specs.declared.areas_fault.AreasFault.{AreasFault}
+use Rattle.cell_join_sizes.specs.SizeTexts.{AreTablesOfBands, BandSizes, HasSums, IsNullEntry, entries_of_areas, number_entries, sizes_of_parts, stretch_areas, stretches_of_parts}
+use Rattle.cell_join_sizes.specs.declared.size_fault.SizesFault.{SizesFault}
+use Rattle.cell_join_sizes.specs.declared.size_fault.SizesFault.TheVariants.{Areas, NumberLeftOut, NoTable, Table, OtherArea, TooGreat, TooLong, Memory, Write}
+
+-- ---- how far they are read
+
+-- what of the areas text is not counted yet, from this line on; what of the table in a place is not counted yet, from this line on;
+-- the sizes of the areas that are counted of the next stretch; and the sizes in the whole of all that are counted
+pub record ReadingPlace : Type 0 where
+  pub areas : AreasReading
+  pub areas_line : ℕ
+  pub table : ℕ
+  pub left : TableReading
+  pub table_line : ℕ
+  pub counted : List ℕ
+  pub sizes : List ℕ
+
+-- the line of an areas text behind so many; from 2^64 - 2 on they are not told apart
+abbrev pub areas_line_behind : ℕ → ℕ
+areas_line_behind count = min (count + 1) (2 ^ 64 - 2)
+
+-- the first area of the next stretch, and its number
+abbrev pub first_area : List Stretch → ℕ
+first_area [] = 0
+first_area (s ∷ stretches) = s.first
+
+abbrev pub first_number : List Stretch → ℕ
+first_number [] = 0
+first_number (s ∷ stretches) = s.number
+
+-- so many areas of the next stretch, which is of this band, or none
+abbrev pub AreOfNextStretch : ℕ → List ℕ → List Stretch → Type 0
+AreOfNextStretch band [] stretches = Unit {0}
+AreOfNextStretch band (size ∷ counted) [] = ⊥
+AreOfNextStretch band (size ∷ counted) (s ∷ stretches) = (s.band ≡ band) × (length (size ∷ counted) ≤ stretch_areas s)
+
+-- up to here nothing is wrong: the tables before are those of their bands, this one begins with the entries of the areas of stretches
+-- of its band, and of the first areas of the next; and the sizes of all of these are added up by the numbers that the text tells
+pub record AreReadTo (areas : AreasReading) (tables : List TableReading) (place : ReadingPlace) : Type 0 where
+  pub before : List TableReading
+  pub table : TableReading
+  pub after : List TableReading
+  pub all : tables ≡ before ++ table ∷ after
+  pub at : length before ≡ place.table
+  pub parts : List BandSizes
+  pub good : AreTablesOfBands 1 parts before
+  pub part : BandSizes
+  pub own : All (λ (s : Stretch). s.band ≡ place.table + 1) part.stretches
+  pub many : length part.sizes ≡ length (numbers_told part.stretches)
+  pub begun : AreOfNextStretch (place.table + 1) place.counted place.areas.stretches
+  pub stretches : areas.stretches ≡ (stretches_of_parts parts ++ part.stretches) ++ place.areas.stretches
+  pub areas_end : areas.fault ≡ place.areas.fault
+  pub areas_line : place.areas_line ≡ areas_line_behind (length (stretches_of_parts parts ++ part.stretches))
+  pub entries : table.entries ≡ (entries_of_areas part.stretches part.sizes ++ number_entries (first_area place.areas.stretches) place.counted) ++ place.left.entries
+  pub table_end : table.fault ≡ place.left.fault
+  pub table_line : place.table_line ≡ length part.sizes + length place.counted + 1
+  pub sums : HasSums (numbers_told (stretches_of_parts parts ++ part.stretches) ++ range_with_len (first_number place.areas.stretches) (length place.counted))
+      ((sizes_of_parts parts ++ part.sizes) ++ place.counted) place.sizes
+
+-- ---- what comes next
+
+-- no fault comes next: lines without one, or the end
+abbrev pub IsReadOn : {X F : Type 0} → List X → Option F → Type 0
+IsReadOn [] fault = fault ≡ None
+IsReadOn (x ∷ xs) fault = Unit {0}
+
+-- the next area of the band, and its number in the whole
+abbrev pub IsNextArea : (band count : ℕ) → List Stretch → (area number : ℕ) → Type 0
+IsNextArea band count [] area number = ⊥
+IsNextArea band count (s ∷ stretches) area number = (s.band ≡ band) × (count < stretch_areas s) × (area ≡ s.first + count) × (number ≡ s.number + count)
+
+-- no area of the band comes next: the text ends here, or goes on with another band
+abbrev pub IsBandOver : ℕ → List Stretch → Option AreasFault → Type 0
+IsBandOver band [] fault = fault ≡ None
+IsBandOver band (s ∷ stretches) fault = s.band ≢ band
+
+-- the entry of an area comes next, with this size
+abbrev pub IsEntryOf : (area size : ℕ) → Pairs → Type 0
+IsEntryOf area size [] = ⊥
+IsEntryOf area size (entry ∷ entries) = entry ≡ (Some (pos area) ∷ [], size)
+
+-- another entry comes next, or the end
+abbrev pub IsOtherEntry : ℕ → Pairs → Option TableFault → Type 0
+IsOtherEntry area [] fault = fault ≡ None
+IsOtherEntry area (entry ∷ entries) fault = entry.0 ≢ Some (pos area) ∷ []
+
+-- ---- what is wrong there
+
+-- the table does not go on with the entry of the next area
+pub record HasOtherArea (place : ReadingPlace) (line : ℕ) : Type 0 where
+  pub area : ℕ
+  pub number : ℕ
+  pub next : IsNextArea (place.table + 1) (length place.counted) place.areas.stretches area number
+  pub other : IsOtherEntry area place.left.entries place.left.fault
+  pub at : line ≡ place.table_line
+
+-- all areas of the band are counted, and the table has an entry more, which is not the one of null behind them
+pub record HasEntryMore (place : ReadingPlace) (line : ℕ) : Type 0 where
+  pub over : IsBandOver (place.table + 1) place.areas.stretches place.areas.fault
+  pub none : place.counted ≡ []
+  pub nulls : Pairs
+  pub null : IsNullEntry nulls
+  pub entry : Combination × ℕ
+  pub others : Pairs
+  pub more : place.left.entries ≡ nulls ++ entry ∷ others
+  pub most : nulls ≡ [] → entry.0 ≢ None ∷ []
+  pub at : line ≡ place.table_line + length nulls
+
+-- the next line of the table has a fault, or that behind the entry of null where all areas of the band are counted
+pub record HasTableFault (place : ReadingPlace) (fault : TableFault) : Type 0 where
+  pub on : IsReadOn place.areas.stretches place.areas.fault
+  pub fault_is : place.left.fault ≡ Some fault
+  pub behind : (place.left.entries ≡ []) ⊎ (IsNullEntry place.left.entries × IsBandOver (place.table + 1) place.areas.stretches place.areas.fault × place.counted ≡ [])
+
+-- all stretches are counted, and the next line of the areas text has a fault
+pub record HasAreasFault (place : ReadingPlace) (fault : AreasFault) : Type 0 where
+  pub all : place.areas.stretches ≡ []
+  pub fault_is : place.areas.fault ≡ Some fault
+  pub none : place.counted ≡ []
+  pub on : IsReadOn place.left.entries place.left.fault
+
+-- the next area has its entry, but with its size that of its number comes to 2^64 or more
+pub record HasSumTooGreat (place : ReadingPlace) (number : ℕ) : Type 0 where
+  pub area : ℕ
+  pub next : IsNextArea (place.table + 1) (length place.counted) place.areas.stretches area number
+  pub size : ℕ
+  pub entry : IsEntryOf area size place.left.entries
+  pub one : (0 < number) × (number ≤ length place.sizes)
+  pub great : 2 ^ 64 ≤ slice_index place.sizes (number - 1) + size
+
+-- the next stretch reaches area 2^64 - 2, or 2^64 - 3 lines of the areas text or more are before it
+abbrev pub IsTooLong : List Stretch → ℕ → Type 0
+IsTooLong [] line = line ≡ 2 ^ 64 - 2
+IsTooLong (s ∷ stretches) line = (2 ^ 64 - 2 ≤ s.last) ⊎ (line ≡ 2 ^ 64 - 2)
+
+abbrev pub IsFaultAt : ReadingPlace → SizesFault → Type 0
+IsFaultAt place (Areas fault) = HasAreasFault place fault
+IsFaultAt place (NumberLeftOut number) = ⊥
+IsFaultAt place (NoTable line) = ⊥
+IsFaultAt place (Table table fault) = (table ≡ place.table) × HasTableFault place fault
+IsFaultAt place (OtherArea table line) = (table ≡ place.table) × (HasOtherArea place line ⊎ HasEntryMore place line)
+IsFaultAt place (TooGreat number) = HasSumTooGreat place number
+IsFaultAt place TooLong = IsTooLong place.areas.stretches place.areas_line
+IsFaultAt place Memory = Unit {0}
+IsFaultAt place Write = ⊥
+
+-- ---- the first fault
+
+-- nothing is wrong up to a place, and that is wrong there
+pub record IsFirstSizesFault (areas : AreasReading) (tables : List TableReading) (fault : SizesFault) : Type 0 where
+  pub place : ReadingPlace
+  pub read : AreReadTo areas tables place
+  pub wrong : IsFaultAt place fault
+
+-- the areas text has a fault on its first line, before any table is read
+abbrev pub HasFaultOnFirstLine : AreasReading → AreasFault → Type 0
+HasFaultOnFirstLine areas fault = (areas.stretches ≡ []) × (areas.fault ≡ Some fault)
+
+-- all tables are those of their bands, behind which these stretches of the areas text are left; and the sizes of all areas of
+-- these bands are added up by the numbers that the text tells
+pub record AreAllRead (areas : AreasReading) (tables : List TableReading) (left : List Stretch) : Type 0 where
+  pub parts : List BandSizes
+  pub good : AreTablesOfBands 1 parts tables
+  pub stretches : areas.stretches ≡ stretches_of_parts parts ++ left
+  pub sizes : List ℕ
+  pub sums : HasSums (numbers_told (stretches_of_parts parts)) (sizes_of_parts parts) sizes
+
+-- all tables are read, and the areas text goes on with a stretch of another band than the last of them
+pub record HasNoTable (areas : AreasReading) (tables : List TableReading) (line : ℕ) : Type 0 where
+  pub stretch : Stretch
+  pub others : List Stretch
+  pub read : AreAllRead areas tables (stretch ∷ others)
+  pub other : 0 < length tables → stretch.band ≢ length tables
+  pub at : line ≡ areas_line_behind (length (stretches_of_parts read.parts))
+
+-- all tables are read, and the areas text ends there; this number, below the greatest, is that of no area, and each before it of one
+pub record HasNumberLeftOut (areas : AreasReading) (tables : List TableReading) (number : ℕ) : Type 0 where
+  pub read : AreAllRead areas tables []
+  pub ended : areas.fault ≡ None
+  pub below : (0 < number) × (number < length read.sizes)
+  pub none : Contains (numbers_told areas.stretches) number → ⊥
+  pub before : (n : ℕ) → 0 < n → n < number → Contains (numbers_told areas.stretches) n
+
+-- why sizes are not added up; of being out of memory and of a failed write nothing is said of the texts
+abbrev pub IsSizesFault : AreasReading → List TableReading → SizesFault → Type 0
+IsSizesFault areas tables (Areas fault) = HasFaultOnFirstLine areas fault ⊎ IsFirstSizesFault areas tables (Areas fault)
+IsSizesFault areas tables (NumberLeftOut number) = HasNumberLeftOut areas tables number
+IsSizesFault areas tables (NoTable line) = HasNoTable areas tables line
+IsSizesFault areas tables (Table table fault) = IsFirstSizesFault areas tables (Table table fault)
+IsSizesFault areas tables (OtherArea table line) = IsFirstSizesFault areas tables (OtherArea table line)
+IsSizesFault areas tables (TooGreat number) = IsFirstSizesFault areas tables (TooGreat number)
+IsSizesFault areas tables TooLong = IsFirstSizesFault areas tables TooLong
+IsSizesFault areas tables Memory = Unit {0}
+IsSizesFault areas tables Write = Unit {0}

@@ -1,0 +1,96 @@
+-- A table read beside the stretches of its band.
+use Rattle.std.specs.Prelude.{ℕ, pos, ◌≡◌, ◌≢◌, ◌++◌, ◌+◌, true, List, [], ◌∷◌, length, map, All, Option, Some, None, IfSome}
+use Rattle.std.specs.Option.{option_map}
+use Rattle.std.specs.List.{range_with_len}
+use Rattle.cell_stats_combinations.specs.Combinations.{Combination}
+use Rattle.cell_stats.specs.CategoryTables.{Pairs}
+use Rattle.cell_join_lines.specs.LineReading.{TableReading, reading_of}
+use Rattle.cell_core_devices.specs.Blocks.{capped_count}
+use Rattle.cell_core_devices.specs.Device.{Coming, Faults, append_known, has_failed}
+use Rattle.cell_stats.specs.TableText.{FormatValue}
+use Rattle.cell_join_lines.specs.TableLines.{entries_text}
+use Rattle.cell_join_tables.specs.JoinedTexts.{Give}
+use Rattle.cell_join_sizes.specs.declared.size_fault.SizesFault.{SizesFault}
+use Rattle.cell_join_sizes.specs.declared.size_fault.SizesFault.TheVariants.{Write}
+use Rattle.cell_join_lines.specs.declared.stretch.Stretch.{Stretch}
+use Rattle.cell_join_lines.specs.AreasReading.{AreasReading, areas_reading_of}
+use Rattle.cell_join_lines.specs.AreasText.{numbers_told}
+use Rattle.cell_join_lines.specs.TextOfAreas.{AreasTextValue, areas_from}
+use Rattle.cell_join_sizes.specs.parts.Stops.{lines_behind}
+use Rattle.cell_join_sizes.specs.SizeTexts.{AreTablesOfBands, BandSizes, IsNullEntry, IsTableOfBand, entries_of_areas, number_entries, sizes_of_parts, stretches_of_parts}
+use Rattle.cell_join_sizes.specs.parts.Tally.{Tallies}
+
+-- entries, and then what else is read
+abbrev pub with_entries : Pairs → TableReading → TableReading
+with_entries entries others = record { entries = entries ++ others.entries; fault = others.fault }
+
+-- stretches, and then what else is read
+abbrev pub with_stretches : List Stretch → AreasReading → AreasReading
+with_stretches stretches others = record { stretches = stretches ++ others.stretches; fault = others.fault }
+
+-- the entry of an area, with its size
+abbrev pub area_entry : ℕ → ℕ → Combination × ℕ
+area_entry area size = (Some (pos area) ∷ [], size)
+
+-- so many areas from one on were read from a table, and their sizes added to those of numbers from one on
+pub record HasCountedAreas (first number count : ℕ) (table left : Option TableReading) (old new : List ℕ) : Type 0 where
+  pub sizes : List ℕ
+  pub many : length sizes ≡ count
+  pub reads : table ≡ option_map (with_entries (number_entries first sizes)) left
+  pub tallies : Tallies old (range_with_len number count) sizes new
+
+-- a head other than the entry of an area, or none
+abbrev pub IsHeadOfOther : ℕ → Option (Combination × ℕ) → Type 0
+IsHeadOfOther area None = Unit {0}
+IsHeadOfOther area (Some entry) = entry.0 ≢ Some (pos area) ∷ []
+
+-- the entry of null
+abbrev pub IsHeadOfNull : Option (Combination × ℕ) → Type 0
+IsHeadOfNull None = ⊥
+IsHeadOfNull (Some entry) = entry.0 ≡ None ∷ []
+
+-- the stretches of a band were read, from a line to another, and its areas from a table up to this line
+pub record HasCountedBand (band line start now : ℕ) (areas after : Option AreasReading) (table left : Option TableReading) (old new : List ℕ) : Type 0 where
+  pub part : BandSizes
+  pub own : All (λ (s : Stretch). s.band ≡ band) part.stretches
+  pub told : areas ≡ option_map (with_stretches part.stretches) after
+  pub areas_line : now ≡ lines_behind start (length part.stretches)
+  pub many : length part.sizes ≡ length (numbers_told part.stretches)
+  pub table_line : line ≡ length part.sizes + 1
+  pub reads : table ≡ option_map (with_entries (entries_of_areas part.stretches part.sizes)) left
+  pub tallies : Tallies old (numbers_told part.stretches) part.sizes new
+
+-- nothing is left of a table, or an entry of null
+abbrev pub IsLeftOver : TableReading → Type 0
+IsLeftOver reading = IsNullEntry reading.entries × (reading.fault ≡ None)
+
+-- a table was read to its end, where it is known
+pub record HasReadBand (band start now : ℕ) (areas after : Option AreasReading) (table : Option TableReading) (old new : List ℕ) : Type 0 where
+  pub part : BandSizes
+  pub told : areas ≡ option_map (with_stretches part.stretches) after
+  pub areas_line : now ≡ lines_behind start (length part.stretches)
+  pub listed : IfSome table (IsTableOfBand band part)
+  pub tallies : Tallies old (numbers_told part.stretches) part.sizes new
+
+-- the lines of sizes were put on a sink: all, or the first of them where it failed
+pub record HasPutSizes (format : FormatValue) (sizes : List ℕ) (before now : Option (List ℕ)) (start faults : Faults) (written : ℕ) (fault : Option SizesFault) : Type 0 where
+  pub front : List ℕ
+  pub rest : List ℕ
+  pub whole : front ++ rest ≡ entries_text format (number_entries 1 sizes)
+  pub taken : now ≡ append_known before front
+  pub count : written ≡ capped_count (length front)
+  pub all : fault ≡ None → (rest ≡ []) × (faults ≡ start)
+  pub write : IfSome fault (λ f. (f ≡ Write) × (has_failed faults ≡ true))
+
+-- the tables before those that are left were read, and all areas of their bands
+pub record HasAddedTables {R : Type 0} (coming : R → Option Coming) (format : FormatValue) (text : Coming) (texts : List Coming) (areas : AreasTextValue) (left : List R) (place : ℕ) (sizes : List ℕ) : Type 0 where
+  pub others : List Coming
+  pub give : Give coming left others
+  pub first : List TableReading
+  pub readings : map (reading_of format 1) texts ≡ first ++ map (reading_of format 1) others
+  pub parts : List BandSizes
+  pub count : length parts ≡ place
+  pub listed : AreTablesOfBands 1 parts first
+  pub told : Some (areas_reading_of text) ≡ option_map (with_stretches (stretches_of_parts parts)) (areas_from areas)
+  pub areas_line : areas.line ≡ lines_behind 2 (length (stretches_of_parts parts))
+  pub tallies : Tallies [] (numbers_told (stretches_of_parts parts)) (sizes_of_parts parts) sizes

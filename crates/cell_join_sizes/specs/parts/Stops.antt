@@ -1,0 +1,117 @@
+-- Where counting stopped: within a stretch, within a band, at the end of a table.
+use Rattle.std.specs.Prelude.{ℕ, ◌≡◌, ◌≢◌, ◌+◌, ◌-◌, ◌^◌, ◌<◌, ◌≤◌, min, List, [], ◌++◌, length, All}
+use Rattle.std.specs.List.{range_with_len}
+use Rattle.cell_join_lines.specs.LineReading.{TableReading}
+use Rattle.cell_join_lines.specs.declared.table_fault.TableFault.{TableFault}
+use Rattle.cell_join_lines.specs.declared.table_fault.TableKind.TheVariants as table_kinds
+use Rattle.cell_join_lines.specs.AreasReading.{AreasReading, with_stretch}
+use Rattle.cell_join_lines.specs.AreasText.{numbers_told}
+use Rattle.cell_join_lines.specs.declared.stretch.Stretch.{Stretch}
+use Rattle.cell_join_lines.specs.declared.areas_fault.AreasFault.{AreasFault}
+use Rattle.cell_join_lines.specs.declared.areas_fault.AreasKind.TheVariants as areas_kinds
+use Rattle.cell_join_sizes.specs.SizeTexts.{BandSizes, entries_of_areas, number_entries, stretch_areas}
+use Rattle.cell_join_sizes.specs.SizeFaults.{AreOfNextStretch, IsBandOver, IsFaultAt, ReadingPlace, first_area, first_number}
+use Rattle.cell_join_sizes.specs.declared.size_fault.SizesFault.{SizesFault}
+use Rattle.cell_join_sizes.specs.declared.size_fault.SizesFault.TheVariants.{Areas, NumberLeftOut, NoTable, Table, OtherArea, TooGreat, TooLong, Memory, Write}
+use Rattle.cell_join_sizes.specs.declared.tally.TallyFault.{TallyFault}
+use Rattle.cell_join_sizes.specs.declared.tally.TallyFault.TheVariants as tally_faults
+use Rattle.cell_join_sizes.specs.parts.Tally.{Tallies}
+
+-- ---- how a fault of a part is told
+
+abbrev pub TellsAreasFault : AreasFault → SizesFault → Type 0
+TellsAreasFault fault (Areas told) = (told ≡ fault) × (fault.kind ≢ areas_kinds.Memory)
+TellsAreasFault fault (NumberLeftOut number) = ⊥
+TellsAreasFault fault (NoTable line) = ⊥
+TellsAreasFault fault (Table table told) = ⊥
+TellsAreasFault fault (OtherArea table line) = ⊥
+TellsAreasFault fault (TooGreat number) = ⊥
+TellsAreasFault fault TooLong = ⊥
+TellsAreasFault fault Memory = Unit {0}
+TellsAreasFault fault Write = ⊥
+
+abbrev pub TellsTableFault : ℕ → TableFault → SizesFault → Type 0
+TellsTableFault place fault (Areas told) = ⊥
+TellsTableFault place fault (NumberLeftOut number) = ⊥
+TellsTableFault place fault (NoTable line) = ⊥
+TellsTableFault place fault (Table table told) = (table ≡ place) × (told ≡ fault) × (fault.kind ≢ table_kinds.Memory)
+TellsTableFault place fault (OtherArea table line) = ⊥
+TellsTableFault place fault (TooGreat number) = ⊥
+TellsTableFault place fault TooLong = ⊥
+TellsTableFault place fault Memory = Unit {0}
+TellsTableFault place fault Write = ⊥
+
+abbrev pub TellsTallyFault : (number : ℕ) → TallyFault → SizesFault → Type 0
+TellsTallyFault number tally_faults.TooGreat told = told ≡ TooGreat number
+TellsTallyFault number tally_faults.Memory told = told ≡ Memory
+
+-- ---- what the next stretch is
+
+-- at the start of the band behind so many
+abbrev pub IsBandStart : ℕ → Stretch → Type 0
+IsBandStart bands s = (s.first ≡ 1) × (s.first ≤ s.last) × (0 < bands → s.band ≢ bands)
+
+-- behind the areas of a band up to that of this line
+abbrev pub IsNextIn : (band line : ℕ) → Stretch → Type 0
+IsNextIn band line s = (s.first ≤ s.last) × (s.band ≡ band → s.first ≡ line) × (s.band ≢ band → s.first ≡ 1)
+
+-- ---- where it stopped
+
+-- so many lines of an areas text behind one; from 2^64 - 1 on they are not told apart
+abbrev pub lines_behind : (start count : ℕ) → ℕ
+lines_behind start count = min (start + count) (2 ^ 64 - 1)
+
+abbrev pub place_in_stretch : (table line : ℕ) → Stretch → (counted : List ℕ) → TableReading → (sizes : List ℕ) → AreasReading → ReadingPlace
+place_in_stretch table line s counted left sizes others = record {
+  areas = with_stretch s others;
+  areas_line = line;
+  table = table;
+  left = left;
+  table_line = s.first + length counted;
+  counted = counted;
+  sizes = sizes;
+}
+
+-- within a stretch, of which the first areas are counted
+pub record HasStoppedInStretch (place : ℕ) (s : Stretch) (table : TableReading) (old : List ℕ) (fault : SizesFault) : Type 0 where
+  pub counted : List ℕ
+  pub few : length counted ≤ stretch_areas s
+  pub left : TableReading
+  pub entries : table.entries ≡ number_entries s.first counted ++ left.entries
+  pub table_end : table.fault ≡ left.fault
+  pub sizes : List ℕ
+  pub tallies : Tallies old (range_with_len s.number (length counted)) counted sizes
+  pub wrong : (line : ℕ) (others : AreasReading) → IsFaultAt (place_in_stretch place line s counted left sizes others) fault
+
+-- within a band, of which the first stretches are counted, and the first areas of the next
+pub record HasStoppedInBand (place start : ℕ) (areas : AreasReading) (table : TableReading) (old : List ℕ) (fault : SizesFault) : Type 0 where
+  pub at : ReadingPlace
+  pub own_table : at.table ≡ place
+  pub part : BandSizes
+  pub own : All (λ (s : Stretch). s.band ≡ at.table + 1) part.stretches
+  pub many : length part.sizes ≡ length (numbers_told part.stretches)
+  pub begun : AreOfNextStretch (at.table + 1) at.counted at.areas.stretches
+  pub stretches : areas.stretches ≡ part.stretches ++ at.areas.stretches
+  pub areas_end : areas.fault ≡ at.areas.fault
+  pub areas_line : at.areas_line ≡ lines_behind start (length part.stretches) - 1
+  pub entries : table.entries ≡ (entries_of_areas part.stretches part.sizes ++ number_entries (first_area at.areas.stretches) at.counted) ++ at.left.entries
+  pub table_end : table.fault ≡ at.left.fault
+  pub table_line : at.table_line ≡ length part.sizes + length at.counted + 1
+  pub tallies : Tallies old (numbers_told part.stretches ++ range_with_len (first_number at.areas.stretches) (length at.counted)) (part.sizes ++ at.counted) at.sizes
+  pub wrong : IsFaultAt at fault
+
+abbrev pub place_at_end : (table line : ℕ) → (areas : AreasReading) → (areas_line : ℕ) → TableReading → List ℕ → ReadingPlace
+place_at_end table line areas areas_line left sizes = record {
+  areas = areas;
+  areas_line = areas_line;
+  table = table;
+  left = left;
+  table_line = line;
+  counted = [];
+  sizes = sizes;
+}
+
+-- behind all areas of a band
+abbrev pub HasStoppedAtEnd : (place line : ℕ) → TableReading → SizesFault → Type 0
+HasStoppedAtEnd place line table fault = (areas : AreasReading) (areas_line : ℕ) (sizes : List ℕ) → IsBandOver (place + 1) areas.stretches areas.fault
+    → IsFaultAt (place_at_end place line areas areas_line table sizes) fault

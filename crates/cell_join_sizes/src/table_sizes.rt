@@ -1,0 +1,367 @@
+//! Sizes of the areas of the whole map, of an areas text and the tables of the numbers of bands.
+
+ghost use Rattle.std.specs.Prelude.{◌≡◌, ◌≢◌, ◌+◌, ◌-◌, ◌<◌, ◌≤◌, ◌^◌, ◌∷◌, [], ℕ, List, None, Some, IfErr, IfOk, IfSome, MatchOption, OnOk, map, pos, option_map, false, true};
+ghost use Rattle.cell_core_devices.specs.Blocks.{Appends};
+ghost use Rattle.cell_core_devices.specs.Device.{Coming, has_failed};
+ghost use Rattle.cell_join_tables.specs.JoinedTexts.{Give};
+ghost use Rattle.cell_join_lines.specs.LineReading.{reading_of};
+ghost use Rattle.cell_join_lines.specs.TextReading.{reading_from};
+ghost use Rattle.cell_join_lines.specs.AreasReading.{areas_reading_of};
+ghost use Rattle.cell_join_lines.specs.TextOfAreas.{areas_from};
+ghost use Rattle.cell_join_sizes.specs.SizeTexts.{HasStopped, HasWrittenSizes, HaveSizes, stretch_areas};
+ghost use Rattle.cell_join_sizes.specs.SizeFaults.{IsSizesFault};
+ghost use Rattle.cell_join_sizes.specs.parts.Counting.{HasCountedAreas, HasCountedBand, HasPutSizes, HasReadBand, IsHeadOfNull, IsHeadOfOther, IsLeftOver, area_entry};
+ghost use Rattle.cell_join_sizes.specs.parts.Stops.{HasStoppedAtEnd, HasStoppedInBand, HasStoppedInStretch, IsBandStart, TellsAreasFault, TellsTableFault, TellsTallyFault};
+
+use crate::size_fault::SizesFault;
+use crate::size_lines::write_sizes;
+use crate::tally::{TallyFault, add_size, first_without_size};
+use cell_core::block::OutputBlock;
+use cell_core::sink::Sink;
+use cell_core::source::Source;
+use cell_stats::format::Format;
+use cell_stats_combinations::combination::Combo;
+use cell_join_lines::table_fault::{TableFault, TableKind};
+use cell_join_lines::text::TableText;
+use cell_join_lines::areas_fault::{AreasFault, AreasKind};
+use cell_join_lines::reading::AreasText;
+use cell_join_lines::stretch::Stretch;
+use std::alloc::Global;
+
+/// What adding sizes did.
+#[derive(Clone, Copy, Debug, PartialEq, Eq)]
+pub struct SizesOutcome {
+    /// The number of bytes that the sink took, or the greatest `u64` where it took more.
+    pub written: u64,
+    /// Why not all sizes are written.
+    pub fault: Option<SizesFault>,
+}
+
+// The fault of an areas text.
+fn of_areas(fault: AreasFault) -> SizesFault
+    ensures { TellsAreasFault fault result }
+{
+    match fault.kind {
+        AreasKind::Memory => SizesFault::Memory,
+        _ => SizesFault::Areas(fault),
+    }
+}
+
+// The fault of a table.
+fn of_table(table: usize, fault: TableFault) -> SizesFault
+    ensures { TellsTableFault table fault result }
+{
+    match fault.kind {
+        TableKind::Memory => SizesFault::Memory,
+        _ => SizesFault::Table { table, fault },
+    }
+}
+
+// The fault of a sum.
+fn of_tally(number: u64, fault: TallyFault) -> SizesFault
+    ensures { TellsTallyFault number fault result }
+{
+    match fault {
+        TallyFault::TooGreat => SizesFault::TooGreat { number },
+        TallyFault::Memory => SizesFault::Memory,
+    }
+}
+
+// The only cell of a combination, if it has one and that is a number.
+fn number_of(combo: &Combo) -> Option<u64>
+    ensures { MatchOption result ((n : ℕ) → combo.now ≢ Some (pos n) ∷ [])
+        (λ n. combo.now ≡ Some (pos n) ∷ []) }
+{
+    let [cell] = combo.cells() else {
+        return None;
+    };
+    match u64::try_from(cell.get()?) {
+        Ok(number) => Some(number),
+        Err(_) => None,
+    }
+}
+
+// The size of an area, where the head is its entry.
+fn size_of(head: &Option<(Combo, u64)>, area: u64) -> Option<u64>
+    ensures { MatchOption result (IsHeadOfOther area head.now)
+        (λ size. head.now ≡ Some (area_entry area size)) }
+{
+    match head {
+        Some((combo, size)) if number_of(combo) == Some(area) => Some(*size),
+        _ => None,
+    }
+}
+
+// Whether the head is an entry of null.
+fn is_null(head: &Option<(Combo, u64)>) -> bool
+    ensures null { result ≡ true → IsHeadOfNull head.now }
+    ensures other { result ≡ false → IfSome head.now (λ entry. entry.0 ≢ None ∷ []) }
+{
+    match head {
+        Some((combo, _)) => match combo.cells() {
+            [cell] => cell.get().is_none(),
+            _ => false,
+        },
+        None => false,
+    }
+}
+
+// Reads the areas of a stretch from the table of the band in a place, and adds their sizes.
+fn add_stretch<R: Source>(
+    alloc: Global,
+    format: &Format,
+    stretch: Stretch,
+    place: usize,
+    table: &mut TableText<R>,
+    sizes: &mut Vec<u64>,
+) -> Result<(), SizesFault>
+    requires own { stretch.band ≡ place + 1 }
+    requires forward { stretch.first ≤ stretch.last }
+    ensures counted { OnOk result (HasCountedAreas stretch.first stretch.number
+        (stretch_areas stretch)
+        (reading_from format.now table.old) (reading_from format.now table.new)
+        sizes.old.items sizes.new.items) }
+    ensures short { OnOk result (stretch.last + 1 < 2 ^ 64 - 1) }
+    ensures stopped { IfErr result (λ fault. IfSome (reading_from format.now table.old) (λ reading.
+        HasStoppedInStretch place stretch reading sizes.old.items fault)) }
+    ensures unwritten { IfErr result (λ fault. fault ≢ SizesFault.Write) }
+{
+    'areas: for area in stretch.first..u64::MAX {
+        if stretch.last < area {
+            return Ok(());
+        }
+        let Some(size) = size_of(table.head(), area) else {
+            return Err(SizesFault::OtherArea {
+                table: place,
+                line: area,
+            });
+        };
+        let Some(number) = stretch.number.checked_add(area - stretch.first) else {
+            // No memory has a place for this number.
+            return Err(SizesFault::Memory);
+        };
+        if let Err(fault) = add_size(sizes, number, size) {
+            return Err(of_tally(number, fault));
+        }
+        if let Err(fault) = table.next(alloc, format) {
+            return Err(of_table(place, fault));
+        }
+    }
+    Err(SizesFault::TooLong)
+}
+
+// Reads the stretches of a band, and their areas from its table. Returns the number of the line behind the areas.
+fn add_stretches<A: Source, R: Source>(
+    alloc: Global,
+    format: &Format,
+    place: usize,
+    band: u64,
+    areas: &mut AreasText<A>,
+    table: &mut TableText<R>,
+    sizes: &mut Vec<u64>,
+) -> Result<u64, SizesFault>
+    requires own { band ≡ place + 1 }
+    requires lines { areas.old.line < 2 ^ 64 }
+    requires start { IfSome areas.old.head (IsBandStart place) }
+    ensures counted { IfOk result (λ line. HasCountedBand band line areas.old.line areas.new.line
+        (areas_from areas.old) (areas_from areas.new)
+        (reading_from format.now table.old) (reading_from format.now table.new)
+        sizes.old.items sizes.new.items) }
+    ensures over { OnOk result (IfSome areas.new.head (IsBandStart band)) }
+    ensures short { IfOk result (λ line. line + 1 < 2 ^ 64) }
+    ensures stopped { IfErr result (λ fault. IfSome (areas_from areas.old) (λ text. IfSome
+        (reading_from format.now table.old) (λ reading. HasStoppedInBand place areas.old.line
+        text reading sizes.old.items fault))) }
+    ensures unwritten { IfErr result (λ fault. fault ≢ SizesFault.Write) }
+{
+    let mut line = 1;
+    'stretches: for step in 0..u64::MAX {
+        let Some(stretch) = areas.stretch() else {
+            return Ok(line);
+        };
+        if stretch.band != band {
+            return Ok(line);
+        }
+        add_stretch(alloc, format, stretch, place, table, sizes)?;
+        line = stretch.last.saturating_add(1);
+        if let Err(fault) = areas.next(alloc) {
+            return Err(of_areas(fault));
+        }
+    }
+    Err(SizesFault::TooLong)
+}
+
+// Reads what is left of a table, which may be an entry of null, and nothing else.
+fn end_table<R: Source>(
+    alloc: Global,
+    format: &Format,
+    place: usize,
+    line: u64,
+    table: &mut TableText<R>,
+) -> Result<(), SizesFault>
+    requires { line + 1 < 2 ^ 64 }
+    ensures left { OnOk result (IfSome (reading_from format.now table.old) IsLeftOver) }
+    ensures stopped { IfErr result (λ fault. IfSome (reading_from format.now table.old)
+        (λ reading. HasStoppedAtEnd place line reading fault)) }
+    ensures unwritten { IfErr result (λ fault. fault ≢ SizesFault.Write) }
+{
+    let mut last = line;
+    if is_null(table.head()) {
+        last = line.saturating_add(1);
+        if let Err(fault) = table.next(alloc, format) {
+            return Err(of_table(place, fault));
+        }
+    }
+    if table.head().is_some() {
+        return Err(SizesFault::OtherArea {
+            table: place,
+            line: last,
+        });
+    }
+    Ok(())
+}
+
+// Reads the stretches of the band in a place, and its table.
+fn add_band<A: Source, R: Source + Drop>(
+    alloc: Global,
+    format: &Format,
+    place: usize,
+    areas: &mut AreasText<A>,
+    source: R,
+    sizes: &mut Vec<u64>,
+) -> Result<(), SizesFault>
+    requires places { place + 1 < 2 ^ 64 }
+    requires lines { areas.old.line < 2 ^ 64 }
+    requires start { IfSome areas.old.head (IsBandStart place) }
+    ensures band { OnOk result (HasReadBand (place + 1) areas.old.line areas.new.line
+        (areas_from areas.old) (areas_from areas.new)
+        (option_map (reading_of format.now 1) (R.coming source))
+        sizes.old.items sizes.new.items) }
+    ensures over { OnOk result (IfSome areas.new.head (IsBandStart (place + 1))) }
+    ensures stopped { IfErr result (λ fault. IfSome (areas_from areas.old) (λ text. IfSome
+        (option_map (reading_of format.now 1) (R.coming source)) (λ reading. HasStoppedInBand
+        place areas.old.line text reading sizes.old.items fault))) }
+    ensures unwritten { IfErr result (λ fault. fault ≢ SizesFault.Write) }
+{
+    let mut table = match TableText::from_source(alloc, format, 1, source) {
+        Ok(table) => table,
+        Err(fault) => return Err(of_table(place, fault)),
+    };
+    let band = place as u64 + 1;
+    let line = add_stretches(alloc, format, place, band, areas, &mut table, sizes)?;
+    end_table(alloc, format, place, line, &mut table)?;
+    Ok(())
+}
+
+// The sizes of all areas of the whole.
+fn add_tables<R: Source + Drop>(
+    alloc: Global,
+    format: &Format,
+    areas: R,
+    tables: Vec<R>,
+) -> Result<Vec<u64>, SizesFault>
+    ensures sizes { IfOk result (λ sizes. (text : Coming) (texts : List Coming)
+        → R.coming areas ≡ Some text
+        → Give R.coming tables.items texts
+        → HaveSizes (areas_reading_of text) (map (reading_of format.now 1) texts) sizes.items) }
+    ensures fault { IfErr result (λ fault. (text : Coming) (texts : List Coming)
+        → R.coming areas ≡ Some text
+        → Give R.coming tables.items texts
+        → IsSizesFault (areas_reading_of text) (map (reading_of format.now 1) texts) fault) }
+    ensures unwritten { IfErr result (λ fault. fault ≢ SizesFault.Write) }
+{
+    let mut text = match AreasText::begin(alloc, areas) {
+        Ok(text) => text,
+        Err(fault) => return Err(of_areas(fault)),
+    };
+    let mut sizes = Vec::new(alloc);
+    let mut place = 0;
+    for source in tables {
+        add_band(alloc, format, place, &mut text, source, &mut sizes)?;
+        place += 1;
+    }
+    if text.stretch().is_some() {
+        return Err(SizesFault::NoTable {
+            line: text.stretch_line(),
+        });
+    }
+    match first_without_size(sizes.as_slice()) {
+        Some(number) => Err(SizesFault::NumberLeftOut { number }),
+        None => Ok(sizes),
+    }
+}
+
+// Flushes the sink unless it refused a put, and answers.
+fn finish<W: Sink>(failed: bool, out: &mut W) -> Option<SizesFault>
+    ensures taken { W.taken out.new ≡ W.taken out.old }
+    ensures flushed { result ≡ None → (failed ≡ false) × (W.faults out.new ≡ W.faults out.old) }
+    ensures write { IfSome result (λ fault. fault ≡ SizesFault.Write) }
+    ensures fails { IfSome result (λ fault. failed ≡ false → has_failed (W.faults out.new) ≡ true) }
+    ensures kept { failed ≡ true → out.new ≡ out.old }
+{
+    if failed {
+        return Some(SizesFault::Write);
+    }
+    match out.flush() {
+        Ok(()) => None,
+        Err(_) => Some(SizesFault::Write),
+    }
+}
+
+// Writes the lines of sizes, and flushes the sink unless it refused a put.
+fn put_sizes<W: Sink>(out: &mut W, format: &Format, sizes: &[u64]) -> SizesOutcome
+    ensures { HasPutSizes format.now sizes.now (W.taken out.old) (W.taken out.new)
+        (W.faults out.old) (W.faults out.new) result.written result.fault }
+{
+    let mut block = OutputBlock::new();
+    write_sizes(out, &mut block, format, sizes);
+    block.empty(out);
+    let fault = finish(block.has_failed(), out);
+    SizesOutcome {
+        written: block.written(),
+        fault,
+    }
+}
+
+/// Adds up the sizes of the areas of bands by the numbers that an areas text tells, and writes a line for each number, from
+/// 1 on, with the size of its area in the whole: the table of the numbers of the undivided map, without null.
+///
+/// The tables are of the numbers of the bands, in order, each with its counts; an entry of null is passed over. The numbers may
+/// come in any order. Eight bytes of memory are taken for each number up to the greatest, and a block for the areas text and for
+/// the table that is read. Nothing is written before all is read, and whether a number is left out is seen then. The sink is
+/// flushed once at the end, unless it refused a put.
+pub fn join_table_sizes<R: Source + Drop, W: Sink>(
+    alloc: Global,
+    format: &Format,
+    areas: R,
+    tables: Vec<R>,
+    out: &mut W,
+) -> SizesOutcome
+    // Without a fault the areas text is one to its end, each table is that of the areas of its band, and the sink has taken
+    // exactly the lines of the sums.
+    ensures joined { (text : Coming) (texts : List Coming) → R.coming areas ≡ Some text
+        → Give R.coming tables.items texts → result.fault ≡ None
+        → HasWrittenSizes format.now (areas_reading_of text) (map (reading_of format.now 1) texts)
+        (W.taken out.old) (W.taken out.new) result.written }
+    // Where a write failed, the sink has taken a prefix of them; with any other fault nothing.
+    ensures written { (text : Coming) (texts : List Coming) → R.coming areas ≡ Some text
+        → Give R.coming tables.items texts → IfSome result.fault
+        (HasStopped format.now (areas_reading_of text) (map (reading_of format.now 1) texts)
+        (W.taken out.old) (W.taken out.new) result.written) }
+    // A fault is the first that is met where the areas text and the tables are read side by side.
+    ensures fault { (text : Coming) (texts : List Coming) → R.coming areas ≡ Some text
+        → Give R.coming tables.items texts → IfSome result.fault
+        (IsSizesFault (areas_reading_of text) (map (reading_of format.now 1) texts)) }
+    // Of a sink that had not failed before, no fault comes only where it did not fail.
+    ensures sound { result.fault ≡ None → W.faults out.new ≡ W.faults out.old }
+    // A failed write is told only where the sink failed.
+    ensures write { result.fault ≡ Some SizesFault.Write → has_failed (W.faults out.new) ≡ true }
+{
+    match add_tables(alloc, format, areas, tables) {
+        Ok(sizes) => put_sizes(out, format, sizes.as_slice()),
+        Err(fault) => SizesOutcome {
+            written: 0,
+            fault: Some(fault),
+        },
+    }
+}

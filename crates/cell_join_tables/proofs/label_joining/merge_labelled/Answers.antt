@@ -1,0 +1,60 @@
+use Rattle.std.proofs.Common.{◌+◌, Result, Ok, ap, arith}
+use Rattle.cell_join_tables.specs.declared.join_fault.JoinFault.{JoinFault}
+use Rattle.cell_join_tables.specs.declared.label_joining.LabelStep.{LabelStep}
+use Rattle.cell_join_tables.proofs.LabelledEndLemmas.{labelled-all, labelled-fault, labelled-long, labelled-more}
+use Rattle.cell_join_tables.proofs.LabelledEndLemmas.{labelled-none, labelled-other, labelled-write}
+use Rattle.cell_join_tables.proofs.label_joining.merge_labelled.Goals as goal
+
+answer : LabelStep → Result LabelStep JoinFault
+answer step = Ok step
+
+pub lines-init : goal.lines-init
+lines-init g c = labelled-none c.args.format.now c.args.texts.now c.args.texts.now g.W.Sink.taken g.W.Sink.faults
+    c.args.out.now c.args.block.now
+
+pub returns-in-Ok-End-clause-end : goal.returns-in-Ok-End-clause-end
+unfolding answer
+returns-in-Ok-End-clause-end g c =
+    let end = c.in-Ok-End.ensures.end (ap answer c.in-Ok-End.field-0-is) in
+    rw (end.3, end.4)
+    (labelled-all c.args.format.now c.args.texts.now c.lines.texts g.W.Sink.taken g.W.Sink.faults c.args.out.now
+    c.args.block.now c.lines.out c.lines.block c.lines.line c.lines.invariant end.0 end.1)
+
+pub returns-in-Ok-Other-clause-end : goal.returns-in-Ok-Other-clause-end
+unfolding answer
+returns-in-Ok-Other-clause-end g c =
+    let other = c.in-Ok-Other.ensures.other c.in-Ok-Other.told (ap answer c.in-Ok-Other.field-0-is) in
+    rw (other.1, other.2)
+    (labelled-other c.args.format.now c.args.texts.now c.lines.texts g.W.Sink.taken g.W.Sink.faults c.args.out.now
+    c.args.block.now c.lines.out c.lines.block c.lines.line c.lines.invariant c.in-Ok-Other.told other.0)
+
+pub returns-in-Err-clause-end : goal.returns-in-Err-clause-end
+returns-in-Err-clause-end g c =
+    let same = c.in-Err.ensures.err in
+    rw (same.0, same.1)
+    (labelled-fault c.args.format.now c.args.texts.now c.lines.texts g.W.Sink.taken g.W.Sink.faults c.args.out.now
+    c.args.block.now c.lines.out c.lines.block c.lines.line c.lines.invariant c.in-Err.fault c.in-Err.ensures.fault)
+
+pub returns-then-has_failed-clause-end : goal.returns-then-has_failed-clause-end
+unfolding answer
+returns-then-has_failed-clause-end g c =
+    let step = c.in-Ok-Line.ensures.line (ap answer c.in-Ok-Line.field-0-is) in
+    labelled-write c.args.format.now c.args.texts.now c.write_labelled_least.new.texts g.W.Sink.taken
+    g.W.Sink.faults c.args.out.now c.args.block.now c.write_labelled_least.new.out c.write_labelled_least.new.block
+    (c.lines.line + 1)
+    (labelled-more c.args.format.now c.args.texts.now c.lines.texts g.W.Sink.taken g.W.Sink.faults c.args.out.now
+    c.args.block.now c.lines.out c.lines.block c.lines.line c.lines.invariant c.write_labelled_least.new.texts
+    c.write_labelled_least.new.out c.write_labelled_least.new.block step)
+
+pub lines-preserved : goal.lines-preserved
+unfolding answer
+lines-preserved g c =
+    let step = c.in-Ok-Line.ensures.line (ap answer c.in-Ok-Line.field-0-is) in
+    labelled-more c.args.format.now c.args.texts.now c.lines.texts g.W.Sink.taken g.W.Sink.faults c.args.out.now
+    c.args.block.now c.lines.out c.lines.block c.lines.line c.lines.invariant c.write_labelled_least.new.texts
+    c.write_labelled_least.new.out c.write_labelled_least.new.block step
+
+pub returns-clause-end : goal.returns-clause-end
+returns-clause-end g c = labelled-long c.args.format.now c.args.texts.now c.lines.texts g.W.Sink.taken
+    g.W.Sink.faults c.args.out.now c.args.block.now c.lines.out c.lines.block c.lines.line c.lines.invariant
+    (omega arith)

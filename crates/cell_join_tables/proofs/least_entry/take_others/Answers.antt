@@ -1,0 +1,53 @@
+use Rattle.std.proofs.Common.{◌+◌, ◌≤◌, ◌^◌, ℕ, Some, ⊎_elim, refl, sym, ◌∙◌, arith, subst}
+use Rattle.std.proofs.lemmas.Bool.{cases_lt}
+use Rattle.cell_join_lines.specs.TextReading.{TextValue, reading_from}
+use Rattle.cell_join_tables.specs.parts.LeastEntries.{HasGone}
+use Rattle.cell_join_tables.proofs.GoingLemmas.{counted-first, gone-beyond, gone-last, gone-length, gone-more, gone-stops, gone-turns}
+use Rattle.cell_join_tables.proofs.least_entry.take_others.Goals as goal
+
+pub texts-preserved : goal.texts-preserved
+texts-preserved g c = λ readings start.
+    let k = c.args.combo.now in
+    let next = counted-first k c.texts.texts (λ e. e.now) c.first.result c.in-Some.more c.first.ensures
+    (sym c.count_of.ensures ∙ c.in-Some.is) in
+    subst (λ (sum : ℕ). HasGone (λ (text : TextValue). reading_from c.args.format.now text) k readings
+    c.advance.new.self (Some sum) (c.texts.taken + 1)) (sym c.in-Some-checked_add.ensures.1)
+    (gone-more c.args.format.now k readings c.texts.texts (Some c.texts.total) c.texts.taken
+    (c.texts.invariant readings start) c.advance.new.self next.first c.in-Some.more next.goes next.has
+    (c.in-Ok.ensures.reads next.first next.goes))
+
+pub returns-in_default-clause-taken : goal.returns-in_default-clause-taken
+returns-in_default-clause-taken g c = λ readings start.
+    gone-last c.args.format.now c.args.combo.now readings c.texts.texts (Some c.texts.total) c.texts.taken
+    (c.texts.invariant readings start) (λ e. e.now) c.first.result c.texts.total refl c.first.ensures
+    (sym c.count_of.ensures ∙ c.in_default.is)
+
+pub returns-in-Err-clause-fault : goal.returns-in-Err-clause-fault
+returns-in-Err-clause-fault g c = λ readings start.
+    let next = counted-first c.args.combo.now c.texts.texts (λ e. e.now) c.first.result c.in-Some.more
+    c.first.ensures (sym c.count_of.ensures ∙ c.in-Some.is) in
+    gone-stops c.args.format.now c.args.combo.now readings c.texts.texts (Some c.texts.total) c.texts.taken
+    (c.texts.invariant readings start) next.first c.in-Some.more c.in-Err.fault next.goes next.has
+    (c.in-Err.ensures.fault next.first next.goes)
+
+pub returns-in-None-clause-fault : goal.returns-in-None-clause-fault
+returns-in-None-clause-fault g c = λ readings start.
+    let k = c.args.combo.now in
+    let next = counted-first k c.texts.texts (λ e. e.now) c.first.result c.in-Some.more c.first.ensures
+    (sym c.count_of.ensures ∙ c.in-Some.is) in
+    let gone = gone-more c.args.format.now k readings c.texts.texts (Some c.texts.total) c.texts.taken
+    (c.texts.invariant readings start) c.advance.new.self next.first c.in-Some.more next.goes next.has
+    (c.in-Ok.ensures.reads next.first next.goes) in
+    let high : 2 ^ 64 ≤ c.texts.total + c.in-Some.more = ⊎_elim (λ less. absurd (c.in-None.ensures less))
+    (λ more. more) (cases_lt (c.texts.total + c.in-Some.more) (2 ^ 64)) in
+    gone-beyond c.args.format.now k readings c.advance.new.self (Some (c.texts.total + c.in-Some.more))
+    (c.texts.taken + 1) gone (c.texts.total + c.in-Some.more) c.too_many.result refl high c.too_many.ensures.fault
+    c.too_many.ensures.many
+
+pub returns-clause-taken : goal.returns-clause-taken
+returns-clause-taken g c = λ readings start.
+    let format = c.args.format.now in
+    let k = c.args.combo.now in
+    let long = gone-length format k readings c.args.texts.now (Some c.args.count) 1 start in
+    gone-turns format k readings c.texts.texts (Some c.texts.total) c.texts.taken (c.texts.invariant readings start)
+    c.texts.total refl (omega (arith, c.texts-test.false, c.len-taken-end.ensures, long))

@@ -1,0 +1,59 @@
+-- Which fault is met where a text is opened or goes on, and how a merge is answered.
+use Rattle.std.specs.Prelude.{ℕ, ◌≡◌, ◌<◌, Bool, false, List, [], map, slice_get, Option, Some, None, Result, Ok, Err, if◌then◌else◌}
+use Rattle.cell_core_devices.specs.Device.{Faults, after_flush}
+use Rattle.cell_stats_combinations.specs.Combinations.{Combination}
+use Rattle.cell_join_lines.specs.LineReading.{TableReading}
+use Rattle.cell_join_lines.specs.declared.table_fault.TableFault.{TableFault}
+use Rattle.cell_join_tables.specs.JoinedTexts.{HasFault, IsFirstFault, fault_place}
+use Rattle.cell_join_tables.specs.TextHeads.{past_first}
+use Rattle.cell_join_tables.specs.declared.join_fault.JoinFault.{JoinFault}
+use Rattle.cell_join_tables.specs.declared.join_fault.JoinFault.TheVariants.{Text, TooMany, TooLong, Memory, Write}
+
+-- the text at this place has a fault right behind the combination, and those before it went on behind theirs
+pub record StopsBehind (k : Combination) (readings : List TableReading) (text : ℕ) (fault : TableFault) : Type 0 where
+  pub has : HasFault readings text fault
+  pub place : slice_get (map fault_place readings) text ≡ Some (Some (Some k))
+  pub others : (other : ℕ) (reading : TableReading) → other < text → slice_get readings other ≡ Some reading → past_first k reading.entries ≡ [] → reading.fault ≡ None
+
+-- of a fault of a text, that it stops there; of any other nothing
+abbrev pub IsFaultOfText : Combination → List TableReading → JoinFault → Type 0
+IsFaultOfText k readings (Text text fault) = StopsBehind k readings text fault
+IsFaultOfText k readings (TooMany j) = Unit {0}
+IsFaultOfText k readings TooLong = ⊥
+IsFaultOfText k readings Memory = Unit {0}
+IsFaultOfText k readings Write = ⊥
+
+-- why texts are not opened
+abbrev pub IsOpeningFault : List TableReading → JoinFault → Type 0
+IsOpeningFault readings (Text text fault) = IsFirstFault readings text fault
+IsOpeningFault readings (TooMany k) = ⊥
+IsOpeningFault readings TooLong = ⊥
+IsOpeningFault readings Memory = Unit {0}
+IsOpeningFault readings Write = ⊥
+
+-- an answer, where the block has failed or not
+abbrev pub settled : Bool → Result Unit JoinFault → Result Unit JoinFault
+settled failed answer = if failed then Err Write else answer
+
+-- the fault of an answer, where the flush failed or not: one that fails turns what is done into a failed write
+abbrev pub answered : Result Unit JoinFault → Bool → Option JoinFault
+answered (Ok unit) fails = if fails then Some Write else None
+answered (Err fault) fails = Some fault
+
+-- whether the flush failed: after a refused put the sink is not flushed
+abbrev pub fault_flush : JoinFault → Bool → Bool
+fault_flush (Text text fault) fails = fails
+fault_flush (TooMany k) fails = fails
+fault_flush TooLong fails = fails
+fault_flush Memory fails = fails
+fault_flush Write fails = false
+
+abbrev pub join_flush_failed : Result Unit JoinFault → Bool → Bool
+join_flush_failed (Ok unit) fails = fails
+join_flush_failed (Err fault) fails = fault_flush fault fails
+
+-- an answer is given, and the sink flushed
+pub record IsAnswered (answer : Result Unit JoinFault) (old new : Faults) (fault : Option JoinFault) : Type 0 where
+  pub fails : Bool
+  pub told : fault ≡ answered answer fails
+  pub flushed : new ≡ after_flush old (join_flush_failed answer fails)

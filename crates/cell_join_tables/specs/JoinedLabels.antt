@@ -1,0 +1,124 @@
+-- Texts of tables with labels joined to one: which labels an entry of the merge has, and what is written of it.
+use Rattle.std.specs.Prelude.{ℕ, ◌≡◌, ◌≢◌, ◌<◌, List, ◌++◌, length, map, flat_map, codes, decimal, slice_get, Option, Some}
+use Rattle.std.specs.List.{AllByRecursion, Contains}
+use Rattle.cell_core_devices.specs.Blocks.{capped_count}
+use Rattle.cell_core_devices.specs.Device.{Coming, append_known}
+use Rattle.cell_stats_combinations.specs.Combinations.{Combination}
+use Rattle.cell_stats.specs.CategoryTables.{Pairs}
+use Rattle.cell_stats.specs.TableText.{FormatValue}
+use Rattle.cell_parts.specs.TableParts.{IsMerge}
+use Rattle.cell_join_lines.specs.LineLabels.{Labelled, labelled_in}
+use Rattle.cell_join_lines.specs.LineReading.{TableReading}
+use Rattle.cell_join_tables.specs.JoinedTexts.{AreNoneBefore, AreTables, IsJoinFault, IsMergeOf, fault_place, readings_of, tables_of}
+use Rattle.cell_join_tables.specs.declared.join_fault.JoinFault.{JoinFault}
+use Rattle.cell_join_tables.specs.declared.join_fault.JoinFault.TheVariants.{Text, TooMany, TooLong, Memory, Write}
+use Rattle.cell_join_tables.specs.declared.label_fault.OtherLabel.{OtherLabel}
+use Rattle.cell_join_tables.specs.declared.label_fault.LabelFault.{LabelFault}
+use Rattle.cell_join_tables.specs.declared.label_fault.LabelFault.TheVariants as faults
+
+-- a combination with the labels of its categories, and a count
+abbrev pub LabelledEntry : Type 0
+LabelledEntry = Labelled × ℕ
+
+-- the same without the labels
+abbrev pub plain_entry : LabelledEntry → Combination × ℕ
+plain_entry entry = ((entry.0).0, entry.1)
+
+abbrev pub plain_entries : List LabelledEntry → Pairs
+plain_entries entries = map plain_entry entries
+
+-- the combinations with their labels
+abbrev pub labelled_of : List LabelledEntry → List Labelled
+labelled_of entries = map (λ entry. entry.0) entries
+
+-- the line of an entry: its cells and labels as the texts have them, then its count
+abbrev pub counted_line : LabelledEntry → List ℕ
+counted_line entry = ((entry.0).1 ++ decimal entry.1) ++ codes "\n"
+
+-- a line for each entry
+abbrev pub counted_text : List LabelledEntry → List ℕ
+counted_text entries = flat_map counted_line entries
+
+-- what the lines of texts have before their counts
+abbrev pub labels_of_texts : FormatValue → List Coming → List (List Labelled)
+labels_of_texts format texts = map (λ text. labelled_in format text.bytes) texts
+
+-- each line of each text stands among these entries with its labels, so that no two texts label one combination differently
+abbrev pub AreLabelledSo : List (List Labelled) → List LabelledEntry → Type 0
+AreLabelledSo texts entries = AllByRecursion (λ lines. AllByRecursion (λ line. Contains (labelled_of entries) line) lines) texts
+
+-- this is on a line of one of the texts
+abbrev pub IsOfTexts : List (List Labelled) → Labelled → Type 0
+IsOfTexts texts line = (lines : List Labelled) × (Contains texts lines × Contains lines line)
+
+-- each entry has the labels of a line of one of the texts
+abbrev pub AreOfTexts : List (List Labelled) → List LabelledEntry → Type 0
+AreOfTexts texts entries = AllByRecursion (λ entry. IsOfTexts texts entry.0) entries
+
+-- each text is a table to its end, and the sink took exactly the lines of their merge, each with the labels that all texts have
+pub record AreJoinedLabels (format : FormatValue) (texts : List Coming) (before now : Option (List ℕ)) (written : ℕ) : Type 0 where
+  pub tables : AreTables (readings_of format texts)
+  pub merged : List LabelledEntry
+  pub merge : IsMerge (tables_of (readings_of format texts)) (plain_entries merged)
+  pub labels : AreLabelledSo (labels_of_texts format texts) merged
+  pub own : AreOfTexts (labels_of_texts format texts) merged
+  pub taken : now ≡ append_known before (counted_text merged)
+  pub count : written ≡ capped_count (length (counted_text merged))
+
+-- each text is a table to its end, and these are the entries of their merge, with the labels that all texts have
+pub record IsLabelledMerge (format : FormatValue) (texts : List Coming) (merged : List LabelledEntry) : Type 0 where
+  pub whole : IsMergeOf (readings_of format texts) (plain_entries merged)
+  pub labels : AreLabelledSo (labels_of_texts format texts) merged
+
+-- the text at this place has this on one of its lines
+abbrev pub HasLine : List (List Labelled) → ℕ → Labelled → Type 0
+HasLine texts text line = (lines : List Labelled) × ((slice_get texts text ≡ Some lines) × Contains lines line)
+
+-- two texts have the combination with other labels, the first of them before the second, and no fault stands behind a lesser
+-- combination
+pub record HasOtherLabel (readings : List TableReading) (texts : List (List Labelled)) (told : OtherLabel) : Type 0 where
+  pub before : told.first < told.text
+  pub one : HasLine texts told.first (told.combo, told.labelled.items)
+  pub other : HasLine texts told.text (told.combo, told.other.items)
+  pub differ : told.other.items ≢ told.labelled.items
+  pub none : AreNoneBefore told.combo (map fault_place readings)
+
+-- why texts with labels are not joined
+abbrev pub IsLabelFault : FormatValue → List Coming → LabelFault → Type 0
+IsLabelFault format texts (faults.Join fault) = IsJoinFault (readings_of format texts) fault
+IsLabelFault format texts (faults.OtherLabel told) = HasOtherLabel (readings_of format texts) (labels_of_texts format texts) told
+
+-- the first entries of the merge of all that was read, with the labels of their lines
+pub record AreFirst (format : FormatValue) (texts : List Coming) (first : List LabelledEntry) : Type 0 where
+  pub others : Pairs
+  pub merge : IsMerge (tables_of (readings_of format texts)) (plain_entries first ++ others)
+  pub own : AreOfTexts (labels_of_texts format texts) first
+
+-- the sink took the lines of the first entries
+pub record HasLabelledLines (format : FormatValue) (texts : List Coming) (before now : Option (List ℕ)) (written : ℕ) : Type 0 where
+  pub first : List LabelledEntry
+  pub are : AreFirst format texts first
+  pub taken : now ≡ append_known before (counted_text first)
+  pub count : written ≡ capped_count (length (counted_text first))
+
+-- the sink took a prefix of the lines of the first entries
+pub record HasLabelledPrefix (format : FormatValue) (texts : List Coming) (before now : Option (List ℕ)) (written : ℕ) : Type 0 where
+  pub first : List LabelledEntry
+  pub are : AreFirst format texts first
+  pub prefix : List ℕ
+  pub rest : List ℕ
+  pub whole : prefix ++ rest ≡ counted_text first
+  pub taken : now ≡ append_known before prefix
+  pub count : written ≡ capped_count (length prefix)
+
+-- what was written where the texts are not joined: whole lines, but a prefix where a write failed
+abbrev pub HasJoinWritten : FormatValue → List Coming → Option (List ℕ) → Option (List ℕ) → ℕ → JoinFault → Type 0
+HasJoinWritten format texts before now written (Text text fault) = HasLabelledLines format texts before now written
+HasJoinWritten format texts before now written (TooMany k) = HasLabelledLines format texts before now written
+HasJoinWritten format texts before now written TooLong = HasLabelledLines format texts before now written
+HasJoinWritten format texts before now written Memory = HasLabelledLines format texts before now written
+HasJoinWritten format texts before now written Write = HasLabelledPrefix format texts before now written
+
+abbrev pub HasLabelledWritten : FormatValue → List Coming → Option (List ℕ) → Option (List ℕ) → ℕ → LabelFault → Type 0
+HasLabelledWritten format texts before now written (faults.Join fault) = HasJoinWritten format texts before now written fault
+HasLabelledWritten format texts before now written (faults.OtherLabel told) = HasLabelledLines format texts before now written

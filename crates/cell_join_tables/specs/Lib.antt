@@ -1,0 +1,7 @@
+-- Texts of tables merged.
+pub mod JoinAnswers
+pub mod JoinedLabels
+pub mod JoinedTexts
+pub mod MergedTables
+pub mod TextHeads
+pub mod parts

@@ -1,0 +1,71 @@
+-- The order in which texts go on: that of what they go on with, and of two that go on with the same that of their places.
+use Rattle.std.specs.Prelude.{ℕ, ◌≡◌, ◌≢◌, ◌<◌, Bool, true, false, nat_lt, List, [], ◌∷◌, All, Contains, length, map, take, drop, slice_set, slice_index_or, Option, Some, None, IfSome}
+use Rattle.std.specs.List.{AllByRecursion}
+use Rattle.std.specs.declared.cmp.Ordering.{Ordering}
+use Rattle.std.specs.declared.cmp.Ordering.TheVariants.{Less, Equal, Greater}
+use Rattle.cell_stats_combinations.specs.Combinations.{Combination, combination_cmp}
+use Rattle.cell_stats.specs.TableText.{FormatValue}
+use Rattle.cell_join_lines.specs.LineReading.{stopped}
+use Rattle.cell_join_lines.specs.TextReading.{TextValue, combination_of, reading_behind, reading_from}
+use Rattle.cell_join_tables.specs.declared.join_fault.JoinFault.{JoinFault}
+use Rattle.cell_join_tables.specs.declared.join_fault.JoinFault.TheVariants.{Text, TooMany, TooLong, Memory, Write}
+
+-- the combinations that texts go on with
+abbrev pub heads_of : List TextValue → List (Option Combination)
+heads_of texts = map (λ text. combination_of text.head) texts
+
+-- a lesser one goes first, and of two that are the same the earlier one
+abbrev pub lesser_or_earlier : Ordering → Bool → Bool
+lesser_or_earlier Less earlier = true
+lesser_or_earlier Equal earlier = earlier
+lesser_or_earlier Greater earlier = false
+
+-- whether a text at a place goes before one at another; those at their ends go last
+abbrev pub goes_before : Option Combination → ℕ → Option Combination → ℕ → Bool
+goes_before None place None other = nat_lt place other
+goes_before None place (Some b) other = false
+goes_before (Some a) place None other = true
+goes_before (Some a) place (Some b) other = lesser_or_earlier (combination_cmp a b) (nat_lt place other)
+
+abbrev pub before : List (Option Combination) → ℕ → ℕ → Bool
+before heads place other = goes_before (slice_index_or heads place None) place (slice_index_or heads other None) other
+
+-- each place goes before those behind it
+abbrev pub Ascends : List (Option Combination) → List ℕ → Type 0
+Ascends heads [] = Unit {0}
+Ascends heads (place ∷ places) = AllByRecursion (λ other. before heads place other ≡ true) places × Ascends heads places
+
+-- the first so many places, each of them once, in order
+pub record IsOrder (heads : List (Option Combination)) (count : ℕ) (places : List ℕ) : Type 0 where
+  pub within : All (λ place. place < count) places
+  pub each : (place : ℕ) → place < count → Contains places place
+  pub ascends : Ascends heads places
+
+-- of places in order, so many go before another
+abbrev pub AreBefore : List (Option Combination) → List ℕ → ℕ → ℕ → Type 0
+AreBefore heads places other count = AllByRecursion (λ place. before heads place other ≡ true) (take count places) × AllByRecursion (λ place. before heads place other ≡ false) (drop count places)
+
+-- it goes before all others
+pub record GoesFirst (heads : List (Option Combination)) (first : ℕ) : Type 0 where
+  pub within : first < length heads
+  pub others : (other : ℕ) → other < length heads → other ≢ first → before heads first other ≡ true
+
+-- the text that goes first goes on with this entry
+pub record BeginsWith (texts : List TextValue) (entry : Combination × ℕ) : Type 0 where
+  pub first : ℕ
+  pub goes : GoesFirst (heads_of texts) first
+  pub is : (text : TextValue) → (slice_index_or texts first text).head ≡ Some entry
+
+-- the text at a place read its next entry
+pub record ReadsOn (format : FormatValue) (old : List TextValue) (place : ℕ) (new : List TextValue) : Type 0 where
+  pub text : TextValue
+  pub read : reading_behind format (slice_index_or old place text) ≡ reading_from format text
+  pub others : new ≡ slice_set old place text
+
+-- why a text at a place could not read its next entry; of being out of memory nothing is said
+abbrev pub IsFaultBehind : FormatValue → List TextValue → ℕ → JoinFault → Type 0
+IsFaultBehind format texts place (Text text fault) = (text ≡ place) × ((other : TextValue) → IfSome (reading_behind format (slice_index_or texts place other)) (λ reading. reading ≡ stopped fault.line fault.kind))
+IsFaultBehind format texts place (TooMany k) = ⊥
+IsFaultBehind format texts place TooLong = ⊥
+IsFaultBehind format texts place Memory = Unit {0}
+IsFaultBehind format texts place Write = ⊥

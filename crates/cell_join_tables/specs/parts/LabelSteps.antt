@@ -1,0 +1,87 @@
+-- What a merge with labels takes from each text in one step, and what it has taken.
+use Rattle.std.specs.Prelude.{ℕ, ◌≡◌, ◌≢◌, ◌<◌, ◌&&◌, not, bytes_eq, Bool, false, List, [], ◌∷◌, ◌++◌, map, length, slice_get, Option, Some, None, option_map}
+use Rattle.std.specs.List.{AllByRecursion, Contains}
+use Rattle.std.specs.Ordering.{eq_by_cmp}
+use Rattle.cell_core_devices.specs.Blocks.{BlockValue, Appends}
+use Rattle.cell_core_devices.specs.Device.{Faults}
+use Rattle.cell_stats_combinations.specs.Combinations.{Combination, combination_cmp}
+use Rattle.cell_stats.specs.TableText.{FormatValue}
+use Rattle.cell_join_lines.specs.LineLabels.{Labelled, before_count, labelled_from}
+use Rattle.cell_join_lines.specs.TextReading.{TextValue, combination_of, reading_from}
+use Rattle.cell_join_tables.specs.TextHeads.{past_labelled}
+use Rattle.cell_join_tables.specs.parts.Taking.{TakesEntries}
+use Rattle.cell_join_tables.specs.JoinedLabels.{AreOfTexts, LabelledEntry, counted_line, counted_text, plain_entries, plain_entry, labelled_of}
+
+-- whether a combination that may be is this one
+abbrev pub is_combination : Combination → Option Combination → Bool
+is_combination k None = false
+is_combination k (Some own) = eq_by_cmp combination_cmp own k
+
+-- whether a text goes on with the combination
+abbrev pub goes_on_with : Combination → TextValue → Bool
+goes_on_with k text = is_combination k (combination_of text.head)
+
+-- whether it has other labels there
+abbrev pub is_other : FormatValue → Combination → List ℕ → TextValue → Bool
+is_other format k labelled text = goes_on_with k text && not (bytes_eq (before_count format.separator text.line) labelled)
+
+-- what a text goes on with has these labels, if it is of the combination
+abbrev pub AgreesOn : Combination → List ℕ → Option Labelled → Type 0
+AgreesOn k labelled None = Unit {0}
+AgreesOn k labelled (Some line) = line.0 ≡ k → line.1 ≡ labelled
+
+-- what the line of a head has, where there is a head
+abbrev pub labelled_head : FormatValue → TextValue → Option Labelled
+labelled_head format text = option_map (λ entry. (entry.0, before_count format.separator text.line)) text.head
+
+abbrev pub heads_of : FormatValue → List TextValue → List (Option Labelled)
+heads_of format texts = map (labelled_head format) texts
+
+abbrev pub AllAgree : FormatValue → Combination → List ℕ → List TextValue → Type 0
+AllAgree format k labelled texts = AllByRecursion (AgreesOn k labelled) (heads_of format texts)
+
+-- two texts go on with the combination and other labels
+pub record DifferAt (format : FormatValue) (k : Combination) (labelled : List ℕ) (texts : List TextValue) (first text : ℕ) : Type 0 where
+  pub other : List ℕ
+  pub before : first < text
+  pub one : slice_get (heads_of format texts) first ≡ Some (Some (k, labelled))
+  pub two : slice_get (heads_of format texts) text ≡ Some (Some (k, other))
+  pub differ : other ≢ labelled
+
+-- an entry was taken from all texts, which agree on its labels
+pub record HasLabelledStep {S : Type 0} (format : FormatValue) (old new : List TextValue) (taken : S → Option (List ℕ)) (faults : S → Faults) (out : S) (block : BlockValue) (now : S) (after : BlockValue) : Type 0 where
+  pub entry : LabelledEntry
+  pub takes : TakesEntries (λ text. reading_from format text) old new (plain_entry entry ∷ [])
+  pub left : map (λ text. labelled_from format text) new ≡ map (λ text. option_map (past_labelled (entry.0).0) (labelled_from format text)) old
+  pub agree : AllAgree format (entry.0).0 (entry.0).1 old
+  pub own : Contains (heads_of format old) (Some entry.0)
+  pub appends : Appends taken faults out block (counted_line entry) now after
+
+-- the lines before those that are left stand among these
+abbrev pub IsReadPast : List Labelled → List Labelled → List Labelled → Type 0
+IsReadPast done whole left = (passed : List Labelled) × ((whole ≡ passed ++ left) × AllByRecursion (λ line. Contains done line) passed)
+
+abbrev pub ArePassed : List Labelled → List (List Labelled) → List (List Labelled) → Type 0
+ArePassed done [] [] = Unit {0}
+ArePassed done [] (left ∷ lefts) = ⊥
+ArePassed done (whole ∷ wholes) [] = ⊥
+ArePassed done (whole ∷ wholes) (left ∷ lefts) = IsReadPast done whole left × ArePassed done wholes lefts
+
+-- of what the lines of texts have, all that was passed stands among these entries, which have labels of the texts
+pub record HasPassed (format : FormatValue) (wholes : List (List Labelled)) (texts : List TextValue) (done : List LabelledEntry) : Type 0 where
+  pub left : List (List Labelled)
+  pub known : map (λ text. labelled_from format text) texts ≡ map Some left
+  pub passed : ArePassed (labelled_of done) wholes left
+  pub own : AreOfTexts wholes done
+
+-- the same of whatever the lines of texts have
+abbrev pub PassesLines : FormatValue → List TextValue → List TextValue → List LabelledEntry → Type 0
+PassesLines format old new done = (wholes : List (List Labelled)) → map (λ text. labelled_from format text) old ≡ map Some wholes → HasPassed format wholes new done
+
+-- so many entries were taken, and their lines were appended
+pub record HasLabelledMerge {S : Type 0} (format : FormatValue) (old new : List TextValue) (taken : S → Option (List ℕ)) (faults : S → Faults) (out : S) (block : BlockValue) (now : S) (after : BlockValue) (count : ℕ) : Type 0 where
+  pub done : List LabelledEntry
+  pub counted : length done ≡ count
+  pub takes : TakesEntries (λ text. reading_from format text) old new (plain_entries done)
+  pub passes : PassesLines format old new done
+  pub appends : Appends taken faults out block (counted_text done) now after

@@ -1,0 +1,215 @@
+//! Texts of tables with labels joined to one text.
+
+ghost use Rattle.std.specs.Prelude.{◌≡◌, ◌≢◌, List, All, Option, Ok, None, Some, IfErr, IfOk, IfSome, OnErr, map, false, true};
+ghost use Rattle.std.specs.List.{Contains};
+ghost use Rattle.cell_core_devices.specs.Blocks.{Appends};
+ghost use Rattle.cell_core_devices.specs.Device.{Coming, append_known, has_failed};
+ghost use Rattle.cell_stats_combinations.specs.Combinations.{Combination};
+ghost use Rattle.cell_join_lines.specs.LineReading.{TableReading};
+ghost use Rattle.cell_join_lines.specs.TextReading.{reading_from};
+ghost use Rattle.cell_join_tables.specs.JoinedTexts.{Give, IsFaultyAtOnce, readings_of};
+ghost use Rattle.cell_join_tables.specs.parts.MergeEnds.{AreEnded};
+ghost use Rattle.cell_join_tables.specs.parts.Taking.{StepFails};
+ghost use Rattle.cell_join_tables.specs.JoinedLabels.{AreJoinedLabels, HasLabelledWritten, IsLabelFault, IsLabelledMerge, LabelledEntry, counted_line, counted_text};
+ghost use Rattle.cell_join_tables.specs.parts.LabelEnds.{IsLabelledEnd, StopsAtLabels, answer_of, label_fault_of, other_of};
+ghost use Rattle.cell_join_tables.specs.parts.LabelSteps.{HasLabelledStep};
+
+use crate::label_fault::{LabelFault, OtherLabel};
+use crate::labels_at::{compare_labels, other_label};
+use cell_core::block::OutputBlock;
+use cell_core::sink::Sink;
+use cell_core::source::Source;
+use cell_stats::format::Format;
+use cell_stats_combinations::combination::Combo;
+use cell_join_lines::text::TableText;
+use crate::join_fault::JoinFault;
+use crate::text_heads::take_all;
+use crate::text_joining::{finish, least_copy, open_texts, settle};
+use itoa::Buffer;
+use std::alloc::Global;
+
+/// What joining texts with labels did.
+#[derive(Debug, Drop)]
+pub struct LabelOutcome {
+    /// The number of bytes that the sink took, or the greatest `u64` where it took more.
+    pub written: u64,
+    /// Why the texts are not joined.
+    pub fault: Option<LabelFault>,
+}
+
+// What a step of the merge did.
+#[derive(Debug, Drop)]
+enum LabelStep {
+    Line,
+    End,
+    Other(OtherLabel),
+}
+
+// Writes a line: what stands before its count, and the count.
+fn write_counted<W: Sink>(out: &mut W, block: &mut OutputBlock, labelled: &[u8], count: u64)
+    ensures { (k : Combination) → Appends W.taken W.faults out.old block.old
+        (counted_line ((k, labelled.now), count)) out.new block.new }
+{
+    block.push(out, labelled);
+    block.push(out, Buffer::new().format(count).as_bytes());
+    block.push(out, b"\n");
+}
+
+// Takes the least entry of all, writes its line with the labels that all texts have, and tells whether there was one.
+fn write_labelled_least<R: Source, W: Sink>(
+    alloc: Global,
+    format: &Format,
+    texts: &mut [TableText<R>],
+    labelled: &mut Vec<u8>,
+    block: &mut OutputBlock,
+    out: &mut W,
+) -> Result<LabelStep, JoinFault>
+    ensures line { result ≡ Ok LabelStep.Line → HasLabelledStep format.now texts.old texts.new
+        W.taken W.faults out.old block.old out.new block.new }
+    ensures end { result ≡ Ok LabelStep.End
+        → AreEnded (λ text. reading_from format.now text) texts.old
+        × All (λ text. text.head ≡ None) texts.old
+        × (texts.new ≡ texts.old) × (out.new ≡ out.old) × (block.new ≡ block.old) }
+    ensures other { (told : OtherLabel) → result ≡ Ok (LabelStep.Other told)
+        → StopsAtLabels format.now texts.old told
+        × (out.new ≡ out.old) × (block.new ≡ block.old) }
+    ensures fault { IfErr result (StepFails (λ text. reading_from format.now text) texts.old) }
+    ensures unwritten { IfErr result (λ fault. fault ≢ JoinFault.Write) }
+    ensures err { OnErr result ((out.new ≡ out.old) × (block.new ≡ block.old)) }
+{
+    let combo = match least_copy(alloc, texts) {
+        Ok(Some(combo)) => combo,
+        Ok(None) => return Ok(LabelStep::End),
+        Err(fault) => return Err(fault),
+    };
+    match compare_labels(format, texts, &combo, labelled) {
+        Ok(None) => match take_all(alloc, format, texts, &combo) {
+            Ok(Some(count)) => {
+                write_counted(out, block, labelled, count);
+                Ok(LabelStep::Line)
+            }
+            Ok(None) => unreachable!(),
+            Err(fault) => Err(fault),
+        },
+        Ok(Some((first, text))) => {
+            match other_label(alloc, format, texts, combo, labelled, first, text) {
+                Ok(told) => Ok(LabelStep::Other(told)),
+                Err(fault) => Err(fault),
+            }
+        }
+        Err(fault) => Err(fault),
+    }
+}
+
+// Writes the lines of the merge, from the least entry on, up to the first whose labels differ between texts, and tells these.
+fn merge_labelled<R: Source, W: Sink>(
+    alloc: Global,
+    format: &Format,
+    texts: &mut [TableText<R>],
+    block: &mut OutputBlock,
+    out: &mut W,
+) -> Result<Option<OtherLabel>, JoinFault>
+    ensures end { IsLabelledEnd format.now texts.old
+        W.taken W.faults out.old block.old out.new block.new result }
+    ensures write { result ≡ Err JoinFault.Write → block.new.failed ≡ true }
+{
+    let mut labelled = Vec::new(alloc);
+    'lines: for line in 0..u64::MAX {
+        match write_labelled_least(alloc, format, texts, &mut labelled, block, out) {
+            Ok(LabelStep::Line) => {}
+            Ok(LabelStep::End) => return Ok(None),
+            Ok(LabelStep::Other(told)) => return Ok(Some(told)),
+            Err(fault) => return Err(fault),
+        }
+        if block.has_failed() {
+            return Err(JoinFault::Write);
+        }
+    }
+    Err(JoinFault::TooLong)
+}
+
+// The answer of a merge, and the other labels that it met.
+fn parted(
+    merged: Result<Option<OtherLabel>, JoinFault>,
+) -> (Result<(), JoinFault>, Option<OtherLabel>)
+    ensures answer { result.0 ≡ answer_of merged }
+    ensures other { result.1 ≡ other_of merged }
+{
+    match merged {
+        Ok(other) => (Ok(()), other),
+        Err(fault) => (Err(fault), None),
+    }
+}
+
+// The fault that is told: other labels where there is no fault else.
+fn label_fault(fault: Option<JoinFault>, other: Option<OtherLabel>) -> Option<LabelFault>
+    ensures { result ≡ label_fault_of fault other }
+{
+    match (fault, other) {
+        (Some(fault), _) => Some(LabelFault::Join(fault)),
+        (None, Some(told)) => Some(LabelFault::OtherLabel(told)),
+        (None, None) => None,
+    }
+}
+
+/// Joins the texts of tables with labels to the text of their merge: each combination that some text lists, once, in order, with
+/// the labels that it has there and the sum of its counts. It holds a block of each source, the line and the entry that each
+/// text goes on with, and no table.
+///
+/// The first entry of each text is read before the first byte is written. The sink is flushed once at the end, unless it
+/// refused a put. Texts that have one combination with other labels are told where no fault stands behind a lesser one.
+pub fn join_labelled_texts<R: Source + Drop, W: Sink>(
+    alloc: Global,
+    format: &Format,
+    sources: Vec<R>,
+    out: &mut W,
+) -> LabelOutcome
+    // Without a fault each text is a table to its end, and the sink has taken exactly the lines of their merge, each with the
+    // labels that every text that lists its combination has.
+    ensures joined { (texts : List Coming) → Give R.coming sources.items texts
+        → result.fault ≡ None
+        → AreJoinedLabels format.now texts (W.taken out.old) (W.taken out.new) result.written }
+    // A fault is that of texts without labels, or two texts have other labels for a combination.
+    ensures fault { (texts : List Coming) → Give R.coming sources.items texts
+        → IfSome result.fault (IsLabelFault format.now texts) }
+    // With a fault the sink has taken the lines of the first entries, or a prefix of them where a write failed.
+    ensures written { (texts : List Coming) → Give R.coming sources.items texts
+        → IfSome result.fault (HasLabelledWritten format.now texts (W.taken out.old)
+        (W.taken out.new) result.written) }
+    // Where the first line of a text is faulty, the sink is not called.
+    ensures untouched { (texts : List Coming) (reading : TableReading)
+        → Give R.coming sources.items texts
+        → Contains (readings_of format.now texts) reading → IsFaultyAtOnce reading
+        → out.new ≡ out.old }
+    // Of a sink that had not failed before, no fault comes only where it did not fail, and Write only where it failed.
+    ensures sound { result.fault ≡ None → W.faults out.new ≡ W.faults out.old }
+    ensures write { result.fault ≡ Some (LabelFault.Join JoinFault.Write)
+        → has_failed (W.faults out.new) ≡ true }
+    // Where each text is a table to its end, all have the same labels, the sums fit in 64 bits, memory lasts and the sink takes
+    // everything, exactly the text of the merge is written.
+    ensures headline { (texts : List Coming) (merged : List LabelledEntry)
+        → Give R.coming sources.items texts → IsLabelledMerge format.now texts merged
+        → result.fault ≢ Some (LabelFault.Join JoinFault.Memory)
+        → has_failed (W.faults out.new) ≡ false
+        → (result.fault ≡ None) × (W.taken out.new
+        ≡ append_known (W.taken out.old) (counted_text merged)) }
+{
+    let mut texts = match open_texts(alloc, format, sources) {
+        Ok(texts) => texts,
+        Err(fault) => {
+            return LabelOutcome {
+                written: 0,
+                fault: Some(LabelFault::Join(fault)),
+            };
+        }
+    };
+    let mut block = OutputBlock::new();
+    let merged = merge_labelled(alloc, format, texts.as_mut_slice(), &mut block, out);
+    let (answer, other) = parted(merged);
+    let settled = settle(answer, &mut block, out);
+    let fault = finish(settled, out);
+    LabelOutcome {
+        written: block.written(),
+        fault: label_fault(fault, other),
+    }
+}

@@ -1,0 +1,96 @@
+//! The least entry that texts go on with.
+
+ghost use Rattle.std.specs.Prelude.{◌≡◌, ◌≢◌, List, [], ◌∷◌, IfErr, IfOk, IfSome, None, Ok, Some, option_map};
+ghost use Rattle.cell_join_lines.specs.LineReading.{TableReading};
+ghost use Rattle.cell_join_lines.specs.TextReading.{reading_from};
+ghost use Rattle.cell_join_tables.specs.TextHeads.{head_count};
+ghost use Rattle.cell_join_tables.specs.parts.MergeEnds.{AreEnded};
+ghost use Rattle.cell_join_tables.specs.parts.Taking.{HasTaken, IsStepFault, StepFails, TakesEntries};
+ghost use Rattle.cell_join_tables.specs.parts.LeastEntries.{HasGone};
+
+use crate::ordered_texts::OrderedTexts;
+use cell_core::source::Source;
+use cell_stats::format::Format;
+use cell_stats_combinations::combination::Combo;
+use crate::join_fault::JoinFault;
+use crate::text_heads::too_many;
+use std::alloc::Global;
+
+// The count of an entry, where there is one and it is of the combination.
+fn count_of(entry: Option<&(Combo, u64)>, combo: &Combo) -> Option<u64>
+    ensures { result ≡ head_count combo.now (option_map (λ e. e.now) entry.entry) }
+{
+    match entry {
+        Some((own, count)) if own == combo => Some(*count),
+        _ => None,
+    }
+}
+
+// Takes the other entries of a combination, of which the first was taken, and tells the counts of all together.
+fn take_others<R: Source>(
+    alloc: Global,
+    format: &Format,
+    texts: &mut OrderedTexts<R>,
+    combo: &Combo,
+    count: u64,
+) -> Result<u64, JoinFault>
+    ensures taken { (readings : List TableReading)
+        → HasGone (λ text. reading_from format.now text) combo.now readings texts.old (Some count) 1
+        → IfOk result (λ total. HasTaken (λ text. reading_from format.now text) readings texts.new
+        ((combo.now, total) ∷ [])) }
+    ensures fault { (readings : List TableReading)
+        → HasGone (λ text. reading_from format.now text) combo.now readings texts.old (Some count) 1
+        → IfErr result (IsStepFault readings) }
+    ensures unwritten { IfErr result (λ fault. fault ≢ JoinFault.Write) }
+{
+    let mut total = count;
+    'texts: for taken in 1..texts.len() {
+        let Some(more) = count_of(texts.first(), combo) else {
+            return Ok(total);
+        };
+        match texts.advance(alloc, format) {
+            Ok(()) => {}
+            Err(fault) => return Err(fault),
+        }
+        match total.checked_add(more) {
+            Some(sum) => total = sum,
+            None => return Err(too_many(alloc, combo)),
+        }
+    }
+    Ok(total)
+}
+
+/// Takes the least entry of all, with the counts of all texts that go on with its combination together; None where each text
+/// is at its end.
+///
+/// # Errors
+///
+/// [`JoinFault::Text`] of the first text that has a fault behind it, [`JoinFault::TooMany`] where the counts are beyond 64
+/// bits, [`JoinFault::Memory`].
+pub(crate) fn take_least<R: Source>(
+    alloc: Global,
+    format: &Format,
+    texts: &mut OrderedTexts<R>,
+) -> Result<Option<(Combo, u64)>, JoinFault>
+    ensures some { IfOk result (λ taken. IfSome taken (λ entry. TakesEntries
+        (λ text. reading_from format.now text) texts.old texts.new (entry ∷ []))) }
+    ensures none { result ≡ Ok None → AreEnded (λ text. reading_from format.now text) texts.old }
+    ensures fault { IfErr result (StepFails (λ text. reading_from format.now text) texts.old) }
+    ensures unwritten { IfErr result (λ fault. fault ≢ JoinFault.Write) }
+{
+    let (combo, count) = match texts.first() {
+        Some((combo, count)) => match Combo::from_cells(alloc, combo.cells()) {
+            Ok(copy) => (copy, *count),
+            Err(_) => return Err(JoinFault::Memory),
+        },
+        None => return Ok(None),
+    };
+    match texts.advance(alloc, format) {
+        Ok(()) => {}
+        Err(fault) => return Err(fault),
+    }
+    match take_others(alloc, format, texts, &combo, count) {
+        Ok(total) => Ok(Some((combo, total))),
+        Err(fault) => Err(fault),
+    }
+}

@@ -1,0 +1,175 @@
+//! Texts in the order in which a merge goes on with them.
+
+ghost use Rattle.std.specs.Prelude.{◌≡◌, ◌≢◌, ◌<◌, ◌≤◌, ℕ, List, All, drop, length, slice_index, IfErr, IfOk, MatchOption, OnOk};
+ghost use Rattle.std.specs.List.{insert};
+ghost use Rattle.cell_join_lines.specs.TextReading.{combination_of};
+ghost use Rattle.cell_join_tables.specs.parts.HeadOrder.{Ascends, AreBefore, BeginsWith, GoesFirst, IsFaultBehind, ReadsOn, goes_before, heads_of};
+
+use cell_core::memory::Memory;
+use cell_core::source::Source;
+use cell_stats::format::Format;
+use cell_stats_combinations::combination::Combo;
+use cell_join_lines::text::TableText;
+use crate::join_fault::JoinFault;
+use crate::text_heads::of_text;
+use std::alloc::Global;
+use std::cmp::Ordering;
+use std::marker::Model;
+
+// Whether of two texts at these places the first one goes before the other.
+fn goes_before(
+    head: &Option<(Combo, u64)>,
+    place: usize,
+    other: &Option<(Combo, u64)>,
+    other_place: usize,
+) -> bool
+    ensures { result
+        ≡ goes_before (combination_of head.now) place (combination_of other.now) other_place }
+{
+    match (head, other) {
+        (Some((combo, _)), Some((another, _))) => match combo.cmp(another) {
+            Ordering::Less => true,
+            Ordering::Equal => place < other_place,
+            Ordering::Greater => false,
+        },
+        (Some(_), None) => true,
+        (None, Some(_)) => false,
+        (None, None) => place < other_place,
+    }
+}
+
+// How many of the texts at places in order go before the one at another place. It tries one of them first, and then by halves.
+fn count_before<R: Source>(
+    texts: &[TableText<R>],
+    places: &[usize],
+    other: usize,
+    first_tried: usize,
+) -> usize
+    requires other { other < length texts.now }
+    requires places { All (λ place. place < length texts.now) places.now }
+    ensures bound { result ≤ length places.now }
+    ensures before { Ascends (heads_of texts.now) places.now
+        → AreBefore (heads_of texts.now) places.now other result }
+{
+    let mut low = 0;
+    let mut high = places.len();
+    let mut tried = first_tried.min(high.saturating_sub(1));
+    'halves: while low < high {
+        let place = places[tried];
+        if goes_before(texts[place].head(), place, texts[other].head(), other) {
+            low = tried + 1;
+        } else {
+            high = tried;
+        }
+        tried = low + (high - low) / 2;
+    }
+    low
+}
+
+// Puts the first place behind so many others.
+fn put_first(places: &mut [usize], others: usize)
+    requires { others < length places.old }
+    ensures { places.new ≡ insert (drop 1 places.old) others (slice_index places.old 0) }
+{
+    places[..others + 1].rotate_left(1);
+}
+
+/// Texts, and the order in which a merge goes on with them: by what they go on with, and of two that go on with the same
+/// combination the earlier one first. Those at their ends are last.
+#[derive(Drop)]
+pub(crate) struct OrderedTexts<R: Source> {
+    texts: Vec<TableText<R>>,
+    // The places of the texts, in order.
+    order: Vec<usize>,
+    // Behind how many others the last text was put: the next one often goes there too.
+    last_put: usize,
+}
+
+impl<R: Source> Model for OrderedTexts<R> {
+    ghost use Rattle.std.specs.Prelude.{List, length};
+    ghost use Rattle.cell_join_lines.specs.TextReading.{TextValue};
+
+    ghost Value = { List TextValue };
+
+    ghost use Rattle.cell_join_tables.specs.parts.HeadOrder.{IsOrder, heads_of};
+
+    ghost view = { λ it. it.texts.items };
+
+    ghost invariant = { λ it. IsOrder (heads_of it.texts.items) (length it.texts.items) it.order.items };
+}
+
+impl<R: Source> OrderedTexts<R> {
+    /// The texts, in order.
+    ///
+    /// # Errors
+    ///
+    /// `Memory`, where memory is refused.
+    pub(crate) fn from_texts(
+        alloc: Global,
+        texts: Vec<TableText<R>>,
+    ) -> Result<OrderedTexts<R>, Memory>
+    where
+        R: Drop,
+        ensures { IfOk result (λ ordered. ordered ≡ texts.items) }
+    {
+        let mut order = Vec::new(alloc);
+        'texts: for place in 0..texts.len() {
+            let before = count_before(texts.as_slice(), order.as_slice(), place, place);
+            order.insert(before, place)?;
+        }
+        Ok(OrderedTexts {
+            texts,
+            order,
+            last_put: 0,
+        })
+    }
+
+    /// How many texts there are.
+    pub(crate) fn len(&self) -> usize
+        ensures { result ≡ length self.now }
+    {
+        self.texts.len()
+    }
+
+    /// The entry that the first text goes on with, which is of the least combination; None where each text is at its end.
+    pub(crate) fn first(&self) -> Option<&(Combo, u64)>
+        ensures { MatchOption result
+            (All (λ text. text.head ≡ None) self.now)
+            (λ entry. BeginsWith self.now entry.now) }
+    {
+        let Some(first) = self.order.as_slice().first() else {
+            return None;
+        };
+        match self.texts[*first].head() {
+            Some(entry) => Some(entry),
+            None => None,
+        }
+    }
+
+    /// Lets the first text read its next entry, and puts it where it belongs now.
+    ///
+    /// # Errors
+    ///
+    /// [`JoinFault::Text`], where the text has a fault there, and [`JoinFault::Memory`].
+    pub(crate) fn advance(&mut self, alloc: Global, format: &Format) -> Result<(), JoinFault>
+        ensures reads { OnOk result ((first : ℕ) → GoesFirst (heads_of self.old) first
+            → ReadsOn format.now self.old first self.new) }
+        ensures fault { IfErr result (λ fault. (first : ℕ) → GoesFirst (heads_of self.old) first
+            → IsFaultBehind format.now self.old first fault) }
+        ensures unwritten { IfErr result (λ fault. fault ≢ JoinFault.Write) }
+    {
+        let Some(first) = self.order.as_slice().first() else {
+            return Ok(());
+        };
+        let first = *first;
+        let read = self.texts[first].next(alloc, format);
+        let others = &self.order.as_slice()[1..];
+        let before = count_before(self.texts.as_slice(), others, first, self.last_put);
+        put_first(self.order.as_mut_slice(), before);
+        self.last_put = before;
+        match read {
+            Ok(()) => Ok(()),
+            Err(fault) => Err(of_text(first, fault)),
+        }
+    }
+}

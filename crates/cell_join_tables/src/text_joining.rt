@@ -1,0 +1,142 @@
+//! How the joining of texts begins and ends.
+
+ghost use Rattle.std.specs.Prelude.{◌≡◌, ◌≢◌, [], List, All, MatchOption, Some, IfErr, IfOk, IfSome, map, false, true};
+ghost use Rattle.std.specs.List.{Contains};
+ghost use Rattle.std.specs.declared.cmp.Ordering.TheVariants.{Less};
+ghost use Rattle.cell_stats_combinations.specs.Combinations.{combination_cmp};
+ghost use Rattle.cell_core_devices.specs.Blocks.{Appends};
+ghost use Rattle.cell_core_devices.specs.Device.{Coming};
+ghost use Rattle.cell_join_lines.specs.LineLabels.{labelled_from, labelled_in};
+ghost use Rattle.cell_join_lines.specs.TextReading.{combination_of, reading_from};
+ghost use Rattle.cell_join_tables.specs.JoinedTexts.{Give, readings_of, width_behind};
+ghost use Rattle.cell_join_tables.specs.JoinAnswers.{IsAnswered, IsOpeningFault, settled};
+
+use crate::join_fault::JoinFault;
+use crate::text_heads::{least_of, of_text};
+use cell_core::block::OutputBlock;
+use cell_core::sink::Sink;
+use cell_core::source::Source;
+use cell_stats::format::Format;
+use cell_stats_combinations::combination::Combo;
+use cell_join_lines::text::TableText;
+use std::alloc::Global;
+
+// How many cells are wanted behind a text that begins so.
+fn width_behind(width: usize, head: &Option<(Combo, u64)>) -> usize
+    ensures { result ≡ width_behind width head.now }
+{
+    if width != 0 {
+        return width;
+    }
+    match head {
+        Some((combo, _)) => combo.len(),
+        None => 0,
+    }
+}
+
+/// The texts of sources, of each of which the first entry was read; all have as many cells as the first entry of all.
+///
+/// # Errors
+///
+/// [`JoinFault::Text`] of the first text whose first line is faulty, [`JoinFault::Memory`].
+pub fn open_texts<R: Source + Drop>(
+    alloc: Global,
+    format: &Format,
+    sources: Vec<R>,
+) -> Result<Vec<TableText<R>>, JoinFault>
+    ensures read { IfOk result (λ texts. (comings : List Coming)
+        → Give R.coming sources.items comings
+        → map (λ text. reading_from format.now text) texts.items
+        ≡ map Some (readings_of format.now comings)) }
+    ensures labelled { IfOk result (λ texts. (comings : List Coming)
+        → Give R.coming sources.items comings
+        → map (λ text. labelled_from format.now text) texts.items
+        ≡ map (λ coming. Some (labelled_in format.now coming.bytes)) comings) }
+    ensures fault { IfErr result (λ fault. (comings : List Coming)
+        → Give R.coming sources.items comings
+        → IsOpeningFault (readings_of format.now comings) fault) }
+    ensures unwritten { IfErr result (λ fault. fault ≢ JoinFault.Write) }
+{
+    let mut texts = Vec::new(alloc);
+    let mut width = 0;
+    for source in sources {
+        let text = match TableText::from_source(alloc, format, width, source) {
+            Ok(text) => text,
+            Err(fault) => return Err(of_text(texts.len(), fault)),
+        };
+        width = width_behind(width, text.head());
+        if texts.push(text).is_err() {
+            return Err(JoinFault::Memory);
+        }
+    }
+    Ok(texts)
+}
+
+/// A copy of the least combination that a text begins with; None where each is at its end.
+///
+/// # Errors
+///
+/// [`JoinFault::Memory`].
+pub fn least_copy<R: Source>(
+    alloc: Global,
+    texts: &[TableText<R>],
+) -> Result<Option<Combo>, JoinFault>
+    ensures least { IfOk result (λ least. MatchOption least
+        (All (λ text. text.head ≡ None) texts.now)
+        (λ combo. All (λ text. IfSome text.head (λ entry. combination_cmp entry.0 combo ≢ Less)) texts.now)) }
+    ensures own { IfOk result (λ least. IfSome least
+        (λ combo. Contains (map (λ text. combination_of text.head) texts.now) (Some combo))) }
+    ensures memory { IfErr result (λ fault. fault ≡ JoinFault.Memory) }
+{
+    match least_of(texts) {
+        Some(combo) => match Combo::from_cells(alloc, combo.cells()) {
+            Ok(copy) => Ok(Some(copy)),
+            Err(_) => Err(JoinFault::Memory),
+        },
+        None => Ok(None),
+    }
+}
+
+/// Puts what the block holds, unless a put was refused, and changes the answer where one is.
+///
+/// # Errors
+///
+/// [`JoinFault::Write`] where a put was refused, and otherwise the fault that is given.
+pub fn settle<W: Sink>(
+    merged: Result<(), JoinFault>,
+    block: &mut OutputBlock,
+    out: &mut W,
+) -> Result<(), JoinFault>
+    ensures appends { Appends W.taken W.faults out.old block.old [] out.new block.new }
+    ensures answer { result ≡ settled block.new.failed merged }
+    ensures held { block.new.failed ≡ false → block.new.held ≡ [] }
+    ensures keeps { block.old.failed ≡ true → block.new.failed ≡ true }
+{
+    if block.has_failed() {
+        return Err(JoinFault::Write);
+    }
+    block.empty(out);
+    if block.has_failed() {
+        return Err(JoinFault::Write);
+    }
+    merged
+}
+
+/// Flushes the sink unless it refused a put, and answers. A flush that fails turns what is done into a failed write, and
+/// changes no other answer.
+pub fn finish<W: Sink>(merged: Result<(), JoinFault>, out: &mut W) -> Option<JoinFault>
+    ensures taken { W.taken out.new ≡ W.taken out.old }
+    ensures answered { IsAnswered merged (W.faults out.old) (W.faults out.new) result }
+{
+    match merged {
+        Ok(()) => match out.flush() {
+            Ok(()) => None,
+            Err(_) => Some(JoinFault::Write),
+        },
+        Err(JoinFault::Write) => Some(JoinFault::Write),
+        Err(fault) => {
+            let _ = out.flush();
+            Some(fault)
+        }
+    }
+}

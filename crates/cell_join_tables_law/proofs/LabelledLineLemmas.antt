@@ -1,0 +1,156 @@
+-- What the lines of a text that is printed with labels have before their counts.
+use Rattle.std.proofs.Common.{◌≡◌, ℕ, ℤ, ◌+◌, ◌*◌, ◌<◌, ◌≤◌, ◌^◌, max, List, [], ◌∷◌, ◌++◌, length, map}
+use Rattle.std.proofs.Common.{flat_map, true, false}
+use Rattle.std.proofs.Common.{◌==◌, Some, None, refl, ap, sym, ◌∙◌, arith, cond, codes, decimal}
+use Rattle.std.proofs.Common.{append_assoc}
+use Rattle.std.proofs.lemmas.Bool.Decides.{Decides-eqb}
+use Rattle.std.proofs.lemmas.Fmt.{length-decimal-le}
+use Rattle.std.proofs.lemmas.List.Elements.{All-head, All-tail}
+use Rattle.std.proofs.lemmas.List.Splits.{slice_split_at}
+use Rattle.std.specs.Prelude.{All}
+use Rattle.std.specs.List.{join_with_byte, slice_split}
+use Rattle.cell_core_values.specs.Cell.{IsCell}
+use Rattle.cell_core.specs.Grid.{CellValue}
+use Rattle.cell_core.specs.Text.{cell_text}
+use Rattle.cell_stats_combinations.specs.Combinations.{Combination}
+use Rattle.cell_stats.specs.CategoryTables.{Pairs}
+use Rattle.cell_stats.specs.TableText.{FormatValue}
+use Rattle.cell_join_lines.specs.LineLabels.{before_count, labelled_in, labelled_in_lines, labelled_then}
+use Rattle.cell_join_lines.specs.LineLabels.{up_to_separator}
+use Rattle.cell_join_lines.specs.LineReading.{is_line_feed}
+use Rattle.cell_join_lines.specs.TableLines.{Labelling, label_in, labelled_entry_fields, labelled_fields}
+use Rattle.cell_join_lines.specs.TableLines.{labelled_line, labelled_text}
+use Rattle.cell_join_lines.proofs.LabelLemmas.{more-labelled}
+use Rattle.cell_join_tables_law.specs.PrintedTables.{AreClearLabels, IsClear, IsLabelledEntry}
+use Rattle.cell_join_tables_law.proofs.LabelledTableLemmas.{line-back, line-free}
+use Rattle.cell_join_tables_law.proofs.PrintedFieldLemmas.{count-free}
+use Rattle.cell_join_tables_law.proofs.PrintedTableLemmas.{digit-apart, minus-apart}
+use Rattle.cell_join_tables_law.proofs.LineLengthLemmas.{cell-length, joined-more}
+use Rattle.cell_join_tables.specs.JoinedLabels.{LabelledEntry, counted_line, counted_text}
+
+-- ---- up to the last separator
+
+module _ (separator : ℕ) where
+  abbrev with_separator : List ℕ → List ℕ
+  with_separator field = field ++ separator ∷ []
+
+  -- fields, each with a separator behind it
+  abbrev pub front_of : List (List ℕ) → List ℕ
+  front_of fields = flat_map with_separator fields
+
+  first : (field last : List ℕ) (fields : List (List ℕ)) → join_with_byte separator (field ∷ (fields ++ last ∷ []))
+      ≡ field ++ (separator ∷ join_with_byte separator (fields ++ last ∷ []))
+  first field last [] = refl
+  first field last (next ∷ fields) = refl
+
+  pub joined-front : (fields : List (List ℕ)) (last : List ℕ)
+      → join_with_byte separator (fields ++ last ∷ []) ≡ front_of fields ++ last
+  joined-front [] last = refl
+  joined-front (field ∷ fields) last = first field last fields
+      ∙ ap (λ (rest : List ℕ). field ++ (separator ∷ rest)) (joined-front fields last)
+      ∙ sym (append_assoc (with_separator field) (front_of fields) last
+      ∙ append_assoc field (separator ∷ []) (front_of fields ++ last))
+
+  none-before : (last : List ℕ) → All (λ b. (b == separator) ≡ false) last → before_count separator last ≡ []
+  none-before [] free = refl
+  none-before (b ∷ last) free =
+      let P : ℕ → Type 0 = λ x. (x == separator) ≡ false in
+      ap (up_to_separator separator b) (none-before last (All-tail P b last free))
+      ∙ ap (λ t. cond t (b ∷ []) []) (All-head P b last free)
+
+  field-before : (field rest : List ℕ) → before_count separator (with_separator field ++ rest)
+      ≡ with_separator field ++ before_count separator rest
+  field-before [] rest = by (before_count separator rest)
+    where
+      by : (bytes : List ℕ) → up_to_separator separator separator bytes ≡ separator ∷ bytes
+      by [] = ap (λ t. cond t (separator ∷ []) []) ((Decides-eqb separator separator).1 refl)
+      by (x ∷ bytes) = refl
+  field-before (b ∷ field) rest = ap (up_to_separator separator b) (field-before field rest) ∙ by field
+    where
+      by : (xs : List ℕ) → up_to_separator separator b (with_separator xs ++ before_count separator rest)
+          ≡ b ∷ (with_separator xs ++ before_count separator rest)
+      by [] = refl
+      by (x ∷ xs) = refl
+
+  pub front-before : (fields : List (List ℕ)) (last : List ℕ) → All (λ b. (b == separator) ≡ false) last
+      → before_count separator (front_of fields ++ last) ≡ front_of fields
+  front-before [] last free = none-before last free
+  front-before (field ∷ fields) last free =
+      ap (before_count separator) (append_assoc (with_separator field) (front_of fields) last)
+      ∙ field-before field (front_of fields ++ last)
+      ∙ ap (λ rest. with_separator field ++ rest) (front-before fields last free)
+
+-- ---- the lines of entries
+
+module _ (format : FormatValue) (labels : Labelling) where
+  -- the cells of a combination and their labels
+  abbrev pub front : Combination → List ℕ
+  front k = front_of format.separator (labelled_fields format.null_text labels 0 k)
+
+  abbrev pub with_front : Combination × ℕ → LabelledEntry
+  with_front entry = ((entry.0, front entry.0), entry.1)
+
+  line-is : (entry : Combination × ℕ) → counted_line (with_front entry) ≡ labelled_line format labels entry
+  line-is entry = ap (λ line. line ++ codes "\n") (sym (joined-front format.separator
+      (labelled_fields format.null_text labels 0 entry.0) (decimal entry.1)))
+
+  pub text-is : (entries : Pairs) → counted_text (map with_front entries) ≡ labelled_text format labels entries
+  text-is [] = refl
+  text-is (entry ∷ entries) = λ i. line-is entry i ++ text-is entries i
+
+  module _ (clear : IsClear format) (with_labels : format.labels ≡ true) (apart : AreClearLabels format labels)
+      (width : ℕ) where
+    abbrev IsGood : Combination × ℕ → Type 0
+    IsGood entry = IsLabelledEntry format labels width entry
+
+    abbrev bytes_of : Combination × ℕ → List ℕ
+    bytes_of entry = join_with_byte format.separator (labelled_entry_fields format labels entry)
+
+    front-is : (entry : Combination × ℕ) → IsGood entry
+        → before_count format.separator (bytes_of entry) ≡ front entry.0
+    front-is entry is =
+        let fields = labelled_fields format.null_text labels 0 entry.0 in
+        let free = count-free (λ b. b == format.separator) (digit-apart format.separator clear.separator)
+        (minus-apart format.separator clear.separator) entry.1 is.fits in
+        ap (before_count format.separator) (joined-front format.separator fields (decimal entry.1))
+        ∙ front-before format.separator fields (decimal entry.1) free
+
+    -- each line has the labels of its combination
+    pub text-labelled : (entries : Pairs) → All IsGood entries
+        → labelled_in format (labelled_text format labels entries) ≡ map (λ entry. (entry.0, front entry.0)) entries
+    text-labelled [] are = refl
+    text-labelled (entry ∷ entries) are =
+        let is = All-head IsGood entry entries are in
+        let rest = labelled_text format labels entries in
+        ap (labelled_in_lines format) (ap (slice_split is_line_feed) (append_assoc (bytes_of entry) (10 ∷ []) rest)
+        ∙ slice_split_at is_line_feed (bytes_of entry) 10 rest
+        (line-free format labels clear with_labels apart width entry is) refl)
+        ∙ more-labelled format (bytes_of entry) rest
+        ∙ ap (λ r. labelled_then format (bytes_of entry) r (labelled_in format rest))
+        (line-back format labels clear with_labels apart width entry is)
+        ∙ (λ i. (entry.0, front-is entry is i) ∷ text-labelled entries (All-tail IsGood entry entries are) i)
+
+  -- how long a line is at most
+  label-length : (most column : ℕ) (cell : CellValue)
+      → ((column : ℕ) (category : ℤ) → length (labels column category) ≤ most)
+      → length (label_in labels column cell) ≤ max 7 most
+  label-length most column None fit = omega arith
+  label-length most column (Some category) fit = omega (arith, fit column category)
+
+  pub labelled-length : (most column : ℕ) (cells : Combination) (n : ℕ) → All IsCell cells → n < 2 ^ 64
+      → ((column : ℕ) (category : ℤ) → length (labels column category) ≤ most)
+      → length (join_with_byte format.separator
+      (labelled_fields format.null_text labels column cells ++ decimal n ∷ []))
+      ≤ length cells * (max 11 (length format.null_text) + max 7 most + 2) + 20
+  labelled-length most column [] n are fits fit = omega
+      (arith, length-decimal-le 20 n (omega arith) (omega (arith, fits)) fits)
+  labelled-length most column (cell ∷ cells) n are fits fit =
+      let rest = labelled_fields format.null_text labels (column + 1) cells ++ decimal n ∷ [] in
+      omega (
+        arith,
+        joined-more format.separator (cell_text format.null_text cell) (label_in labels column cell ∷ rest),
+        joined-more format.separator (label_in labels column cell) rest,
+        cell-length format.null_text cell (All-head IsCell cell cells are),
+        label-length most column cell fit,
+        labelled-length most (column + 1) cells n (All-tail IsCell cell cells are) fits fit,
+      )

@@ -1,0 +1,11 @@
+pub mod JoinedPartLemmas
+pub mod LabelledLineLemmas
+pub mod LabelledPartLemmas
+pub mod LabelledTableLemmas
+pub mod LineLengthLemmas
+pub mod OrderLemmas
+pub mod PartCellLemmas
+pub mod PartEntryLemmas
+pub mod PrintedFieldLemmas
+pub mod PrintedTableLemmas
+pub mod WrittenLemmas

@@ -1,0 +1,52 @@
+-- Texts printed with labels of the tables of parts of maps, joined, are the text printed of the table of the whole.
+use Rattle.std.specs.Prelude.{ℕ, ℤ, ◌≡◌, ◌<◌, ◌≤◌, ◌+◌, ◌-◌, ◌*◌, ◌^◌, max, true, List, All, length, map, Option}
+use Rattle.cell_core_devices.specs.Blocks.{capped_count}
+use Rattle.cell_core_devices.specs.Device.{Coming, append_known}
+use Rattle.cell_core.specs.Grid.{Grid, AreCells}
+use Rattle.cell_stats_combinations.specs.declared.skip.Skip.{Skip}
+use Rattle.cell_stats.specs.TableText.{FormatValue}
+use Rattle.cell_parts.specs.TableParts.{Part, AreParts}
+use Rattle.cell_join_lines.specs.declared.table_fault.TheConstants.{MOST_BYTES}
+use Rattle.cell_join_tables_law.specs.PrintedTables.{AreClearLabels, IsClear, labels_of_maps}
+use Rattle.cell_join_tables_law.specs.PrintedParts.{text_of_maps, text_of_part}
+use Rattle.cell_join_tables.specs.JoinedLabels.{AreJoinedLabels, IsLabelledMerge, LabelledEntry, counted_text}
+
+-- lines with labels that can be read back: counts and labels (r.stats manual, flags -c and -l), fields that can be told apart, a
+-- cell at least, labels of no more bytes than this, and no line that is too long where a cell takes 11 bytes, or as many as the
+-- null text, its label so many, or 7 as null's, and a count 20
+pub record CanBeReadLabelled (format : FormatValue) (picks : List ℕ) (maps : List Grid) (most : ℕ) : Type 0 where
+  pub clear : IsClear format
+  pub labels : format.labels ≡ true
+  pub counts : format.counts ≡ true
+  pub some : 0 < length picks
+  pub within : All (λ pick. pick < length maps) picks
+  pub apart : AreClearLabels format (labels_of_maps maps picks)
+  pub fit : (column : ℕ) (category : ℤ) → length (labels_of_maps maps picks column category) ≤ most
+  pub short : length picks * (max 11 (length format.null_text) + max 7 most + 2) + 20 ≤ MOST_BYTES
+
+-- the picked maps of a part have the labels of those of the whole
+pub record HasLabels (whole : List Grid) (picks : List ℕ) (part : Part) : Type 0 where
+  pub within : All (λ pick. pick < length part.maps) picks
+  pub same : (column : ℕ) (category : ℤ) → labels_of_maps part.maps picks column category ≡ labels_of_maps whole picks column category
+
+-- texts with labels that are tables to their ends, whose merge has this text: it is what the joining of texts writes of them
+pub record JoinLabelledTo (format : FormatValue) (texts : List Coming) (text : List ℕ) : Type 0 where
+  pub merged : List LabelledEntry
+  pub merge : IsLabelledMerge format texts merged
+  pub whole : counted_text merged ≡ text
+
+-- however maps of fewer than 2^64 - 1 cells are cut: what is printed with labels of the parts joins to what is printed of the
+-- whole
+abbrev pub LabelledPartsJoin : Type 0
+LabelledPartsJoin = (format : FormatValue) (picks : List ℕ) (rows cols : ℕ) (whole : List Grid) (most : ℕ)
+    → CanBeReadLabelled format picks whole most
+    → (parts : List Part) → AreParts rows cols whole parts → All (HasLabels whole picks) parts
+    → All (λ m. AreCells m.rows) whole → rows * cols < 2 ^ 64 - 1
+    → (skip : Skip) → JoinLabelledTo format (map (text_of_part format skip picks) parts)
+    (text_of_maps format skip picks rows cols whole)
+
+-- where texts join to a text, a sink that took what they were joined to without a fault took exactly this text
+abbrev pub LabelledAsOne : Type 0
+LabelledAsOne = (format : FormatValue) (texts : List Coming) (text : List ℕ) → JoinLabelledTo format texts text
+    → (before now : Option (List ℕ)) (written : ℕ) → AreJoinedLabels format texts before now written
+    → (now ≡ append_known before text) × (written ≡ capped_count (length text))

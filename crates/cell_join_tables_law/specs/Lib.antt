@@ -1,0 +1,5 @@
+-- What is printed of tables, read and joined.
+pub mod LabelledParts
+pub mod PrintedParts
+pub mod PrintedTables
+pub mod WrittenAreas

@@ -1,0 +1,56 @@
+-- Texts printed of the tables of parts of maps, joined, are the text printed of the table of the whole.
+use Rattle.std.specs.Prelude.{ℕ, ◌≡◌, ◌<◌, ◌≤◌, ◌+◌, ◌-◌, ◌*◌, ◌^◌, max, true, false, List, All, length, map, Option}
+use Rattle.cell_core_devices.specs.Blocks.{capped_count}
+use Rattle.cell_core_devices.specs.Device.{Coming, append_known}
+use Rattle.cell_core.specs.Grid.{Grid, AreCells}
+use Rattle.cell_stats_combinations.specs.declared.skip.Skip.{Skip}
+use Rattle.cell_stats_combinations.specs.Combinations.{all_combinations}
+use Rattle.cell_stats.specs.CategoryTables.{Pairs, table_of}
+use Rattle.cell_stats.specs.TableText.{FormatValue, table_text}
+use Rattle.cell_parts.specs.TableParts.{Part, AreParts}
+use Rattle.cell_join_lines.specs.TableLines.{entries_text}
+use Rattle.cell_join_lines.specs.declared.table_fault.TheConstants.{MOST_BYTES}
+use Rattle.cell_join_tables_law.specs.PrintedTables.{IsClear}
+use Rattle.cell_join_tables.specs.JoinedTexts.{AreJoinedTexts, IsMergeOf, readings_of}
+
+-- what is printed of the table of the picked maps, of so many rows and columns
+abbrev pub text_of_maps : FormatValue → Skip → List ℕ → (rows cols : ℕ) → List Grid → List ℕ
+text_of_maps format skip picks rows cols maps =
+    table_text format maps picks (table_of skip (all_combinations maps picks rows cols))
+
+-- the same of a part, whole and with no failure behind it
+abbrev pub text_of_part : FormatValue → Skip → List ℕ → Part → Coming
+text_of_part format skip picks part = record {
+  bytes = text_of_maps format skip picks part.place.rows part.place.cols part.maps;
+  fails = false;
+}
+
+-- lines that can be read back: counts and no labels (r.stats manual, flags -c and -l), fields that can be told apart, a cell at
+-- least, and no line that is too long where a cell takes 11 bytes, or as many as the null text, and a count 20
+pub record CanBeReadBack (format : FormatValue) (picks : List ℕ) : Type 0 where
+  pub clear : IsClear format
+  pub labels : format.labels ≡ false
+  pub counts : format.counts ≡ true
+  pub some : 0 < length picks
+  pub short : length picks * (max 11 (length format.null_text) + 1) + 20 ≤ MOST_BYTES
+
+-- texts that are tables to their ends, whose merge has this text: it is what the joining of texts writes of them
+pub record JoinTo (format : FormatValue) (texts : List Coming) (text : List ℕ) : Type 0 where
+  pub merged : Pairs
+  pub merge : IsMergeOf (readings_of format texts) merged
+  pub whole : entries_text format merged ≡ text
+
+-- however maps of fewer than 2^64 - 1 cells are cut: what is printed of the parts joins to what is printed of the whole
+abbrev pub PrintedPartsJoin : Type 0
+PrintedPartsJoin = (format : FormatValue) (picks : List ℕ) → CanBeReadBack format picks
+    → (rows cols : ℕ) (whole : List Grid) (parts : List Part) → AreParts rows cols whole parts
+    → All (λ m. AreCells m.rows) whole → rows * cols < 2 ^ 64 - 1
+    → (skip : Skip) → JoinTo format (map (text_of_part format skip picks) parts)
+    (text_of_maps format skip picks rows cols whole)
+
+-- where texts join to a text, a sink that took what they were joined to without a fault took exactly this text
+abbrev pub JoinedAsOne : Type 0
+JoinedAsOne = (format : FormatValue) (texts : List Coming) (text : List ℕ) → JoinTo format texts text
+    → (before now : Option (List ℕ)) (written : ℕ)
+    → AreJoinedTexts format (readings_of format texts) before now written
+    → (now ≡ append_known before text) × (written ≡ capped_count (length text))

@@ -1,0 +1,90 @@
+//! Texts and what they are read as.
+
+use cell_core::source::MemorySource;
+use cell_stats::format::Format;
+use cell_join_lines::table_fault::{TableFault, TableKind};
+use cell_join_lines::text::TableText;
+use std::alloc::Global;
+use std::test::Fail;
+
+// A text, and the sum of its counts, or its first fault.
+const TEXTS: [(&[u8], Result<u64, (u64, TableKind)>); 21] = [
+    (b"", Ok(0)),
+    (b"1 5\n2 4\n3 2\n* 1\n", Ok(12)),
+    (b"-3 1\n-1 1\n0 1\n2147483647 1\n", Ok(4)),
+    (b"1 2 7\n1 * 1\n* 1 1\n", Ok(9)),
+    (b"1 18446744073709551615\n", Ok(18446744073709551615)),
+    (b"1 18446744073709551616\n", Err((1, TableKind::BadCount))),
+    (b"1 5\n2 0\n", Err((2, TableKind::BadCount))),
+    (b"1 5\n2 04\n", Err((2, TableKind::BadCount))),
+    (b"1 5\n2 +4\n", Err((2, TableKind::BadCount))),
+    (b"1 5\n2\n", Err((2, TableKind::BadWidth))),
+    (b"7\n", Err((1, TableKind::BadWidth))),
+    (b"\n", Err((1, TableKind::BadCount))),
+    (b"01 5\n", Err((1, TableKind::BadCell))),
+    (b"+1 5\n", Err((1, TableKind::BadCell))),
+    (b"2147483648 5\n", Err((1, TableKind::BadCell))),
+    (b"1 forest 5\n", Err((1, TableKind::BadCell))),
+    (b"1 5\n1 5\n", Err((2, TableKind::ListedTwice))),
+    (b"1 5\n3 1\n2 4\n", Err((3, TableKind::OutOfOrder))),
+    (b"* 5\n1 5\n", Err((2, TableKind::OutOfOrder))),
+    (b"1 5\n2 4", Err((2, TableKind::CutOff))),
+    (b"1 5\r\n", Err((1, TableKind::BadCount))),
+];
+
+// What a text adds up to, of which a source gives at most so many bytes at once, and then fails or ends.
+fn sum_of(alloc: Global, text: &[u8], piece: usize, fails: bool) -> Result<u64, (u64, TableKind)> {
+    let Ok(bytes) = Vec::from_slice(alloc, text) else {
+        return Err((0, TableKind::Memory));
+    };
+    let source = MemorySource::new(bytes, piece.max(1), fails);
+    match add_up(alloc, source) {
+        Ok(sum) => Ok(sum),
+        Err(fault) => Err((fault.line, fault.kind)),
+    }
+}
+
+// What the text of a source adds up to.
+fn add_up(alloc: Global, source: MemorySource) -> Result<u64, TableFault> {
+    let format = Format::new(b' ', b"*", false, true);
+    let mut text = TableText::from_source(alloc, &format, 0, source)?;
+    let mut sum = 0u64;
+    for _ in 0..u64::MAX {
+        let Some((_, count)) = text.head() else {
+            return Ok(sum);
+        };
+        sum = sum.wrapping_add(*count);
+        text.next(alloc, &format)?;
+    }
+    Ok(sum)
+}
+
+#[test]
+fn texts_are_read(rt: HostRuntime) -> Result<(), Fail> {
+    for (text, wanted) in &TEXTS {
+        for piece in [1, 2, 3, 7, 4096] {
+            let sum = sum_of(rt.alloc(), *text, piece, false);
+            assert!(rt; sum == *wanted, "the text {text:?} by {piece}: {sum:?}");
+        }
+    }
+    Ok(())
+}
+
+#[test]
+fn a_failure_is_told_with_its_line(rt: HostRuntime) -> Result<(), Fail> {
+    let sum = sum_of(rt.alloc(), b"1 5\n2 4\n", 3, true);
+    assert!(rt; sum == Err((3, TableKind::Read)));
+    let sum = sum_of(rt.alloc(), b"1 5\n2 4", 3, true);
+    assert!(rt; sum == Err((2, TableKind::Read)));
+    Ok(())
+}
+
+#[test]
+fn a_line_has_a_greatest_length(rt: HostRuntime) -> Result<(), Fail> {
+    let mut text = vec![in rt.alloc(); b'1'; 4096]?;
+    text.push(b'\n')?;
+    assert!(rt; sum_of(rt.alloc(), &text, 100, false) == Err((1, TableKind::BadCount)));
+    text.insert(0, b'1')?;
+    assert!(rt; sum_of(rt.alloc(), &text, 100, false) == Err((1, TableKind::LongLine)));
+    Ok(())
+}

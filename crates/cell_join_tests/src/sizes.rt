@@ -1,0 +1,51 @@
+//! Texts joined in memory.
+
+use cell_core::memory::Memory;
+use cell_core::sink::MemorySink;
+use cell_core::source::MemorySource;
+use cell_stats::format::Format;
+use cell_join_sizes::table_sizes::{SizesOutcome, join_table_sizes};
+use std::alloc::Global;
+
+// The most bytes that one call of a source gives, and of a sink takes.
+const PIECE: usize = 7;
+
+/// More than any sizes here take.
+pub(crate) const ROOM: usize = 4096;
+
+/// What joining did, and the bytes that the sink took.
+#[derive(Drop)]
+pub(crate) struct Joined {
+    pub(crate) outcome: SizesOutcome,
+    pub(crate) bytes: Vec<u8>,
+}
+
+// A source of a text.
+fn source_of(alloc: Global, text: &[u8]) -> Result<MemorySource, Memory> {
+    Ok(MemorySource::new(Vec::from_slice(alloc, text)?, PIECE, false))
+}
+
+// Sources of texts.
+fn sources_of(alloc: Global, texts: &[&[u8]]) -> Result<Vec<MemorySource>, Memory> {
+    let mut sources = Vec::new(alloc);
+    for text in texts {
+        sources.push(source_of(alloc, *text)?)?;
+    }
+    Ok(sources)
+}
+
+/// The sizes of an areas text and of tables, to a sink of so much room.
+pub(crate) fn join_to(
+    alloc: Global,
+    areas: &[u8],
+    tables: &[&[u8]],
+    room: usize,
+) -> Result<Joined, Memory> {
+    let sources = sources_of(alloc, tables)?;
+    let text = source_of(alloc, areas)?;
+    let mut out = MemorySink::new(vec![in alloc; 0; room]?, PIECE, false);
+    let format = Format::new(b' ', b"*", false, true);
+    let outcome = join_table_sizes(alloc, &format, text, sources, &mut out);
+    let bytes = Vec::from_slice(alloc, out.bytes())?;
+    Ok(Joined { outcome, bytes })
+}

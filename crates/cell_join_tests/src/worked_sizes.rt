@@ -1,0 +1,49 @@
+//! Two bands, of two areas and of three: in the whole the second of the first is one area with the first of the other, and the first
+//! with its last.
+
+use crate::sizes::{ROOM, join_to};
+use cell_join_sizes::size_fault::SizesFault;
+use std::test::Fail;
+
+/// The areas text of these bands.
+pub(crate) const AREAS: &[u8] = b"1 1 2 1\n2 1 2 2\n2 3 3 1\n";
+
+/// The table of the first.
+pub(crate) const FIRST: &[u8] = b"1 5\n2 7\n* 3\n";
+
+/// That of the second.
+pub(crate) const SECOND: &[u8] = b"1 20\n2 30\n3 40\n";
+
+const SIZES: &[u8] = b"1 45\n2 27\n3 30\n";
+
+// With a null where there was none and the other way round, with bands behind these that have no areas, with numbers downwards, and
+// without bands.
+#[test]
+fn sizes_are_added_up(rt: HostRuntime) -> Result<(), Fail> {
+    let cases: [(&[u8], &[&[u8]], &[u8]); 5] = [
+        (AREAS, &[FIRST, SECOND], SIZES),
+        (AREAS, &[b"1 5\n2 7\n", b"1 20\n2 30\n3 40\n* 1\n"], SIZES),
+        (AREAS, &[FIRST, SECOND, b"", b"* 5\n"], SIZES),
+        (
+            b"1 1 1 3\n1 2 2 2\n2 1 2 2\n2 3 3 1\n",
+            &[FIRST, SECOND],
+            b"1 40\n2 27\n3 35\n",
+        ),
+        (b"", &[], b""),
+    ];
+    for (areas, tables, sizes) in cases {
+        let joined = join_to(rt.alloc(), areas, tables, ROOM)?;
+        assert!(rt; joined.outcome.fault == None && joined.bytes.as_slice() == sizes);
+        assert!(rt; joined.outcome.written == sizes.len() as u64);
+    }
+    Ok(())
+}
+
+#[test]
+fn a_failing_sink_is_told(rt: HostRuntime) -> Result<(), Fail> {
+    let joined = join_to(rt.alloc(), AREAS, &[FIRST, SECOND], 3)?;
+    assert!(rt; joined.outcome.fault == Some(SizesFault::Write));
+    assert!(rt; joined.outcome.written == 3);
+    assert!(rt; joined.bytes.as_slice() == b"1 4".as_slice());
+    Ok(())
+}

@@ -1,0 +1,8 @@
+pub mod AreaLemmas
+pub mod BlockLemmas
+pub mod CutAreaLemmas
+pub mod CutLemmas
+pub mod GridLemmas
+pub mod ListingLemmas
+pub mod MergeLemmas
+pub mod SumLemmas

@@ -1,0 +1,131 @@
+-- Lists of entries, and merges of tables.
+use Rattle.std.proofs.Common.{◌≡◌, ℕ, zero, suc, ◌+◌, ◌<◌, List, [], ◌∷◌, ◌++◌, map, length, get_or, Option, Some, None, true, false, cond, unwrap_or, refl, ap, sym, ◌∙◌, arith, zero-add, add-zero, subst, take, drop, ◌==◌}
+use Rattle.std.proofs.lemmas.Bool.{eqb-true}
+use Rattle.std.proofs.lemmas.List.{take-map, drop-map}
+use Rattle.std.proofs.lemmas.List.Elements.{All-nil, All-head, All-tail}
+use Rattle.std.proofs.lemmas.List.Sums.{sum_by-cons, sum_by-append, sum_by-take-drop}
+use Rattle.std.specs.Prelude.{sum_by, flat_map, All}
+use Rattle.std.specs.List.{Contains, AllByRecursion}
+use Rattle.std.specs.List.Sorted.{IsStrictlySortedBy}
+use Rattle.std.specs.Ordering.{eq_by_cmp, is_eq}
+use Rattle.std.specs.FinMap.Entries.{find}
+use Rattle.std.specs.declared.cmp.Ordering.TheVariants.{Less}
+use Rattle.cell_core.specs.Grid.{Grid}
+use Rattle.cell_stats_combinations.specs.declared.skip.Skip.{Skip}
+use Rattle.cell_stats_combinations.specs.Combinations.{Combination, combination_cmp, all_combinations}
+use Rattle.cell_stats_combinations.proofs.OrderLemmas.{combination_cmp-total, combination_cmp-exact, is_equal}
+use Rattle.cell_stats_counts.specs.Listed.{entry_of, listed_of}
+use Rattle.cell_stats.specs.CategoryTables.{Pairs, IsTable}
+use Rattle.cell_stats.proofs.TableLemmas.{ascending_to}
+use Rattle.cell_stats.proofs.SortedLemmas.{each_found}
+use Rattle.cell_parts.specs.TableParts.{count_in, IsMerge}
+use Rattle.cell_parts.specs.Merging.{IsListing, PartGroup, MergesMerge}
+
+abbrev pub keys_of : Pairs → List Combination
+keys_of es = map (λ e. e.0) es
+
+-- ---- what is listed of a combination stands beside it
+
+none-behind : (x : Combination) (es : Pairs) → AllByRecursion (λ y. combination_cmp x y ≡ Less) (keys_of es) → listed_of x es ≡ 0
+none-behind x [] above = refl
+none-behind x (e ∷ es) above =
+    let here : entry_of x e ≡ 0 = ap (λ o. cond (is_eq o) e.1 0) above.0 in
+    omega (arith, sum_by-cons (entry_of x) e es, here, none-behind x es above.1)
+
+pub listed-beside : (k : Combination) (es : Pairs) → IsStrictlySortedBy combination_cmp (keys_of es) → count_in k es ≡ listed_of k es
+unfolding IsStrictlySortedBy
+listed-beside k [] up = refl
+listed-beside k (e ∷ es) up =
+    elim (eq_by_cmp combination_cmp k e.0) as (λ b. eq_by_cmp combination_cmp k e.0 ≡ b → unwrap_or (cond b (Some e.1) (find combination_cmp k es)) 0 ≡ cond b e.1 0 + listed_of k es) [
+      | true ↦ λ t.
+          let none : listed_of k es ≡ 0 = ap (λ x. listed_of x es) (combination_cmp-exact k e.0 (is_equal _ t)) ∙ none-behind e.0 es up.0 in
+          omega (arith, none)
+      | false ↦ λ t. listed-beside k es up.1 ∙ sym (zero-add (listed_of k es))
+    ] refl ∙ sym (sum_by-cons (entry_of k) e es)
+
+-- what stands beside a combination is listed with it
+stands : (k : Combination) (n : ℕ) (es : Pairs) → find combination_cmp k es ≡ Some n → Contains es (k, n)
+stands k n [] e = cc
+stands k n (x ∷ es) e =
+    elim (eq_by_cmp combination_cmp k x.0) as (λ b. eq_by_cmp combination_cmp k x.0 ≡ b → cond b (Some x.1) (find combination_cmp k es) ≡ Some n → Contains (x ∷ es) (k, n)) [
+      | true ↦ λ t is.
+          let same : k ≡ x.0 = combination_cmp-exact k x.0 (is_equal _ t) in
+          let count : x.1 ≡ n = cc in
+          (0, omega arith, λ i. (sym same i, count i))
+      | false ↦ λ t is. let rest = stands k n es is in (suc rest.0, omega (arith, rest.1), rest.2)
+    ] refl e
+
+-- and what is listed stands beside its combination
+found-listed : (k : Combination) (n : ℕ) (es : Pairs) → IsStrictlySortedBy combination_cmp (keys_of es) → Contains es (k, n) → find combination_cmp k es ≡ Some n
+found-listed k n es up c = let at : find combination_cmp (get_or es c.0 (k, n)).0 es ≡ Some (get_or es c.0 (k, n)).1 = each_found combination_cmp combination_cmp-total es (ascending_to es up) c.0 (k, n) c.1 in
+    rw c.2 at at
+
+none-or-some : (o : Option ℕ) (n : ℕ) → 0 < n → n ≡ unwrap_or o 0 → o ≡ Some n
+none-or-some None n some is = absurd (omega (arith, some, is))
+none-or-some (Some m) n some is = ap Some (sym is)
+
+-- ---- merges, by what stands beside combinations
+
+pub IsMerge-from : (tables : List Pairs) (merged : Pairs) → IsListing merged → ((k : Combination) → count_in k merged ≡ sum_by (count_in k) tables) → IsMerge tables merged
+IsMerge-from tables merged listing sums = record {
+  ascending = listing.ascending;
+  counted = λ k n. (
+    λ c.
+        let is : find combination_cmp k merged ≡ Some n = found-listed k n merged listing.ascending c in
+        let some : 0 < n = subst (λ (e : Combination × ℕ). 0 < e.1) c.2 (listing.no_zero c.0 (k, n) c.1) in
+        (some, sym (ap (λ o. unwrap_or o 0) is) ∙ sums k),
+    λ h. stands k n merged (none-or-some (find combination_cmp k merged) n h.0 (h.1 ∙ sym (sums k))),
+  );
+}
+
+pub beside-merge : (tables : List Pairs) (merged : Pairs) → IsMerge tables merged → (k : Combination) → count_in k merged ≡ sum_by (count_in k) tables
+beside-merge tables merged merge k = by (find combination_cmp k merged) refl (sum_by (count_in k) tables) refl
+  where
+    by : (o : Option ℕ) → find combination_cmp k merged ≡ o → (n : ℕ) → sum_by (count_in k) tables ≡ n → unwrap_or o 0 ≡ n
+    by (Some m) is n sum = ((merge.counted k m).0 (stands k m merged is)).1 ∙ sum
+    by None is zero sum = refl
+    by None is (suc n) sum =
+        let c = (merge.counted k (suc n)).1 (omega arith, sym sum) in
+        let found = found-listed k (suc n) merged merge.ascending c in
+        let both : None ≡ Some (suc n) = sym is ∙ found in
+        cc
+
+-- ---- merges of merges
+
+flat-cons : (group : PartGroup) (groups : List PartGroup) → flat_map (λ (g : PartGroup). g.tables) (group ∷ groups) ≡ group.tables ++ flat_map (λ (g : PartGroup). g.tables) groups
+flat-cons group groups = refl
+
+sum-groups : (k : Combination) (groups : List PartGroup) → All (λ group. IsMerge group.tables group.merged) groups → sum_by (count_in k) (map (λ group. group.merged) groups) ≡ sum_by (count_in k) (flat_map (λ group. group.tables) groups)
+sum-groups k [] all = refl
+sum-groups k (group ∷ groups) all =
+    let P : PartGroup → Type 0 = λ g. IsMerge g.tables g.merged in
+    let here = beside-merge group.tables group.merged (All-head P group groups all) k in
+    omega (
+      arith,
+      sum_by-cons (count_in k) group.merged (map (λ (g : PartGroup). g.merged) groups),
+      ap (sum_by (count_in k)) (flat-cons group groups),
+      sum_by-append (count_in k) group.tables (flat_map (λ (g : PartGroup). g.tables) groups),
+      here,
+      sum-groups k groups (All-tail P group groups all),
+    )
+
+pub merges-merge : MergesMerge
+merges-merge groups all pairs merge = record {
+  ascending = merge.ascending;
+  counted = λ k n.
+      let sums = sum-groups k groups all in
+      let h = merge.counted k n in
+      (λ c. let both = h.0 c in (both.0, both.1 ∙ sums), λ p. h.1 (p.0, p.1 ∙ sym sums));
+}
+
+-- ---- what is merged
+
+pub listing-none : IsListing []
+unfolding IsStrictlySortedBy
+listing-none = record { ascending = tt; no_zero = All-nil (λ (e : Combination × ℕ). 0 < e.1) }
+
+pub merge-none : IsMerge [] []
+merge-none = IsMerge-from [] [] listing-none (λ k. refl)
+
+pub merge-one : (table : Pairs) → IsListing table → IsMerge (table ∷ []) table
+merge-one table listing = IsMerge-from (table ∷ []) table listing (λ k. sym (sum_by-cons (count_in k) table [] ∙ add-zero (count_in k table)))

@@ -1,0 +1,102 @@
+-- Areas of parts: paths within the tiles of a map, and adjacent cells at their borders, make the areas of the whole.
+use Rattle.std.specs.Prelude.{ℕ, ℤ, ◌+◌, ◌<◌, ◌≡◌, ◌⊎◌, ◌↔◌, List, [], ◌∷◌, ◌++◌, map, length, Some, IsSome, IsTrue, All, Contains}
+use Rattle.cell_core.specs.Grid.{Grid}
+use Rattle.cell_cats_areas.specs.declared.clump.Joining.{Joining}
+use Rattle.cell_cats_areas.specs.Areas.{Position, cell_at_spot, AreAdjacent, AreJoined, IsEarlierCell, IsFirst, IsClumping}
+use Rattle.cell_parts.specs.Parts.{Rectangle, is_in, cut_out}
+
+-- a chain of links from a cell over a list of others, that ends at a cell
+abbrev pub IsChain : (Position → Position → Type 0) → Position → List Position → Position → Type 0
+IsChain Link p [] q = p ≡ q
+IsChain Link p (next ∷ others) q = Link p next × IsChain Link next others q
+
+-- where a cell of the lower part lies in the whole
+abbrev pub lowered_position : ℕ → Position → Position
+lowered_position n p = record { row = n + p.row; col = p.col }
+
+-- a path within the lower part joins two cells of the whole
+abbrev pub AreJoinedBelow : Joining → ℕ → Grid → Position → Position → Type 0
+AreJoinedBelow j n lower p q = (a b : Position) × (p ≡ lowered_position n a) × (q ≡ lowered_position n b) × AreJoined j lower a b
+
+-- two adjacent cells of one category meet at a cut below so many rows: one lies in the last row above it, the other in the first below
+pub record MeetAtCut (j : Joining) (n : ℕ) (whole : Grid) (p q : Position) : Type 0 where
+  pub category : ℤ
+  pub adjacent : AreAdjacent j p q
+  pub first : cell_at_spot whole p ≡ Some category
+  pub second : cell_at_spot whole q ≡ Some category
+  pub sides : ((p.row + 1 ≡ n) × (q.row ≡ n)) ⊎ ((q.row + 1 ≡ n) × (p.row ≡ n))
+
+-- a link: a path within one of the parts, or a step over the cut
+abbrev pub AreLinkedAtCut : Joining → (whole upper lower : Grid) → Position → Position → Type 0
+AreLinkedAtCut j whole upper lower p q = AreJoined j upper p q ⊎ (AreJoinedBelow j (length upper.rows) lower p q ⊎ MeetAtCut j (length upper.rows) whole p q)
+
+-- cut between two rows: a path joins two cells exactly where a chain of links does
+abbrev pub AreasJoinAtCut : Type 0
+AreasJoinAtCut = (j : Joining) (whole upper lower : Grid) → whole.rows ≡ upper.rows ++ lower.rows → (p q : Position) → IsSome (cell_at_spot whole p) → AreJoined j whole p q ↔ ((others : List Position) × IsChain (AreLinkedAtCut j whole upper lower) p others q)
+
+-- a map that stands for a rectangle of another
+pub record Tile : Type 0 where
+  pub place : Rectangle
+  pub map : Grid
+
+-- where a cell of a tile lies in the whole
+abbrev pub moved_position : Rectangle → Position → Position
+moved_position r p = record { row = r.top + p.row; col = r.left + p.col }
+
+-- a cell of the whole lies in a rectangle
+abbrev pub IsIn : Rectangle → Position → Type 0
+IsIn r p = IsTrue (is_in r p.row p.col)
+
+-- the tile has the cells of its rectangle, and is null outside
+pub record IsTile (whole : Grid) (t : Tile) : Type 0 where
+  pub cells : (p : Position) → p.row < t.place.rows → p.col < t.place.cols → cell_at_spot t.map p ≡ cell_at_spot whole (moved_position t.place p)
+  pub outside : (p : Position) → IsSome (cell_at_spot t.map p) → (p.row < t.place.rows) × (p.col < t.place.cols)
+
+-- a path within a tile joins two cells of the whole
+abbrev pub AreJoinedIn : Joining → Tile → Position → Position → Type 0
+AreJoinedIn j t p q = (a b : Position) × (p ≡ moved_position t.place a) × (q ≡ moved_position t.place b) × AreJoined j t.map a b
+
+-- two adjacent cells of one category meet at a border: no tile has both
+pub record MeetAtBorder (j : Joining) (whole : Grid) (tiles : List Tile) (p q : Position) : Type 0 where
+  pub category : ℤ
+  pub adjacent : AreAdjacent j p q
+  pub first : cell_at_spot whole p ≡ Some category
+  pub second : cell_at_spot whole q ≡ Some category
+  pub apart : All (λ t. IsIn t.place p → ¬ IsIn t.place q) tiles
+
+-- a link: a path within one of the tiles, or a step over a border
+abbrev pub AreLinked : Joining → Grid → List Tile → Position → Position → Type 0
+AreLinked j whole tiles p q = ((t : Tile) × Contains tiles t × AreJoinedIn j t p q) ⊎ MeetAtBorder j whole tiles p q
+
+-- however a map is cut: a path joins two cells exactly where a chain of links does
+abbrev pub AreasJoin : Type 0
+AreasJoin = (j : Joining) (whole : Grid) (tiles : List Tile) → All (IsTile whole) tiles → (p q : Position) → IsSome (cell_at_spot whole p) → AreJoined j whole p q ↔ ((others : List Position) × IsChain (AreLinked j whole tiles) p others q)
+
+-- a tile and the map of the numbers of its areas
+pub record Numbered : Type 0 where
+  pub tile : Tile
+  pub numbers : Grid
+
+-- two cells of the whole that have one number in a tile
+abbrev pub HaveOneNumber : Numbered → Position → Position → Type 0
+HaveOneNumber n p q = (a b : Position) × (p ≡ moved_position n.tile.place a) × (q ≡ moved_position n.tile.place b) × IsSome (cell_at_spot n.tile.map a) × IsSome (cell_at_spot n.tile.map b) × (cell_at_spot n.numbers a ≡ cell_at_spot n.numbers b)
+
+-- a link of numbers: one number in one of the tiles, or a step over a border
+abbrev pub AreLinkedByNumbers : Joining → Grid → List Numbered → Position → Position → Type 0
+AreLinkedByNumbers j whole numbered p q = ((n : Numbered) × Contains numbered n × HaveOneNumber n p q) ⊎ MeetAtBorder j whole (map (λ n. n.tile) numbered) p q
+
+-- the numbers of the areas of tiles, and the steps over their borders, tell which cells of the whole a path joins
+abbrev pub NumbersJoin : Type 0
+NumbersJoin = (j : Joining) (whole : Grid) (numbered : List Numbered) → All (λ n. IsTile whole n.tile × IsClumping j n.tile.map n.numbers) numbered → (p q : Position) → IsSome (cell_at_spot whole p) → AreJoined j whole p q ↔ ((others : List Position) × IsChain (AreLinkedByNumbers j whole numbered) p others q)
+
+-- a first cell of the whole is a first cell of its tile
+abbrev pub FirstsAreFirsts : Type 0
+FirstsAreFirsts = (j : Joining) (whole : Grid) (t : Tile) → IsTile whole t → (p : Position) → p.row < t.place.rows → p.col < t.place.cols → IsFirst j whole (moved_position t.place p) → IsFirst j t.map p
+
+-- where each cell that is not null lies in a tile: a first cell of the whole is a first cell of its tile that no earlier first cell of a tile is joined to
+abbrev pub FirstsOfTheWhole : Type 0
+FirstsOfTheWhole = (j : Joining) (whole : Grid) (numbered : List Numbered) → All (λ n. IsTile whole n.tile × IsClumping j n.tile.map n.numbers) numbered → ((p : Position) → IsSome (cell_at_spot whole p) → (n : Numbered) × Contains numbered n × IsIn n.tile.place p) → (n : Numbered) → Contains numbered n → (p : Position) → p.row < n.tile.place.rows → p.col < n.tile.place.cols → IsFirst j whole (moved_position n.tile.place p) ↔ (IsFirst j n.tile.map p × ((m : Numbered) → Contains numbered m → (q : Position) → IsFirst j m.tile.map q → IsEarlierCell (moved_position m.tile.place q) (moved_position n.tile.place p) → ¬ AreJoined j whole (moved_position m.tile.place q) (moved_position n.tile.place p)))
+
+-- whatever rectangle is cut out, it is a tile
+abbrev pub CutOutsAreTiles : Type 0
+CutOutsAreTiles = (r : Rectangle) (whole part : Grid) → part.rows ≡ cut_out r whole.rows → IsTile whole (record { place = r; map = part })

@@ -1,0 +1,5 @@
+-- Laws of parts of maps.
+pub mod AreaParts
+pub mod Merging
+pub mod Parts
+pub mod TableParts

@@ -1,0 +1,23 @@
+-- Tables as they are merged, and merges of merges.
+use Rattle.std.specs.Prelude.{ℕ, ◌≡◌, ◌^◌, ◌≤◌, List, All, map, sum_by, flat_map}
+use Rattle.std.specs.List.Sorted.{IsStrictlySortedBy}
+use Rattle.cell_core.specs.Grid.{Grid}
+use Rattle.cell_stats_combinations.specs.declared.skip.Skip.{Skip}
+use Rattle.cell_stats_combinations.specs.Combinations.{combination_cmp}
+use Rattle.cell_stats_counts.specs.Listed.{HasNoZero}
+use Rattle.cell_stats.specs.CategoryTables.{Pairs, table_of}
+use Rattle.cell_parts.specs.TableParts.{Part, AreParts, combinations_of_part, count_in, IsMerge}
+
+-- entries as tables list them: the combinations strictly ascend, and no count is 0
+pub record IsListing (pairs : Pairs) : Type 0 where
+  pub ascending : IsStrictlySortedBy combination_cmp (map (λ pair. pair.0) pairs)
+  pub no_zero : HasNoZero pairs
+
+-- tables in a group, and what merges them
+pub record PartGroup : Type 0 where
+  pub tables : List Pairs
+  pub merged : Pairs
+
+-- what merges the merges of groups merges all tables
+abbrev pub MergesMerge : Type 0
+MergesMerge = (groups : List PartGroup) → All (λ group. IsMerge group.tables group.merged) groups → (pairs : Pairs) → IsMerge (map (λ group. group.merged) groups) pairs → IsMerge (flat_map (λ group. group.tables) groups) pairs

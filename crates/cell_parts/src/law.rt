@@ -1,0 +1,93 @@
+//! What the parts of maps say of the whole.
+
+ghost use Rattle.cell_parts.specs.AreaParts.{AreasJoin, AreasJoinAtCut, CutOutsAreTiles, FirstsAreFirsts, FirstsOfTheWhole, NumbersJoin};
+ghost use Rattle.cell_parts.specs.Merging.{MergesMerge};
+ghost use Rattle.cell_parts.specs.Parts.{CutOutsAreParts, CutsAreParts, GridsCover};
+ghost use Rattle.cell_parts.specs.TableParts.{BandTablesMerge, BandsAddUp, CountsAddByCols, CountsAddByRows, PartsAddUp, TablesMerge, TablesMergeByRows};
+
+/// Cut between rows and columns wherever, the rectangles cover each cell once.
+pub fn grids_cover()
+    ensures { GridsCover }
+{}
+
+/// Whatever rectangle is cut out of maps, the maps of its cells are a part of them.
+pub fn cut_outs_are_parts()
+    ensures { CutOutsAreParts }
+{}
+
+/// Maps that are cut between two rows: the upper maps are a part of the whole, and so are the lower ones.
+pub fn cuts_are_parts()
+    ensures { CutsAreParts }
+{}
+
+/// A cut between two rows: each combination has as many cells in the whole as in the upper and the lower part together.
+pub fn counts_add_by_rows()
+    ensures { CountsAddByRows }
+{}
+
+/// The same of a cut between two columns.
+pub fn counts_add_by_cols()
+    ensures { CountsAddByCols }
+{}
+
+/// The table of maps that are cut between two rows is the merge of the tables of the two parts, and no other list is.
+pub fn tables_merge_by_rows()
+    ensures { TablesMergeByRows }
+{}
+
+/// Any number of bands, one below the other: each combination has as many cells in the whole as in all of them.
+pub fn bands_add_up()
+    ensures { BandsAddUp }
+{}
+
+/// And the table of the whole is the merge of the tables of the bands.
+pub fn band_tables_merge()
+    ensures { BandTablesMerge }
+{}
+
+/// Any parts that cover each cell once: each combination has as many cells in the whole as in all of them.
+pub fn parts_add_up()
+    ensures { PartsAddUp }
+{}
+
+/// And the table of the whole is the merge of the tables of the parts, and no other list is.
+pub fn tables_merge()
+    ensures { TablesMerge }
+{}
+
+/// What merges the merges of groups of tables merges all the tables.
+pub fn merges_merge()
+    ensures { MergesMerge }
+{}
+
+/// A map cut between two rows: a path joins two cells exactly where a chain of links does, each a path within one part or a
+/// step between adjacent cells of one category over the cut.
+pub fn areas_join_at_cut()
+    ensures { AreasJoinAtCut }
+{}
+
+/// Whatever rectangle is cut out of a map, the map of its cells is a tile of it.
+pub fn cut_outs_are_tiles()
+    ensures { CutOutsAreTiles }
+{}
+
+/// However a map is cut into tiles, a path joins two cells exactly where a chain of links does: each is a path within one
+/// tile, or a step between adjacent cells of one category that no tile has both of.
+pub fn areas_join()
+    ensures { AreasJoin }
+{}
+
+/// The same with the numbers of the tiles' areas: a link is one number within one tile, or a step over a border.
+pub fn numbers_join()
+    ensures { NumbersJoin }
+{}
+
+/// The first cell of an area of the whole is the first cell of an area of its tile.
+pub fn firsts_are_firsts()
+    ensures { FirstsAreFirsts }
+{}
+
+/// The first cells of areas of the whole are those first cells of areas of the tiles that no earlier one is joined to.
+pub fn firsts_of_the_whole()
+    ensures { FirstsOfTheWhole }
+{}

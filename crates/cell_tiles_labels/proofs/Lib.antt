@@ -1,4 +1,0 @@
-pub mod LabelledStepLemmas
-pub mod LabelledEndLemmas
-pub mod LabelledJoinLemmas
-pub mod PlaceLemmas

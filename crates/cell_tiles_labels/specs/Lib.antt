@@ -1,3 +1,0 @@
--- Texts of tables with labels joined.
-pub mod JoinedLabels
-pub mod parts

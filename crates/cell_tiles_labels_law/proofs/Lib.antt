@@ -1,2 +1,0 @@
-pub mod LabelledLineLemmas
-pub mod LabelledPartLemmas

@@ -1,2 +1,0 @@
--- Texts printed with labels of parts and joined.
-pub mod LabelledParts

@@ -1,7 +1,0 @@
-pub mod AreaLemmas
-pub mod BlockLemmas
-pub mod CutAreaLemmas
-pub mod CutLemmas
-pub mod GridLemmas
-pub mod MergeLemmas
-pub mod SumLemmas

@@ -1,4 +1,0 @@
--- Laws of parts of maps.
-pub mod AreaParts
-pub mod Parts
-pub mod TableParts

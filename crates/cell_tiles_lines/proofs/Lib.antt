@@ -1,6 +1,0 @@
-pub mod PlaceLemmas
-pub mod FieldLemmas
-pub mod LabelledFieldLemmas
-pub mod LinePartLemmas
-pub mod TextLemmas
-pub mod LabelLemmas

@@ -1,3 +1,0 @@
-pub mod LabelledTableLemmas
-pub mod PrintedFieldLemmas
-pub mod PrintedTableLemmas

@@ -1,2 +1,0 @@
--- What is printed of a table is read as the table.
-pub mod PrintedTables

@@ -1,2 +1,0 @@
-pub mod PairLemmas
-pub mod ListingLemmas

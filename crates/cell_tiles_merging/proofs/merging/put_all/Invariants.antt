@@ -1,5 +1,0 @@
-use Rattle.std.proofs.Common.{◌≡◌, ◌++◌, take}
-use Rattle.cell_tiles_merging.proofs.merging.put_all.Given as goal
-
-abbrev pub invariant-loop-entry : goal.invariant-loop-entry
-invariant-loop-entry l = l.merged.items ≡ l.fn.merged.items ++ take l.entry-index l.entries

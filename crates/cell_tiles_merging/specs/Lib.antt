@@ -1,3 +1,0 @@
--- Tables merged.
-pub mod Merging
-pub mod parts

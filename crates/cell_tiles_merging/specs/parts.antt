@@ -1,2 +1,0 @@
--- Two lists of entries merged.
-pub mod Pairwise

@@ -1,2 +1,0 @@
--- Areas texts that are written and read.
-pub mod WrittenAreas

@@ -1,4 +1,0 @@
-pub mod EntryLemmas
-pub mod ExistLemmas
-pub mod NumberLemmas
-pub mod WholeLemmas

@@ -1,4 +1,0 @@
--- Sizes of the areas of the whole.
-pub mod AllNumbers
-pub mod ExistingSizes
-pub mod WholeSizes

@@ -1,2 +1,0 @@
--- Texts whose sizes are added up.
-pub mod RightTexts

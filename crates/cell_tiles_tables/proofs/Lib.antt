@@ -1,4 +1,0 @@
-pub mod EntryLemmas
-pub mod GoingLemmas
-pub mod OrderLemmas
-pub mod PlaceLemmas

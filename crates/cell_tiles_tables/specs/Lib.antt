@@ -1,2 +1,0 @@
--- Texts of tables joined to one text.
-pub mod parts

@@ -1,6 +1,0 @@
--- Texts of tables merged.
-pub mod JoinAnswers
-pub mod JoinedTexts
-pub mod MergedTables
-pub mod TextHeads
-pub mod parts

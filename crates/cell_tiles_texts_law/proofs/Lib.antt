@@ -1,4 +1,0 @@
-pub mod JoinedPartLemmas
-pub mod LineLengthLemmas
-pub mod PartCellLemmas
-pub mod PartEntryLemmas

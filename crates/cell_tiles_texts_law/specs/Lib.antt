@@ -1,2 +1,0 @@
--- Texts printed of parts and joined.
-pub mod PrintedParts
