@@ -70,6 +70,7 @@ check:
 
 # Of what was built last: whoever packs the program (the wheel of Python, the package of R) takes bin/rcell-static.
 static:
+	@python3 tools/objects.py
 	@sh tools/static.sh bin
 
 dist: all static

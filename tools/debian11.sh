@@ -17,6 +17,8 @@ if [ ! -f "$root/etc/debian_version" ]; then
     echo "making a root of Debian 11 in $root"
     debootstrap --variant=minbase bullseye "$root" "$mirror" > "$root.log" 2>&1 || { tail -5 "$root.log" >&2; exit 1; }
 fi
+# The package brings python3 along, for its helpers.
+chroot "$root" apt-get update -q > "$root.log" 2>&1 || { tail -5 "$root.log" >&2; exit 1; }
 c=$(chroot "$root" dpkg-query -W libc6)
 python=$(chroot "$root" sh -c 'command -v python3 || echo no python3')
 echo "Debian $(cat "$root/etc/debian_version"), $c, $python"
