@@ -1,5 +1,5 @@
 #!/bin/sh
-# What the gate tries of r.rcell and of the pairs of docs/FROM_GRASS.md: without GRASS how scripts are read and outputs parted,
+# What the gate tries of r.rcell and of the pairs of docs/grass.md: without GRASS how scripts are read and outputs parted,
 # and where GRASS is installed a short session. The last line is 'N passed, M failed'.
 #     gate.sh [PROGRAM]
 cd "$(dirname "$0")/.." || exit 1

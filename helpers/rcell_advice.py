@@ -45,7 +45,7 @@ def cut(text):
 
 def unlinked(text):
     """A text of the table without the links of the document."""
-    return re.sub(r"\[([^]]*)\]\([^)]*\)", lambda found: "%s in docs/COMMANDS.md" % found[1], text)
+    return re.sub(r"\[([^]]*)\]\([^)]*\)", lambda found: "%s in docs/commands.md" % found[1], text)
 
 
 class Messages:

@@ -497,7 +497,7 @@ class Assignment:
             self.tell(token.start, token.end, "wrong number of arguments", "two or more", fix, count=count, word=token.text)
         else:
             wanted = "%d to %d arguments" % (least, most) if least != most else "%s argument" % ("one" if most else "no")
-            fixed = "for `if(x, a, b, c)`: `if(x > 0, a, if(x, c, b))`" if token.text == "if" and count == 4 else "see r.mapcalc in docs/COMMANDS.md"
+            fixed = "for `if(x, a, b, c)`: `if(x > 0, a, if(x, c, b))`" if token.text == "if" and count == 4 else "see r.mapcalc in docs/commands.md"
             self.tell(token.start, token.end, "wrong number of arguments", "count", None, count=count, wanted=wanted, fixed=fixed,
                       word=token.text)
         self.tokens[at:end] = [Token("number", "1", token.start, self.tokens[end - 1].end)]

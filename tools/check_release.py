@@ -165,7 +165,7 @@ def check_install(count, room):
     ran = run("make", "-s", "install", f"PREFIX={prefix}")
     count.add("make install without rt, with a source that is newer", ran.stderr.strip() if ran.returncode else "")
     wanted = [*(f"bin/{name}" for name in PROGRAMS), *(f"{PAGES}/{name}.1" for name in PROGRAMS),
-              "share/doc/rcell/examples/islands/archipelago.txt", "share/doc/rcell/docs/GUIDE.md"]
+              "share/doc/rcell/examples/islands/archipelago.txt", "share/doc/rcell/docs/tutorial.md"]
     count.add("what make install puts", " ".join(name for name in wanted if not os.path.exists(f"{prefix}/{name}")))
     check_pages(count, "the installed manual pages", prefix)
     count.add("the installed rcell-join", fault_of_joining(f"{prefix}/bin", room))

@@ -3,10 +3,10 @@
 
     command_options.py [--program PATH] [--joiner PATH]
 
-Of each command docs/COMMANDS.md has a synopsis and a table of its flags and options, and docs/rcell.1 a synopsis; the three must
+Of each command docs/commands.md has a synopsis and a table of its flags and options, and docs/rcell.1 a synopsis; the three must
 name the same. Then the program is run with each letter and digit as a flag, and with each key that any command or GRASS has: it
 must take those that are named and no other, and must miss a key exactly where the table says that it is required. Of r.mapcalc
-the functions are compared and tried in this way. Of each command of rcell-join the synopses of docs/COMMANDS.md and
+the functions are compared and tried in this way. Of each command of rcell-join the synopses of docs/rcell-join.md and
 docs/rcell-join.1 must be its usage, the page must have all messages of the document, and it is tried with the same flags and keys,
 where an unknown key is a file. The last line is 'N passed, M failed'.
 """
@@ -19,7 +19,8 @@ import sys
 import tempfile
 
 ROOT = os.path.dirname(os.path.dirname(os.path.abspath(__file__)))
-DOCUMENT, PAGE, PAGE_OF_JOINER = "docs/COMMANDS.md", "docs/rcell.1", "docs/rcell-join.1"
+DOCUMENT, PAGE = "docs/commands.md", "docs/rcell.1"
+DOCUMENT_OF_JOINER, PAGE_OF_JOINER = "docs/rcell-join.md", "docs/rcell-join.1"
 COMMANDS = ("r.reclass", "r.clump", "r.stats", "r.out.ascii")
 JOINER = "rcell-join"
 GRID = "north: 1\nsouth: 0\neast: 2\nwest: 0\nrows: 1\ncols: 2\n1 2\n"
@@ -57,6 +58,9 @@ def read(name):
 
 
 def section(command):
+    """The part of the document about a command; a document of its own has headings one level higher."""
+    if command == JOINER:
+        return re.sub(r"^## ", "### ", read(DOCUMENT_OF_JOINER), flags=re.MULTILINE) + "### \n"
     return re.search(rf"^## {re.escape(command)}\n(.*?)^## ", read(DOCUMENT), re.MULTILINE | re.DOTALL)[1]
 
 
@@ -86,7 +90,7 @@ def of_page(command):
 
 
 def synopses_of_joiner():
-    """The synopsis of each command of rcell-join in docs/COMMANDS.md."""
+    """The synopsis of each command of rcell-join in docs/rcell-join.md."""
     return synopsis(JOINER).strip().splitlines()
 
 
@@ -100,7 +104,7 @@ def synopses_of_joiner_page():
 
 
 def messages_of_joiner():
-    """The texts that docs/COMMANDS.md has in its table of the messages of rcell-join."""
+    """The texts that docs/rcell-join.md has in its table of the messages of rcell-join."""
     table = re.search(r"^### Messages\n(.*)", section(JOINER), re.MULTILINE | re.DOTALL)[1]
     return [text for row in re.findall(r"^\| (`[^|]*`) \|", table, re.MULTILINE) for text in re.findall(r"`([^`]+)`", row)]
 
@@ -189,7 +193,7 @@ def faults_of_joiner_command(tried, line):
     """What is wrong with the synopsis, each flag and each key of a command of rcell-join, or ''."""
     command, named, usage = line.split()[1], Named.of_synopsis(line), f"arguments:0: usage: {line}"
     said = tried.refusal(command, "-")
-    yield "" if said == usage else f"{DOCUMENT}, synopsis of {JOINER}: {usage!r}, and the program says {said!r}"
+    yield "" if said == usage else f"{DOCUMENT_OF_JOINER}, synopsis: {usage!r}, and the program says {said!r}"
     for flag in FLAGS:
         said = tried.refusal(command, f"-{flag}")
         yield "" if (said == usage) != (flag in named.flags) else f"{JOINER} {command} -{flag}: {said or 'taken'}"
@@ -204,7 +208,7 @@ def faults_of_joiner(tried):
     lines, others, named = synopses_of_joiner(), list(synopses_of_joiner_page()), in_table(JOINER)
     yield "" if others == lines else f"{PAGE_OF_JOINER}: {others!r}, and not {lines!r}"
     other = Named.of_synopsis(synopsis(JOINER))
-    yield "" if other == named else f"{DOCUMENT}, synopsis: {JOINER} has {other}, but {named} in its table"
+    yield "" if other == named else f"{DOCUMENT_OF_JOINER}, synopsis: {JOINER} has {other}, but {named} in its table"
     page = text_of_joiner_page()
     for text in messages_of_joiner():
         yield "" if text in page else f"{PAGE_OF_JOINER}: it says nothing of {text!r}"

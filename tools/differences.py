@@ -1,5 +1,5 @@
 #!/usr/bin/env python3
-"""Reads the tables of docs/DIFFERENCES.md, and asks the program and GRASS for their answers.
+"""Reads the tables of docs/grass.md, and asks the program and GRASS for their answers.
 
 A row whose first three cells are code has an input and the answers of GRASS and of rcell; the other rows are prose. The
 form of the cells is said at the head of the document.
@@ -12,7 +12,7 @@ import subprocess
 from dataclasses import dataclass
 
 ROOT = os.path.dirname(os.path.dirname(os.path.abspath(__file__)))
-DOCUMENT = "docs/DIFFERENCES.md"
+DOCUMENT = "docs/grass.md"
 SECONDS = 10
 CODE = re.compile(r"\s*`([^`]+)`\s*")
 HEADER_LINE = re.compile(r"\s*[a-z]+:")
@@ -67,9 +67,9 @@ def grid_text(lines):
 
 
 def grids_of_head():
-    """The grids that the head of the document names, each as the lines that it shows."""
+    """The grids that the head of the differences names, each as the lines that it shows."""
     with open(f"{ROOT}/{DOCUMENT}", encoding="utf-8") as file:
-        head = file.read().partition("\n## ")[0]
+        head = file.read().partition("\n## Differences\n")[2].partition("\n## ")[0]
     return {found[1]: [line for line in (found[3], *found[2].split(" / ")) if line] for found in NAMED_GRID.finditer(head)}
 
 

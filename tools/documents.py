@@ -7,15 +7,17 @@ A document is run in a folder of its own that has bin/rcell, bin/rcell-join, the
 Its fenced blocks are taken from the top:
     console          lines that begin with `$ ` are given to sh, those with `> ` go on with the command above; the lines
                      after a command are what it must print, standard output and standard error together
-    console needs=A,B  the same where the programs A and B are installed (or files, by their paths); else it is skipped
+    pycon            a session of Python, which must print what it shows
+    console needs=A,B  the same where A and B are installed, programs, files by their paths or packages such as python3-rasterio;
+                     else it is skipped
     text file=PATH   a file (also python file=PATH); the commands of later blocks find it
     text, sh         shown and not run: such a block has no command with its output
 The folder that a block goes to by `cd` is that of the next. With --write what is printed takes the place of what is shown.
-Of docs/DIFFERENCES.md the program's side of each table is run, too (tools/differences.py), and the flags and keys that
-docs/COMMANDS.md and the manual pages name are tried (tools/command_options.py). What needs no program is tried
-first, and with --texts alone: docs/COMMANDS.md has the table of helpers/messages.json (tools/messages.py), docs/crates.svg the
+Of docs/grass.md the program's side of each table is run, too (tools/differences.py), and the flags and keys that
+docs/commands.md, docs/rcell-join.md and the manual pages name are tried (tools/command_options.py). What needs no program is tried
+first, and with --texts alone: docs/errors.md has the table of helpers/messages.json (tools/messages.py), docs/crates.svg the
 crates of crates.txt (tools/crate_graph.py), docs/PROOFS.md and README.md the numbers of lines that have to be believed
-(tools/reading.py), README.md the figures of docs/SPEED.md, the edits, clauses and laws that the documents cite exist (tools/citations.py), and the
+(tools/reading.py), README.md the figures of docs/SPEED.md, each link and anchor leads somewhere (tools/links.py), the edits, clauses and laws that the documents cite exist (tools/citations.py), and the
 manual pages pass the warnings of man where it is installed.
 The last line is 'N passed, M failed'.
 """
@@ -34,18 +36,21 @@ import citations
 import command_options
 import crate_graph
 import differences
+import links
 import messages
 
 ROOT = os.path.dirname(os.path.dirname(os.path.abspath(__file__)))
-DOCUMENTS = ["README.md", "docs/ISLANDS.md", "docs/GUIDE.md", "docs/FROM_GRASS.md", "docs/COMMANDS.md", "docs/DIFFERENCES.md",
-             "docs/PROOFS.md"]
+DOCUMENTS = ["README.md", "docs/tutorial.md", "docs/howto.md", "docs/large-maps.md", "docs/commands.md", "docs/rcell-join.md",
+             "docs/errors.md", "docs/grass.md", "docs/ISLANDS.md", "docs/PROOFS.md"]
 FENCE = re.compile(r"```(\S*)(?: file=(\S+))?(?: needs=(\S+))?\n(.*?)^```$", re.MULTILINE | re.DOTALL)
 # What is said of the lines that have to be believed: numbers, and what stands around them.
 READING_ROW = re.compile(r"(`make reading(?: COMMAND=(?P<command>\S+))?` \| )(\d+)( \| )(\d+)( \| )(\d+)( \|)")
 READING_SENTENCE = re.compile(r"(for a table of (?P<command>r\.\w+) )(\d+)( lines, )(\d+)( with comments)")
 SPEED_ROW = re.compile(r"^\| ([^|]+) \| ([^|]+ cells) \| (.*?) \|$", re.MULTILINE)
-LANGUAGES = {"console", "text", "python", "sh"}
+LANGUAGES = {"console", "pycon", "text", "python", "sh"}
 PACKAGES = {"gdal_retile.py": "python3-gdal"}
+PYTHON_PACKAGES = "/usr/lib/python3/dist-packages"
+SESSION = "import sys; sys.path.insert(0, sys.argv[1]); import documents; print(documents.by_session(sys.stdin.read(), {}), end='')"
 SECONDS = 600  # only what hangs takes longer, also on a machine with much other work
 END_OF_COMMAND = "==== a command of a document has ended ===="
 
@@ -116,11 +121,21 @@ class Room:
         with open(path, "w", encoding="utf-8") as file:
             file.write(block.text)
 
+    def environment(self):
+        """Of the commands: the programs and helpers are on the path, and the Python package can be imported."""
+        return {"PATH": f"{self.top}/bin:/usr/bin:/bin", "HOME": self.top, "LC_ALL": "C.UTF-8", "PYTHONPATH": f"{ROOT}/python/src",
+                "PYTHONDONTWRITEBYTECODE": "1"}
+
+    def session(self, text):
+        """A session of Python with what it prints."""
+        words = ["/usr/bin/python3", "-c", SESSION, f"{ROOT}/python/tools"]
+        ran = subprocess.run(words, cwd=self.here, env=self.environment(), input=text, capture_output=True, text=True, timeout=SECONDS)
+        return ran.stdout + ran.stderr
+
     def printed(self, commands):
         """What the commands print, one text a command; a ValueError where they do not all end."""
-        environment = {"PATH": f"{self.top}/bin:/usr/bin:/bin", "HOME": self.top, "LC_ALL": "C.UTF-8"}
         script = f"exec 2>&1\n{script_of(commands)}pwd\n"
-        ran = subprocess.run(["sh", "-c", script], cwd=self.here, env=environment, timeout=SECONDS,
+        ran = subprocess.run(["sh", "-c", script], cwd=self.here, env=self.environment(), timeout=SECONDS,
                              stdin=subprocess.DEVNULL, stdout=subprocess.PIPE)
         *texts, here = ran.stdout.decode(errors="replace").split(f"{END_OF_COMMAND}\n")
         if len(texts) != len(commands):
@@ -135,6 +150,12 @@ def shown_text(commands, texts):
     return "".join(command + text for command, text in zip(spelled, texts))
 
 
+def is_installed(name):
+    """Whether a program, a file by its path, or a Python package by its Debian name, such as python3-rasterio, is there."""
+    module = {"python3-gdal": "osgeo"}.get(name, name.removeprefix("python3-"))
+    return bool(shutil.which(name) or os.path.isfile(name) or os.path.exists(f"{PYTHON_PACKAGES}/{module}"))
+
+
 def judge(block, room):
     """What is wrong with a block, or '', and its text as it must be; None in place of a fault where nothing is run."""
     if block.language not in LANGUAGES:
@@ -142,11 +163,14 @@ def judge(block, room):
     if block.file:
         room.put(block)
         return None, block.text
-    missing = [name for name in block.needs if not shutil.which(name) and not os.path.isfile(name)]
+    missing = [name for name in block.needs if not is_installed(name)]
     if missing:
         packages = " ".join(PACKAGES.get(name, name) for name in missing)
         print(f"skipped  documents: {', '.join(missing)} is not installed, for the block at line {block.line}; install: apt-get install {packages}")
         return None, block.text
+    if block.language == "pycon":
+        right = room.session(block.text)
+        return unlike(block.text, right), right
     if block.language != "console":
         has_command = re.search(r"^\$ ", block.text, re.MULTILINE)
         return "a command with its output in a block that is not run" if has_command else None, block.text
@@ -155,10 +179,15 @@ def judge(block, room):
         right = shown_text(commands, room.printed(commands))
     except (ValueError, subprocess.TimeoutExpired) as fault:
         return str(fault), block.text
-    if block.text == right:
-        return "", right
-    differs = difflib.unified_diff(block.text.splitlines(), right.splitlines(), "shown", "printed", lineterm="", n=1)
-    return "\n    ".join(differs) or "the last line has no end", right
+    return unlike(block.text, right), right
+
+
+def unlike(shown, printed):
+    """How what a block shows differs from what is printed, or ''."""
+    if shown == printed:
+        return ""
+    differs = difflib.unified_diff(shown.splitlines(), printed.splitlines(), "shown", "printed", lineterm="", n=1)
+    return "\n    ".join(differs) or "the last line has no end"
 
 
 def run_document(name, programs, write):
@@ -181,7 +210,7 @@ def run_document(name, programs, write):
 
 
 def check_differences(program):
-    """The program's side of the tables of docs/DIFFERENCES.md."""
+    """The program's side of the tables of docs/grass.md."""
     passed, faults = 0, []
     with tempfile.TemporaryDirectory(prefix="rcell-differences-") as room:
         for row in differences.rows():
@@ -296,7 +325,8 @@ def main():
     settings = words.parse_args()
     program, joiner = os.path.abspath(settings.program), os.path.abspath(settings.joiner)
     programs = {"rcell": program, "rcell-join": joiner}
-    texts = [("the messages", messages.check), ("the citations", citations.check), ("the picture of the crates", crate_graph.check), ("the manual pages", check_pages),
+    texts = [("the messages", messages.check), ("the links", links.check),
+             ("the citations", citations.check), ("the picture of the crates", crate_graph.check), ("the manual pages", check_pages),
              ("the numbers of lines", lambda: check_reading(settings.write)), ("the figures", lambda: check_speed(settings.write))]
     runs = [(name, lambda name=name: run_document(name, programs, settings.write)) for name in settings.documents or DOCUMENTS]
     if not settings.documents:

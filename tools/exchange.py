@@ -6,17 +6,17 @@
 Without words all checks are made, and these are they:
     grids        GRASS reads what bin/rcell writes, and bin/rcell what its r.out.ascii writes; GRASS writes no line for
                  another null text than `*`, so that line is put into what it wrote
-    exports      the commands by which README.md and docs/GUIDE.md export a map from GRASS and take labels there and back,
+    exports      the commands by which README.md and docs/howto.md export a map from GRASS and take labels there and back,
                  run as they stand there, in locations in metres, in degrees and without a projection
-    areas        square kilometres by row (docs/GUIDE.md) beside those of r.stats -a
-    differences  each answer of GRASS in docs/DIFFERENCES.md
-    pairs        each pair of docs/FROM_GRASS.md, in both
+    areas        square kilometres by row (docs/howto.md) beside those of r.stats -a
+    differences  each answer of GRASS in docs/grass.md
+    pairs        each pair of docs/grass.md, in both
     random       100 runs of tools/grass_runs.py: grids and scripts made at random, in both
     addon        the tests of grass/r.rcell in the three locations, on a million cells
     tasks        tools/grass_tasks.py: five tasks on 20 million cells, by GRASS, by rcell and by r.rcell
     gdal         GDAL reads what bin/rcell writes, and what it writes as AAIGrid comes back by rcell-aaigrid; the commands of
                  the documents export a GeoTIFF
-    pictures     the pictures of docs/GUIDE.md are those that its commands make
+    pictures     the pictures of docs/howto.md are those that its commands make
 What is not installed is skipped with a message. The last line is 'N passed, M failed'.
 """
 import os
@@ -117,7 +117,7 @@ def grids_by_grass():
 
 
 def differences_by_grass():
-    """Which answers of GRASS are not as docs/DIFFERENCES.md says, one list a row."""
+    """Which answers of GRASS are not as docs/grass.md says, one list a row."""
     for row in differences.rows():
         with tempfile.TemporaryDirectory() as room:
             answer = differences.by_grass(row, room)
@@ -163,8 +163,8 @@ def export(place, commands, kind, edges):
 
 
 def way_back(room):
-    """What is wrong with the map that comes back as docs/GUIDE.md says."""
-    ((_, commands),) = blocks_with("docs/GUIDE.md", "r.region map=result")
+    """What is wrong with the map that comes back as docs/howto.md says."""
+    ((_, commands),) = blocks_with("docs/howto.md", "r.region map=result")
     put(room, script=b"r.out.ascii input=landuse\n")
     by_grass(room, commands)
     told = by_grass(room, "for map in landuse result; do r.info -g $map | sort; g.region raster=$map; r.stats -1g $map --quiet; echo =; done")
@@ -173,9 +173,9 @@ def way_back(room):
 
 
 def labels_by_grass():
-    """What is wrong where labels go to rcell and back by the commands of docs/GUIDE.md."""
-    ((_, there),) = blocks_with("docs/GUIDE.md", "> labelled")
-    ((_, back),) = blocks_with("docs/GUIDE.md", "labels.rcell")
+    """What is wrong where labels go to rcell and back by the commands of docs/howto.md."""
+    ((_, there),) = blocks_with("docs/howto.md", "> labelled")
+    ((_, back),) = blocks_with("docs/howto.md", "labels.rcell")
     rules = b"r.reclass input=landuse output=classes\n1 2 = 1 green, all\n3 = 3 a: b | c\nend\n"
     with tempfile.TemporaryDirectory() as room:
         made_location(room)
@@ -194,7 +194,7 @@ def exports_by_grass():
     """What differs where a map is exported from GRASS as the documents say, one list a block and location."""
     for place, commands in blocks_with("README.md", "r.out.ascii"):
         yield export(place, commands, "metres", {})
-    ((place, commands),) = blocks_with("docs/GUIDE.md", "r.out.ascii -h")
+    ((place, commands),) = blocks_with("docs/howto.md", "r.out.ascii -h")
     for kind, edges in REGIONS:
         yield export(place, commands, kind, edges)
     yield from labels_by_grass()
@@ -202,7 +202,7 @@ def exports_by_grass():
 
 def areas_by_grass():
     """What differs between square kilometres by row and those of r.stats -a, in degrees."""
-    files = {name: file_of("docs/GUIDE.md", name) for name in ("world.txt", "rows", "cells.awk")}
+    files = {name: file_of("docs/howto.md", name) for name in ("world.txt", "rows", "cells.awk")}
     with tempfile.TemporaryDirectory() as room:
         made_location(room, "degrees")
         put(room, **{name.replace(".", "_"): text.encode() for name, text in files.items()})
@@ -231,7 +231,7 @@ def addon_by_grass():
         with tempfile.TemporaryDirectory() as room:
             made_location(room, kind)
             home = {**environment(), "HOME": room}
-            ((_, install),) = blocks_with("docs/GUIDE.md", "cp grass/r.rcell")
+            ((_, install),) = blocks_with("docs/howto.md", "cp grass/r.rcell")
             subprocess.run(["sh", "-ec", install], cwd=ROOT, env=home, check=True)
             tests = f"{ROOT}/grass/r.rcell/testsuite/test_r_rcell.py"
             words = ["grass", f"{room}/here/PERMANENT", "--exec", "/usr/bin/python3", tests]
@@ -276,7 +276,7 @@ def grids_by_gdal():
 
 def exports_by_gdal():
     """What differs where a GeoTIFF that GDAL made of our text is exported as the documents say, one list a block."""
-    blocks = [block for name in ("README.md", "docs/GUIDE.md") for word in ("landuse.asc", "rcell-tif landuse.tif")
+    blocks = [block for name in ("README.md", "docs/howto.md") for word in ("landuse.asc", "rcell-tif landuse.tif")
               for block in blocks_with(name, word)]
     for place, commands in dict(blocks).items():
         with tempfile.TemporaryDirectory() as room:
@@ -288,15 +288,15 @@ def exports_by_gdal():
 
 
 def pictures_by_gdal():
-    """Which pictures of docs/GUIDE.md are not those that its commands make, one list a picture."""
-    ((place, commands),) = blocks_with("docs/GUIDE.md", "gdaldem")
+    """Which pictures of docs/howto.md are not those that its commands make, one list a picture."""
+    ((place, commands),) = blocks_with("docs/howto.md", "gdaldem")
     with tempfile.TemporaryDirectory() as room:
-        for name in ("landcover.colours", "patches.colours", "show", "export"):
+        for name in ("landcover.colours", "show"):
             with open(f"{room}/{name}", "w", encoding="ascii") as file:
-                file.write(file_of("docs/GUIDE.md", name))
+                file.write(file_of("docs/howto.md", name))
         ran([f"{ROOT}/helpers/rcell-aaigrid", f"{ROOT}/examples/study/landcover.asc", "landcover.txt"], room)
         told = ran(["sh", "-ec", commands], room)
-        for name in ("landcover.png", "patches.png"):
+        for name in ("landcover.png",):
             sums = [re.findall(rb"Checksum=\d+|Size is .*", ran(["gdalinfo", "-checksum", path], room)) for path in (f"{ROOT}/docs/{name}", name)]
             yield [f"{place}: {name} is another picture ({told!r})"] * (sums[0] != sums[1] or not sums[0])
 

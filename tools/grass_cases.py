@@ -1,5 +1,5 @@
 """Grids and scripts made at random for tools/grass_runs.py, by the makers of made_cases.py: such as rcell and GRASS both
-take, and for which docs/DIFFERENCES.md lists no difference.
+take, and for which docs/grass.md lists no difference.
 
 `SharedMaker` leaves out the spellings that the document lists. A statement for which `IS_LISTED` finds a listed difference,
 over the maps known at that point, is made anew.
@@ -25,7 +25,7 @@ LABELS = [b"low", b"b", b"two words", b"=", b"# no", b"a\tb", b"no data", b"l\xc
 TWO_SIGNS = re.compile(rb"[^\w.)\]\s]\s*[-!]\s*[-!](?!=)")
 
 
-# What docs/DIFFERENCES.md lists
+# What docs/grass.md lists
 
 
 def operands(term):
@@ -104,7 +104,7 @@ IS_LISTED = {Mapcalc: is_listed_of_mapcalc, Reclass: is_listed_of_reclass, Stats
 
 
 class SharedMaker(ScriptMaker):
-    """Grids and scripts that rcell and GRASS both take; the spellings that docs/DIFFERENCES.md lists are left out."""
+    """Grids and scripts that rcell and GRASS both take; the spellings that docs/grass.md lists are left out."""
 
     def __init__(self, random_source):
         super().__init__(random_source)

@@ -3,7 +3,7 @@
 
     grass_runs.py --runs N --seed S [--program PATH] [--keep FOLDER] [--first F]
 
-The grids and scripts are those of tools/grass_cases.py, for which docs/DIFFERENCES.md lists no difference but three that
+The grids and scripts are those of tools/grass_cases.py, for which docs/grass.md lists no difference but three that
 are undone here: grids of r.out.ascii get no space at the end of a row and a line for another null text (`as_here`), and the
 areas of r.clump are numbered by their first cells (`by_first_cells`). GRASS reads the grids by r.in.ascii, and runs the commands one by one, each in its own
 module. What they write must be what the program writes, byte for byte. Run F of seed S is the same wherever it is made.

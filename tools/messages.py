@@ -1,5 +1,5 @@
 #!/usr/bin/env python3
-"""The table of messages in docs/COMMANDS.md, which is made from helpers/messages.json.
+"""The table of messages in docs/errors.md, which is made from helpers/messages.json.
 
     messages.py            compares: the table is the one that the file gives, and the file has each message of the program, and no other
     messages.py --write    writes the table into the document
@@ -15,8 +15,8 @@ import sys
 import build
 
 ROOT = os.path.dirname(os.path.dirname(os.path.abspath(__file__)))
-FILE, DOCUMENT = f"{ROOT}/helpers/messages.json", f"{ROOT}/docs/COMMANDS.md"
-TABLES = re.compile(r"^### Of the command line .*?(?=^## )", re.MULTILINE | re.DOTALL)
+FILE, DOCUMENT = f"{ROOT}/helpers/messages.json", f"{ROOT}/docs/errors.md"
+TABLES = re.compile(r"^## Of the command line .*", re.MULTILINE | re.DOTALL)
 # Kinds of a fault that no run of the program reports.
 UNREPORTED = {"reader failed"}
 
@@ -46,14 +46,14 @@ def rows_of(part):
 
 
 def table_of(part):
-    heads = ["Text", *["Source"] * bool(part.get("sources")), "Cause", "Write instead", *["Line"] * bool(part.get("lines"))]
+    heads = ["Text", *["Source"] * bool(part.get("sources")), "Cause", "What to do", *["Line"] * bool(part.get("lines"))]
     lines = ["| " + " | ".join(heads) + " |", "|" + "---|" * len(heads)]
     lines += ["|" + "".join(f" {cell} |" if cell else " |" for cell in cells) for cells in rows_of(part)]
     return "\n".join(lines)
 
 
 def tables():
-    return "".join(f"### {part['title']}\n\n{table_of(part)}\n\n" for part in read_parts())
+    return "".join(f"## {part['title']}\n\n{table_of(part)}\n\n" for part in read_parts()).rstrip("\n") + "\n"
 
 
 def messages_of_the_code():
@@ -74,7 +74,7 @@ def check(write=False):
     if write and right != document:
         with open(DOCUMENT, "w", encoding="utf-8") as file:
             file.write(right)
-    faults = [] if write or right == document else ["docs/COMMANDS.md: the table is not that of helpers/messages.json (tools/messages.py --write)"]
+    faults = [] if write or right == document else ["docs/errors.md: the table is not that of helpers/messages.json (tools/messages.py --write)"]
     texts, code = {message["text"] for part in read_parts() for message in part["messages"]}, messages_of_the_code()
     faults += [f"helpers/messages.json: no row for the message '{text}'" for text in sorted(code - texts)]
     faults += [f"helpers/messages.json: no such message: '{text}'" for text in sorted(texts - code)]

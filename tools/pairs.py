@@ -1,5 +1,5 @@
 #!/usr/bin/env python3
-"""Reads the pairs of docs/FROM_GRASS.md, and asks GRASS and the program for their answers.
+"""Reads the pairs of docs/grass.md, and asks GRASS and the program for their answers.
 
 A row of its tables whose first two cells begin with code is a pair; the form of the cells is said in the document. An
 answer is the rows of the map that the last line of the script makes, or else what is printed. Run by itself, it asks the
@@ -13,7 +13,7 @@ import tempfile
 from dataclasses import dataclass
 
 ROOT = os.path.dirname(os.path.dirname(os.path.abspath(__file__)))
-DOCUMENT = "docs/FROM_GRASS.md"
+DOCUMENT = "docs/grass.md"
 COUNT = 42
 SECONDS = 600
 CODE = re.compile(r"\s*`([^`]+)`")

@@ -1,8 +1,9 @@
 #!/usr/bin/env python3
 """Draws the pictures of the documents: `make pictures`, or one by itself.
 
-    pictures.py islands OUT.png [--program PATH]      examples/islands: the countries, and the islands as r.clump numbers them
-    pictures.py speed OUT.png                         the figures of docs/SPEED.md as bars
+    pictures.py study OUT.png [--program PATH]      examples/study: land cover, hectares by class, patches of woodland
+    pictures.py islands OUT.png [--program PATH]    examples/islands: the countries, and the islands as r.clump numbers them
+    pictures.py speed OUT.png                       the figures of docs/SPEED.md as bars
 
 It needs matplotlib and numpy (of Debian: python3-matplotlib).
 """
@@ -23,6 +24,11 @@ import documents  # noqa: E402
 ROOT = documents.ROOT
 ISLANDS = f"{ROOT}/examples/islands"
 SQUARE_KILOMETRES_OF_A_CELL = 256
+STUDY = f"{ROOT}/examples/study"
+HECTARES_OF_A_CELL = 0.0625
+CLASSES = {11: ("town", "#c83c32"), 12: ("industry", "#823c6e"), 21: ("arable land", "#ebdc96"), 23: ("pasture", "#bed778"),
+           31: ("broad-leaved wood", "#46963c"), 32: ("conifers", "#1e643c"), 51: ("water", "#4682c8")}
+PATCHES = "r.reclass input=landcover output=wood\n31 thru 39 = 1\nend\nr.clump -d input=wood output=patches\n"
 SEA = (0.87, 0.93, 0.97)
 LEAST_LABELLED = 20  # cells of a country that gets its name
 LONGEST_LINE = 18  # letters of a label
@@ -37,9 +43,10 @@ def grid(text):
     return np.array(cells, int).reshape(int(header["rows"]), int(header["cols"]))
 
 
-def rcell(program, script):
-    words = [program, script, "country=archipelago.txt"]
-    return subprocess.run(words, cwd=ISLANDS, check=True, capture_output=True, text=True).stdout
+def rcell(program, script, folder=ISLANDS, grid_word="country=archipelago.txt"):
+    """What a script prints; one of several lines is given to the program as its standard input."""
+    words = [program, "/dev/stdin" if "\n" in script else script, grid_word]
+    return subprocess.run(words, cwd=folder, check=True, capture_output=True, text=True, input=script).stdout
 
 
 def label(axes, cells, text):
@@ -83,6 +90,53 @@ def islands(output, program):
     figure.savefig(output)
 
 
+def without_ticks(axes, title):
+    axes.set_title(title, fontsize=11)
+    axes.set_xticks([])
+    axes.set_yticks([])
+
+
+def draw_hectares(axes, table):
+    """Bars of the hectares of each class, the first class at the top."""
+    hectares = [int(cells) * HECTARES_OF_A_CELL for _, cells in table]
+    bars = axes.barh([CLASSES[int(code)][0] for code, _ in table], hectares, color=[CLASSES[int(code)][1] for code, _ in table])
+    axes.bar_label(bars, fmt="%.2f ha", padding=3, fontsize=9)
+    axes.invert_yaxis()
+    axes.set_xlim(0, 1.25 * max(hectares))
+    axes.set_title("r.stats -c: hectares of each class", fontsize=11)
+    axes.set_xticks([])
+    for side in ("top", "right", "bottom"):
+        axes.spines[side].set_visible(False)
+
+
+def draw_patches(axes, patches, sizes):
+    colours = ["white", "#e6781e", "#7846a0", "#28a0a0", "#c83c5a"]
+    axes.imshow(patches, cmap=ListedColormap(colours), vmin=0, vmax=len(colours) - 1, interpolation="nearest")
+    without_ticks(axes, "r.clump -d: four patches of woodland")
+    for number, cells in sizes:
+        label(axes, patches == int(number), f"{int(cells) * HECTARES_OF_A_CELL:.2f} ha")
+
+
+def study(output, program):
+    """The land cover of the study, the hectares of its classes and its patches of woodland."""
+    def answer(script):
+        return rcell(program, script, STUDY, "landcover=landcover.txt")
+
+    def table(script):
+        return [line.split() for line in answer(script).splitlines()]
+
+    cover = grid(answer("r.out.ascii input=landcover\n"))
+    figure, (left, middle, right) = plt.subplots(1, 3, figsize=(13, 3.2), dpi=100, width_ratios=(1.1, 0.9, 1.1))
+    codes = np.searchsorted(list(CLASSES), cover)
+    colours = ["white", *(colour for _, colour in CLASSES.values())]
+    left.imshow(np.where(cover == 0, 0, codes + 1), cmap=ListedColormap(colours), vmin=0, vmax=len(colours) - 1, interpolation="nearest")
+    without_ticks(left, "landcover.tif: 25 m cells")
+    draw_hectares(middle, table("r.stats -c -n input=landcover\n"))
+    draw_patches(right, grid(answer(f"{PATCHES}r.out.ascii input=patches\n")), table(f"{PATCHES}r.stats -c -n input=patches\n"))
+    figure.tight_layout()
+    figure.savefig(output)
+
+
 # The tasks of the chart: what it says of each, and where the row stands in docs/SPEED.md.
 CHARTED = (
     ("reading\npatchy land cover", "reading", "patchy land cover, 25 million cells"),
@@ -115,11 +169,11 @@ def speed(output, _):
 
 def main():
     words = argparse.ArgumentParser(description="Draws a picture of the documents.")
-    words.add_argument("picture", choices=("islands", "speed"))
+    words.add_argument("picture", choices=("study", "islands", "speed"))
     words.add_argument("output")
     words.add_argument("--program", default=f"{ROOT}/bin/rcell")
     wanted = words.parse_args()
-    {"islands": islands, "speed": speed}[wanted.picture](wanted.output, os.path.abspath(wanted.program))
+    {"study": study, "islands": islands, "speed": speed}[wanted.picture](wanted.output, os.path.abspath(wanted.program))
 
 
 if __name__ == "__main__":

@@ -4,7 +4,7 @@
     quick_start.py FILE [--room FOLDER] [--root FOLDER]
 
 FILE is the tarball (.tar.gz) or the package (.deb). It is put alone into an empty folder, and the commands of the README's
-section "Quick start" are given there to sh, in one session: of its two ways to unpack the release the one for this file, and
+section "Install" are given there to sh, in one session: of its two ways to unpack the release the one for this file, and
 then each block that shows what is printed. Neither the kit nor Python is on the path. The package is unpacked by dpkg-deb in
 place of being installed, so that nothing here changes.
 
@@ -22,7 +22,7 @@ import tempfile
 
 import documents
 
-SECTION = re.compile(r"^## Quick start\n.*?^## ", re.MULTILINE | re.DOTALL)
+SECTION = re.compile(r"^## Install\n.*?^## ", re.MULTILINE | re.DOTALL)
 HIDDEN = re.compile(r"python|pypy|pydoc|rt$|rt-|rattle|rcell")
 FOLDERS = ("/usr/bin", "/bin")
 SECONDS = 600  # only what hangs takes longer, also on a machine with much other work

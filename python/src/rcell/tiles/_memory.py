@@ -19,7 +19,7 @@ WORKER = 165 * 10**6
 """Bytes of a worker without a tile: Python, Dask, numpy and rasterio, the buffers of GDAL, of pipes and of text."""
 
 CELL = 4.15
-"""Bytes a cell that the program takes for a map without runs; GUIDE.md, "Large maps"."""
+"""Bytes a cell that the program takes for a map without runs; docs/large-maps.md."""
 
 RUN = 8.3
 """Bytes a run of equal cells that it takes for a map of long runs."""
