@@ -17,7 +17,7 @@ import sys
 import sources
 
 ROOT = sources.CRATES.parent
-PAGES_ABOUT_PROOFS = ("MAP.md", "PROOFS.md", "REFUSALS.md", "proofs.md", "architecture.md")
+PAGES_ABOUT_PROOFS = ("MAP.md", "REFUSALS.md", "proofs.md", "architecture.md")
 EDITS = re.compile(r"(\w+/(?:must-fail|edits))/([\w-]+(?:, [\w-]+-[\w-]+)*)")
 CODE = re.compile(r"`([^`]+)`")
 IN_PARENTHESES = re.compile(r"\(`([a-z_]+)`\)")
@@ -66,8 +66,8 @@ def lost_edits(text):
 
 
 def rows_with_clauses(text):
-    """The rows of tables with a column of clauses, each as a line number, the row and its cell in that column."""
-    column, at_head = None, True
+    """The rows of tables with a column of clauses, each as a line number, the row with what its head names, and its cell there."""
+    column, at_head, head = None, True, ""
     for number, line in enumerate(text.split("\n"), 1):
         row = ROW.match(line)
         if row is None:
@@ -76,9 +76,9 @@ def rows_with_clauses(text):
         cells = [cell.strip() for cell in re.split(r"(?<!\\)\|", row[1])]
         if at_head:
             column = next((place for place, cell in enumerate(cells) if "clause" in cell.lower()), None)
-            at_head = False
+            at_head, head = False, "".join(CODE.findall(line))
         elif column is not None and len(cells) > column:
-            yield number, line, cells[column]
+            yield number, f"{line} {head}", cells[column]
 
 
 def labels_cited(cell):

@@ -16,7 +16,7 @@ The folder that a block goes to by `cd` is that of the next. With --write what i
 Of docs/grass.md the program's side of each table is run, too (tools/differences.py), and the flags and keys that
 docs/commands.md, docs/rcell-join.md and the manual pages name are tried (tools/command_options.py). What needs no program is tried
 first, and with --texts alone: docs/errors.md has the table of helpers/messages.json (tools/messages.py), docs/crates.svg the
-crates of crates.txt (tools/crate_graph.py), docs/PROOFS.md and README.md the numbers of lines that have to be believed
+crates of crates.txt (tools/crate_graph.py), docs/proofs.md and README.md the numbers of lines that have to be believed
 (tools/reading.py), README.md the figures of docs/SPEED.md, each link and anchor leads somewhere (tools/links.py), the edits, clauses and laws that the documents cite exist (tools/citations.py), and the
 manual pages pass the warnings of man where it is installed.
 The last line is 'N passed, M failed'.
@@ -41,7 +41,7 @@ import messages
 
 ROOT = os.path.dirname(os.path.dirname(os.path.abspath(__file__)))
 DOCUMENTS = ["README.md", "docs/tutorial.md", "docs/howto.md", "docs/large-maps.md", "docs/commands.md", "docs/rcell-join.md",
-             "docs/errors.md", "docs/grass.md", "docs/ISLANDS.md", "docs/PROOFS.md"]
+             "docs/errors.md", "docs/grass.md", "docs/ISLANDS.md", "docs/proofs.md"]
 FENCE = re.compile(r"```(\S*)(?: file=(\S+))?(?: needs=(\S+))?\n(.*?)^```$", re.MULTILINE | re.DOTALL)
 # What is said of the lines that have to be believed: numbers, and what stands around them.
 READING_ROW = re.compile(r"(`make reading(?: COMMAND=(?P<command>\S+))?` \| )(\d+)( \| )(\d+)( \| )(\d+)( \|)")
@@ -228,9 +228,9 @@ def counts_of_reading(command):
 
 
 def check_reading(write):
-    """Whether docs/PROOFS.md and README.md have the numbers of lines that have to be believed; `write` mends them."""
+    """Whether docs/proofs.md and README.md have the numbers of lines that have to be believed; `write` mends them."""
     counted, faults = 0, []
-    for name, pattern in (("docs/PROOFS.md", READING_ROW), ("README.md", READING_SENTENCE)):
+    for name, pattern in (("docs/proofs.md", READING_ROW), ("README.md", READING_SENTENCE)):
         with open(f"{ROOT}/{name}", encoding="utf-8") as file:
             document = file.read()
 
