@@ -48,7 +48,8 @@ READING_ROW = re.compile(r"(`make reading(?: COMMAND=(?P<command>\S+))?` \| )(\d
 READING_SENTENCE = re.compile(r"(for a table of (?P<command>r\.\w+) )(\d+)( lines, )(\d+)( with comments)")
 SPEED_ROW = re.compile(r"^\| ([^|]+) \| ([^|]+ cells) \| (.*?) \|$", re.MULTILINE)
 LANGUAGES = {"console", "pycon", "text", "python", "sh"}
-PACKAGES = {"gdal_retile.py": "python3-gdal"}
+PACKAGES = {"gdal_retile.py": "python3-gdal", "gdalinfo": "gdal-bin", "Rscript": "r-base-core",
+            "/usr/share/gmt-gshhg/binned_GSHHS_f.nc": "gmt-gshhg-full", "/usr/share/qgis/resources/data/world_map.gpkg": "qgis-common"}
 PYTHON_PACKAGES = "/usr/lib/python3/dist-packages"
 SESSION = "import sys; sys.path.insert(0, sys.argv[1]); import documents; print(documents.by_session(sys.stdin.read(), {}), end='')"
 SECONDS = 600  # only what hangs takes longer, also on a machine with much other work
