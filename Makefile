@@ -65,7 +65,7 @@ documents: all
 	python3 tools/documents.py
 
 check:
-	@sh tools/needs.sh || { echo '0 passed, 1 failed, 0 skipped'; exit 1; }
+	@sh tools/needs.sh git || { echo '0 passed, 1 failed, 0 skipped'; exit 1; }
 	@python3 tools/check.py $(PARTS)
 
 # Of what was built last: whoever packs the program (the wheel of Python, the package of R) takes bin/rcell-static.
@@ -74,6 +74,7 @@ static:
 	@sh tools/static.sh bin
 
 dist: all static
+	@sh tools/needs.sh git
 	@sh tools/debian.sh python3-hatchling r-base-core
 	@sh tools/dist.sh dist
 

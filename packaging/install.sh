@@ -15,7 +15,7 @@ programs='rcell rcell-join'
 
 # The files of the repository below some paths: those that git tracks, or all if this is no clone.
 files() {
-    if [ -e .git ]; then git ls-files -- "$@"; else find "$@" -name __pycache__ -prune -o -type f -print; fi | LC_ALL=C sort
+    if [ -e .git ] && command -v git > /dev/null; then git ls-files -- "$@"; else find "$@" -name __pycache__ -prune -o -type f -print; fi | LC_ALL=C sort
 }
 
 # A line for each file: its mode, its path here, and its path below PREFIX. $1 is what the programs here end in.
