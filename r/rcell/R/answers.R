@@ -3,19 +3,19 @@
 
 PIECE_BYTES <- 4194304L
 
-rcell_run <- function(.script, ..., maps = list(), program = NULL) {
+rcell_run <- function(.script, ..., crs = NULL, maps = list(), program = NULL) {
   if (missing(.script)) no_script()
-  run_script(.script, sources_of(list(...), maps), program = program, read = function(answer) {
+  run_script(.script, sources_of(list(...), maps, crs), program = program, read = function(answer) {
     outputs <- lapply(seq_along(answer$outputs), function(place) output_of(answer, place))
     names(outputs) <- vapply(answer$outputs, function(statement) paste(statement$maps, collapse = ","), "")
     outputs
   })
 }
 
-rcell_table <- function(.script, ..., area = NULL, percent = FALSE, wide = FALSE, maps = list(), program = NULL) {
+rcell_table <- function(.script, ..., area = NULL, percent = FALSE, wide = FALSE, crs = NULL, maps = list(), program = NULL) {
   if (missing(.script)) no_script()
   check_unit(area)
-  run_script(.script, sources_of(list(...), maps), program = program, read = function(answer) {
+  run_script(.script, sources_of(list(...), maps, crs), program = program, read = function(answer) {
     tables <- tables_of(answer, area, percent, wide)
     if (length(tables) == 1L) tables[[1]] else tables
   })
@@ -37,15 +37,20 @@ tables_of <- function(answer, area, percent, wide) {
   })
 }
 
-rcell_grid <- function(.script, .name, ..., filename = "", overwrite = FALSE, maps = list(), program = NULL) {
+rcell_grid <- function(.script, .name, ..., filename = "", overwrite = FALSE, crs = NULL, maps = list(), program = NULL) {
   if (missing(.script) || missing(.name)) no_script()
   check_filename(filename, overwrite)
-  sources <- sources_of(list(...), maps)
-  statements <- statements_of(lines_of(.script))
-  known <- c(names(sources), unlist(lapply(statements, function(statement) statement$output)))
-  if (!isTRUE(.name %in% known)) refuse(sprintf("no map %s: there are %s", .name, paste(known, collapse = ", ")), status = 2L)
-  read <- function(answer) grid_of(answer, length(answer$outputs))
-  written(run_script(.script, sources, read, wanted = .name, program = program), filename)
+  sources <- sources_of(list(...), maps, crs)
+  check_inputs(filename, sources)
+  made <- unlist(lapply(statements_of(lines_of(.script)), function(statement) statement$output))
+  known <- c(names(sources), made)
+  # The program judges the script first: what seems to make no map may be misspelled.
+  is_known <- isTRUE(.name %in% known)
+  read <- function(answer) {
+    if (!is_known) refuse(sprintf("no map %s: there are %s", .name, paste(known, collapse = ", ")), status = 2L)
+    grid_of(answer, length(answer$outputs))
+  }
+  written(run_script(.script, sources, read, wanted = if (is_known) .name else character(), program = program), filename)
 }
 
 # Runs a script, and answers what `read` makes of the outputs. The folder of the run is removed whatever happens.

@@ -17,6 +17,12 @@ refuse <- function(text, source = "arguments", line = 0L, status = 1L, content =
   column <- column_in(text)
   place <- if (line > 0L) sprintf("%s, line %d", source, line) else source
   message <- paste0(place, ": ", text)
+  # The program names no word of a statement whose options are wrong.
+  bad <- if (identical(text, "bad option") && !is.null(content)) bad_option(content)
+  if (!is.null(bad)) {
+    column <- bad$column
+    message <- paste0(message, ": ", bad$word)
+  }
   if (!is.null(content)) {
     message <- paste0(message, "\n  ", content)
     if (!is.na(column)) message <- paste0(message, "\n  ", mark_under(content, column))

@@ -1,12 +1,12 @@
 # SPDX-License-Identifier: Apache-2.0 OR GPL-2.0-or-later
 # What ecologists ask of a map: connected areas, patches, adjacency, a cross table.
 
-DIRECTIONS <- c(4, 8)
+CONNECTIVITIES <- c(4, 8)
 
 # The connected areas of `x`: r.clump, of the classes asked for.
-clump_lines <- function(directions, classes = NULL) {
-  if (length(directions) != 1L || !(directions %in% DIRECTIONS)) refuse("directions= is 4 or 8", status = 2L)
-  flag <- if (directions == 8) " -d" else ""
+clump_lines <- function(connectivity, classes = NULL) {
+  if (length(connectivity) != 1L || !(connectivity %in% CONNECTIVITIES)) refuse("connectivity= is 4 or 8", status = 2L)
+  flag <- if (connectivity == 8) " -d" else ""
   if (is.null(classes)) return(sprintf("r.clump%s input=map output=patch", flag))
   if (!is.numeric(classes) || !length(classes) || anyNA(classes) || any(classes != trunc(classes) | abs(classes) > CATEGORY_LIMIT)) {
     refuse("classes= are whole numbers to 2147483647 either way", status = 2L)
@@ -15,12 +15,15 @@ clump_lines <- function(directions, classes = NULL) {
     sprintf("r.clump%s input=kept output=patch", flag))
 }
 
-rcell_areas <- function(x, directions = 4, least = NULL, classes = NULL, filename = "", overwrite = FALSE, program = NULL) {
+rcell_areas <- function(x, connectivity = 4, least = NULL, classes = NULL, filename = "", overwrite = FALSE, crs = NULL,
+                        program = NULL) {
   check_filename(filename, overwrite)
   if (!is.null(least) && !(is.numeric(least) && length(least) == 1L && !is.na(least))) refuse("least= is a number of cells", status = 2L)
-  script <- clump_lines(directions, classes)
+  script <- clump_lines(connectivity, classes)
+  sources <- sources_of(list(map = x), list(), crs)
+  check_inputs(filename, sources)
   read <- function(answer) raster_of(answer, "patch", kept_areas(cells_of(answer, 1L), least))
-  written(run_script(script, sources_of(list(map = x), list()), read, wanted = "patch", program = program), filename)
+  written(run_script(script, sources, read, wanted = "patch", program = program), filename)
 }
 
 # Areas of fewer cells become null; the others keep their numbers.
@@ -37,11 +40,11 @@ BORDER <- paste(
   "r.mapcalc border = if(isnull(patch[0,-1]), 1, patch != patch[0,-1]) + if(isnull(patch[0,1]), 1, patch != patch[0,1])",
   "+ 3 * (if(isnull(patch[-1,0]), 1, patch != patch[-1,0]) + if(isnull(patch[1,0]), 1, patch != patch[1,0]))")
 
-rcell_patches <- function(x, directions = 8, area = "ha", program = NULL) {
+rcell_patches <- function(x, connectivity = 4, area = "ha", crs = NULL, program = NULL) {
   check_unit(area)
-  script <- c(clump_lines(directions), BORDER)
+  script <- c(clump_lines(connectivity), BORDER)
   read <- function(answer) patches_of(answer, area)
-  run_script(script, sources_of(list(map = x), list()), read, wanted = c("patch", "border", "map"), program = program)
+  run_script(script, sources_of(list(map = x), list(), crs), read, wanted = c("patch", "border", "map"), program = program)
 }
 
 # Three maps are read, and no table of a million patches: the time is the same for each map of a size.
@@ -53,7 +56,7 @@ patches_of <- function(answer, unit) {
     perimeter = rep(NA_real_, count))
   template <- answer$template
   if (!is_in_degrees(template)) {
-    found$area <- found$cells * cell_area(template, unit)
+    found$area <- areas_of(found$cells, template, unit)
     found$perimeter <- perimeters(patch, cells_of(answer, 2L), count, res(template)) * metres_of_unit(template)
   }
   labels <- answer$labels[["map"]]
@@ -102,8 +105,8 @@ adjacency_of <- function(answer) {
   matrix
 }
 
-rcell_crosstab <- function(x, y, useNA = FALSE, program = NULL) {
-  sources <- sources_of(list(x = x, y = y), list())
+rcell_crosstab <- function(x, y, useNA = FALSE, crs = NULL, program = NULL) {
+  sources <- sources_of(list(x = x, y = y), list(), crs)
   has_labels <- any(vapply(sources, function(source) !is.null(source$labels), NA))
   script <- sprintf("r.stats -c%s%s input=x,y", if (useNA) "" else "n", if (has_labels) "l" else "")
   run_script(script, sources, function(answer) output_of(answer, 1L), program = program)

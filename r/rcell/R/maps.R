@@ -8,17 +8,31 @@ EXACT_FLOAT <- 16777216
 EXACT_TYPES <- c("INT1U", "INT2U", "INT2S")
 HEADER_LINE <- "^[ \t\r\n]*(north|south|east|west|rows|cols|null|type|multiplier):"
 
-# The maps of a call: those of `...` and of `maps`, each by its name.
-sources_of <- function(dots, maps) {
+# 64-bit cells come from terra as floats: a null value from here on may stand for another number as well.
+INEXACT_FLOAT <- 2^53
+
+# The maps of a call: those of `...` and of `maps`, each by its name; `crs` states the reference system of those that have none.
+sources_of <- function(dots, maps, crs = NULL) {
   given <- c(maps, dots)
   if (!length(given) || is.null(names(given)) || any(!nzchar(names(given)))) {
     refuse("a map without a name, or none at all: name them, as lc = \"landcover.tif\"", status = 2L)
   }
   twice <- names(given)[duplicated(names(given))]
   if (length(twice)) refuse(sprintf("the map %s is given twice", twice[[1]]), status = 2L)
-  sources <- Map(source_of, names(given), given)
+  check_names(names(given))
+  stated <- stated_crs(crs)
+  sources <- lapply(Map(source_of, names(given), given), with_stated, stated)
+  check_crs(sources, stated)
   check_regions(sources)
   sources
+}
+
+check_names <- function(names) {
+  bad <- names[!is_name(names)]
+  if (!length(bad)) return(invisible())
+  plain <- substr(gsub("[^A-Za-z0-9_.]", "_", bad[[1]], useBytes = TRUE), 1L, 63L)
+  better <- if (is_name(plain)) plain else paste0("m", plain)
+  refuse(sprintf("'%s' is no name of a map: 1 to 64 letters, digits, _ and ., a letter or _ first; write %s", bad[[1]], better), status = 2L)
 }
 
 source_of <- function(name, given) {
@@ -36,30 +50,84 @@ matrix_source <- function(name, given) {
   raster_source(name, raster)
 }
 
-raster_source <- function(name, raster) {
+raster_source <- function(name, raster, is_opened_here = FALSE) {
   # Methods of S4 put errors of their arguments into errors of their own.
   force(raster)
-  if (nlyr(raster) != 1L) bad_map(name, sprintf("has %d layers: give one, as x[[1]]", nlyr(raster)))
+  chosen <- opaque_layer(name, raster)
+  raster <- chosen$raster
+  # terra takes a map without a system for one in degrees if its edges are within 180 by 90.
+  if (is_opened_here && isFALSE(chosen$facts$has_crs)) crs(raster) <- ""
   if (!hasValues(raster)) bad_map(name, "a raster without values")
   scale <- scoff(raster)
   if (any(scale != c(1, 0))) {
     bad_map(name, sprintf("its values are scaled: each cell times %g, plus %g; write them out as whole numbers first", scale[[1]], scale[[2]]))
   }
-  check_files(name, raster)
-  list(name = name, raster = raster, template = template_of(raster), region = region_of(name, raster), labels = labels_of(raster))
+  check_file(name, raster, chosen$facts, chosen$band)
+  region <- region_of(name, raster)
+  list(name = name, raster = raster, alpha = chosen$alpha, path = chosen$path, template = template_of(raster), region = region,
+    labels = labels_of(raster), crs = crs(raster))
 }
 
-# What GDAL knows of a file and terra does not: a mask beside the cells, and, until GDAL 3.7, that bytes are signed (-5 is read as
-# 251).
-check_files <- function(name, raster) {
-  for (path in Filter(nzchar, sources(raster))) {
-    told <- tryCatch(with_path(path, describe(path)), error = function(e) character(), warning = function(w) character())
-    if ("INT1U" %in% datatype(raster) && any(grepl("PIXELTYPE=SIGNEDBYTE", told, fixed = TRUE))) {
-      bad_map(name, "its bytes are signed, and terra reads them as 0 to 255: write it with 16 bits a cell by another program first")
-    }
-    if (any(grepl("Mask Flags: PER_DATASET *$", told))) {
-      bad_map(name, "has a mask of its own, and terra reads what lies beneath it: write it with a nodata value first")
-    }
+# The only layer that is no alpha band, the alpha band of its file if there is one, and what GDAL knows of the file.
+opaque_layer <- function(name, raster) {
+  files <- sources(raster, bands = TRUE)
+  paths <- unique(files$source[nzchar(files$source)])
+  facts <- if (length(paths) == 1L) file_facts(paths)
+  is_alpha <- if (is.null(facts)) rep(FALSE, nlyr(raster)) else files$bands %in% facts$alpha
+  if (nlyr(raster) > 1L && any(is_alpha)) raster <- raster[[which(!is_alpha)]]
+  if (nlyr(raster) != 1L) bad_map(name, sprintf("has %d layers: give one, as x[[1]]", nlyr(raster)))
+  if (is.null(facts)) return(list(raster = raster, path = ""))
+  band <- sources(raster, bands = TRUE)$bands[[1]]
+  alpha <- if (length(facts$alpha) && !(band %in% facts$alpha)) alpha_layer(raster, paths, facts$alpha[[1]])
+  list(raster = raster, alpha = alpha, path = paths, facts = facts, band = band)
+}
+
+alpha_layer <- function(raster, path, band) {
+  alpha <- with_path(path, rast(path))[[band]]
+  # A part of a file may be chosen by terra's window().
+  if (nrow(alpha) != nrow(raster) || ncol(alpha) != ncol(raster)) window(alpha) <- ext(raster)
+  alpha
+}
+
+# What GDAL knows of a file and terra does not tell.
+file_facts <- function(path) {
+  told <- tryCatch(suppressWarnings(with_path(path, describe(path))), error = function(e) character())
+  starts <- grep("^Band [0-9]+ ", told)
+  until <- c(starts[-1], length(told) + 1L)
+  list(
+    bands = Map(function(from, to) told[from:(to - 1L)], starts, until),
+    alpha = which(grepl("ColorInterp=Alpha", told[starts], fixed = TRUE)),
+    has_crs = if (length(told)) any(grepl("^Coordinate System is:", told)) else NA,
+    is_rotated = any(grepl("^GeoTransform =", told)),
+    has_points_alone = any(grepl("^GCP\\[", told)) && !any(grepl("^Origin = ", told)))
+}
+
+# Refuses what terra would read otherwise than it is: rotated rasters, complex cells, nulls that floats cannot tell from other
+# numbers, a mask beside the cells, and, until GDAL 3.7, signed bytes (-5 is read as 251).
+check_file <- function(name, raster, facts, band) {
+  if (is.null(facts)) return(invisible())
+  if (facts$is_rotated) bad_map(name, "a rotated transform: warp the map to rows from west to east first (terra: rectify)")
+  if (facts$has_points_alone) bad_map(name, "has ground control points and no transform: warp it first")
+  told <- if (band <= length(facts$bands)) facts$bands[[band]] else character()
+  type <- sub("^.*Type=([A-Za-z0-9]+).*$", "\\1", told[1])
+  if (type %in% c("CInt16", "CInt32", "CFloat32", "CFloat64")) {
+    bad_map(name, sprintf("not a map of whole numbers: its cells are of the type %s", type))
+  }
+  if (type %in% c("Int64", "UInt64")) check_wide_null(name, told)
+  if ("INT1U" %in% datatype(raster) && any(grepl("PIXELTYPE=SIGNEDBYTE", told, fixed = TRUE))) {
+    bad_map(name, "its bytes are signed, and terra reads them as 0 to 255: write it with 16 bits a cell by another program first")
+  }
+  if (any(grepl("Mask Flags: PER_DATASET *$", told))) {
+    bad_map(name, "has a mask of its own, and terra reads what lies beneath it: write it with a nodata value first")
+  }
+}
+
+check_wide_null <- function(name, told) {
+  text <- sub("^ *NoData Value=", "", grep("^ *NoData Value=", told, value = TRUE))
+  value <- suppressWarnings(as.numeric(text))
+  if (length(value) == 1L && !is.na(value) && abs(value) >= INEXACT_FLOAT) {
+    bad_map(name, sprintf(paste("its cells have 64 bits and its nodata value is %s, which terra cannot tell from its neighbours:",
+      "write it with 32 bits a cell first"), text))
   }
 }
 
@@ -77,7 +145,7 @@ path_source <- function(name, path) {
     head <- readBin(path, "raw", HEADER_BYTES)
     if (!any(head == 0L) && grepl(HEADER_LINE, rawToChar(head), useBytes = TRUE)) return(text_source(name, path, rawToChar(head)))
   }
-  raster_source(name, open_raster(name, path))
+  raster_source(name, open_raster(name, path), is_opened_here = TRUE)
 }
 
 # terra only warns of a raster that is rotated, and reads it as if it were not.
@@ -103,7 +171,7 @@ text_source <- function(name, path, head) {
     template <- rast(nrows = region$rows, ncols = region$cols, xmin = edges[[4]], xmax = edges[[3]], ymin = edges[[2]],
       ymax = edges[[1]], crs = "")
   }
-  list(name = name, path = normalizePath(path), template = template, region = region)
+  list(name = name, path = normalizePath(path), template = template, region = region, crs = "")
 }
 
 # The region of a header; NULL where it is not one, which the program then says in its own words.
@@ -150,8 +218,9 @@ send_map <- function(source, path) {
   raster <- source$raster
   is_exact <- is_exact_type(raster)
   is_float <- datatype(raster) %in% "FLT4S"
-  tryCatch(readStart(raster), error = function(e) read_failed(source$name, sprintf("cannot open: %s", told(e))))
-  on.exit(readStop(raster))
+  layers <- c(list(raster), source$alpha)
+  for (layer in layers) tryCatch(readStart(layer), error = function(e) read_failed(source$name, sprintf("cannot open: %s", told(e))))
+  on.exit(for (layer in layers) readStop(layer))
   count <- max(1L, BLOCK_CELLS %/% source$region$cols)
   for (row in seq(1L, source$region$rows, by = count)) {
     cells <- read_block(source, row, min(count, source$region$rows - row + 1L))
@@ -171,13 +240,19 @@ warn_of_floats <- function(name) {
 # A raster of a file whose cells can be nothing but categories.
 is_exact_type <- function(raster) isTRUE(is.int(raster)) && isTRUE(datatype(raster) %in% EXACT_TYPES)
 
-# A broken part of a file is an error, and never null.
+# The cells of some rows, those that are transparent null. A broken part of a file is an error, and never null.
 read_block <- function(source, row, count) {
+  cells <- read_rows(source, source$raster, row, count)
+  if (!is.null(source$alpha)) cells[read_rows(source, source$alpha, row, count) %in% 0] <- NA
+  cells
+}
+
+read_rows <- function(source, raster, row, count) {
   failed <- function(e) {
     text <- sprintf("rows %d to %d cannot be read: %s", row, row + count - 1L, told(e))
     read_failed(source$name, text)
   }
-  tryCatch(readValues(source$raster, row, count), error = failed, warning = failed)
+  tryCatch(readValues(raster, row, count), error = failed, warning = failed)
 }
 
 # The cells of a block as whole numbers, or the first that is none by its row and column.

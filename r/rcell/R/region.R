@@ -13,8 +13,11 @@ edge_text <- function(edge) sub("^-(0\\.0+)$", "\\1", sprintf("%.8f", edge))
 
 region_of <- function(name, raster) {
   edges <- c(ymax(raster), ymin(raster), xmax(raster), xmin(raster))
-  if (any(!is.finite(edges)) || any(abs(edges) >= EDGE_LIMIT)) {
-    bad <- which(!is.finite(edges) | abs(edges) >= EDGE_LIMIT)[[1]]
+  said <- paste(EDGES, format(edges, digits = 15, trim = TRUE), collapse = ", ")
+  if (any(!is.finite(edges))) bad_map(name, sprintf("a transform with a number that is not finite: its edges are %s", said))
+  if (edges[[3]] < edges[[4]]) bad_map(name, sprintf("a transform whose columns are from east to west: its edges are %s", said))
+  if (any(abs(edges) >= EDGE_LIMIT)) {
+    bad <- which(abs(edges) >= EDGE_LIMIT)[[1]]
     bad_map(name, sprintf("an edge of more than ten digits: %s is %g", EDGES[[bad]], edges[[bad]]))
   }
   region <- list(edges = edge_text(edges), rows = as.integer(nrow(raster)), cols = as.integer(ncol(raster)))

@@ -64,14 +64,39 @@ split_commas <- function(text) {
   parts
 }
 
+# The first word of a statement that is no option of its command, with its column in bytes from 1; NULL if none is found.
+bad_option <- function(line) {
+  found <- gregexpr("[^ \t\r]+", line, useBytes = TRUE)[[1]]
+  words <- words_of(line)
+  flags <- character()
+  keys <- character()
+  for (at in seq_along(words)[-1]) {
+    is_flag <- startsWith(words[[at]], "-")
+    key <- sub("=.*$", "", words[[at]], useBytes = TRUE)
+    letters <- if (is_flag) strsplit(substring(words[[at]], 2L), "", useBytes = TRUE)[[1]]
+    is_bad <- if (is_flag) !length(letters) || !all(letters %in% FLAGS[[words[[1]]]]) else
+      !grepl("=", words[[at]], fixed = TRUE, useBytes = TRUE) || !(key %in% setdiff(KEYS[[words[[1]]]], keys)) ||
+        !value_is_good(words[[1]], key, sub("^[^=]*=", "", words[[at]], useBytes = TRUE))
+    flags <- c(flags, letters)
+    keys <- c(keys, if (!is_flag) key)
+    # A table has counts or is of cells, and only a table can be continued.
+    is_bad <- is_bad || ("1" %in% flags && ("c" %in% flags || "after" %in% keys))
+    if (is_bad) return(list(word = words[[at]], column = as.integer(found[[at]])))
+  }
+  NULL
+}
+
+# Whether an option may have a value; names of maps are judged elsewhere.
+value_is_good <- function(command, key, value) {
+  if (key == "null_value") return(grepl("^[!-~]{1,64}$", value, useBytes = TRUE) && !(command == "r.out.ascii" && grepl(":", value, fixed = TRUE)))
+  if (key == "separator") return(value %in% c("pipe", "comma", "space", "tab") || grepl("^[!-~]$", value, useBytes = TRUE))
+  !(command == "r.stats" && key == "input") || length(split_commas(value)) <= MAPS_LIMIT
+}
+
 options_are_good <- function(command, flags, values, maps) {
   if (command %in% c("r.clump", "r.reclass")) return(length(maps) == 1L && !is.null(values$output) && is_name(values$output))
-  null_text <- if (is.null(values$null_value)) "*" else values$null_value
-  if (!grepl("^[!-~]{1,64}$", null_text, useBytes = TRUE)) return(FALSE)
-  if (command == "r.out.ascii") return(length(maps) == 1L && !grepl(":", null_text, fixed = TRUE))
-  separator <- if (is.null(values$separator)) "space" else values$separator
-  is_separator <- separator %in% c("pipe", "comma", "space", "tab") || grepl("^[!-~]$", separator, useBytes = TRUE)
-  length(maps) <= MAPS_LIMIT && is_separator && !("1" %in% flags && ("c" %in% flags || !is.null(values$after)))
+  are_good <- all(vapply(names(values), function(key) value_is_good(command, key, values[[key]]), NA))
+  are_good && (command == "r.stats" || length(maps) == 1L) && !("1" %in% flags && ("c" %in% flags || !is.null(values$after)))
 }
 
 # The statements of a script in order, as far as they can be told without judging it. Rules belong to the r.reclass before them.

@@ -18,13 +18,13 @@ metres_of_unit <- function(template) {
   if (is.na(metres) || metres <= 0) 1 else metres
 }
 
-# The area of a cell in the unit asked for.
-cell_area <- function(template, unit) {
+# The areas of so many cells in the unit asked for: divided last, so that they print as short as they are.
+areas_of <- function(cells, template, unit) {
   if (is_in_degrees(template)) {
     refuse(paste0("area= needs a map in metres or feet: in degrees the area of a cell differs from row to row. Weigh the rows: count by ",
       "`r.mapcalc row = row()` and `r.stats -c input=row,MAP`, and multiply the cells of each row by the area of its cells"))
   }
-  prod(res(template)) * metres_of_unit(template)^2 / UNITS[[unit]]
+  cells * (prod(res(template)) * metres_of_unit(template)^2) / UNITS[[unit]]
 }
 
 # A table with the columns that are asked for, or as a matrix.
@@ -36,7 +36,7 @@ finished <- function(table, answer, statement, area, percent, wide) {
   if (wide && length(statement$maps) != 2L) {
     refuse(sprintf("wide= needs a table of two maps, and this one has %d", length(statement$maps)), "script", statement$line)
   }
-  if (!is.null(area)) table[[area]] <- table$cells * cell_area(answer$template, area)
+  if (!is.null(area)) table[[area]] <- areas_of(table$cells, answer$template, area)
   if (percent) table$percent <- 100 * table$cells / sum(as.numeric(table$cells))
   if (wide) wide_of(table, statement, if (percent) "percent" else if (!is.null(area)) area else "cells") else table
 }

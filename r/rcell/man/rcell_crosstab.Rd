@@ -3,12 +3,12 @@
 \title{A Cross Table of Two Maps}
 \description{How many cells each pair of categories of two maps has.}
 \usage{
-rcell_crosstab(x, y, useNA = FALSE, program = NULL)
+rcell_crosstab(x, y, useNA = FALSE, crs = NULL, program = NULL)
 }
 \arguments{
 \item{x, y}{two maps of one region: \code{SpatRaster}s, paths or matrices; see \code{\link{rcell-package}}.}
 \item{useNA}{whether cells that are null in one of the maps are counted too.}
-\item{program}{as in \code{\link{rcell_run}}.}
+\item{crs, program}{as in \code{\link{rcell_run}}.}
 }
 \value{
 A data frame with the columns \code{x}, \code{y} and \code{cells}, and \code{x_label} and \code{y_label} where one of the maps has

@@ -4,16 +4,18 @@
 \description{Runs a script, and answers one of its maps as a raster.}
 \usage{
 rcell_grid(.script, .name, ..., filename = "", overwrite = FALSE,
-           maps = list(), program = NULL)
+           crs = NULL, maps = list(), program = NULL)
 }
 \arguments{
 \item{.script}{the lines of the script, which need write nothing; what it writes is left out.}
 \item{.name}{a map that it makes, or one that is given.}
 \item{...}{maps by name, as \code{lc = "landcover.tif"}; see \code{\link{rcell-package}}.}
 \item{filename}{where the raster is written, as terra's \code{writeRaster} does it, of the type INT4S. The file has its name only when all
-of it is there and was read again; else nothing is left of it, and an old file is as it was.}
-\item{overwrite}{whether a file of this name may be replaced.}
-\item{maps, program}{as in \code{\link{rcell_run}}.}
+of it is there and was read again; else nothing is left of it, and an old file is as it was. A link is followed. A device or a pipe
+is written to and stays what it is. The file cannot be an input.}
+\item{overwrite}{whether a file of this name may be replaced. The new file has the permissions of the old one; masks, labels and
+overviews next to the old one (\code{.msk}, \code{.aux.xml}, \code{.ovr}) are removed.}
+\item{crs, maps, program}{as in \code{\link{rcell_run}}.}
 }
 \value{
 A \code{SpatRaster} with the extent and the reference system of the first map, and with the labels of the rules that made the map, or

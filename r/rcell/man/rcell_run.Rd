@@ -3,11 +3,13 @@
 \title{Run a Script over Maps}
 \description{Runs a script of the program over maps of one region, and answers all that it writes.}
 \usage{
-rcell_run(.script, ..., maps = list(), program = NULL)
+rcell_run(.script, ..., crs = NULL, maps = list(), program = NULL)
 }
 \arguments{
 \item{.script}{the lines of the script, as one text or a vector of lines. It comes first and is given without a name.}
 \item{...}{maps by name, as \code{lc = "landcover.tif"}; see \code{\link{rcell-package}}.}
+\item{crs}{the coordinate reference system of maps that have none, as \code{"EPSG:3035"} or well-known text. It is needed if some maps of
+a call have one and others have none, as a matrix or a grid of the program's own form.}
 \item{maps}{maps by name in a list, for names that are arguments of this function.}
 \item{program}{the path of the program; see \code{\link{rcell_program}}.}
 }

@@ -4,7 +4,7 @@
 \description{Runs a script, and answers its table with labels, areas or percentages, or as a matrix.}
 \usage{
 rcell_table(.script, ..., area = NULL, percent = FALSE, wide = FALSE,
-            maps = list(), program = NULL)
+            crs = NULL, maps = list(), program = NULL)
 }
 \arguments{
 \item{.script}{a line \code{r.stats ..}, or a script that has one or more of them.}
@@ -14,7 +14,7 @@ cell in the unit of the reference system. A map in degrees is refused: there the
 a reference system is taken to be in metres.}
 \item{percent}{adds a column of percentages of all cells of the table.}
 \item{wide}{answers a table of two maps as a matrix: of percentages or areas where these are asked for, else of cells.}
-\item{maps, program}{as in \code{\link{rcell_run}}.}
+\item{crs, maps, program}{as in \code{\link{rcell_run}}.}
 }
 \value{
 A data frame as in \code{\link{rcell_run}}, with the columns asked for; where the script has several r.stats, a list of them. With

@@ -49,3 +49,6 @@ said_by <- function(process) {
 }
 
 leftovers <- function() list.files(tempdir(), pattern = "^rcell-", all.files = TRUE)
+
+# Whether a raster has the reference system of a file.
+same_crs_of <- function(map, path) identical(crs(map), crs(rast(path)))

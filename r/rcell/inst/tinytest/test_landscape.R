@@ -10,11 +10,11 @@ real <- system.file("extdata", "country.tif", package = "rcell")
 if (nzchar(real)) maps$real <- setValues(rast(rast(real)), values(rast(real), mat = FALSE))
 
 # The areas of a map by a flood of its cells in plain R, numbered by their first cells.
-flooded <- function(map, directions) {
+flooded <- function(map, connectivity) {
   cells <- as_rows(map)
   found <- matrix(NA_integer_, nrow(cells), ncol(cells))
   steps <- expand.grid(row = -1:1, col = -1:1)
-  steps <- steps[rowSums(abs(steps)) %in% (if (directions == 4) 1 else 1:2), ]
+  steps <- steps[rowSums(abs(steps)) %in% (if (connectivity == 4) 1 else 1:2), ]
   number <- 0L
   for (first in seq_len(length(cells))) {
     row <- (first - 1) %/% ncol(cells) + 1
@@ -38,24 +38,24 @@ flooded <- function(map, directions) {
   found
 }
 
-for (name in names(maps)) for (directions in c(4, 8)) {
+for (name in names(maps)) for (connectivity in c(4, 8)) {
   map <- maps[[name]]
-  info <- paste(name, directions)
-  areas <- rcell_areas(map, directions)
+  info <- paste(name, connectivity)
+  areas <- rcell_areas(map, connectivity)
   numbers <- as_rows(areas)
-  if (ncell(map) <= 1200) expect_equal(numbers, flooded(map, directions), info = info)
+  if (ncell(map) <= 1200) expect_equal(numbers, flooded(map, connectivity), info = info)
   expect_true(compareGeom(areas, map), info = info)
 
   # Class by class they are the patches of terra, which has none by values; the numbers are its own within a class. (A map of one
   # cell it numbers otherwise.)
   if (ncell(map) > 1) for (class in unique(na.omit(values(map, mat = FALSE)))) {
-    of_class <- as_rows(rcell_areas(map, directions, classes = class))
-    terras <- as_rows(patches(map == class, directions = directions, zeroAsNA = TRUE, allowGaps = FALSE))
+    of_class <- as_rows(rcell_areas(map, connectivity, classes = class))
+    terras <- as_rows(patches(map == class, directions = connectivity, zeroAsNA = TRUE, allowGaps = FALSE))
     expect_equal(of_class, terras, info = paste(info, class))
   }
 
   # Sizes, areas, classes, perimeters.
-  found <- rcell_patches(map, directions)
+  found <- rcell_patches(map, connectivity)
   expect_identical(names(found), c("class", "patch", "cells", "area", "perimeter"), info = info)
   expect_identical(found$cells, tabulate(numbers)[found$patch], info = info)
   expect_equal(found$area, found$cells * prod(res(map)) / 1e4, info = info)

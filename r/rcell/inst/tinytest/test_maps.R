@@ -48,11 +48,11 @@ scaled <- first
 writeRaster(scaled, file("scaled.tif"), datatype = "INT2S", scale = 0.1)
 expect_true(grepl("^its values are scaled: each cell times 0.1, plus 0", refusal(counts(file("scaled.tif")))$text))
 # Whole numbers of 64 bits are taken, and refused beyond the range. terra reads signed bytes as 0 to 255, and what a mask covers.
-writeRaster(first, file("long.tif"), datatype = "INT8S")
+writeRaster(first, file("long.tif"), datatype = "INT8S", NAflag = -9999)
 expect_identical(counts(file("long.tif")), counts(first))
 long <- first
 long[2, 3] <- 3e9
-writeRaster(long, file("long.tif"), datatype = "INT8S", overwrite = TRUE)
+writeRaster(long, file("long.tif"), datatype = "INT8S", NAflag = -9999, overwrite = TRUE)
 expect_identical(refusal(counts(file("long.tif")))[c("row", "column", "value")], list(row = 2L, column = 3L, value = 3e9))
 writeBin(as.raw(c(251, 1, 2, 3)), file("bytes.raw"))
 raw_map <- function(name, kind) writeLines(c("<VRTDataset rasterXSize=\"2\" rasterYSize=\"2\"><GeoTransform>0, 1, 0, 2, 0, -1</GeoTransform>",

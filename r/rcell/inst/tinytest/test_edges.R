@@ -1,0 +1,142 @@
+source("helpers.R")
+
+# Rasters at the edge of what a file can say: each is read exactly, or refused by an error of this package.
+room <- tempfile("edges \u00fc ")
+dir.create(room)
+file <- function(name) file.path(room, name)
+counts <- function(map, ...) rcell_table("r.stats -c input=x", x = map, ...)
+
+# A raster of bytes described by a VRT: its bands, and what stands before them.
+writeBin(as.raw(c(1, 2, 2, 3)), file("cells.raw"))
+writeBin(as.raw(c(255, 0, 255, 1)), file("alpha.raw"))
+band <- function(raw, number = 1, type = "Byte", inner = "", bytes = 1) c(
+  sprintf("<VRTRasterBand dataType=\"%s\" band=\"%d\" subClass=\"VRTRawRasterBand\">%s", type, number, inner),
+  sprintf("<SourceFilename relativeToVRT=\"1\">%s</SourceFilename><PixelOffset>%d</PixelOffset><LineOffset>%d</LineOffset>", raw, bytes, 2 * bytes),
+  "</VRTRasterBand>")
+transform_of <- function(numbers) sprintf("<GeoTransform>%s</GeoTransform>", numbers)
+crs_of <- function(text) if (nzchar(text)) sprintf("<SRS>%s</SRS>", text)
+write_vrt <- function(name, bands = band("cells.raw"), transform = "500000, 20, 0, 5400000, 0, -20", crs = "EPSG:25832") {
+  writeLines(c("<VRTDataset rasterXSize=\"2\" rasterYSize=\"2\">", crs_of(crs), transform_of(transform), bands, "</VRTDataset>"), file(name))
+  file(name)
+}
+plain <- write_vrt("plain.vrt")
+
+# A transparent cell is null, also in one layer of the file and in a window of it.
+alpha <- band("alpha.raw", 2, inner = "<ColorInterp>Alpha</ColorInterp>")
+grey <- band("cells.raw", inner = "<ColorInterp>Gray</ColorInterp>")
+transparent <- write_vrt("transparent.vrt", c(grey, alpha))
+expected <- data.frame(x = c(1L, 2L, 3L, NA), cells = 1L)
+expect_identical(counts(transparent), expected)
+expect_identical(counts(rast(transparent)), expected)
+expect_identical(counts(rast(transparent)[[1]]), expected)
+expect_identical(counts(rast(transparent)[[2]])$x, c(0L, 1L, 255L))
+expect_identical(as_rows(rcell_grid("", "x", x = transparent)), matrix(c(1, 2, NA, 3), 2))
+part <- rast(transparent)[[1]]
+window(part) <- ext(500020, 500040, 5399960, 5400000)
+expect_identical(counts(part), data.frame(x = c(3L, NA), cells = 1L))
+three <- write_vrt("three.vrt", c(grey, band("cells.raw", 2), band("alpha.raw", 3, inner = "<ColorInterp>Alpha</ColorInterp>")))
+expect_identical(refusal(counts(three))$text, "has 2 layers: give one, as x[[1]]")
+expect_identical(counts(rast(three)[[2]]), expected)
+
+# Complex cells, whose imaginary part terra drops.
+writeBin(as.numeric(1:8), file("complex.raw"), size = 4)
+complex <- write_vrt("complex.vrt", band("complex.raw", type = "CFloat32", bytes = 8))
+expect_identical(refusal(counts(complex))$text, "not a map of whole numbers: its cells are of the type CFloat32")
+expect_inherits(refusal(counts(rast(complex))), "rcell_bad_map")
+
+# Whole numbers of 64 bits, which terra reads as floats: a null beyond 2^53 may hide another number.
+writeBin(c(1L, 0L, 2L, 0L, 2L, 0L, 3L, 0L), file("wide.raw"))
+wide <- function(name, nodata, type = "Int64") write_vrt(name, band("wide.raw", type = type, bytes = 8, inner = sprintf("<NoDataValue>%s</NoDataValue>", nodata)))
+expect_identical(counts(wide("small.vrt", "3")), data.frame(x = c(1L, 2L, NA), cells = c(1L, 2L, 1L)))
+for (nodata in c("9007199254740992", "-9223372036854775808")) {
+  expect_true(grepl("^its cells have 64 bits and its nodata value is -?[0-9]+", refusal(counts(wide("wide.vrt", nodata)))$text), info = nodata)
+}
+expect_inherits(refusal(counts(wide("wide.vrt", "18446744073709551615", "UInt64"))), "rcell_bad_map")
+
+# Transforms that are no place on the earth.
+for (transform in c("nan, 1, 0, 0, 0, -1", "0, inf, 0, 0, 0, -1", "0, 1, 0, 0, 0, nan")) {
+  expect_true(grepl("^a transform with a number that is not finite", refusal(counts(write_vrt("nan.vrt", transform = transform)))$text), info = transform)
+}
+mirrored <- write_vrt("mirrored.vrt", transform = "10, -1, 0, 100, 0, -1")
+expect_true(grepl("^a transform whose columns are from east to west", refusal(counts(mirrored))$text))
+turned <- write_vrt("turned.vrt", transform = "10, 1, 0.5, 100, 0.5, -1")
+expect_true(grepl("^a rotated transform", refusal(counts(suppressWarnings(rast(turned))))$text))
+
+# Two reference systems are never taken for one; a map without one needs crs=.
+gauss <- write_vrt("gauss.vrt", crs = "EPSG:31467")
+bare <- write_vrt("bare.vrt", crs = "")
+both <- function(a, b, ...) rcell_table("r.stats -c input=a,b", a = a, b = b, ...)
+other <- refusal(both(plain, gauss))
+expect_identical(class(other)[1:3], c("rcell_other_crs", "rcell_bad_map", "rcell_refused"))
+expect_identical(other[c("source", "status")], list(source = "b", status = 1L))
+expect_identical(other$text, paste("its coordinate reference system is EPSG:31467 (DHDN / 3-degree Gauss-Kruger zone 3), and that of `a` is",
+  "EPSG:25832 (ETRS89 / UTM zone 32N): reproject one of them first, as with terra::project or gdalwarp -t_srs EPSG:25832"))
+expect_inherits(refusal(rcell_crosstab(plain, gauss)), "rcell_other_crs")
+expect_inherits(refusal(both(plain, write_vrt("far.vrt", crs = "EPSG:31467", transform = "0, 1, 0, 2, 0, -1"))), "rcell_other_crs")
+lacking <- paste("it has no coordinate reference system, and `%s` has EPSG:25832 (ETRS89 / UTM zone 32N):",
+  "state it with crs=\"EPSG:25832\"")
+expect_identical(refusal(both(plain, bare))[c("source", "text")], list(source = "b", text = sprintf(lacking, "a")))
+expect_identical(refusal(both(bare, plain))[c("source", "text")], list(source = "a", text = sprintf(lacking, "b")))
+expect_identical(nrow(both(plain, bare, crs = "EPSG:25832")), 3L)
+expect_identical(nrow(both(bare, bare)), 3L)
+expect_true(same_crs_of(rcell_grid("", "a", a = bare, b = plain, crs = "EPSG:25832"), plain))
+expect_inherits(refusal(both(plain, bare, crs = "EPSG:31467")), "rcell_other_crs")
+expect_identical(refusal(counts(plain, crs = "nonsense"))[c("source", "status", "text")],
+  list(source = "arguments", status = 2L, text = "crs= is no coordinate reference system: 'nonsense'"))
+expect_identical(refusal(counts(plain, crs = 25832))$status, 2L)
+expect_inherits(refusal(rcell_crosstab(plain, matrix(1, 2, 2), crs = "EPSG:25832")), "rcell_other_region")
+
+# One system, however it is spelled: with and without its code.
+unnamed <- sub(",[^,]*ID\\[\"EPSG\",25832\\]\\]$", "]", crs(rast(plain)))
+expect_false(identical(unnamed, crs(rast(plain))))
+spelled <- rast(plain)
+crs(spelled) <- unnamed
+expect_identical(nrow(both(plain, spelled)), 3L)
+
+# terra takes a map without a system within 180 by 90 for one in degrees: here it has none, read or written.
+near <- write_vrt("near.vrt", transform = "0, 1, 0, 2, 0, -1", crs = "")
+expect_identical(counts(near, area = "m2")$m2, c(1, 2, 1))
+written <- rcell_grid("", "x", x = near, filename = file("written.tif"))
+expect_identical(crs(written), "")
+expect_false(any(grepl("Coordinate System", describe(file("written.tif")))))
+expect_identical(rcell_table("r.stats -c input=x", x = written, area = "m2")$m2, c(1, 2, 1))
+expect_identical(rcell_patches(near, area = "m2")$area, c(1, 1, 1, 1))
+
+# Hectares are what they print: 74183 cells of 30 m are 6676.47 ha.
+many <- rast(nrows = 269, ncols = 277, xmin = 0, xmax = 277 * 30, ymin = 0, ymax = 269 * 30, crs = "EPSG:25832", vals = rep(1:2, c(74183, 330)))
+expect_identical(rcell_table("r.stats -c input=x", x = many, area = "ha")$ha[[1]], 6676.47)
+expect_identical(rcell_patches(many)$area[[1]], 6676.47)
+
+# One default for the map of patches and for their sizes.
+board <- matrix(c(1, 2, 1, 2, 1, 2, 1, 2, 3), 3)
+expect_equal(max(values(rcell_areas(board), mat = FALSE)), max(rcell_patches(board)$patch))
+expect_identical(names(formals(rcell_areas))[[2]], "connectivity")
+expect_identical(formals(rcell_patches)$connectivity, 4)
+
+# The script is judged before a map is looked for, and the word that is no option is named.
+quoted <- refusal(rcell_grid("r.mapcalc \"x = lc * 2\"", "x", lc = plain))
+expect_identical(quoted[c("source", "line", "column", "text")],
+  list(source = "script", line = 1L, column = 11L, text = "bad byte at column 11"))
+expect_identical(conditionMessage(quoted), "script, line 1: bad byte at column 11\n  r.mapcalc \"x = lc * 2\"\n            ^")
+expect_identical(refusal(rcell_grid("r.mapcalc y = lc", "x", lc = plain))$text, "no map x: there are lc, y")
+for (case in list(c("r.stats -cn lc", "lc", 13), c("r.stats in=lc", "in=lc", 9), c("r.stats -c input=lc output=t.txt", "output=t.txt", 21),
+  c("r.stats -cq input=lc", "-cq", 9), c("r.stats input=lc input=lc", "input=lc", 18), c("r.stats -c -1 input=lc", "-1", 12),
+  c("r.stats input=lc separator=ab", "separator=ab", 18), c("r.clump -n input=lc output=k", "-n", 9))) {
+  found <- refusal(rcell_run(case[[1]], lc = plain))
+  expect_identical(found$text, "bad option", info = case[[1]])
+  expect_identical(found$column, as.integer(case[[3]]), info = case[[1]])
+  mark <- strrep(" ", as.integer(case[[3]]) + 1)
+  expect_identical(conditionMessage(found), sprintf("script, line 1: bad option: %s\n  %s\n%s^", case[[2]], case[[1]], mark))
+}
+for (name in c("a=b", "a-b", "1a", strrep("x", 65))) {
+  found <- refusal(rcell_run("r.stats input=a", maps = structure(list(plain), names = name)))
+  expect_identical(found[c("source", "line", "status")], list(source = "arguments", line = 0L, status = 2L), info = name)
+  expect_true(grepl("is no name of a map: 1 to 64 letters", found$text, fixed = TRUE), info = name)
+}
+
+# A label that begins with a blank of Unicode keeps it.
+labelled <- rcell_table("r.reclass input=lc output=k\n1 = 1 \u3000wide\n2 = 2 \u00a0wood\nend\nr.stats -cnl input=k", lc = plain)
+expect_identical(labelled$k_label, c("\u3000wide", "\u00a0wood"))
+
+unlink(room, recursive = TRUE)
+expect_identical(leftovers(), character())
