@@ -9,7 +9,7 @@ use cell_ascii::writer::write_map;
 use cell_core::device::DeviceFault;
 use cell_core::map::CellMap;
 use cell_core::region::RegionFault;
-use cell_core::sink::{MemorySink, Sink};
+use cell_core::sink::{Flushes, MemorySink, Sink};
 use cell_core::source::MemorySource;
 use std::alloc::AllocGlobal;
 use std::process::Abort;
@@ -18,11 +18,11 @@ use std::test::Fail;
 const GRID: &[u8] =
     b"north: 3\nsouth: 0\neast: 4\nwest: 0\nrows: 3\ncols: 4\n1 1 2 *\n1 2 2 2\n3 3 1 1\n";
 
-// A sink that takes all that it is given, and counts the calls.
+// A sink that takes all that it is given, and counts the puts.
 #[derive(Drop)]
 struct Counting {
     puts: u32,
-    flushes: u32,
+    flushes: Flushes,
 }
 
 impl Sink for Counting {
@@ -30,7 +30,7 @@ impl Sink for Counting {
 
     ghost taken = { λ _. None };
 
-    ghost faults = { λ _. record { refused = false; unflushed = false } };
+    ghost faults = { λ s. record { refused = false; unflushed = false; flushes = s.flushes } };
 
     fn put(&mut self, bytes: &[u8]) -> Result<usize, DeviceFault> {
         self.puts = self.puts.saturating_add(1);
@@ -38,7 +38,7 @@ impl Sink for Counting {
     }
 
     fn flush(&mut self) -> Result<(), DeviceFault> {
-        self.flushes = self.flushes.saturating_add(1);
+        self.flushes = self.flushes.again();
         Ok(())
     }
 }
@@ -330,11 +330,11 @@ fn writes_without_a_flush(rt: HostRuntime) -> Result<(), Fail> {
     let map = read_good(&rt, GRID)?;
     let mut sink = Counting {
         puts: 0,
-        flushes: 0,
+        flushes: Flushes::Never,
     };
     let length = write_map(&map, b"*", &mut sink)?;
     assert_same!(rt; length, GRID.len() as u64);
-    assert_same!(rt; (sink.puts, sink.flushes), (1, 0));
+    assert_same!(rt; (sink.puts, sink.flushes), (1, Flushes::Never));
     Ok(())
 }
 

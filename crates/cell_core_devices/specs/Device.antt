@@ -1,5 +1,7 @@
 -- What is known of a source and of a sink, and what a call does to it.
 use Rattle.std.specs.Prelude.{ℕ, min, ◌≡◌, ◌≤◌, ◌++◌, ◌||◌, Bool, false, true, List, [], length, take, drop, Option, Some, None, Result, MatchResult}
+use Rattle.cell_core_devices.specs.declared.sink.Flushes.{Flushes}
+use Rattle.cell_core_devices.specs.declared.sink.Flushes.TheVariants.{Never, Once, More}
 use Rattle.cell_core_devices.specs.declared.source.Asked.{Asked}
 
 -- the bytes to come, and whether the source then fails
@@ -35,24 +37,31 @@ abbrev pub append_known : Option (List ℕ) → List ℕ → Option (List ℕ)
 append_known None bs = None
 append_known (Some xs) bs = Some (xs ++ bs)
 
--- which calls a sink has answered with an `Err`: whether a put, and whether a flush
+-- how often a sink was flushed, after one flush more
+abbrev pub flushed_again : Flushes → Flushes
+flushed_again Never = Once
+flushed_again Once = More
+flushed_again More = More
+
+-- which calls a sink has answered with an `Err`: whether a put, and whether a flush; and how often it was flushed
 pub record Faults : Type 0 where
   pub refused : Bool
   pub unflushed : Bool
+  pub flushes : Flushes
 
--- none
+-- no call failed, and it was never flushed
 abbrev pub no_faults : Faults
-no_faults = record { refused = false; unflushed = false }
+no_faults = record { refused = false; unflushed = false; flushes = Never }
 
 -- after puts of which one failed, or none
 abbrev pub after_put : Faults → Bool → Faults
 after_put faults false = faults
-after_put faults true = record { refused = true; unflushed = faults.unflushed }
+after_put faults true = record { refused = true; unflushed = faults.unflushed; flushes = faults.flushes }
 
--- after a flush that failed, or did not
+-- after one flush, which failed or did not
 abbrev pub after_flush : Faults → Bool → Faults
-after_flush faults false = faults
-after_flush faults true = record { refused = faults.refused; unflushed = true }
+after_flush faults false = record { refused = faults.refused; unflushed = faults.unflushed; flushes = flushed_again faults.flushes }
+after_flush faults true = record { refused = faults.refused; unflushed = true; flushes = flushed_again faults.flushes }
 
 -- whether any call failed
 abbrev pub has_failed : Faults → Bool

@@ -1,18 +1,41 @@
 //! Where bytes go: a trait, a loop over it, a sink over std's writers and one over memory.
 
 ghost use Rattle.std.specs.Prelude.{◌≡◌, ℕ, ◌+◌, ◌<◌, ◌≤◌, List, [], ◌++◌, length, take, Option, None, IfOk, OnOk, IfErr, OnErr, MatchResult, is_err, true, ◌-◌};
-ghost use Rattle.cell_core_devices.specs.Device.{append_known, Faults, no_faults, after_put, after_flush, Taken, moved_count};
+ghost use Rattle.cell_core_devices.specs.Device.{append_known, Faults, no_faults, after_put, after_flush, flushed_again, Taken, moved_count};
 
 use crate::device::DeviceFault;
 use std::io::Write;
 use std::marker::Model;
+
+/// How often a sink was flushed.
+#[derive(Clone, Copy, Debug, PartialEq, Eq)]
+pub enum Flushes {
+    /// Not yet.
+    Never,
+    /// One time.
+    Once,
+    /// Two times or more.
+    More,
+}
+
+impl Flushes {
+    /// How often after one flush more.
+    pub fn again(self) -> Flushes
+        ensures { result ≡ flushed_again self }
+    {
+        match self {
+            Flushes::Never => Flushes::Once,
+            Flushes::Once | Flushes::More => Flushes::More,
+        }
+    }
+}
 
 /// Where bytes go.
 pub trait Sink {
     /// The bytes taken, where they are known; None where they are not.
     ghost taken: { Self → Option (List ℕ) };
 
-    /// Which of its calls returned an `Err`: whether a put, and whether a flush.
+    /// Which of its calls returned an `Err`, whether a put and whether a flush, and how often it was flushed.
     ghost faults: { Self → Faults };
 
     /// Takes the first bytes of a slice that is not empty, and returns how many: 1 or more.
@@ -28,7 +51,7 @@ pub trait Sink {
         ensures err { OnErr result (taken self.new ≡ taken self.old) }
         ensures faults { faults self.new ≡ after_put (faults self.old) (is_err result) };
 
-    /// Hands on what it holds back. It takes no bytes.
+    /// Hands on what it holds back. It takes no bytes, and was flushed once more.
     ///
     /// # Errors
     ///
@@ -76,6 +99,7 @@ pub struct WriteSink<W> {
     writer: W,
     refused: bool,
     unflushed: bool,
+    flushes: Flushes,
 }
 
 impl<W> Model for WriteSink<W> {
@@ -83,7 +107,7 @@ impl<W> Model for WriteSink<W> {
 
     ghost Value = { W × Faults };
 
-    ghost view = { λ s. (s.writer, record { refused = s.refused; unflushed = s.unflushed }) };
+    ghost view = { λ s. (s.writer, record { refused = s.refused; unflushed = s.unflushed; flushes = s.flushes }) };
 }
 
 impl<W: Write + Drop> WriteSink<W> {
@@ -97,6 +121,7 @@ impl<W: Write + Drop> WriteSink<W> {
             writer,
             refused: false,
             unflushed: false,
+            flushes: Flushes::Never,
         }
     }
 }
@@ -131,6 +156,7 @@ impl<W: Write> Sink for WriteSink<W> {
         ensures faults { self.new.1 ≡ after_flush self.old.1 (is_err result) }
         ensures written { Keeps (W.contents self.old.0) (W.contents self.new.0) }
     {
+        self.flushes = self.flushes.again();
         match self.writer.flush() {
             Ok(()) => Ok(()),
             Err(_) => {
@@ -150,6 +176,7 @@ pub struct MemorySink {
     flush_fails: bool,
     refused: bool,
     unflushed: bool,
+    flushes: Flushes,
 }
 
 impl Model for MemorySink {
@@ -158,7 +185,7 @@ impl Model for MemorySink {
 
     ghost Value = { Taken };
 
-    ghost view = { λ s. record { bytes = take s.at s.room.items; faults = record { refused = s.refused; unflushed = s.unflushed }; room = length s.room.items - s.at; piece = s.piece; flush_fails = s.flush_fails } };
+    ghost view = { λ s. record { bytes = take s.at s.room.items; faults = record { refused = s.refused; unflushed = s.unflushed; flushes = s.flushes }; room = length s.room.items - s.at; piece = s.piece; flush_fails = s.flush_fails } };
 
     ghost invariant = { λ s. (s.at ≤ length s.room.items) × (0 < s.piece) };
 }
@@ -183,6 +210,7 @@ impl MemorySink {
             flush_fails,
             refused: false,
             unflushed: false,
+            flushes: Flushes::Never,
         }
     }
 
@@ -236,6 +264,7 @@ impl Sink for MemorySink {
         ensures taken { self.new
             ≡ record self.old { faults = after_flush self.old.faults (is_err result) } }
     {
+        self.flushes = self.flushes.again();
         if self.flush_fails {
             self.unflushed = true;
             return Err(DeviceFault);

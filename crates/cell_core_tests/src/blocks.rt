@@ -3,7 +3,7 @@
 use crate::assertions::{assert_holds, assert_same};
 use cell_core::block::OutputBlock;
 use cell_core::device::DeviceFault;
-use cell_core::sink::{MemorySink, Sink, WriteFault};
+use cell_core::sink::{Flushes, MemorySink, Sink, WriteFault};
 use std::alloc::Global;
 use std::test::Fail;
 
@@ -20,11 +20,12 @@ fn pushed(
     Ok((block.written(), sink.bytes().len()))
 }
 
-// A sink that refuses one put, and would take all others. It counts its calls.
+// A sink that refuses one put, and would take all others. It counts its puts.
 #[derive(Drop)]
 struct RefusesOnce {
     calls: u32,
     refused: bool,
+    flushes: Flushes,
 }
 
 impl Sink for RefusesOnce {
@@ -32,7 +33,7 @@ impl Sink for RefusesOnce {
 
     ghost taken = { λ _. None };
 
-    ghost faults = { λ s. record { refused = s.refused; unflushed = false } };
+    ghost faults = { λ s. record { refused = s.refused; unflushed = false; flushes = s.flushes } };
 
     fn put(&mut self, bytes: &[u8]) -> Result<usize, DeviceFault> {
         self.calls = self.calls.saturating_add(1);
@@ -44,6 +45,7 @@ impl Sink for RefusesOnce {
     }
 
     fn flush(&mut self) -> Result<(), DeviceFault> {
+        self.flushes = self.flushes.again();
         Ok(())
     }
 }
@@ -111,6 +113,7 @@ fn puts_nothing_after_a_refused_put(rt: HostRuntime) -> Result<(), Fail> {
     let mut sink = RefusesOnce {
         calls: 0,
         refused: false,
+        flushes: Flushes::Never,
     };
     let mut block = OutputBlock::new();
     block.push(&mut sink, b"a");

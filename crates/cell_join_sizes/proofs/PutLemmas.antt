@@ -2,7 +2,7 @@
 use Rattle.std.proofs.Common.{◌≡◌, ◌≢◌, ℕ, List, [], ◌++◌, length, Bool, true, false, Option, Some, None, refl, ap, sym, ◌∙◌, subst, append-nil}
 use Rattle.std.specs.Prelude.{IfSome}
 use Rattle.cell_core_devices.specs.Blocks.{Appended, BlockValue, IsRest, capped_count}
-use Rattle.cell_core_devices.specs.Device.{Faults, after_put, append_known, has_failed}
+use Rattle.cell_core_devices.specs.Device.{Faults, after_flush, after_put, append_known, has_failed}
 use Rattle.cell_stats.specs.TableText.{FormatValue}
 use Rattle.cell_join_lines.specs.LineReading.{TableReading}
 use Rattle.cell_join_lines.specs.TableLines.{entries_text}
@@ -39,7 +39,7 @@ pub put : (format : FormatValue) (sizes : List ℕ) (before now : Option (List �
     (block : BlockValue) (fault : Option SizesFault)
     → Appended before start (entries_text format (number_entries 1 sizes)) now mid block
     → (block.failed ≡ false → block.held ≡ [])
-    → (fault ≡ None → (block.failed ≡ false) × (last ≡ mid))
+    → (fault ≡ None → (block.failed ≡ false) × (last ≡ after_flush mid false))
     → IfSome fault (λ f. f ≡ Write)
     → IfSome fault (λ f. block.failed ≡ false → has_failed last ≡ true)
     → (block.failed ≡ true → last ≡ mid)
@@ -52,8 +52,7 @@ put format sizes before now start mid last block fault added held flushed write 
   count = added.count;
   all = λ none. let so = flushed none in (
     no-rest block.failed block.held added.rest so.0 added.held (held so.0),
-    so.1
-        ∙ no-fault block.failed start mid so.0 added.fails,
+    so.1 ∙ ap (λ (f : Faults). after_flush f false) (no-fault block.failed start mid so.0 added.fails),
   );
   write = both fault (λ f. f ≡ Write) (λ f. has_failed last ≡ true) write
       (later fault (block.failed ≡ false → has_failed last ≡ true) (has_failed last ≡ true) told

@@ -2,7 +2,7 @@
 
 ghost use Rattle.std.specs.Prelude.{◌≡◌, ◌≢◌, ◌+◌, ◌-◌, ◌<◌, ◌≤◌, ◌^◌, ◌∷◌, [], ℕ, List, None, Some, IfErr, IfOk, IfSome, MatchOption, OnOk, map, pos, option_map, false, true};
 ghost use Rattle.cell_core_devices.specs.Blocks.{Appends};
-ghost use Rattle.cell_core_devices.specs.Device.{Coming, has_failed};
+ghost use Rattle.cell_core_devices.specs.Device.{Coming, has_failed, after_flush};
 ghost use Rattle.cell_join_tables.specs.JoinedTexts.{Give};
 ghost use Rattle.cell_join_lines.specs.LineReading.{reading_of};
 ghost use Rattle.cell_join_lines.specs.TextReading.{reading_from};
@@ -294,7 +294,8 @@ fn add_tables<R: Source + Drop>(
 // Flushes the sink unless it refused a put, and answers.
 fn finish<W: Sink>(failed: bool, out: &mut W) -> Option<SizesFault>
     ensures taken { W.taken out.new ≡ W.taken out.old }
-    ensures flushed { result ≡ None → (failed ≡ false) × (W.faults out.new ≡ W.faults out.old) }
+    ensures flushed { result ≡ None
+        → (failed ≡ false) × (W.faults out.new ≡ after_flush (W.faults out.old) false) }
     ensures write { IfSome result (λ fault. fault ≡ SizesFault.Write) }
     ensures fails { IfSome result (λ fault. failed ≡ false → has_failed (W.faults out.new) ≡ true) }
     ensures kept { failed ≡ true → out.new ≡ out.old }
@@ -352,8 +353,9 @@ pub fn join_table_sizes<R: Source + Drop, W: Sink>(
     ensures fault { (text : Coming) (texts : List Coming) → R.coming areas ≡ Some text
         → Give R.coming tables.items texts → IfSome result.fault
         (IsSizesFault (areas_reading_of text) (map (reading_of format.now 1) texts)) }
-    // Of a sink that had not failed before, no fault comes only where it did not fail.
-    ensures sound { result.fault ≡ None → W.faults out.new ≡ W.faults out.old }
+    // No fault comes only where no call of the sink failed and it was flushed once.
+    ensures sound { result.fault ≡ None
+        → W.faults out.new ≡ after_flush (W.faults out.old) false }
     // A failed write is told only where the sink failed.
     ensures write { result.fault ≡ Some SizesFault.Write → has_failed (W.faults out.new) ≡ true }
 {

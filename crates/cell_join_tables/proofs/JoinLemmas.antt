@@ -15,7 +15,7 @@ use Rattle.cell_parts.specs.Merging.{IsListing}
 use Rattle.cell_join_tables.proofs.MergeLemmas.{one-merge}
 use Rattle.cell_join_tables.specs.JoinedTexts.{AreTables, HasFault, HasLines, HasPrefix, HasWritten, AreJoinedTexts, IsJoinFault, IsMergeOf, tables_of}
 use Rattle.cell_join_tables.specs.MergedTables.{merge_of}
-use Rattle.cell_join_tables.specs.JoinAnswers.{IsAnswered, IsOpeningFault, answered, join_flush_failed, settled}
+use Rattle.cell_join_tables.specs.JoinAnswers.{IsAnswered, IsOpeningFault, after_answer, answered, settled}
 use Rattle.cell_join_tables.specs.parts.MergeEnds.{EndsSo}
 use Rattle.cell_join_tables.specs.declared.join_fault.JoinFault.{JoinFault}
 use Rattle.cell_join_tables.specs.declared.join_fault.JoinFault.TheVariants.{Text, TooMany, TooLong, Memory, Write}
@@ -187,16 +187,16 @@ module _ (readings : List TableReading) (all : AllByRecursion IsListing (tables_
 module _ (answer : Result Unit JoinFault) (failed : Bool) (start faults last : Faults)
     (puts : faults ≡ after_put start failed) where
   pub no-fault-sound : (fault : Option JoinFault) → IsAnswered (settled failed answer) faults last fault
-      → fault ≡ None → last ≡ start
+      → fault ≡ None → last ≡ after_flush start false
   no-fault-sound fault so none = by failed answer so.fails puts so.flushed (sym so.told ∙ none)
     where
       by : (b : Bool) (a : Result Unit JoinFault) (fails : Bool) → faults ≡ after_put start b
-          → last ≡ after_flush faults (join_flush_failed (settled b a) fails) → answered (settled b a) fails ≡ None
-          → last ≡ start
+          → last ≡ after_answer faults (settled b a) fails → answered (settled b a) fails ≡ None
+          → last ≡ after_flush start false
       by true a fails put flush is = cc
       by false (Err fault) fails put flush is = cc
       by false (Ok unit) true put flush is = cc
-      by false (Ok unit) false put flush is = flush ∙ put
+      by false (Ok unit) false put flush is = flush ∙ ap (λ (f : Faults). after_flush f false) put
 
   pub write-failed : (fault : Option JoinFault) → (answer ≡ Err Write → failed ≡ true)
       → IsAnswered (settled failed answer) faults last fault → fault ≡ Some Write → has_failed last ≡ true
@@ -207,7 +207,7 @@ module _ (answer : Result Unit JoinFault) (failed : Bool) (start faults last : F
       or_true false = refl
 
       by : (b : Bool) (a : Result Unit JoinFault) (fails : Bool) → faults ≡ after_put start b
-          → last ≡ after_flush faults (join_flush_failed (settled b a) fails) → (a ≡ Err Write → b ≡ true)
+          → last ≡ after_answer faults (settled b a) fails → (a ≡ Err Write → b ≡ true)
           → answered (settled b a) fails ≡ Some Write → has_failed last ≡ true
       by true a fails put flush write is = ap has_failed (flush ∙ put)
       by false (Err fault) fails put flush write is =

@@ -40,20 +40,17 @@ abbrev pub answered : Result Unit JoinFault → Bool → Option JoinFault
 answered (Ok unit) fails = if fails then Some Write else None
 answered (Err fault) fails = Some fault
 
--- whether the flush failed: after a refused put the sink is not flushed
-abbrev pub fault_flush : JoinFault → Bool → Bool
-fault_flush (Text text fault) fails = fails
-fault_flush (TooMany k) fails = fails
-fault_flush TooLong fails = fails
-fault_flush Memory fails = fails
-fault_flush Write fails = false
+-- the sink is flushed, but not after a refused put
+abbrev pub after_fault : Faults → JoinFault → Bool → Faults
+after_fault old Write fails = old
+after_fault old fault fails = after_flush old fails
 
-abbrev pub join_flush_failed : Result Unit JoinFault → Bool → Bool
-join_flush_failed (Ok unit) fails = fails
-join_flush_failed (Err fault) fails = fault_flush fault fails
+abbrev pub after_answer : Faults → Result Unit JoinFault → Bool → Faults
+after_answer old (Ok unit) fails = after_flush old fails
+after_answer old (Err fault) fails = after_fault old fault fails
 
 -- an answer is given, and the sink flushed
 pub record IsAnswered (answer : Result Unit JoinFault) (old new : Faults) (fault : Option JoinFault) : Type 0 where
   pub fails : Bool
   pub told : fault ≡ answered answer fails
-  pub flushed : new ≡ after_flush old (join_flush_failed answer fails)
+  pub flushed : new ≡ after_answer old answer fails

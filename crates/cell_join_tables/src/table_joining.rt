@@ -3,7 +3,7 @@
 ghost use Rattle.std.specs.Prelude.{◌≡◌, ◌≢◌, List, Ok, Err, None, Some, IfErr, IfSome, OnErr, false, true};
 ghost use Rattle.std.specs.List.{Contains};
 ghost use Rattle.cell_stats.specs.CategoryTables.{Pairs};
-ghost use Rattle.cell_core_devices.specs.Device.{Coming, append_known, has_failed};
+ghost use Rattle.cell_core_devices.specs.Device.{Coming, append_known, has_failed, after_flush};
 ghost use Rattle.cell_join_lines.specs.LineReading.{TableReading};
 ghost use Rattle.cell_join_lines.specs.TableLines.{entries_text};
 ghost use Rattle.cell_join_lines.specs.TextReading.{reading_from};
@@ -132,8 +132,10 @@ pub fn join_texts<R: Source + Drop, W: Sink>(
         → Give R.coming sources.items texts
         → Contains (readings_of format.now texts) reading → IsFaultyAtOnce reading
         → out.new ≡ out.old }
-    // Of a sink that had not failed before, no fault comes only where it did not fail, and Write only where it failed.
-    ensures sound { result.fault ≡ None → W.faults out.new ≡ W.faults out.old }
+    // No fault comes only where no call of the sink failed and it was flushed once, and, of a sink that had not failed before,
+    // Write only where it failed.
+    ensures sound { result.fault ≡ None
+        → W.faults out.new ≡ after_flush (W.faults out.old) false }
     ensures write { result.fault ≡ Some JoinFault.Write
         → has_failed (W.faults out.new) ≡ true }
     // Where each text is a table to its end, the sums fit in 64 bits, memory lasts and the sink takes everything, exactly

@@ -3,7 +3,7 @@ use Rattle.std.proofs.Common.{◌≡◌, ℕ, List, [], Bool, true, false, Optio
 use Rattle.std.proofs.Common.{◌∙◌}
 use Rattle.std.specs.Prelude.{IfSome}
 use Rattle.cell_core_devices.specs.Blocks.{Appended, BlockValue, IsRest}
-use Rattle.cell_core_devices.specs.Device.{Faults, after_put, has_failed}
+use Rattle.cell_core_devices.specs.Device.{Faults, after_flush, after_put, has_failed}
 use Rattle.cell_tiles_areas.specs.PutAreas.{HasPut}
 use Rattle.cell_tiles_areas.specs.declared.areas_join_fault.AreasJoinFault.{AreasJoinFault}
 use Rattle.cell_tiles_areas.specs.declared.areas_join_fault.AreasJoinFault.TheVariants.{Write}
@@ -31,7 +31,7 @@ pub put : (text : List ℕ) (before now : Option (List ℕ)) (start mid last : F
     (fault : Option AreasJoinFault)
     → Appended before start text now mid block
     → (block.failed ≡ false → block.held ≡ [])
-    → (fault ≡ None → (block.failed ≡ false) × (last ≡ mid))
+    → (fault ≡ None → (block.failed ≡ false) × (last ≡ after_flush mid false))
     → IfSome fault (λ f. f ≡ Write)
     → IfSome fault (λ f. block.failed ≡ false → has_failed last ≡ true)
     → (block.failed ≡ true → last ≡ mid)
@@ -44,8 +44,7 @@ put text before now start mid last block fault added held flushed write told kep
   count = added.count;
   all = λ none. let so = flushed none in (
     no-rest block.failed block.held added.rest so.0 added.held (held so.0),
-    so.1
-        ∙ no-fault block.failed start mid so.0 added.fails,
+    so.1 ∙ ap (λ (f : Faults). after_flush f false) (no-fault block.failed start mid so.0 added.fails),
   );
   write = both fault (λ f. f ≡ Write) (block.failed ≡ false → has_failed last ≡ true)
       (has_failed last ≡ true) write told

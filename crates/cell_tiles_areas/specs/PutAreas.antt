@@ -1,7 +1,7 @@
 -- An areas text put on a sink.
 use Rattle.std.specs.Prelude.{ℕ, ◌≡◌, true, List, [], ◌++◌, length, Option, None, IfSome}
 use Rattle.cell_core_devices.specs.Blocks.{capped_count}
-use Rattle.cell_core_devices.specs.Device.{Faults, append_known, has_failed}
+use Rattle.cell_core_devices.specs.Device.{Faults, after_flush, append_known, has_failed}
 use Rattle.cell_tiles_areas.specs.declared.areas_join_fault.AreasJoinFault.{AreasJoinFault}
 use Rattle.cell_tiles_areas.specs.declared.areas_join_fault.AreasJoinFault.TheVariants.{Write}
 
@@ -12,5 +12,5 @@ pub record HasPut (text : List ℕ) (before now : Option (List ℕ)) (start faul
   pub whole : front ++ rest ≡ text
   pub taken : now ≡ append_known before front
   pub count : written ≡ capped_count (length front)
-  pub all : fault ≡ None → (rest ≡ []) × (faults ≡ start)
+  pub all : fault ≡ None → (rest ≡ []) × (faults ≡ after_flush start false)
   pub write : IfSome fault (λ f. (f ≡ Write) × (has_failed faults ≡ true))

@@ -1,7 +1,7 @@
 //! The areas text of texts of the edges of bands.
 
 ghost use Rattle.std.specs.Prelude.{◌≡◌, ◌≢◌, ◌+◌, ◌^◌, ◌<◌, List, None, Some, IfErr, IfOk, IfSome, false, true};
-ghost use Rattle.cell_core_devices.specs.Device.{Coming, has_failed};
+ghost use Rattle.cell_core_devices.specs.Device.{Coming, has_failed, after_flush};
 ghost use Rattle.cell_join_tables.specs.JoinedTexts.{Give};
 ghost use Rattle.cell_join_lines.specs.AreasText.{areas_text, stretches_of};
 ghost use Rattle.cell_tiles_areas.specs.AreasOfTexts.{HasAreasPrefix, HasWrittenAreas, IsAreasJoinFault, IsAreasTextOf};
@@ -73,7 +73,8 @@ fn number_areas<R: Source + Drop>(
 // Flushes the sink unless it refused a put, and answers.
 fn finish<W: Sink>(failed: bool, out: &mut W) -> Option<AreasJoinFault>
     ensures taken { W.taken out.new ≡ W.taken out.old }
-    ensures flushed { result ≡ None → (failed ≡ false) × (W.faults out.new ≡ W.faults out.old) }
+    ensures flushed { result ≡ None
+        → (failed ≡ false) × (W.faults out.new ≡ after_flush (W.faults out.old) false) }
     ensures write { IfSome result (λ fault. fault ≡ AreasJoinFault.Write) }
     ensures fails { IfSome result (λ fault. failed ≡ false → has_failed (W.faults out.new) ≡ true) }
     ensures kept { failed ≡ true → out.new ≡ out.old }
@@ -146,8 +147,10 @@ pub fn join_edges_texts<R: Source + Drop, W: Sink>(
     ensures cut { (all : List Coming) → Give R.coming texts.items all
         → result.fault ≡ Some AreasJoinFault.Write
         → HasAreasPrefix joining all (W.taken out.old) (W.taken out.new) result.written }
-    // Of a sink that had not failed before, no fault comes only where it did not fail, and Write only where it failed.
-    ensures sound { result.fault ≡ None → W.faults out.new ≡ W.faults out.old }
+    // No fault comes only where no call of the sink failed and it was flushed once, and, of a sink that had not failed before,
+    // Write only where it failed.
+    ensures sound { result.fault ≡ None
+        → W.faults out.new ≡ after_flush (W.faults out.old) false }
     ensures write { result.fault ≡ Some AreasJoinFault.Write
         → has_failed (W.faults out.new) ≡ true }
 {

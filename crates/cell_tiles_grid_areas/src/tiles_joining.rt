@@ -1,7 +1,7 @@
 //! The areas text of texts of the sides of tiles.
 
 ghost use Rattle.std.specs.Prelude.{◌≡◌, ◌≢◌, List, None, Some, IfErr, IfOk, IfSome, true};
-ghost use Rattle.cell_core_devices.specs.Device.{Coming, has_failed};
+ghost use Rattle.cell_core_devices.specs.Device.{Coming, has_failed, after_flush};
 ghost use Rattle.cell_join_tables.specs.JoinedTexts.{Give};
 ghost use Rattle.cell_tiles_grid_areas.specs.AreasOfTiles.{AreGridNumbersOf, HasTilesPrefix, HasWrittenTiles, IsTilesJoinFault};
 ghost use Rattle.cell_tiles_grid_areas.specs.parts.ReadTiles.{AreParted, AreRowParted, HaveBeenPlaced};
@@ -154,8 +154,10 @@ pub fn join_sides_texts<R: Source + Drop, W: Sink>(
     ensures cut { (all : List Coming) → Give R.coming texts.items all
         → result.fault ≡ Some TilesJoinFault.Write
         → HasTilesPrefix joining all (W.taken out.old) (W.taken out.new) result.written }
-    // Of a sink that had not failed before, no fault comes only where it did not fail, and Write only where it failed.
-    ensures sound { result.fault ≡ None → W.faults out.new ≡ W.faults out.old }
+    // No fault comes only where no call of the sink failed and it was flushed once, and, of a sink that had not failed before,
+    // Write only where it failed.
+    ensures sound { result.fault ≡ None
+        → W.faults out.new ≡ after_flush (W.faults out.old) false }
     ensures write { result.fault ≡ Some TilesJoinFault.Write
         → has_failed (W.faults out.new) ≡ true }
 {

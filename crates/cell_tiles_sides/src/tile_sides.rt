@@ -1,7 +1,7 @@
 //! The text of a tile's sides, made of the texts of the tile and of its numbers.
 
 ghost use Rattle.std.specs.Prelude.{◌≡◌, ◌≢◌, ◌↔◌, true, None, Some, IfErr, IfOk, IfSome, IsTrue};
-ghost use Rattle.cell_core_devices.specs.Device.{has_failed};
+ghost use Rattle.cell_core_devices.specs.Device.{has_failed, after_flush};
 ghost use Rattle.cell_tiles_edges.specs.EdgesFaults.{most_areas};
 ghost use Rattle.cell_tiles_edges.specs.PairFaults.{AreMapsFit};
 ghost use Rattle.cell_tiles_edges.specs.WrittenEdges.{band_of};
@@ -178,8 +178,10 @@ pub fn write_sides<R: Source + Drop, W: Sink>(
     ensures cut { result.fault ≡ Some TileFault.Write → IfSome (R.coming map)
         (λ text. IfSome (R.coming numbers) (λ number_text. AreSidesCut text number_text
         (W.taken out.old) (W.taken out.new) result.written)) }
-    // Of a sink that had not failed before, no fault comes only where it did not fail, and Write only where it failed.
-    ensures sound { result.fault ≡ None → W.faults out.new ≡ W.faults out.old }
+    // No fault comes only where no call of the sink failed and it was flushed once, and, of a sink that had not failed before,
+    // Write only where it failed.
+    ensures sound { result.fault ≡ None
+        → W.faults out.new ≡ after_flush (W.faults out.old) false }
     ensures write { result.fault ≡ Some TileFault.Write → has_failed (W.faults out.new) ≡ true }
 {
     let made = match sides_read(alloc, map, numbers) {

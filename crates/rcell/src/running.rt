@@ -2,7 +2,7 @@
 
 ghost use Rattle.std.specs.Prelude.{◌≡◌, ◌<◌, List, All, length, true, false, IsNone, IfSome, IfOk, IfErr, Some, None, vec_len};
 ghost use Rattle.std.specs.Option.{ForSome};
-ghost use Rattle.cell_core_devices.specs.Device.{has_failed};
+ghost use Rattle.cell_core_devices.specs.Device.{has_failed, after_flush};
 ghost use Rattle.cell_core.specs.Shelf.{ShelfValue};
 ghost use Rattle.rcell_script.specs.FittingScripts.{Fits};
 ghost use Rattle.rcell_script.specs.declared.statement.Statement.{Statement};
@@ -133,16 +133,17 @@ pub fn run<R: Source + Drop, W: Sink>(
     ensures status { result.status ≡ status_after result.fault }
     // A fault of a grid names one that was given, and being out of memory for a grid or for the script is told at line 0.
     ensures told { IfSome result.fault (NamesItsGrid (length grids.items)) }
-    // Of a sink that had not failed before, status 0 comes only where it did not fail, and Write only where it failed.
-    ensures sound { result.status ≡ 0 → W.faults out.new ≡ W.faults out.old }
+    // Status 0 comes only where no call of the sink failed and it was flushed once, and, of a sink that had not failed
+    // before, Write only where it failed.
+    ensures sound { result.status ≡ 0 → W.faults out.new ≡ after_flush (W.faults out.old) false }
     ensures write { result.fault ≡ Some RunFault.Write → has_failed (W.faults out.new) ≡ true }
     // Write where no put was refused, as where only the flush at the end failed: the sink took the whole output.
     ensures whole { OfTexts R.coming grids.items script
         (λ named text. result.fault ≡ Some RunFault.Write → (W.faults out.new).refused ≡ false
         → IsRunDone named text (W.taken out.old) (W.taken out.new) result.written) }
-    // The fault is the one that came first: a put that is refused is told as Write, and the sink is not flushed after it; a
-    // flush that fails after another fault changes nothing.
-    ensures first { Failing result.fault (W.faults out.old) (W.faults out.new) }
+    // A run that was not refused before execution flushes its sink once, unless that refused a put: this is told as Write.
+    ensures first { IfSome result.fault IsInExecution
+        → Failing result.fault (W.faults out.old) (W.faults out.new) }
     // For every accepted script over grids of one region, where memory lasts and the sink takes everything,
     // exactly the output of its statements is written.
     ensures headline { OfTexts R.coming grids.items script

@@ -7,7 +7,7 @@ use crate::runs::FIVE_COMMANDS;
 use cell_ascii::grid_fault::{GridFault, GridKind};
 use cell_core::device::DeviceFault;
 use cell_core::name::Name;
-use cell_core::sink::{MemorySink, Sink};
+use cell_core::sink::{Flushes, MemorySink, Sink};
 use cell_core::source::{Asked, Source};
 use rcell::{Outcome, RunFault, run};
 use std::alloc::{AllocGlobal, Global};
@@ -121,14 +121,14 @@ impl<'a> Source for Unknown<'a> {
     }
 }
 
-// A sink of so much room, whose flush fails or not. It counts its flushes.
+// A sink of so much room, whose flush fails or not.
 #[derive(Drop)]
 struct Counting {
     room: usize,
     flush_fails: bool,
     refused: bool,
     unflushed: bool,
-    flushes: u32,
+    flushes: Flushes,
 }
 
 impl Counting {
@@ -138,7 +138,7 @@ impl Counting {
             flush_fails,
             refused: false,
             unflushed: false,
-            flushes: 0,
+            flushes: Flushes::Never,
         }
     }
 }
@@ -148,7 +148,7 @@ impl Sink for Counting {
 
     ghost taken = { λ _. None };
 
-    ghost faults = { λ s. record { refused = s.refused; unflushed = s.unflushed } };
+    ghost faults = { λ s. record { refused = s.refused; unflushed = s.unflushed; flushes = s.flushes } };
 
     fn put(&mut self, bytes: &[u8]) -> Result<usize, DeviceFault> {
         if bytes.len() > self.room {
@@ -160,7 +160,7 @@ impl Sink for Counting {
     }
 
     fn flush(&mut self) -> Result<(), DeviceFault> {
-        self.flushes = self.flushes.saturating_add(1);
+        self.flushes = self.flushes.again();
         if self.flush_fails {
             self.unflushed = true;
             return Err(DeviceFault);
@@ -366,12 +366,19 @@ fn a_script_may_have_a_mebibyte(rt: HostRuntime) -> Result<(), Fail> {
 #[test]
 fn is_flushed_once_unless_refused_or_failed(rt: HostRuntime) -> Result<(), Fail> {
     for &(script, room, flush_fails, status, written, flushes) in &[
-        (SCRIPT, 200, false, 0, ALL_BYTES, 1),
-        (SCRIPT, 200, true, 4, ALL_BYTES, 1),
-        (b"# nothing is asked for\n".as_slice(), 0, false, 0, 0, 1),
-        (b"# nothing is asked for\n", 0, true, 4, 0, 1),
-        (SCRIPT, 9, false, 4, 0, 0),
-        (SCRIPT, 9, true, 4, 0, 0),
+        (SCRIPT, 200, false, 0, ALL_BYTES, Flushes::Once),
+        (SCRIPT, 200, true, 4, ALL_BYTES, Flushes::Once),
+        (
+            b"# nothing is asked for\n".as_slice(),
+            0,
+            false,
+            0,
+            0,
+            Flushes::Once,
+        ),
+        (b"# nothing is asked for\n", 0, true, 4, 0, Flushes::Once),
+        (SCRIPT, 9, false, 4, 0, Flushes::Never),
+        (SCRIPT, 9, true, 4, 0, Flushes::Never),
     ] {
         let mut out = Counting::new(room, flush_fails);
         let script = Unknown::new(script, Then::Ends);
@@ -471,7 +478,7 @@ fn expect_no_call<'a, R: Abort + AllocGlobal>(rt: &R, refusal: Refusal<'a>) -> R
         let script = Unknown::new(refusal.script, refusal.script_then);
         let outcome = run_grids(rt.alloc(), script, refusal.grids, refusal.then, &mut out)?;
         assert_same!(rt; (outcome.status, outcome.written), (refusal.status, 0));
-        assert_same!(rt; (out.room, out.refused, out.flushes), (200, false, 0));
+        assert_same!(rt; (out.room, out.refused, out.flushes), (200, false, Flushes::Never));
     }
     Ok(())
 }
@@ -495,7 +502,7 @@ fn what_is_refused_is_not_flushed(rt: HostRuntime) -> Result<(), Fail> {
     Ok(())
 }
 
-fn counted<R: AllocGlobal>(rt: &R, flush_fails: bool) -> Result<(Outcome, u32), Fail> {
+fn counted<R: AllocGlobal>(rt: &R, flush_fails: bool) -> Result<(Outcome, Flushes), Fail> {
     let mut out = Counting::new(200, flush_fails);
     let script = whole_script();
     let grid = whole_grid();
@@ -516,14 +523,19 @@ fn written_before(line: u64) -> u64 {
 
 // What a run tells that is out of memory, and how often it is flushed: once in a statement, as one that is done, and not
 // before.
-fn expect_out_of_memory<R: Abort>(rt: &R, outcome: Outcome, flushes: u32) {
+fn expect_out_of_memory<R: Abort>(rt: &R, outcome: Outcome, flushes: Flushes) {
     let line = match outcome.fault {
         Some(RunFault::Memory { line }) => line,
         _ => 0,
     };
+    let wanted = if line > 0 {
+        Flushes::Once
+    } else {
+        Flushes::Never
+    };
     assert_same!(rt;
         (outcome.status, outcome.written, flushes),
-        (3, written_before(line), u32::from(line > 0))
+        (3, written_before(line), wanted)
     );
 }
 
@@ -531,13 +543,13 @@ fn expect_out_of_memory<R: Abort>(rt: &R, outcome: Outcome, flushes: u32) {
 fn a_run_out_of_memory_is_flushed_and_made_again(rt: HostRuntime) -> Result<(), Fail> {
     let (outcome, flushes) = counted(&rt, false)?;
     if outcome.status == 0 {
-        assert_same!(rt; flushes, 1);
+        assert_same!(rt; flushes, Flushes::Once);
         return Ok(());
     }
     expect_out_of_memory(&rt, outcome, flushes);
     let _ = eprintln!(rt; "made again");
     let (again, flushes) = counted(&rt, false)?;
-    assert_same!(rt; (again.status, flushes), (0, 1));
+    assert_same!(rt; (again.status, flushes), (0, Flushes::Once));
     Ok(())
 }
 
@@ -546,12 +558,12 @@ fn a_run_out_of_memory_is_flushed_and_made_again(rt: HostRuntime) -> Result<(), 
 fn a_run_out_of_memory_stays_so_and_is_made_again(rt: HostRuntime) -> Result<(), Fail> {
     let (outcome, flushes) = counted(&rt, true)?;
     if outcome.status == 4 {
-        assert_same!(rt; (outcome.written, flushes), (ALL_BYTES, 1));
+        assert_same!(rt; (outcome.written, flushes), (ALL_BYTES, Flushes::Once));
         return Ok(());
     }
     expect_out_of_memory(&rt, outcome, flushes);
     let _ = eprintln!(rt; "made again");
     let (again, flushes) = counted(&rt, true)?;
-    assert_same!(rt; (again.status, again.written, flushes), (4, ALL_BYTES, 1));
+    assert_same!(rt; (again.status, again.written, flushes), (4, ALL_BYTES, Flushes::Once));
     Ok(())
 }

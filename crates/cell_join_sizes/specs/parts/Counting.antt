@@ -6,7 +6,7 @@ use Rattle.cell_stats_combinations.specs.Combinations.{Combination}
 use Rattle.cell_stats.specs.CategoryTables.{Pairs}
 use Rattle.cell_join_lines.specs.LineReading.{TableReading, reading_of}
 use Rattle.cell_core_devices.specs.Blocks.{capped_count}
-use Rattle.cell_core_devices.specs.Device.{Coming, Faults, append_known, has_failed}
+use Rattle.cell_core_devices.specs.Device.{Coming, Faults, after_flush, append_known, has_failed}
 use Rattle.cell_stats.specs.TableText.{FormatValue}
 use Rattle.cell_join_lines.specs.TableLines.{entries_text}
 use Rattle.cell_join_tables.specs.JoinedTexts.{Give}
@@ -79,7 +79,7 @@ pub record HasPutSizes (format : FormatValue) (sizes : List ℕ) (before now : O
   pub whole : front ++ rest ≡ entries_text format (number_entries 1 sizes)
   pub taken : now ≡ append_known before front
   pub count : written ≡ capped_count (length front)
-  pub all : fault ≡ None → (rest ≡ []) × (faults ≡ start)
+  pub all : fault ≡ None → (rest ≡ []) × (faults ≡ after_flush start false)
   pub write : IfSome fault (λ f. (f ≡ Write) × (has_failed faults ≡ true))
 
 -- the tables before those that are left were read, and all areas of their bands

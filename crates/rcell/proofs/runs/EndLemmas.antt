@@ -5,14 +5,13 @@ use Rattle.std.proofs.lemmas.Bool.{true≢false}
 use Rattle.cell_core_devices.specs.Device.{Faults, after_flush, after_put, has_failed}
 use Rattle.cell_core.specs.Shelf.{ShelfValue}
 use Rattle.rcell_script.specs.declared.statement.Statement.{Statement}
-use Rattle.rcell_loading.specs.RunFaults.{IsBeforeExecution}
 use Rattle.rcell_loading.specs.declared.run_fault.RunFault.{RunFault}
 use Rattle.rcell_loading.specs.declared.run_fault.RunFault.TheVariants as faults
 use Rattle.rcell.specs.declared.execution.RunStop.{RunStop}
 use Rattle.rcell.specs.declared.execution.RunStop.TheVariants.{Memory, Write}
 use Rattle.rcell.specs.declared.execution.Stopped.{Stopped}
 use Rattle.rcell.specs.declared.outcome.Outcome.{Outcome}
-use Rattle.rcell.specs.parts.Ends.{IsRunEnd, run_ended, fault_of_end, flush_failed, stop_flush}
+use Rattle.rcell.specs.parts.Ends.{IsRunEnd, run_ended, fault_of_end, after_execution, after_stop}
 use Rattle.rcell.specs.parts.OutputSteps.{is_write, stops_write}
 use Rattle.rcell.specs.runs.Execution.{Stops}
 use Rattle.rcell.specs.runs.Outcomes.{Failing, IsDone}
@@ -23,7 +22,7 @@ pub not_none : {X : Type 0} → true ≡ false → X
 not_none none = cc
 
 module _ (shelf : ShelfValue) (statements : List Statement) (numbered : All (λ s. 0 < s.line) statements) (before now : Option (List ℕ)) (old between new : Faults) (fails : Bool) where
-  stopped_ends : (stop : RunStop) (written : ℕ) → Stops shelf statements before now written stop → between ≡ after_put old (is_write stop) → new ≡ after_flush between (stop_flush stop fails)
+  stopped_ends : (stop : RunStop) (written : ℕ) → Stops shelf statements before now written stop → between ≡ after_put old (is_write stop) → new ≡ after_stop between stop fails
       → IsRunEnd shelf statements before now old new (record { status = fault_status (fault_of_end stop); written = written; fault = Some (fault_of_end stop) })
   stopped_ends (Memory line) written stops puts flush = record {
     done = λ none. not_none none;
@@ -43,7 +42,7 @@ module _ (shelf : ShelfValue) (statements : List Statement) (numbered : All (λ 
   }
 
   executed_ends : (executed : Result ℕ Stopped) → IfOk executed (λ written. IsDone shelf statements before now written) → IfErr executed (λ s. Stops shelf statements before now s.written s.stop)
-      → between ≡ after_put old (stops_write executed) → new ≡ after_flush between (flush_failed executed fails) → IsRunEnd shelf statements before now old new (run_ended executed fails)
+      → between ≡ after_put old (stops_write executed) → new ≡ after_execution between executed fails → IsRunEnd shelf statements before now old new (run_ended executed fails)
   executed_ends (Err stopped) done stops puts flush = stopped_ends stopped.stop stopped.written stops puts flush
   executed_ends (Ok written) done stops puts flush = done_ends fails flush
     where
@@ -54,7 +53,7 @@ module _ (shelf : ShelfValue) (statements : List Statement) (numbered : All (λ 
         stops = tt;
         status = refl;
         whole = λ write. cc;
-        first = flush ∙ puts;
+        first = flush ∙ ap (λ (f : Faults). after_flush f false) puts;
       }
       done_ends true flush = record {
         done = λ none. not_none none;
@@ -67,12 +66,12 @@ module _ (shelf : ShelfValue) (statements : List Statement) (numbered : All (λ 
 
   -- a run is answered
   pub is_end : (executed : Result ℕ Stopped) (outcome : Outcome) → outcome ≡ run_ended executed fails → IfOk executed (λ written. IsDone shelf statements before now written)
-      → IfErr executed (λ s. Stops shelf statements before now s.written s.stop) → between ≡ after_put old (stops_write executed) → new ≡ after_flush between (flush_failed executed fails)
+      → IfErr executed (λ s. Stops shelf statements before now s.written s.stop) → between ≡ after_put old (stops_write executed) → new ≡ after_execution between executed fails
       → IsRunEnd shelf statements before now old new outcome
   is_end executed outcome answer done stops puts flush = rw answer (executed_ends executed done stops puts flush)
 
--- no call failed where there is no fault
-pub sound : (fault : Option RunFault) (old new : Faults) → Failing fault old new → IsNone fault → new ≡ old
+-- no call failed where there is no fault, and the sink was flushed once
+pub sound : (fault : Option RunFault) (old new : Faults) → Failing fault old new → IsNone fault → new ≡ after_flush old false
 sound None old new failing none = failing
 sound (Some fault) old new failing none = not_none none
 
@@ -87,14 +86,3 @@ write fault old new failing is = by (rw is at failing)
     by : Failing (Some faults.Write) old new → has_failed new ≡ true
     by (true, e) = rw e refl
     by (false, e) = rw e (or_true old.refused)
-
--- nor before execution
-pub failing_none : (fault : RunFault) (f : Faults) → IsBeforeExecution fault → Failing (Some fault) f f
-failing_none (faults.GridTwice grid) f early = (false, refl)
-failing_none (faults.GridRegion grid) f early = (false, refl)
-failing_none (faults.Grid grid fault) f early = (false, refl)
-failing_none faults.ScriptRead f early = (false, refl)
-failing_none faults.ScriptSize f early = (false, refl)
-failing_none (faults.Script fault) f early = (false, refl)
-failing_none (faults.Memory line) f early = (false, refl)
-failing_none faults.Write f early = absurd early

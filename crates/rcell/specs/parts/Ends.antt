@@ -26,20 +26,20 @@ run_ended (Ok written) false = record { status = 0; written = written; fault = N
 run_ended (Ok written) true = record { status = 4; written = written; fault = Some faults.Write }
 run_ended (Err stopped) fails = record { status = fault_status (fault_of_end stopped.stop); written = stopped.written; fault = Some (fault_of_end stopped.stop) }
 
--- whether the flush failed: after a refused put the sink is not flushed
-abbrev pub stop_flush : RunStop → Bool → Bool
-stop_flush (stops.Memory line) fails = fails
-stop_flush stops.Write fails = false
+-- the sink is flushed, but not after a refused put
+abbrev pub after_stop : Faults → RunStop → Bool → Faults
+after_stop old (stops.Memory line) fails = after_flush old fails
+after_stop old stops.Write fails = old
 
-abbrev pub flush_failed : Result ℕ Stopped → Bool → Bool
-flush_failed (Ok written) fails = fails
-flush_failed (Err stopped) fails = stop_flush stopped.stop fails
+abbrev pub after_execution : Faults → Result ℕ Stopped → Bool → Faults
+after_execution old (Ok written) fails = after_flush old fails
+after_execution old (Err stopped) fails = after_stop old stopped.stop fails
 
 -- a run is answered, and its sink flushed
 pub record Ends (executed : Result ℕ Stopped) (old new : Faults) (outcome : Outcome) : Type 0 where
   pub fails : Bool
   pub answer : outcome ≡ run_ended executed fails
-  pub after : new ≡ after_flush old (flush_failed executed fails)
+  pub after : new ≡ after_execution old executed fails
 
 -- what holds after statements were executed and the sink was flushed
 pub record IsRunEnd (shelf : ShelfValue) (statements : List Statement) (before now : Option (List ℕ)) (old new : Faults) (outcome : Outcome) : Type 0 where

@@ -22,9 +22,10 @@ Writes shelf statements before now failed outcome =
     outcome.status ≢ 3 → failed ≡ false
     → (outcome.status ≡ 0) × ((outcome.fault ≡ None) × IsDone shelf statements before now outcome.written)
 
--- which calls of the sink failed, by the fault: none where there is no fault; for Write either a put, after which the sink
--- is not flushed, or else the flush at the end; for any other no put, and at most the flush at the end
+-- what became of the sink in an execution, by the fault. None: it was flushed once, and no call failed. Write: a put failed,
+-- after which it is not flushed, or else it was flushed once, and that failed. Any other: no put failed, and it was flushed
+-- once, whatever came of that
 abbrev pub Failing : Option RunFault → Faults → Faults → Type 0
-Failing None old new = new ≡ old
+Failing None old new = new ≡ after_flush old false
 Failing (Some Write) old new = (put : Bool) × (new ≡ (if put then after_put old true else after_flush old true))
-Failing (Some fault) old new = (flush : Bool) × (new ≡ after_flush old flush)
+Failing (Some fault) old new = (fails : Bool) × (new ≡ after_flush old fails)

@@ -3,9 +3,13 @@ use Rattle.std.specs.Prelude.{IfSome, IsNone}
 use Rattle.rcell_loading.specs.RunFaults.{IsBeforeExecution, IsInExecution, IsOfInput, NamesItsGrid}
 use Rattle.rcell_loading.specs.declared.run_fault.RunFault.{RunFault}
 use Rattle.rcell_loading.specs.declared.run_fault.RunFault.TheVariants.{GridTwice, GridRegion, Grid, ScriptRead, ScriptSize, Script, Memory, Write}
-use Rattle.rcell.specs.runs.Statuses.{fault_status, status_after}
+use Rattle.cell_ascii_meaning.specs.declared.grid_fault.GridKind.{GridKind}
+use Rattle.cell_ascii_meaning.specs.declared.grid_fault.GridKind.TheVariants as grid_kinds
+use Rattle.rcell_script_commands.specs.declared.script_fault.ScriptKind.{ScriptKind}
+use Rattle.rcell_script_commands.specs.declared.script_fault.ScriptKind.TheVariants as script_kinds
+use Rattle.rcell.specs.runs.Statuses.{grid_status, script_status, fault_status, status_after}
 use Rattle.cell_core_devices.specs.Device.{has_failed}
-use Rattle.rcell.proofs.runs.EndLemmas.{failing_none, not_none, sound, write}
+use Rattle.rcell.proofs.runs.EndLemmas.{not_none, sound, write}
 use Rattle.rcell.proofs.runs.AcceptedLemmas.{when_accepted}
 use Rattle.rcell.proofs.runs.WrittenLemmas.{input_unless_memory, read_written, read_refused}
 use Rattle.rcell.proofs.running.run.Goals as goal
@@ -56,20 +60,29 @@ late_told grids (Script fault) late = absurd late
 late_told grids (Memory line) late = tt
 late_told grids Write late = tt
 
-not_zero : {X : Type 0} (fault : RunFault) → IsInExecution fault → fault_status fault ≡ 0 → X
-not_zero (GridTwice grid) late zero = absurd late
-not_zero (GridRegion grid) late zero = absurd late
-not_zero (Grid grid fault) late zero = absurd late
-not_zero ScriptRead late zero = absurd late
-not_zero ScriptSize late zero = absurd late
-not_zero (Script fault) late zero = absurd late
-not_zero (Memory line) late zero = cc
-not_zero Write late zero = cc
+grid_not_zero : {X : Type 0} (kind : GridKind) → grid_status kind ≡ 0 → X
+grid_not_zero grid_kinds.Read zero = cc
+grid_not_zero grid_kinds.Memory zero = cc
+grid_not_zero kind zero = cc
+
+script_not_zero : {X : Type 0} (kind : ScriptKind) → script_status kind ≡ 0 → X
+script_not_zero script_kinds.Memory zero = cc
+script_not_zero kind zero = cc
+
+not_zero : {X : Type 0} (fault : RunFault) → fault_status fault ≡ 0 → X
+not_zero (GridTwice grid) zero = cc
+not_zero (GridRegion grid) zero = cc
+not_zero (Grid grid fault) zero = grid_not_zero fault.kind zero
+not_zero ScriptRead zero = cc
+not_zero ScriptSize zero = cc
+not_zero (Script fault) zero = script_not_zero fault.kind zero
+not_zero (Memory line) zero = cc
+not_zero Write zero = cc
 
 -- what holds without a fault holds at status 0
-when_zero : {status : ℕ} {P : Type 0} (fault : Option RunFault) → status ≡ status_after fault → IfSome fault IsInExecution → (IsNone fault → P) → status ≡ 0 → P
-when_zero None is late sound zero = sound refl
-when_zero (Some fault) is late sound zero = not_zero fault late (sym is ∙ zero)
+when_zero : {status : ℕ} {P : Type 0} (fault : Option RunFault) → status ≡ status_after fault → (IsNone fault → P) → status ≡ 0 → P
+when_zero None is sound zero = sound refl
+when_zero (Some fault) is sound zero = not_zero fault (sym is ∙ zero)
 
 -- First, since a run that touches its sink before execution meets none of the clauses below either.
 pub returns-in-Err-clause-untouched : goal.returns-in-Err-clause-untouched
@@ -99,7 +112,7 @@ pub returns-in-Err-clause-told : goal.returns-in-Err-clause-told
 returns-in-Err-clause-told g c = rw c.refused_outcome.ensures c.in-Err.ensures.told
 
 pub returns-in-Err-clause-sound : goal.returns-in-Err-clause-sound
-returns-in-Err-clause-sound g c = λ zero. refl
+returns-in-Err-clause-sound g c = rw c.refused_outcome.ensures (λ zero. not_zero c.in-Err.fault zero)
 
 pub returns-in-Err-clause-write : goal.returns-in-Err-clause-write
 returns-in-Err-clause-write g c =
@@ -175,7 +188,7 @@ returns-in-Ok-read_statements-clause-told g c = weaker c.put_out.result.fault _ 
 
 pub returns-in-Ok-read_statements-clause-sound : goal.returns-in-Ok-read_statements-clause-sound
 returns-in-Ok-read_statements-clause-sound g c =
-    when_zero c.put_out.result.fault c.put_out.ensures.status c.put_out.ensures.late (sound c.put_out.result.fault _ _ c.put_out.ensures.first)
+    when_zero c.put_out.result.fault c.put_out.ensures.status (sound c.put_out.result.fault _ _ c.put_out.ensures.first)
 
 pub returns-in-Ok-read_statements-clause-write : goal.returns-in-Ok-read_statements-clause-write
 returns-in-Ok-read_statements-clause-write g c = write c.put_out.result.fault _ _ c.put_out.ensures.first
@@ -197,7 +210,8 @@ pub returns-in-Err-read_statements-clause-status : goal.returns-in-Err-read_stat
 returns-in-Err-read_statements-clause-status g c = rw c.refused_outcome-in-Err-read_statements.ensures refl
 
 pub returns-in-Err-read_statements-clause-sound : goal.returns-in-Err-read_statements-clause-sound
-returns-in-Err-read_statements-clause-sound g c = λ zero. refl
+returns-in-Err-read_statements-clause-sound g c =
+    rw c.refused_outcome-in-Err-read_statements.ensures (λ zero. not_zero c.in-Err-read_statements.fault zero)
 
 pub returns-in-Err-read_statements-clause-write : goal.returns-in-Err-read_statements-clause-write
 returns-in-Err-read_statements-clause-write g c =
@@ -207,7 +221,7 @@ pub returns-in-Err-clause-whole : goal.returns-in-Err-clause-whole
 returns-in-Err-clause-whole g c = λ named text known tells. rw c.refused_outcome.ensures (λ write clean. not_write c.in-Err.fault c.in-Err.ensures.early write)
 
 pub returns-in-Err-clause-first : goal.returns-in-Err-clause-first
-returns-in-Err-clause-first g c = rw c.refused_outcome.ensures (failing_none c.in-Err.fault (g.W.Sink.faults c.args.out.now) c.in-Err.ensures.early)
+returns-in-Err-clause-first g c = rw c.refused_outcome.ensures (λ late. not_both c.in-Err.fault c.in-Err.ensures.early late)
 
 pub returns-in-Ok-read_statements-clause-whole : goal.returns-in-Ok-read_statements-clause-whole
 returns-in-Ok-read_statements-clause-whole g c = λ named text known tells write clean. record {
@@ -218,7 +232,7 @@ returns-in-Ok-read_statements-clause-whole g c = λ named text known tells write
 }
 
 pub returns-in-Ok-read_statements-clause-first : goal.returns-in-Ok-read_statements-clause-first
-returns-in-Ok-read_statements-clause-first g c = c.put_out.ensures.first
+returns-in-Ok-read_statements-clause-first g c = λ late. c.put_out.ensures.first
 
 pub returns-in-Err-read_statements-clause-whole : goal.returns-in-Err-read_statements-clause-whole
 returns-in-Err-read_statements-clause-whole g c = λ named text known tells.
@@ -228,4 +242,4 @@ returns-in-Err-read_statements-clause-whole g c = λ named text known tells.
 pub returns-in-Err-read_statements-clause-first : goal.returns-in-Err-read_statements-clause-first
 returns-in-Err-read_statements-clause-first g c =
     rw c.refused_outcome-in-Err-read_statements.ensures
-    (failing_none c.in-Err-read_statements.fault (g.W.Sink.faults c.args.out.now) c.in-Err-read_statements.ensures.whose.early)
+    (λ late. not_both c.in-Err-read_statements.fault c.in-Err-read_statements.ensures.whose.early late)

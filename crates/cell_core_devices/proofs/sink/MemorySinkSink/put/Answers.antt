@@ -91,6 +91,6 @@ returns-clause-taken c =
     rw (← c.self.view_is)
     (ap₂
     (λ (bytes : List ℕ) (left : ℕ).
-    record { bytes = bytes; faults = record { refused = i.refused; unflushed = i.unflushed }; room = left; piece = i.piece; flush_fails = i.flush_fails })
+    record { bytes = bytes; faults = record { refused = i.refused; unflushed = i.unflushed; flushes = i.flushes }; room = left; piece = i.piece; flush_fails = i.flush_fails })
     (ap (take (i.at + n)) items ∙ front)
     (left_after i.at n (ap length items ∙ len ∙ i.room.ok.0)))
