@@ -1,0 +1,18 @@
+-- A walk over the rows of a tile.
+use Rattle.std.proofs.Common.{◌≡◌, ℕ, ◌+◌, ◌<◌, ◌≤◌, List, length, get_or, arith}
+use Rattle.cell_join_tiles.specs.Beginnings.{begun_before, row_begun}
+use Rattle.cell_join_tiles.proofs.StretchLemmas.{stretch-is}
+
+-- a clump begins in no row so far
+pub record IsSoFar (begun : List ℕ) (clump row left : ℕ) : Type 0 where
+  pub inside : row < length begun
+  pub rest : left + begun_before begun row ≡ clump
+
+pub row-found : (begun : List ℕ) (clump row left : ℕ) → IsSoFar begun clump row left → left < get_or begun row 0 → row_begun begun clump ≡ row
+row-found begun clump row left h lt = stretch-is begun row clump (record { inside = h.inside; low = omega (arith, h.rest); high = omega (arith, h.rest, lt) })
+
+-- the rows so far are passed, the others as they were
+pub record IsPassed (old begun : List ℕ) (row : ℕ) (line : List ℕ) : Type 0 where
+  pub long : length line ≡ length old
+  pub passed : (i : ℕ) → i < row → get_or line i 0 ≡ get_or old i 0 + get_or begun i 0
+  pub others : (i : ℕ) → row ≤ i → get_or line i 0 ≡ get_or old i 0

@@ -1,0 +1,15 @@
+pub mod StretchLemmas
+pub mod LabelSums
+pub mod LabelLemmas
+pub mod BegunLemmas
+pub mod ListLemmas
+pub mod BorderLemmas
+pub mod RiseLemmas
+pub mod NumberLemmas
+pub mod MeetingLemmas
+pub mod SeamLemmas
+pub mod LineLemmas
+pub mod BeforeLemmas
+pub mod LabelLineLemmas
+pub mod JoinedLemmas
+pub mod TileNumberLemmas

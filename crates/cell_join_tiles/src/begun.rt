@@ -1,0 +1,54 @@
+//! How many clumps begin in each row of a tile.
+
+ghost use Rattle.std.specs.Prelude.{◌≡◌, IfOk};
+ghost use Rattle.cell_tiles_joining.specs.parts.Greatest.{greater_of, greatest_in};
+ghost use Rattle.cell_join_tiles.specs.Borders.{Rises};
+
+use cell_core::cell::Cell;
+use cell_core::map::CellMap;
+use cell_core::memory::Memory;
+use cell_tiles_joining::clumped::row_of;
+use std::alloc::Global;
+
+// The greater of a number and that of a cell.
+fn greater_of(most: u64, cell: Cell) -> u64
+    ensures { result ≡ greater_of most cell }
+{
+    let Some(category) = cell.get() else {
+        return most;
+    };
+    match u64::try_from(category) {
+        Ok(number) => most.max(number),
+        Err(_) => most,
+    }
+}
+
+// The greatest of a number and those of cells.
+fn greatest_in(most: u64, cells: &[Cell]) -> u64
+    ensures { result ≡ greatest_in most cells.now }
+{
+    let mut greatest = most;
+    for cell in cells {
+        greatest = greater_of(greatest, *cell);
+    }
+    greatest
+}
+
+/// For each row of the numbers of the clumps of a tile, as many as begin in it.
+///
+/// # Errors
+///
+/// [`Memory`] when out of memory.
+pub fn begun_by_row(alloc: Global, numbers: &CellMap) -> Result<Vec<u64>, Memory>
+    ensures { IfOk result (λ begun. Rises numbers.now.region.rows numbers.now begun.items) }
+{
+    let mut begun = Vec::new(alloc);
+    let mut most = 0;
+    for row in 0..numbers.region().rows() {
+        let cells = row_of(alloc, numbers, row)?;
+        let greatest = greatest_in(most, &cells);
+        begun.push(greatest - most)?;
+        most = greatest;
+    }
+    Ok(begun)
+}

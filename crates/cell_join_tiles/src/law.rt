@@ -1,0 +1,78 @@
+//! How many clumps begin in each row of each tile is enough to label them all in the order of their first cells.
+
+ghost use Rattle.cell_join_tiles.specs.Beginnings.{ClumpLabelsAreLabels, LabelsFollowFirstCells};
+ghost use Rattle.cell_join_tiles.specs.Borders.{BordersAreLabelled, BordersCountTheWhole, BordersNumberTheWhole, CellsBearLabels, RisesCountBegun};
+ghost use Rattle.cell_join_tiles.specs.SeamLines.{SeamLinesPair, RowsAreLines, SidesAreLines};
+ghost use Rattle.cell_join_tiles.specs.Joined.{GridsAreLabelled};
+ghost use Rattle.cell_join_tiles.specs.LabelLines.{LabelLinesLabel, LabelLinesPass};
+ghost use Rattle.cell_join_tiles.specs.TileNumbers.{TileNumbersAreListed};
+
+/// Of two clumps of tiles the one of the smaller label has the earlier first cell in the whole.
+pub fn labels_follow_first_cells()
+    ensures { LabelsFollowFirstCells }
+{}
+
+/// Cells that bear the labels of their clumps are labelled as a joining by pairs of labels asks.
+pub fn clump_labels_are_labels()
+    ensures { ClumpLabelsAreLabels }
+{}
+
+/// As many clumps begin in a row as the greatest of the numbers so far rises in it.
+pub fn rises_count_begun()
+    ensures { RisesCountBegun }
+{}
+
+/// Each cell of a map that is cut into tiles has the label of its clump in its tile.
+pub fn cells_bear_labels()
+    ensures { CellsBearLabels }
+{}
+
+/// Numbers of the labels, by the pairs at the seams alone, are the numbers of the whole.
+pub fn borders_number_the_whole()
+    ensures { BordersNumberTheWhole }
+{}
+
+/// And their count is that of the areas of the whole.
+pub fn borders_count_the_whole()
+    ensures { BordersCountTheWhole }
+{}
+
+/// The lines of cells on both sides of each seam give the pairs at the seams, and no others.
+pub fn seam_lines_pair()
+    ensures { SeamLinesPair }
+{}
+
+/// Borders of tiles label the cells of the whole as a joining by pairs of labels asks.
+pub fn borders_are_labelled()
+    ensures { BordersAreLabelled }
+{}
+
+/// A side of a tile is a line of cells of the whole.
+pub fn sides_are_lines()
+    ensures { SidesAreLines }
+{}
+
+/// And the sides of a row of tiles, one behind the other, are a line of a row of the whole.
+pub fn rows_are_lines()
+    ensures { RowsAreLines }
+{}
+
+/// The line of the labels of the first clumps of each row of a tile gives the label of each of its clumps.
+pub fn label_lines_label()
+    ensures { LabelLinesLabel }
+{}
+
+/// And passes on to the tile on the right.
+pub fn label_lines_pass()
+    ensures { LabelLinesPass }
+{}
+
+/// From the borders of tiles alone: the cells of the whole are labelled as a joining by pairs of labels asks.
+pub fn grids_are_labelled()
+    ensures { GridsAreLabelled }
+{}
+
+/// Numbers that are listed tile by tile: where that of each clump is.
+pub fn tile_numbers_are_listed()
+    ensures { TileNumbersAreListed }
+{}

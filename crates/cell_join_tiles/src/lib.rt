@@ -1,0 +1,9 @@
+//! Borders of tiles, and the joining of their clumps to those of the full map.
+//!
+//! How many clumps begin in each row of each tile is enough to label them all in the order of their first cells in the full map.
+#![tactic(auto)]
+
+pub mod begun;
+pub mod border;
+pub mod labels;
+pub mod law;
