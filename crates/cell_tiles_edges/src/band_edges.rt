@@ -1,6 +1,6 @@
 //! The text of a band's edges, made of the texts of the band and of its numbers.
 
-ghost use Rattle.std.specs.Prelude.{◌≡◌, ◌≢◌, ◌↔◌, true, None, Some, IfErr, IfOk, IfSome, IsTrue};
+ghost use Rattle.std.specs.Prelude.{◌≡◌, ◌≢◌, ◌↔◌, true, None, Some, IfErr, IfOk, IfSome, IsTrue, false};
 ghost use Rattle.cell_core_devices.specs.Device.{has_failed, after_flush};
 ghost use Rattle.cell_tiles_edges.specs.WrittenEdges.{AreEdgesCut, AreEdgesWritten, IsBandFault, IsWrongBand};
 ghost use Rattle.cell_tiles_edges.specs.parts.MadeEdges.{IsDrawnOf, IsMadeOf, IsMadeOfMaps, of_map, of_number_text};

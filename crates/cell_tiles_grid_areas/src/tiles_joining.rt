@@ -1,6 +1,6 @@
 //! The areas text of texts of the sides of tiles.
 
-ghost use Rattle.std.specs.Prelude.{◌≡◌, ◌≢◌, List, None, Some, IfErr, IfOk, IfSome, true};
+ghost use Rattle.std.specs.Prelude.{◌≡◌, ◌≢◌, List, None, Some, IfErr, IfOk, IfSome, true, false};
 ghost use Rattle.cell_core_devices.specs.Device.{Coming, has_failed, after_flush};
 ghost use Rattle.cell_join_tables.specs.JoinedTexts.{Give};
 ghost use Rattle.cell_tiles_grid_areas.specs.AreasOfTiles.{AreGridNumbersOf, HasTilesPrefix, HasWrittenTiles, IsTilesJoinFault};

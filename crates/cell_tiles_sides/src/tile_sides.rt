@@ -1,6 +1,6 @@
 //! The text of a tile's sides, made of the texts of the tile and of its numbers.
 
-ghost use Rattle.std.specs.Prelude.{◌≡◌, ◌≢◌, ◌↔◌, true, None, Some, IfErr, IfOk, IfSome, IsTrue};
+ghost use Rattle.std.specs.Prelude.{◌≡◌, ◌≢◌, ◌↔◌, true, None, Some, IfErr, IfOk, IfSome, IsTrue, false};
 ghost use Rattle.cell_core_devices.specs.Device.{has_failed, after_flush};
 ghost use Rattle.cell_tiles_edges.specs.EdgesFaults.{most_areas};
 ghost use Rattle.cell_tiles_edges.specs.PairFaults.{AreMapsFit};
