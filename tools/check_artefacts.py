@@ -3,7 +3,6 @@ import gzip
 import json
 import os
 import pathlib
-import re
 import shutil
 import subprocess
 import tarfile
@@ -23,6 +22,7 @@ LICENCES = {
 }
 NOBODY = 65534
 ELSEWHERE = {"TZ": "Asia/Kolkata", "LC_ALL": "C.UTF-8", "LANG": "de_DE.UTF-8"}
+STRAY = ("helpers/rcell-tif~", "examples/secret.key", "docs/notes.md", "r/rcell/R/x.R", "python/src/rcell/x.py", "qgis/rcell/x.py")
 OLD = 1_000_000_000  # a date of files, in seconds
 
 
@@ -37,7 +37,7 @@ def run(*words, **how):
 
 
 def clone_elsewhere(room):
-    """A clone with the changes that are not committed, with the same bin/, files of another date, and for root another owner."""
+    """A clone with the changes that are not committed, the same bin/, stray files, other dates, and for root another owner."""
     clone = pathlib.Path(room, "elsewhere", "clone of another name")
     clone.parent.mkdir(mode=0o755)
     subprocess.run(["git", "clone", "-q", ROOT, clone], check=True)
@@ -45,6 +45,8 @@ def clone_elsewhere(room):
     if changes:
         subprocess.run(["git", "apply", "--index"], cwd=clone, input=changes, check=True)
     shutil.copytree(ROOT / "bin", clone / "bin")
+    for stray in STRAY:
+        (clone / stray).write_text("not tracked\n", encoding="ascii")
     for path in [clone.parent, *clone.parent.rglob("*")]:
         if not path.is_symlink() and ".git" not in path.parts:
             os.utime(path, (OLD, OLD))
@@ -93,11 +95,10 @@ def check_licences(count, path, found):
 
 
 def check_paths(count, path, found, places):
-    """No file of an artefact has a path of the trees that it was made in, nor is one there that git does not track."""
+    """No file of an artefact has a path of the folders that it was made in, or of the kit."""
     held = [f"{name}: {place}" for name, text in found.items() for place in places
             if place.encode() in (gzip.decompress(text) if name.endswith(".gz") else text)]
-    stray = [name for name in found if re.search(r"~$|\.(orig|swp|key|pyc)$", name)]
-    count.add(f"no path of this machine in {path.name}", "; ".join(held + stray))
+    count.add(f"no path of this machine in {path.name}", "; ".join(held))
 
 
 def faults_of_bill(bill, folder):

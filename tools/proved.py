@@ -42,7 +42,7 @@ def sum_of(name):
 
 def sources():
     commit, day = said_by("git", "log", "-1", "--format=%H %cd", "--date=format:%Y-%m-%d").split()
-    changed = said_by("git", "status", "--porcelain")
+    changed = said_by("git", "status", "--porcelain", "--untracked-files=no")
     return commit, f"commit {commit}\n            of {day}" + (", WITH CHANGES that are not committed" if changed else "")
 
 
