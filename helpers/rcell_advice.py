@@ -100,7 +100,7 @@ def nearest(name, known):
     names = [shown(it) for it in list(known)[:MOST_NAMES] if it not in near]
     if near:
         return "did you mean `%s`?" % shown(near[0]) + (" Known are here, too: %s" % ", ".join(names[:12]) if names else "")
-    return "known are here: %s" % (", ".join(names[:12]) if names else "no maps")
+    return "defined here: %s" % (", ".join(names[:12]) if names else "no maps")
 
 
 def new_name(name, known):

@@ -54,7 +54,7 @@ ABSENT = {
     "type": "delete it: all maps are CELL",
 }
 MODULES = {
-    "g.region": "delete it: the region is that of the grids; run `g.region` before you export them",
+    "g.region": "delete it: the region comes from the grids; run `g.region` before you export them",
     "r.mask": "`r.mapcalc masked = if(mask, map, null())`",
     "r.null": "`r.mapcalc new = if(map == 51, null(), map)`, or `if(isnull(map), 0, map)`",
     "r.info": "delete it: `r.stats -c` counts, and the header of the grid has the region",

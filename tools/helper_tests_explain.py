@@ -44,7 +44,7 @@ def test_pipes(room, tally):
     ran = room.shell("sed 's/3 3/2.5 3/' land.txt | rcell-explain script land=/dev/stdin")
     tally.true("a bad cell in a pipe", b"a cell with decimals: `2.5`" in ran.stderr and b"      2.5 3 1 1\n      ^^^" in ran.stderr, ran.stderr)
     ran = room.shell("rcell-explain <(echo r.stats -c land) land=<(cat land.txt)")
-    tally.true("a bad script in a pipe", b"the first option needs its key, too: `land`" in ran.stderr, ran.stderr)
+    tally.true("a bad script in a pipe", b"the first option also needs its key: `land`" in ran.stderr, ran.stderr)
     ran = room.shell("rcell-explain script land=no.txt other=<(cat land.txt) && false || timeout 10 rcell-explain script a-b=<(exec sleep 20 2> /dev/null)")
     tally.true("a run that is refused before a pipe is read ends", b"bad grid argument" in ran.stderr, ran.stderr)
     command = ("(echo 'north: 3000'; echo 'south: 0'; echo 'east: 1000'; echo 'west: 0'; echo 'rows: 3000'; echo 'cols: 1000'; "

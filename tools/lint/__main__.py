@@ -4,7 +4,7 @@
 
 Each rule has its findings, one a line, and a file of exceptions, lint/exceptions/RULE.txt. A finding that the file does not
 list is an error, and so is a line of the file that is no finding any more: the list may only shrink. Rules that
-count list a number a file, which may only fall. With --write the files are written as the findings are, which is for the
+count list a number a file, which may only fall. The English of the documents for users has no retired word (prose.py). With --write the files are written as the findings are, which is for the
 commit that takes findings away; a file that would grow is left as it is. The last line is 'N passed, M failed'.
 """
 import argparse
@@ -15,6 +15,7 @@ import sys
 
 sys.path[:0] = [str(pathlib.Path(__file__).resolve().parent), str(pathlib.Path(__file__).resolve().parent.parent)]
 
+import prose  # noqa: E402
 import rules  # noqa: E402  (the path above has to be set first)
 
 HERE = pathlib.Path(__file__).resolve().parent
@@ -76,6 +77,18 @@ def python_faults():
     return faults, skipped
 
 
+def prose_faults():
+    """What is wrong with the English of the documents; the retired words elsewhere are printed, and are no fault."""
+    faults = prose.faults()
+    for fault in faults:
+        print(f"prose: {fault}")
+    counts = ", ".join(f"{folder} {count}" for folder, count in prose.counts_by_folder().most_common())
+    print(f"prose: retired words in docstrings and comments: {counts}")
+    if pending := prose.pending_counts():
+        print("prose: pages not written anew yet: " + ", ".join(f"{name} {count}" for name, count in pending.items()))
+    return faults
+
+
 def main():
     parser = argparse.ArgumentParser(prog="lint", description=__doc__.splitlines()[0])
     parser.add_argument("--write", action="store_true", help="write the findings as the exceptions, where there are no more")
@@ -97,7 +110,9 @@ def main():
     for fault in of_python:
         print(f"python: {fault}")
     failed += bool(of_python)
-    print(f"{len(words.rules or rules.ALL) + (not words.rules) - failed} passed, {failed} failed, {skipped} skipped")
+    of_prose = [] if words.rules else prose_faults()
+    failed += bool(of_prose)
+    print(f"{len(words.rules or rules.ALL) + 2 * (not words.rules) - failed} passed, {failed} failed, {skipped} skipped")
     return 1 if failed else 0
 
 

@@ -1,0 +1,125 @@
+"""The English of the documents: retired words (retired.txt), and the lengths of sentences.
+
+A document for users has no retired word. In a page for users a sentence has at most 18 words on average, at most 10 % of the
+sentences have more than 25, and at most 1 % more than 45. In docstrings and comments retired words are only counted, by folder.
+"""
+import ast
+import functools
+import io
+import pathlib
+import re
+import subprocess
+import tokenize
+from collections import Counter
+
+ROOT = pathlib.Path(__file__).resolve().parent.parent.parent
+MEAN_WORDS, LONG, MOST_LONG, VERY_LONG, MOST_VERY_LONG = 18, 25, 0.10, 45, 0.01
+# For those who change the program, not for those who use it.
+FOR_DEVELOPERS = {"docs/MAP.md", "docs/REFUSALS.md", "docs/DECISIONS.md", "docs/architecture.md", "bench/RESULTS.md", "bench/hostile.md",
+                  "packaging/object.md"}
+# Pages that have not been written anew yet. None is added.
+PENDING = set((pathlib.Path(__file__).parent / "pending.txt").read_text(encoding="utf-8").split())
+FENCED = re.compile(r"^```.*?^```$", re.MULTILINE | re.DOTALL)
+COMMENT_OF = {".rt": "//", ".antt": "--", ".sh": "#", ".mk": "#", ".R": "#", ".c": "//", ".cpp": "//", ".h": "//"}
+
+
+@functools.cache
+def patterns():
+    """The retired patterns, each with what to write instead."""
+    lines = (pathlib.Path(__file__).parent / "retired.txt").read_text(encoding="utf-8").splitlines()
+    return [(re.compile(pattern), instead) for pattern, _, instead in (line.partition("\t") for line in lines if line and not line.startswith("#"))]
+
+
+@functools.cache
+def tracked():
+    """The files of the repository, by their paths below its top."""
+    listed = subprocess.run(["git", "ls-files", "--cached", "--others", "--exclude-standard"], cwd=ROOT, capture_output=True, text=True, check=True)
+    return [name for name in listed.stdout.splitlines() if (ROOT / name).is_file()]
+
+
+def documents():
+    """The documents for users: Markdown pages, manual pages and pages of R."""
+    return [name for name in tracked() if re.search(r"\.(md|1|Rd)$", name) and name not in FOR_DEVELOPERS]
+
+
+def plain(name):
+    """The prose of a document on its lines: code, links and markup are blanked out."""
+    text = (ROOT / name).read_text(encoding="utf-8")
+    if name.endswith(".md"):
+        text = FENCED.sub(lambda found: "\n" * found[0].count("\n"), text)
+        text = re.sub(r"<!--.*?-->", lambda found: "\n" * found[0].count("\n"), text, flags=re.DOTALL)
+        text = re.sub(r"`[^`\n]*`|[\w/]+/must-fail/[\w-]+|\b\w+-\w+-[\w-]+\b", "CODE", text)
+        return re.sub(r"\]\([^)\s]*\)", "]", text)
+    if name.endswith(".Rd"):
+        text = re.sub(r"\\(code|link|href|preformatted|dQuote)\{[^{}]*\}", "CODE", text)
+        return re.sub(r"\\(usage|examples|name|alias)\{.*?^\}", lambda found: "\n" * found[0].count("\n"), text, flags=re.MULTILINE | re.DOTALL)
+    return re.sub(r'^\.\\".*$|^\.[BI]R? .*$|\\f[BI].*?\\f[RP]', "", text, flags=re.MULTILINE)
+
+
+def retired_in(text):
+    """The retired words of a text: the line, the word, and what to write instead."""
+    for number, line in enumerate(text.split("\n"), 1):
+        for pattern, instead in patterns():
+            for found in pattern.finditer(line):
+                yield number, found[0].strip(" .:,"), instead
+
+
+def sentences(text):
+    """The sentences of a page, without headings and tables; an item of a list is a paragraph."""
+    lines = [re.sub(r"^\s*(?:[-*]|\d+\.) ", "\n", line) for line in text.split("\n") if not re.match(r"\s*(\||#|!\[)", line)]
+    for paragraph in re.split(r"\n\s*\n", "\n".join(lines)):
+        joined = re.sub(r"[*_\[\]]", "", " ".join(paragraph.split()))
+        yield from (it for it in re.split(r"(?<=[.!?])\s+(?=[A-Z(\"])", joined) if len(it.split()) > 2)
+
+
+def long_winded(name):
+    """What is wrong with the lengths of the sentences of a page, or ''."""
+    lengths = [len(re.findall(r"[^\s·]*\w[^\s·]*", it)) for it in sentences(plain(name))]
+    if len(lengths) < 10:
+        return ""
+    mean = sum(lengths) / len(lengths)
+    long, very_long = (sum(it > most for it in lengths) / len(lengths) for most in (LONG, VERY_LONG))
+    if mean <= MEAN_WORDS and long <= MOST_LONG and very_long <= MOST_VERY_LONG:
+        return ""
+    return f"{mean:.1f} words a sentence, {100 * long:.0f} % over {LONG}, {100 * very_long:.1f} % over {VERY_LONG}"
+
+
+def faults():
+    """What is wrong with the documents for users, one a line."""
+    found = []
+    for name in documents():
+        if name in PENDING:
+            continue
+        found += [f"{name}:{number}: '{word}' is retired: {instead}" for number, word, instead in retired_in(plain(name))]
+        if name.endswith(".md") and (winded := long_winded(name)):
+            found.append(f"{name}: {winded}")
+    return found
+
+
+def comments_of(name):
+    """The docstrings and comments of a source file, as one text."""
+    text = (ROOT / name).read_text(encoding="utf-8", errors="replace")
+    if name.endswith(".py"):
+        try:
+            docs = [ast.get_docstring(node) or "" for node in ast.walk(ast.parse(text))
+                    if isinstance(node, (ast.Module, ast.ClassDef, ast.FunctionDef, ast.AsyncFunctionDef))]
+            marks = [token.string for token in tokenize.generate_tokens(io.StringIO(text).readline) if token.type == tokenize.COMMENT]
+        except (SyntaxError, tokenize.TokenError):
+            return ""
+        return "\n".join([*docs, *marks])
+    mark = COMMENT_OF[pathlib.Path(name).suffix]
+    return "\n".join(line for line in text.split("\n") if line.strip().startswith(mark))
+
+
+def counts_by_folder():
+    """How many retired words the docstrings and comments of each folder have."""
+    counts = Counter()
+    for name in tracked():
+        if name.endswith(".py") or pathlib.Path(name).suffix in COMMENT_OF:
+            counts[name.partition("/")[0]] += sum(1 for _ in retired_in(comments_of(name)))
+    return counts
+
+
+def pending_counts():
+    """How many retired words the pages have that are not written anew yet."""
+    return {name: sum(1 for _ in retired_in(plain(name))) for name in sorted(PENDING) if (ROOT / name).is_file()}
