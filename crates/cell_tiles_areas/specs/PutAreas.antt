@@ -1,5 +1,5 @@
 -- An areas text put on a sink.
-use Rattle.std.specs.Prelude.{ℕ, ◌≡◌, true, List, [], ◌++◌, length, Option, None, IfSome}
+use Rattle.std.specs.Prelude.{ℕ, ◌≡◌, true, List, [], ◌++◌, length, Option, None, IfSome, false}
 use Rattle.cell_core_devices.specs.Blocks.{capped_count}
 use Rattle.cell_core_devices.specs.Device.{Faults, after_flush, append_known, has_failed}
 use Rattle.cell_tiles_areas.specs.declared.areas_join_fault.AreasJoinFault.{AreasJoinFault}

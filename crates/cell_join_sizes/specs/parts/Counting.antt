@@ -1,5 +1,5 @@
 -- A table read beside the stretches of its band.
-use Rattle.std.specs.Prelude.{ℕ, pos, ◌≡◌, ◌≢◌, ◌++◌, ◌+◌, true, List, [], ◌∷◌, length, map, All, Option, Some, None, IfSome}
+use Rattle.std.specs.Prelude.{ℕ, pos, ◌≡◌, ◌≢◌, ◌++◌, ◌+◌, true, List, [], ◌∷◌, length, map, All, Option, Some, None, IfSome, false}
 use Rattle.std.specs.Option.{option_map}
 use Rattle.std.specs.List.{range_with_len}
 use Rattle.cell_stats_combinations.specs.Combinations.{Combination}
