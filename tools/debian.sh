@@ -8,7 +8,7 @@
 if [ "$1" = -f ]; then
     shift
     # shellcheck disable=SC2046
-    set -- $(sed 's/#.*//' "$@" | sort -u)
+    set -- $(sed 's/#.*//' "$@" | awk 'NF { print $1 }' | sort -u)
 fi
 missing=
 for package in "$@"; do
