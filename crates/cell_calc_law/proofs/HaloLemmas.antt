@@ -1,5 +1,5 @@
 -- What an expression reads from a part of maps is what it reads from the whole.
-use Rattle.std.proofs.Common.{◌≡◌, ℕ, zero, suc, ℤ, pos, negsuc, ◌+◌, ◌-◌, ◌<◌, ◌≤◌, ◌+ℤ◌, max, List, [], ◌∷◌, map, take, drop, length, get_or, Some, None, Bool, true, false, ◌||◌, cond, eqb, eq-eqb, refl, ap, sym, ◌∙◌, arith, inl, inr, ⊎_elim, ◌⊎◌}
+use Rattle.std.proofs.Common.{◌≡◌, ℕ, zero, suc, ℤ, pos, negsuc, ◌+◌, ◌-◌, ◌<◌, ◌≤◌, ◌+ℤ◌, max, List, [], ◌∷◌, take, drop, length, get_or, Some, None, Bool, true, false, ◌||◌, cond, eqb, eq-eqb, refl, ap, sym, ◌∙◌, arith, inl, inr, ⊎_elim, ◌⊎◌}
 use Rattle.std.specs.Prelude.{All, slice_get}
 use Rattle.std.proofs.Math.IntN.{sub_ℕ}
 use Rattle.std.proofs.Math.Nat.{le-max_left, le-max_right}

@@ -1,29 +1,101 @@
 -- Maps of values, by tiles with their halo.
-use Rattle.std.proofs.Common.{◌≡◌, ℕ, ◌+◌, ◌-◌, ◌<◌, ◌≤◌, min, ap, sym, ◌∙◌, arith}
-use Rattle.cell_calc_operators.specs.Applied.{spot}
-use Rattle.cell_calc_binding.specs.Value.{value}
-use Rattle.cell_calc_law.specs.ReachParts.{reach_of, spot_in}
-use Rattle.cell_calc_law.proofs.ReachLemmas.{its-reach-is-enough}
-use Rattle.cell_calc_law.specs.TileLaw.{haloed_rectangle, TilesMakeTheMap}
+use Rattle.std.proofs.Common.{◌≡◌, ℕ, pos, ◌+◌, ◌-◌, ◌<◌, ◌≤◌, min, List, ◌∷◌, Some, refl, ap, sym, ◌∙◌, arith}
+use Rattle.cell_core_values.specs.Region.{RegionValue}
+use Rattle.cell_core.specs.Grid.{Grid, CellValue, cell_at}
+use Rattle.cell_core.specs.Shelf.{ShelfValue}
+use Rattle.cell_calc_tokens.specs.declared.function.Function.{Function}
+use Rattle.cell_calc_tokens.specs.declared.function.Function.TheVariants.{Row, Column}
+use Rattle.cell_calc_operators.specs.Applied.{Spot, spot, negated_cell, inverted_cell, operator_value, call_result}
+use Rattle.cell_calc_operators.proofs.Fit.{fit_number}
+use Rattle.cell_calc_binding.specs.Formula.{Formula, Number, Map, Negated, Not, Binary, Call, Formulas, NoTrees, Then}
+use Rattle.cell_calc_binding.specs.Value.{value, argument_values}
+use Rattle.cell_calc_law.specs.HaloParts.{value_told, values_told}
+use Rattle.cell_parts.specs.Parts.{Rectangle}
+use Rattle.cell_calc_law.specs.ReachParts.{reach_of, spot_in, IsCellInside}
+use Rattle.cell_calc_law.proofs.ReachLemmas.{its-reach-is-enough, its-reach-is-enough-told}
+use Rattle.rcell_making.specs.Making.{AreValues}
+use Rattle.cell_calc_law.specs.TileLaw.{haloed_rectangle, IsHaloedTile, TilesMakeTheMap}
+use Rattle.cell_calc_law.specs.TileLaw.{placed, all_placed, placed_call, PlacedTilesMakeTheMap}
 
 inside : (total first n up down i rows : ℕ)
     → rows ≡ min total (first + n + down) - (first - up) → first + n ≤ total → first ≤ i → i < first + n
     → i - (first - up) < rows
 inside total first n up down i rows is fits from to = omega (arith, fits, from, to, is)
 
+module _ (f g : Formula) (whole tile : ShelfValue) (r : Rectangle) (is : IsHaloedTile f r whole tile) (x y : Grid)
+    (are_x : AreValues f whole x) (are_y : AreValues g tile y) (row col : ℕ)
+    (holds : IsCellInside whole.region r row col) where
+  abbrev h : Rectangle
+  h = haloed_rectangle f whole r
+
+  row-in : row < whole.region.rows
+  row-in = omega (arith, holds.high, holds.above)
+
+  col-in : col < whole.region.cols
+  col-in = omega (arith, holds.wide, holds.left)
+
+  -- where the expressions have one value, the maps have one cell
+  same-cell : value g tile.maps (spot_in h row col) ≡ value f whole.maps (spot whole.region row col)
+      → cell_at y (row - h.top) (col - h.left) ≡ cell_at x row col
+  same-cell same =
+      let reach = reach_of f in
+      let row_in = inside whole.region.rows r.top r.rows reach.up reach.down row tile.region.rows is.rows in
+      let col_in = inside whole.region.cols r.left r.cols reach.left reach.right col tile.region.cols is.cols in
+      let row_here = row_in holds.high holds.below holds.above in
+      let col_here = col_in holds.wide holds.right holds.left in
+      let here : spot tile.region (row - h.top) (col - h.left) ≡ spot_in h row col =
+      λ i. record { rows = is.rows i; cols = is.cols i; row = row - h.top; col = col - h.left } in
+      are_y.cells (row - h.top) (col - h.left) row_here col_here
+      ∙ ap (value g tile.maps) here ∙ same ∙ sym (are_x.cells row col row-in col-in)
+
 pub tiles-make-the-map : TilesMakeTheMap
 tiles-make-the-map f whole tile r is no_rows no_cols x y are_x are_y row col holds =
+    same-cell f f whole tile r is x y are_x are_y row col holds
+    (its-reach-is-enough f whole.maps tile.maps whole.region r is.filled is.cells no_rows no_cols row col holds)
+
+-- ---- an expression that is placed in a region is told of the cell there
+
+module _ (region : RegionValue) (r : Rectangle) (maps : List Grid) (row col : ℕ)
+    (below : r.top ≤ row) (right : r.left ≤ col) (rows : row < 2147483647) (cols : col < 2147483647) where
+  abbrev here : Spot
+  here = spot_in r row col
+
+  abbrev there : Spot
+  there = spot region row col
+
+  called : (f : Function) (xs : Formulas)
+      → value (placed_call region r f xs) maps here ≡ call_result f there (argument_values xs maps here)
+  called Row xs =
+      let on : row - r.top + 1 + r.top ≡ row + 1 = omega (arith, below) in
+      fit_number (row - r.top + 1 + r.top) (omega (arith, on, rows)) ∙ ap (λ n. Some (pos n)) on
+  called Column xs =
+      let on : col - r.left + 1 + r.left ≡ col + 1 = omega (arith, right) in
+      fit_number (col - r.left + 1 + r.left) (omega (arith, on, cols)) ∙ ap (λ n. Some (pos n)) on
+  called f xs = refl
+
+  mutual
+    placed-told : (f : Formula) → value (placed region r f) maps here ≡ value_told f maps here there
+    placed-told (Number n) = refl
+    placed-told (Map i down right) = refl
+    placed-told (Negated a) = ap negated_cell (placed-told a)
+    placed-told (Not a) = ap inverted_cell (placed-told a)
+    placed-told (Binary op a b) =
+        ap (λ x. operator_value op x (value (placed region r b) maps here)) (placed-told a)
+        ∙ ap (operator_value op (value_told a maps here there)) (placed-told b)
+    placed-told (Call f xs) = called f (all_placed region r xs) ∙ ap (call_result f there) (all-told xs)
+
+    all-told : (xs : Formulas) → argument_values (all_placed region r xs) maps here ≡ values_told xs maps here there
+    all-told NoTrees = refl
+    all-told (Then a xs) =
+        ap (λ (x : CellValue). x ∷ argument_values (all_placed region r xs) maps here) (placed-told a)
+        ∙ ap (λ (l : List CellValue). value_told a maps here there ∷ l) (all-told xs)
+
+pub placed-tiles-make-the-map : PlacedTilesMakeTheMap
+placed-tiles-make-the-map f whole tile r is few_rows few_cols x y are_x are_y row col holds =
     let h = haloed_rectangle f whole r in
-    let reach = reach_of f in
-    let row_in = inside whole.region.rows r.top r.rows reach.up reach.down row tile.region.rows is.rows in
-    let col_in = inside whole.region.cols r.left r.cols reach.left reach.right col tile.region.cols is.cols in
-    let here : spot tile.region (row - h.top) (col - h.left) ≡ spot_in h row col =
-    λ i. record { rows = is.rows i; cols = is.cols i; row = row - h.top; col = col - h.left } in
-    let row_lt : row < whole.region.rows = omega (arith, holds.high, holds.above) in
-    let col_lt : col < whole.region.cols = omega (arith, holds.wide, holds.left) in
-    let row_here = row_in holds.high holds.below holds.above in
-    let col_here = col_in holds.wide holds.right holds.left in
-    are_y.cells (row - h.top) (col - h.left) row_here col_here
-    ∙ ap (value f tile.maps) here
-    ∙ its-reach-is-enough f whole.maps tile.maps whole.region r is.filled is.cells no_rows no_cols row col holds
-    ∙ sym (are_x.cells row col row_lt col_lt)
+    let row_lt = row-in f (placed whole.region h f) whole tile r is x y are_x are_y row col holds in
+    let col_lt = col-in f (placed whole.region h f) whole tile r is x y are_x are_y row col holds in
+    same-cell f (placed whole.region h f) whole tile r is x y are_x are_y row col holds
+    (placed-told whole.region h tile.maps row col (omega (arith, holds.below)) (omega (arith, holds.right))
+    (omega (arith, row_lt, few_rows)) (omega (arith, col_lt, few_cols)) f
+    ∙ its-reach-is-enough-told f whole.maps tile.maps whole.region r is.filled is.cells row col holds)

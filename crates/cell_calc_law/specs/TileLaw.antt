@@ -1,8 +1,12 @@
 -- Values by tiles: the map made of a tile with its halo is, in the tile, the map made of the whole.
-use Rattle.std.specs.Prelude.{ℕ, ◌≡◌, ◌-◌, false, All}
+use Rattle.std.specs.Prelude.{ℕ, ◌≡◌, ◌≤◌, ◌-◌, false, All}
+use Rattle.cell_core_values.specs.Region.{RegionValue, most_cells}
 use Rattle.cell_core.specs.Grid.{Grid, IsFilled, cell_at}
 use Rattle.cell_core.specs.Shelf.{ShelfValue}
-use Rattle.cell_calc_binding.specs.Formula.{Formula}
+use Rattle.cell_calc_tokens.specs.declared.function.Function.{Function}
+use Rattle.cell_calc_tokens.specs.declared.function.Function.TheVariants.{Row, Column, RowCount, ColumnCount}
+use Rattle.cell_calc_tokens.specs.declared.operator.Operator.TheVariants.{Plus}
+use Rattle.cell_calc_binding.specs.Formula.{Formula, Number, Map, Negated, Not, Binary, Call, Formulas, NoTrees, Then}
 use Rattle.cell_calc_law.specs.HaloParts.{calls, asks_rows, asks_cols}
 use Rattle.cell_parts.specs.Parts.{Rectangle, AreCutOut}
 use Rattle.cell_calc_law.specs.ReachParts.{reach_of, with_halo, IsCellInside}
@@ -25,5 +29,39 @@ TilesMakeTheMap =
     (f : Formula) (whole tile : ShelfValue) (r : Rectangle) → IsHaloedTile f r whole tile
     → calls asks_rows f ≡ false → calls asks_cols f ≡ false
     → (x y : Grid) → AreValues f whole x → AreValues f tile y
+    → (row col : ℕ) → IsCellInside whole.region r row col
+    → cell_at y (row - (haloed_rectangle f whole r).top) (col - (haloed_rectangle f whole r).left) ≡ cell_at x row col
+
+-- a call as it is written for a part of a region: row() and col() count on from the part's first row and column, and
+-- nrows() and ncols() are the numbers of the region
+abbrev pub placed_call : RegionValue → Rectangle → Function → Formulas → Formula
+placed_call region r Row xs = Binary Plus (Call Row xs) (Number r.top)
+placed_call region r Column xs = Binary Plus (Call Column xs) (Number r.left)
+placed_call region r RowCount xs = Number region.rows
+placed_call region r ColumnCount xs = Number region.cols
+placed_call region r f xs = Call f xs
+
+abbrev mutual
+  -- an expression with each of its calls written so
+  pub placed : RegionValue → Rectangle → Formula → Formula
+  placed region r (Number n) = Number n
+  placed region r (Map i down right) = Map i down right
+  placed region r (Negated a) = Negated (placed region r a)
+  placed region r (Not a) = Not (placed region r a)
+  placed region r (Binary op a b) = Binary op (placed region r a) (placed region r b)
+  placed region r (Call f xs) = placed_call region r f (all_placed region r xs)
+
+  pub all_placed : RegionValue → Rectangle → Formulas → Formulas
+  all_placed region r NoTrees = NoTrees
+  all_placed region r (Then a xs) = Then (placed region r a) (all_placed region r xs)
+
+-- `x = f` over the whole, and over a tile with its halo `y = f` so written, as `row() + t` for `row()`, t the rows above the
+-- tile with its halo: y has the cells of x in the tile, whatever expression f is
+abbrev pub PlacedTilesMakeTheMap : Type 0
+PlacedTilesMakeTheMap =
+    (f : Formula) (whole tile : ShelfValue) (r : Rectangle) → IsHaloedTile f r whole tile
+    → whole.region.rows ≤ most_cells → whole.region.cols ≤ most_cells
+    → (x y : Grid) → AreValues f whole x
+    → AreValues (placed whole.region (haloed_rectangle f whole r) f) tile y
     → (row col : ℕ) → IsCellInside whole.region r row col
     → cell_at y (row - (haloed_rectangle f whole r).top) (col - (haloed_rectangle f whole r).left) ≡ cell_at x row col

@@ -4,7 +4,7 @@ ghost use Rattle.cell_calc_law.specs.HaloParts.{HaloIsEnough, ReachIsEnough, Tol
 ghost use Rattle.cell_calc_law.specs.LocalLaw.{CopyIsTheMap, CountsFollow, EitherWayIsTheSame, LocalGoesByCombinations, OneMapOfValues, OneValueACombination, TableHasItsValues};
 ghost use Rattle.cell_calc_law.specs.ReachParts.{ItsReachIsEnough, ItsReachIsEnoughTold, MapsAreWithinReach};
 ghost use Rattle.cell_calc_law.specs.ShiftLaw.{NullBeyondTheEdge, ShiftsAddUp, ShiftsOnlyLose};
-ghost use Rattle.cell_calc_law.specs.TileLaw.{TilesMakeTheMap};
+ghost use Rattle.cell_calc_law.specs.TileLaw.{PlacedTilesMakeTheMap, TilesMakeTheMap};
 
 /// At cells of one combination of the maps that it reads, a local expression has one value.
 pub fn one_value_a_combination()
@@ -96,4 +96,10 @@ pub fn its_reach_is_enough_told()
 /// column.
 pub fn tiles_make_the_map()
     ensures { TilesMakeTheMap }
+{}
+
+/// `x = f` over the whole, and over a tile with its halo `y = f` with `row() + t` for `row()`, t the rows above it, and so on for
+/// `col()`, `nrows()` and `ncols()`: in the tile, y has the cells of x, whatever expression f is.
+pub fn placed_tiles_make_the_map()
+    ensures { PlacedTilesMakeTheMap }
 {}
