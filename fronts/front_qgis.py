@@ -21,7 +21,7 @@ from cases import Case, cases  # noqa: E402  (the path above has to be set first
 from osgeo import gdal  # noqa: E402
 from qgis.core import NULL, QgsApplication, QgsProcessingException  # noqa: E402
 
-# QGIS has one kind of error; which of ours it was is told by the text, as docs/FRONTS.md lists it.
+# QGIS has one kind of error; which of ours it was is told by the text, as fronts/README.md lists it.
 KINDS = [
     ("other region", r"not of the region of "),
     ("read failed", r"cannot open|rows \d+ to \d+ cannot be read"),

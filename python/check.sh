@@ -1,6 +1,6 @@
 #!/bin/sh
 # Installs the wheel of dist/ into an empty environment, on a path without the kit, and runs there all tests, the types, the
-# notebook and docs/PYTHON.md. Packages of Debian that are missing are installed by name. The last line is 'N passed, M failed'.
+# notebook and docs/python.md. Packages of Debian that are missing are installed by name. The last line is 'N passed, M failed'.
 cd "$(dirname "$0")/.." || exit 1
 sh tools/debian.sh python3-pip python3-venv python3-numpy python3-pytest python3-pytest-cov python3-hypothesis python3-rasterio python3-gdal \
     gdal-bin python3-pandas python3-xarray python3-dask python3-distributed python3-scipy python3-psutil python3-matplotlib python3-tqdm \

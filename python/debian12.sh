@@ -24,7 +24,7 @@ rm -rf "$room"
 mkdir -p "$room/dist" "$room/docs" "$room/examples" "$room/tools"
 cp "$dist"/rcell-*.whl "$room/dist"
 cp -r python VERSION "$room"
-cp docs/PYTHON.md "$room/docs"
+cp docs/python.md "$room/docs"
 cp -r examples/rasters examples/study.ipynb "$room/examples"
 cp tools/debian.sh "$room/tools"
 # Its mounts are seen by nothing else, and end with it.

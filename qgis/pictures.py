@@ -1,4 +1,4 @@
-"""The pictures of docs/QGIS.md, drawn within the window of QGIS: the dialog of the table, a result with its legend, a model.
+"""The pictures of docs/qgis.md, drawn within the window of QGIS: the dialog of the table, a result with its legend, a model.
 
 QGIS runs this file (`--code`, see pictures.sh); RCELL_QGIS_ROOM names a folder that has the rasters and gets the pictures.
 """

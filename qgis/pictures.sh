@@ -1,5 +1,5 @@
 #!/bin/sh
-# Draws the pictures of docs/QGIS.md on a screen that is not there: pictures.sh FOLDER, over RCELL. Debian's qgis, xvfb, python3-pil.
+# Draws the pictures of docs/qgis.md on a screen that is not there: pictures.sh FOLDER, over RCELL. Debian's qgis, xvfb, python3-pil.
 set -eu
 folder=$(cd "$1" && pwd)
 cd "$(dirname "$0")/.."

@@ -7,7 +7,7 @@ dist=${1:-dist}
 copy_tracked r/rcell "$room/source/rcell"
 inst=$room/source/rcell/inst
 install -D -m 755 bin/rcell-static "$inst/bin/rcell"
-# The maps that docs/R.md works with, and that the tests hold against terra.
+# The maps that docs/r.md works with, and that the tests hold against terra.
 copy_tracked examples/rasters "$inst/extdata"
 python3 tools/linked.py --with-islands "$inst/licenses"
 install -m 644 LICENSE.md "$inst/COPYRIGHTS"

@@ -1,6 +1,6 @@
 #!/bin/sh
 # Checks the package for R that is in dist/: R CMD check with its tests and examples, then an installation of it alone, on which each
-# block of docs/R.md is run. The last line is 'N passed, M failed, K skipped'.
+# block of docs/r.md is run. The last line is 'N passed, M failed, K skipped'.
 cd "$(dirname "$0")/.." || exit 1
 package=$PWD/dist/rcell_$(cat VERSION).tar.gz
 room=$(mktemp -d) || exit 1
@@ -28,5 +28,5 @@ add 'tests within R CMD check' counted
 mkdir "$room/library"
 check 'the package is installed' R CMD INSTALL --library="$room/library" "$package"
 check 'the program is in the package' test -x "$room/library/rcell/bin/rcell"
-add 'blocks of docs/R.md' env R_LIBS="$room/library" Rscript r/check_docs.R docs/R.md
+add 'blocks of docs/r.md' env R_LIBS="$room/library" Rscript r/check_docs.R docs/r.md
 closing

@@ -1,5 +1,5 @@
 # make r-package builds dist/rcell_VERSION.tar.gz, the package for R with the static program in it
-# make r         the same, and runs R CMD check, its tests and docs/R.md
+# make r         the same, and runs R CMD check, its tests and docs/r.md
 # make r-speed   times the package for R beside terra, and beside other ways of writing and reading cells; SHORT=--short is small
 
 .PHONY: r r-package r-speed

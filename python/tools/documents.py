@@ -1,5 +1,5 @@
 #!/usr/bin/python3
-"""Runs the examples of docs/PYTHON.md, and compares what they show with what they print.
+"""Runs the examples of docs/python.md, and compares what they show with what they print.
 
     documents.py [--write] [DOCUMENT..]
 
@@ -31,7 +31,7 @@ import warnings
 from typing import Any
 
 ROOT = pathlib.Path(__file__).resolve().parent.parent.parent
-DOCUMENTS = [str(ROOT / "docs" / "PYTHON.md")]
+DOCUMENTS = [str(ROOT / "docs" / "python.md")]
 FENCE = re.compile(r"```(\S*)(?: file=(\S+))?\n(.*?)^```$", re.MULTILINE | re.DOTALL)
 SHOWN = {"text", "python", "sh"}
 SECONDS = 120

@@ -1,4 +1,4 @@
-"""The commands of docs/QGIS.md, in a profile of its own that has the zip: what the page shows is what comes out. RCELL_QGIS_ZIP names the zip."""
+"""The commands of docs/qgis.md, in a profile of its own that has the zip: what the page shows is what comes out. RCELL_QGIS_ZIP names the zip."""
 
 from __future__ import annotations
 
@@ -16,7 +16,7 @@ REPOSITORY = pathlib.Path(__file__).resolve().parent.parent.parent
 
 def sessions() -> list[tuple[str, str]]:
     """The commands of all blocks `console`, each with what is shown below it."""
-    text = (REPOSITORY / "docs/QGIS.md").read_text(encoding="utf-8")
+    text = (REPOSITORY / "docs/qgis.md").read_text(encoding="utf-8")
     found = []
     for block in re.findall(r"(?ms)^```console\n(.*?)^```", text):
         for part in re.split(r"(?m)^\$ ", block)[1:]:
@@ -46,7 +46,7 @@ class DocumentTest(unittest.TestCase):
                     environment[name] = value
 
     def test_pictures_are_there(self) -> None:
-        text = (REPOSITORY / "docs/QGIS.md").read_text(encoding="utf-8")
+        text = (REPOSITORY / "docs/qgis.md").read_text(encoding="utf-8")
         for name in re.findall(r"!\[[^]]*\]\(([^)]*)\)", text):
             self.assertLess((REPOSITORY / "docs" / name).stat().st_size, 150_000)
 
