@@ -6,10 +6,17 @@ from __future__ import annotations
 import re
 from typing import Any, Sequence
 
-from qgis.core import QgsColorRampShader, QgsPalettedRasterRenderer, QgsRasterLayer, QgsRasterRange, QgsSingleBandPseudoColorRenderer
+from qgis.core import (
+    QgsColorRampShader,
+    QgsCoordinateReferenceSystem,
+    QgsPalettedRasterRenderer,
+    QgsRasterLayer,
+    QgsRasterRange,
+    QgsSingleBandPseudoColorRenderer,
+)
 from qgis.PyQt.QtGui import QColor
 
-from .core.errors import BadMap
+from .core.errors import BadMap, Refused
 from .core.rasters import Raster
 from .core.script import NAME
 
@@ -31,7 +38,12 @@ def raster_of(layer: QgsRasterLayer, name: str, band: int | None = None) -> Rast
         raise BadMap(name, f"{told}: export it as a GeoTIFF first")
     shown = band or 1
     return Raster.open(name, layer.source(), band, labels_of(layer, shown), null_ranges_of(layer, shown),
-                       _uses_nodata(layer.dataProvider(), shown))
+                       _uses_nodata(layer.dataProvider(), shown), wkt_of(layer.crs()))
+
+
+def wkt_of(crs: QgsCoordinateReferenceSystem) -> str:
+    """The well-known text of a reference system of QGIS; empty if there is none."""
+    return str(crs.toWkt(QgsCoordinateReferenceSystem.WKT2_2019)) if crs.isValid() else ""
 
 
 def labels_of(layer: QgsRasterLayer, band: int) -> dict[int, str]:
@@ -96,19 +108,20 @@ def names_of(layers: Sequence[QgsRasterLayer], given: str) -> list[str]:
 
     Raises
     ------
-    BadMap
+    Refused
         Where there are not as many, one is no name, or one occurs twice.
     """
     if not given.strip():
         return _made_names([layer.name() for layer in layers])
     names = [name.strip() for name in given.split(",")]
     if len(names) != len(layers):
-        raise BadMap("arguments", f"{len(names)} names are given, and {len(layers)} rasters")
+        raise Refused(f"{len(names)} names are given, and {len(layers)} rasters", status=2)
     for at, name in enumerate(names):
         if not NAME.fullmatch(name):
-            raise BadMap("arguments", f"`{name}` is no name: a letter or _, then letters, digits, _ and . (64 at most)")
+            better = _made_names([name])[0]
+            raise Refused(f"'{name}' is no name of a map: 1 to 64 letters, digits, _ and ., a letter or _ first; write {better}", status=2)
         if name in names[:at]:
-            raise BadMap("arguments", f"the name `{name}` is given twice")
+            raise Refused(f"the name `{name}` is given twice", status=2)
     return names
 
 

@@ -52,6 +52,8 @@ def put_raster(path: str, grid: Grid, like: Raster, check: Check) -> None:
 def put_legend(path: str, classes: Sequence[tuple[int, str]], colours: Mapping[int, Any], context: QgsProcessingContext) -> bool:
     """Gives a raster a legend: the file .qml beside it, and the layer that QGIS loads of it. False where it has too many classes."""
     style = os.path.splitext(path)[0] + ".qml"
+    if not os.path.isfile(path):
+        return True
     if not 0 < len(classes) <= MOST_CLASSES:
         with contextlib.suppress(OSError):
             os.unlink(style)

@@ -1,4 +1,4 @@
-"""Runs some files of tests, by their patterns, without pytest; the last line is 'N passed, M failed'."""
+"""Runs some files of tests, by their patterns, without pytest; the last line is 'N passed, M failed, K skipped'."""
 
 from __future__ import annotations
 
@@ -15,9 +15,10 @@ def main() -> int:
     suite = unittest.TestLoader().loadTestsFromNames(names)
     result = unittest.TextTestRunner(stream=sys.stdout, verbosity=int("-v" in sys.argv) * 2).run(suite)
     for test, why in result.skipped:
-        print(f"left out: {test}: {why}")
+        print(f"skipped  qgis: {test}: {why}")
     failed = len(result.failures) + len(result.errors) + len(result.unexpectedSuccesses)
-    print(f"{max(result.testsRun - failed - len(result.skipped), 0)} passed, {failed} failed", flush=True)
+    passed = max(result.testsRun - failed - len(result.skipped), 0)
+    print(f"{passed} passed, {failed} failed, {len(result.skipped)} skipped", flush=True)
     return 1 if failed else 0
 
 

@@ -77,7 +77,7 @@ class AnswersTest(unittest.TestCase):
     def test_majority(self) -> None:
         for cells in (made.noise(11, 23, 19, 4, 0.3), made.patchy(12, 20, 20)):
             for size in (3, 5, 7):
-                found = answers.mode(self.program, self.raster("lc", cells), size).cells
+                found = answers.mode(self.program, self.raster("lc", cells), size, is_filled=True).cells
                 self.assertTrue((np.where(found == NULL, 0, found) == made.commonest(cells, size)).all())
 
     def test_reclass(self) -> None:

@@ -3,6 +3,7 @@
 from __future__ import annotations
 
 import os
+import pathlib
 import stat
 import tempfile
 import threading
@@ -15,6 +16,7 @@ import session
 from osgeo import gdal
 from qgis.core import (
     QgsApplication,
+    QgsCoordinateReferenceSystem,
     QgsPalettedRasterRenderer,
     QgsProcessingContext,
     QgsProcessingException,
@@ -142,10 +144,32 @@ class RefusalsTest(InSession):
                      OUTPUT=self.path("a.tif"), SIZES="TEMPORARY_OUTPUT")
         common = {"INPUT": [self.cover], "SCRIPT": "r.stats -c input=lc\nr.stats input=lc"}
         self.refused("2 names are given, and 1 rasters", "script", **common, NAMES="a,b")
-        self.refused("`1a` is no name", "script", **common, NAMES="1a")
-        self.refused("one table is asked for, and the script has r.stats in line 1, r.stats in line 2", "script", **common, TABLE="TEMPORARY_OUTPUT")
+        self.refused("'1a' is no name of a map", "script", **common, NAMES="1a")
+        self.refused("one table is asked for, and the script has r.stats in line 1, r.stats in line 2", "script", **common, NAMES="lc", TABLE="TEMPORARY_OUTPUT")
         self.refused("the script makes none: name the map", "script", **common, NAMES="lc", OUTPUT=self.path("x.tif"))
         self.refused("the map x is wanted, and no place for it is given", "script", **common, NAMES="lc", MAP="x")
+
+    def test_reference_systems(self) -> None:
+        gauss = made.write(self.path("gauss.tif"), COVER, epsg=31467)
+        bare = made.write(self.path("bare.tif"), COVER, epsg=0)
+        self.refused("gauss: its coordinate reference system is EPSG:31467", "table", INPUT=[self.cover, gauss], OUTPUT=self.path("t.gpkg"))
+        self.refused("bare: it has no coordinate reference system, and `cover` has EPSG:32632", "table", INPUT=[bare, self.cover],
+                     OUTPUT=self.path("t.gpkg"))
+        common = {"NAMES": "a,b", "SCRIPT": "r.stats -c input=a,b", "TABLE": self.path("t.gpkg")}
+        self.refused("b: its coordinate reference system is EPSG:31467", "script", INPUT=[self.cover, gauss], **common)
+        self.refused("b: its coordinate reference system is EPSG:32632", "script", INPUT=[bare, self.cover], CRS="EPSG:31467", **common)
+        self.refused("CRS is no coordinate reference system: 'nonsense'", "table", INPUT=[bare], CRS="nonsense", OUTPUT=self.path("t.gpkg"))
+        self.run_("table", INPUT=[bare, self.cover], CRS="EPSG:32632", OUTPUT=self.path("t.gpkg"))
+        self.run_("script", INPUT=[bare, self.cover], CRS="EPSG:32632", **common)
+        layer = QgsRasterLayer(bare, "bare")
+        layer.setCrs(QgsCoordinateReferenceSystem("EPSG:32632"))
+        self.run_("table", INPUT=[layer, self.cover], OUTPUT=self.path("t.gpkg"))
+
+    def test_quotes_are_reported_by_the_program(self) -> None:
+        for wanted in ({"OUTPUT": self.path("x.tif")}, {"OUTPUT": self.path("x.tif"), "MAP": "x"}, {"TABLE": "TEMPORARY_OUTPUT"}):
+            message = self.refused("script, line 1: bad byte at column 11", "script", INPUT=[self.cover], NAMES="lc",
+                                   SCRIPT='r.mapcalc "x = lc * 2"', **wanted)
+            self.assertTrue(message.endswith('\n  r.mapcalc "x = lc * 2"\n            ^'), message)
 
     def test_a_line_of_a_script_is_shown_with_a_mark(self) -> None:
         message = self.refused("script, line 2", "script", INPUT=[self.cover], NAMES="lc", SCRIPT="# a note\nr.mapcalc x = lc + 1.5")
@@ -203,7 +227,10 @@ class MapsTest(InSession):
         result = QgsRasterLayer(found["OUTPUT"], "map")
         entries = result.renderer().classes()
         self.assertEqual([(entry.label, entry.color.red()) for entry in entries], [("wet wood", 10), ("meadow", 20), ("town", 30)])
-        self.assertTrue((np.array(gdal.Open(found["OUTPUT"]).ReadAsArray()) == made.commonest(COVER, 3)).all())
+        commonest = made.commonest(COVER, 3)
+        self.assertEqual(gdal.Open(found["OUTPUT"]).ReadAsArray().tolist(), np.where(COVER == 0, -(2**31), commonest).tolist())
+        filled = self.run_("mode", INPUT=layer, SIZE=0, FILL=True, OUTPUT=self.path("f.tif"))
+        self.assertEqual(gdal.Open(filled["OUTPUT"]).ReadAsArray().tolist(), commonest.tolist())
 
     def test_the_legend_of_a_result_that_is_loaded(self) -> None:
         from processing.gui.AlgorithmExecutor import execute
@@ -230,10 +257,15 @@ class MapsTest(InSession):
         self.assertEqual(gdal.Open(found["OUTPUT"]).ReadAsArray()[0].tolist(), [10**9, 10**9, 2 * 10**9, -(2**31), -(2**31)])
         self.assertTrue(any("r.stats in line 4:\nzone\n   7" in line for line in self.log.told), self.log.told)
 
-    def test_a_raster_may_be_written_over_itself(self) -> None:
-        self.run_("mode", INPUT=self.zones, SIZE=0, OUTPUT=self.zones)
-        found = gdal.Open(self.zones).ReadAsArray()
-        self.assertTrue((np.where(found == -(2**31), 0, found) == made.commonest(ZONES, 3)).all())
+    def test_an_input_is_never_the_output(self) -> None:
+        before = pathlib.Path(self.zones).read_bytes()
+        with self.assertRaisesRegex(QgsProcessingException, "the output file is the input file"):
+            self.run_("mode", INPUT=self.zones, SIZE=0, OUTPUT=self.zones)
+        os.mkdir(self.path("all"))
+        inside = made.write(self.path("all/big.tif"), COVER)
+        with self.assertRaisesRegex(QgsProcessingException, "the output file is the input file"):
+            self.run_("script", INPUT=[inside], NAMES="big", SCRIPT="r.out.ascii input=big", FOLDER=self.path("all"))
+        self.assertEqual(pathlib.Path(self.zones).read_bytes(), before)
 
     def test_other_tables_are_left_to_qgis(self) -> None:
         for target in (self.path("t.ods"), f"ogr:dbname='{self.path('db.gpkg')}' table=\"t\""):

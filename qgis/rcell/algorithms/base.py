@@ -17,6 +17,8 @@ from qgis.core import (
     QgsProcessingFeedback,
     QgsProcessingOutputLayerDefinition,
     QgsProcessingParameterBand,
+    QgsProcessingParameterCrs,
+    QgsProcessingParameterDefinition,
     QgsProcessingParameterRasterLayer,
     QgsProcessingParameters,
     QgsRasterLayer,
@@ -29,7 +31,7 @@ from ..core.errors import RcellError, ReadFailed, Refused
 from ..core.files import check_target, is_file_of_table, write_table
 from ..core.program import Watch, find_program
 from ..core.rasters import Raster, opened
-from ..layers import colours_of, raster_of
+from ..layers import colours_of, raster_of, wkt_of
 from ..results import MOST_CLASSES, fields_of, put_features, put_legend, put_raster
 
 UNITS = ("", "m2", "ha", "km2")
@@ -153,6 +155,27 @@ class RcellAlgorithm(QgsProcessingAlgorithm):
         title = "Band (needed where the raster has several)"
         self.addParameter(QgsProcessingParameterBand("BAND", title, parentLayerParameterName="INPUT", optional=True))
 
+    def add_crs(self) -> None:
+        """The parameter of an algorithm over several rasters."""
+        title = "Coordinate reference system of rasters that have none"
+        parameter = QgsProcessingParameterCrs("CRS", title, optional=True)
+        parameter.setFlags(parameter.flags() | QgsProcessingParameterDefinition.FlagAdvanced)
+        self.addParameter(parameter)
+
+    def crs(self, parameters: Parameters, context: QgsProcessingContext) -> str:
+        """The reference system that is chosen for rasters that have none, as well-known text; empty if none is.
+
+        Raises
+        ------
+        Refused
+            The choice is no reference system.
+        """
+        given = parameters.get("CRS")
+        wkt = wkt_of(self.parameterAsCrs(parameters, "CRS", context))
+        if given and not wkt and isinstance(given, str):
+            raise Refused(f"CRS is no coordinate reference system: '{given}'", status=2)
+        return wkt
+
     def has_rasters(self, parameters: Parameters) -> bool:
         """Whether anything is given, so that it can be looked at."""
         return parameters.get("INPUT") is not None
@@ -173,7 +196,7 @@ class RcellAlgorithm(QgsProcessingAlgorithm):
         for definition in self.destinationParameterDefinitions():
             path = plain_path(parameters.get(definition.name()))
             if path and definition.type() != "folderDestination":
-                check_target(path)
+                check_target(path, [raster.path for raster in self.rasters])
 
     def put_map(self, parameters: Parameters, context: QgsProcessingContext, grid: Grid, classes: Sequence[tuple[int, str]],
                 feedback: QgsProcessingFeedback) -> str:

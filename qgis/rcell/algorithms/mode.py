@@ -5,7 +5,13 @@ from __future__ import annotations
 
 from typing import Any
 
-from qgis.core import QgsProcessingContext, QgsProcessingFeedback, QgsProcessingParameterEnum, QgsProcessingParameterRasterDestination
+from qgis.core import (
+    QgsProcessingContext,
+    QgsProcessingFeedback,
+    QgsProcessingParameterBoolean,
+    QgsProcessingParameterEnum,
+    QgsProcessingParameterRasterDestination,
+)
 
 from ..core import answers
 from ..core.program import Watch
@@ -22,8 +28,9 @@ class ModeAlgorithm(RcellAlgorithm):
     SHORT = "Gives each cell the commonest class of the square around it: single cells and ragged edges go out of a classification."
     TAGS = ("majority filter", "mode", "smooth", "focal", "r.neighbors", "modal", "neighbourhood", "sieve")
     HELP = (
-        "<p>Cells without data, and what is off the map, do not count; a cell has no data only where the whole square has none. Where "
-        "several classes are the commonest, the least of them is taken.</p>"
+        "<p>Cells without data, and cells outside the map, do not count. If several classes are the commonest, the smallest of them is "
+        "taken. A cell without data stays without data, so that the outline of the map is kept; fill such cells if their neighbours "
+        "should decide.</p>"
         "<p>The result has the labels and the colours of the raster.</p>"
     )
 
@@ -31,12 +38,14 @@ class ModeAlgorithm(RcellAlgorithm):
         """Declares the parameters."""
         self.add_raster()
         self.addParameter(QgsProcessingParameterEnum("SIZE", "Square", [f"{size} x {size} cells" for size in SIZES], defaultValue=0))
+        self.addParameter(QgsProcessingParameterBoolean("FILL", "Fill cells without data from their neighbours", False))
         self.addParameter(QgsProcessingParameterRasterDestination("OUTPUT", "Map of the commonest classes"))
 
     def answer(self, program: str, parameters: Parameters, context: QgsProcessingContext, feedback: QgsProcessingFeedback,
                watch: Watch) -> dict[str, Any]:
         """The map of the commonest classes."""
         size = SIZES[self.parameterAsEnum(parameters, "SIZE", context)]
-        made = answers.mode(program, self.rasters[0], size, watch)
+        is_filled = self.parameterAsBoolean(parameters, "FILL", context)
+        made = answers.mode(program, self.rasters[0], size, is_filled, watch)
         classes = [(category, made.labels.get(category, str(category))) for category in made.counts()]
         return {"OUTPUT": self.put_map(parameters, context, made, classes, feedback)}

@@ -22,13 +22,13 @@ from qgis.core import (
 from ..core import answers
 from ..core.answers import Answers, Table
 from ..core.errors import RcellError, Refused, WriteFailed
-from ..core.files import write_raster, write_table
-from ..core.program import Watch
-from ..core.rasters import Raster, check_regions
+from ..core.files import check_target, write_raster, write_table
+from ..core.program import Watch, find_program, judge
+from ..core.rasters import Raster, fitted
 from ..core.script import statements_of
 from ..layers import names_of, raster_of
 from ..results import counted_classes, put_legend
-from .base import UNIT_NAMES, UNITS, Parameters, RcellAlgorithm
+from .base import UNIT_NAMES, UNITS, Parameters, RcellAlgorithm, program_setting
 from .table import raster_layers
 
 # Rows of a table that the log shows.
@@ -67,23 +67,19 @@ class ScriptAlgorithm(RcellAlgorithm):
             QgsProcessingParameterFeatureSink("TABLE", "Table", QgsProcessing.TypeVector, optional=True, createByDefault=False))
         self.addParameter(
             QgsProcessingParameterFolderDestination("FOLDER", "Folder for all outputs", optional=True, createByDefault=False))
+        self.add_crs()
 
     def checkParameterValues(self, parameters: Parameters, context: QgsProcessingContext) -> tuple[bool, str]:
         """Looks at what is wanted as well."""
         try:
-            self._wanted(parameters, context)
-            self._check_table(parameters, context)
+            self._check_wanted(parameters, context)
         except RcellError as error:
             return False, str(error)
         return super().checkParameterValues(parameters, context)
 
     def checked_rasters(self, parameters: Parameters, context: QgsProcessingContext) -> list[Raster]:
         """The rasters under the names of the script."""
-        given = self.parameterAsString(parameters, "NAMES", context)
-        layers = raster_layers(self, parameters, context, [name.strip() for name in given.split(",")])
-        rasters = [raster_of(layer, name) for name, layer in zip(names_of(layers, given), layers)]
-        check_regions(rasters)
-        return rasters
+        return fitted([raster_of(layer, name) for name, layer in self._named_layers(parameters, context)], self.crs(parameters, context))
 
     def answer(self, program: str, parameters: Parameters, context: QgsProcessingContext, feedback: QgsProcessingFeedback,
                watch: Watch) -> dict[str, Any]:
@@ -103,6 +99,22 @@ class ScriptAlgorithm(RcellAlgorithm):
         for table in found.tables:
             feedback.pushInfo(_shown(table))
         return results
+
+    def _named_layers(self, parameters: Parameters, context: QgsProcessingContext) -> list[tuple[str, Any]]:
+        given = self.parameterAsString(parameters, "NAMES", context)
+        layers = raster_layers(self, parameters, context, [name.strip() for name in given.split(",")])
+        return list(zip(names_of(layers, given), layers))
+
+    def _check_wanted(self, parameters: Parameters, context: QgsProcessingContext) -> None:
+        """Looks for what is wanted; if it is not there, the script may be misspelled, and the program judges it first."""
+        try:
+            self._wanted(parameters, context)
+            self._check_table(parameters, context)
+        except Refused:
+            if self.has_rasters(parameters):
+                names = [name for name, _ in self._named_layers(parameters, context)]
+                judge(find_program(program_setting()), self._script(parameters, context), names)
+            raise
 
     def _script(self, parameters: Parameters, context: QgsProcessingContext) -> str:
         script: str = self.parameterAsString(parameters, "SCRIPT", context)
@@ -150,6 +162,7 @@ class ScriptAlgorithm(RcellAlgorithm):
                 write_table(os.path.join(folder, f"table_{output.line}.csv"), output, self.watch.check)
             else:
                 path = os.path.join(folder, f"{output.name}.tif")
+                check_target(path, [raster.path for raster in self.rasters])
                 write_raster(path, "GTiff", output.cells, output.null, self.rasters[0], output.labels, self.watch.check)
                 put_legend(path, counted_classes(output, self.rasters[0]), {}, context)
         return folder

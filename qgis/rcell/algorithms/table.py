@@ -19,7 +19,7 @@ from qgis.core import (
 from ..core import answers
 from ..core.errors import RcellError, Refused
 from ..core.program import Watch
-from ..core.rasters import Raster, check_regions
+from ..core.rasters import Raster, fitted
 from ..layers import raster_of
 from .base import UNIT_NAMES, UNITS, Parameters, RcellAlgorithm, raise_unreadable
 
@@ -39,9 +39,9 @@ class TableAlgorithm(RcellAlgorithm):
         "district, or land cover of one year by that of another.</p>"
         "<p>The table has a column for each raster, called as its layer, one of its labels where the layer's style or the file has "
         "labels, <code>cells</code>, then areas and percentages of all cells of the table where they are asked for.</p>"
-        "<p>The rasters must fit each other to the cell: one that is shifted, or has another resolution, is refused, and nothing is "
-        "resampled. <i>Warp (reproject)</i> with the extent and the resolution of the first makes one that fits. Rasters have whole "
-        "numbers; floats are taken where they are whole.</p>"
+        "<p>The rasters must have one coordinate reference system and fit each other to the cell: nothing is reprojected or resampled. "
+        "<i>Warp (reproject)</i> with the extent and the resolution of the first makes one that fits. Rasters have whole numbers; "
+        "floats are taken if they are whole.</p>"
     )
 
     def initAlgorithm(self, configuration: Any = None) -> None:
@@ -51,13 +51,13 @@ class TableAlgorithm(RcellAlgorithm):
         self.addParameter(QgsProcessingParameterBoolean("PERCENT", "Percentages", False))
         self.addParameter(QgsProcessingParameterBoolean("NULLS", "Rows of cells without data", False))
         self.addParameter(QgsProcessingParameterFeatureSink("OUTPUT", "Table", QgsProcessing.TypeVector))
+        self.add_crs()
         self.addOutput(QgsProcessingOutputNumber("ROWS", "Rows of the table"))
 
     def checked_rasters(self, parameters: Parameters, context: QgsProcessingContext) -> list[Raster]:
         """The rasters, which fit each other."""
         layers = raster_layers(self, parameters, context, [])
-        rasters = [raster_of(layer, layer.name()) for layer in layers]
-        check_regions(rasters)
+        rasters = fitted([raster_of(layer, layer.name()) for layer in layers], self.crs(parameters, context))
         if UNITS[self.parameterAsEnum(parameters, "UNIT", context)]:
             answers.check_area(rasters[0])
         return rasters

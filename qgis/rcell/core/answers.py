@@ -11,8 +11,8 @@ from numpy.typing import NDArray
 
 from .cells import NULL
 from .errors import Refused
-from .program import Output, Watch, execute
-from .rasters import Raster, check_regions
+from .program import Output, Watch, execute, judge
+from .rasters import Raster, fitted
 from .script import labels_in, labels_of_rules, statements_of
 
 UNITS = {"m2": 1.0, "ha": 1e4, "km2": 1e6}
@@ -74,7 +74,7 @@ class Table:
         if self.cells is not None:
             found.append(Column("cells", "whole", self.cells.tolist()))
             if self.unit:
-                found.append(Column(self.unit, "real", (self.cells * (self.cell_area / UNITS[self.unit])).tolist()))
+                found.append(Column(self.unit, "real", (self.cells * self.cell_area / UNITS[self.unit]).tolist()))
             if self.has_percent:
                 found.append(Column("percent", "real", (self.cells * 100.0 / max(int(self.cells.sum()), 1)).tolist()))
         titles = unique([column.title for column in found])
@@ -183,10 +183,11 @@ def run(program: str, script: str, maps: Mapping[str, Raster], wanted: Sequence[
     """
     if not maps:
         raise Refused("no map is given", status=2)
-    check_regions(list(maps.values()))
+    fitted(list(maps.values()))
     known = [*maps, *(statement.output for statement in statements_of(script) if statement.output is not None)]
     for name in wanted:
         if name not in known:
+            judge(program, script, list(maps))
             raise Refused(f"no map {name}: there are {', '.join(known)}", status=2)
     labels: dict[str, Mapping[int, str]] = {**labels_in(script)}
     labels.update({name: raster.labels for name, raster in maps.items()})
@@ -244,11 +245,16 @@ def reclass(program: str, raster: Raster, rules: str, watch: Watch | None = None
     return replace(made, labels=labels_of_rules(lines))
 
 
-def mode(program: str, raster: Raster, size: int, watch: Watch | None = None) -> Grid:
-    """The commonest category of the square around each cell: nulls and what is off the map left out, the least where several are."""
+def mode(program: str, raster: Raster, size: int, is_filled: bool = False, watch: Watch | None = None) -> Grid:
+    """The commonest category of the square around each cell: nulls and what is off the map left out, the least where several are.
+
+    A cell that is null stays null, unless `is_filled`.
+    """
     reach = size // 2
     around = (f"map[{row},{col}]" for row in range(-reach, reach + 1) for col in range(-reach, reach + 1))
-    made = grid(program, f"r.mapcalc commonest = nmode({','.join(around)})", "commonest", raster, watch)
+    commonest = f"nmode({','.join(around)})"
+    script = f"r.mapcalc commonest = {commonest if is_filled else f'if(isnull(map), null(), {commonest})'}"
+    made = grid(program, script, "commonest", raster, watch)
     return replace(made, labels=raster.labels)
 
 

@@ -8,6 +8,7 @@ the header line `null:` declares.
 
 from __future__ import annotations
 
+import math
 from typing import Any, Iterator, Sequence
 
 import numpy as np
@@ -71,9 +72,20 @@ def within(cells: Cells, ranges: NullRanges) -> Mask | None:
     """Where cells are in one of some ranges, which may be single values; None where there are no ranges."""
     found: Mask | None = None
     for least, greatest in ranges:
+        if cells.dtype.kind in "iu" and cells.dtype.itemsize == 8:
+            least, greatest = _whole_bounds(least, greatest, cells.dtype)
         here = cells == least if least == greatest else (cells >= least) & (cells <= greatest)
         found = here if found is None else found | here
     return found
+
+
+def _whole_bounds(least: float, greatest: float, dtype: np.dtype[Any]) -> tuple[int, int]:
+    """A range in whole numbers of a type of 64 bits, which floats could not be compared with exactly."""
+    limits = np.iinfo(dtype)
+    low = math.ceil(least) if least > limits.min else int(limits.min)
+    high = math.floor(greatest) if greatest < limits.max else int(limits.max)
+    # A range without numbers of the type is spelled by two that are.
+    return (low, high) if limits.min <= low <= high <= limits.max else (1, 0)
 
 
 def range_of(cells: Cells, null: Mask | None = None) -> tuple[int, int]:

@@ -29,23 +29,27 @@ class Refused(RcellError):
         The exit status of the program.
     content : str or None
         The line of the script itself.
+    word : str
+        The word of the line that is wrong, if the program names no place; else empty.
     column : int or None
         The place in the line, in bytes from 1.
     """
 
-    def __init__(self, text: str, source: str = "arguments", line: int = 0, status: int = 1, content: str | None = None) -> None:
-        super().__init__(text, source, line, status, content)
+    def __init__(self, text: str, source: str = "arguments", line: int = 0, status: int = 1, content: str | None = None,
+                 word: str = "", column: int | None = None) -> None:
+        super().__init__(text, source, line, status, content, word, column)
         self.text = text
         self.source = source
         self.line = line
         self.status = status
         self.content = content
         found = _COLUMN.search(text)
-        self.column = int(found[1]) if found else None
+        self.word = word
+        self.column = int(found[1]) if found else column
 
     def __str__(self) -> str:
         place = f"{self.source}, line {self.line}" if self.line else self.source
-        message = f"{place}: {self.text}"
+        message = f"{place}: {self.text}" + (f": {self.word}" if self.word else "")
         if self.content is None:
             return message
         message += f"\n  {self.content}"
@@ -71,6 +75,10 @@ class BadMap(Refused, ValueError):
         self.col = col
         self.value = value
         self.column = None
+
+
+class OtherCrs(BadMap):
+    """A map of another coordinate reference system than the first, or of none next to maps that have one."""
 
 
 class OtherRegion(BadMap):

@@ -6,15 +6,18 @@ from __future__ import annotations
 import contextlib
 import csv
 import os
+import signal
 import sqlite3
-from typing import Any, Callable, Iterable, Iterator, Mapping
+import threading
+from typing import Any, Callable, Iterable, Iterator, Mapping, Sequence
 
 import numpy as np
 from numpy.typing import NDArray
 from osgeo import gdal, ogr
 
 from .answers import Column, Table
-from .errors import RcellError, WriteFailed
+from .errors import RcellError, Refused, WriteFailed
+from .front.files import Output, is_same_file
 from .labels import put_labels
 from .rasters import BLOCK_CELLS, Raster, quiet
 
@@ -24,6 +27,7 @@ _COPIED_BYTES = 1 << 22
 _CHECKED_ROWS = 1 << 14
 # What GDAL leaves beside a raster.
 _BESIDE = ".aux.xml"
+_ENDING = (signal.SIGHUP, signal.SIGQUIT, signal.SIGTERM)
 
 
 Check = Callable[[], None]
@@ -33,17 +37,24 @@ def _no_check() -> None:
     pass
 
 
-def check_target(path: str) -> None:
+def check_target(path: str, inputs: Sequence[str] = ()) -> None:
     """That a file can be made there, before any work is done.
 
     Raises
     ------
     WriteFailed
-        Where the folder is missing or may not be written to, or something else than a file stands there.
+        The folder is missing or may not be written to, or the path is a folder.
+    Refused
+        The file is one of the inputs.
     """
-    folder = os.path.dirname(os.path.abspath(path))
-    if os.path.lexists(path) and not os.path.isfile(path):
-        raise WriteFailed(path, "something stands there that is no file")
+    target = os.path.realpath(path)
+    folder = os.path.dirname(target)
+    if any(is_same_file(path, given) for given in inputs):
+        raise Refused("the output file is the input file", status=2)
+    if os.path.isdir(target):
+        raise WriteFailed(path, "it is a folder")
+    if os.path.exists(target) and not os.path.isfile(target):
+        return
     if not os.path.isdir(folder):
         raise WriteFailed(path, f"there is no folder {folder}")
     if not os.access(folder, os.W_OK):
@@ -73,7 +84,7 @@ def write_raster(path: str, driver: str, cells: NDArray[np.int32], null: int, li
     WriteFailed
         Nothing stands under the path then but what stood there before.
     """
-    with partly(path, _BESIDE) as part, quiet():
+    with partly(path) as part, quiet():
         gdal.ErrorReset()
         try:
             made = _write(part, driver, lambda to: _write_tiff(to, cells, null, like, labels, check))
@@ -106,10 +117,11 @@ def write_table(path: str, table: Table, check: Check = _no_check) -> None:
     stem, ending = os.path.splitext(path)
     is_csv = ending.lower() == ".csv"
     try:
-        with partly(path, ".csvt" if is_csv else "", stem) as part:
-            if is_csv:
-                _write_csv(part, table.columns(), check)
-            else:
+        if is_csv:
+            with partly(path) as part, partly(stem + ".csvt") as types:
+                _write_csv(part, types, table.columns(), check)
+        else:
+            with partly(path) as part:
                 _write_geopackage(part, os.path.basename(stem), table.columns(), check)
     except RcellError:
         raise
@@ -125,13 +137,13 @@ def _checked(rows: Iterable[Any], check: Check) -> Iterator[Any]:
         yield row
 
 
-def _write_csv(part: str, columns: list[Column], check: Check) -> None:
+def _write_csv(part: str, types: str, columns: list[Column], check: Check) -> None:
     """With the types of the columns beside it, without which QGIS reads numbers as text."""
     with open(part, "w", encoding="utf-8", newline="") as file:
         writer = csv.writer(file, lineterminator="\n")
         writer.writerow(column.title for column in columns)
         writer.writerows(_checked(zip(*(column.values for column in columns)), check))
-    with open(part + ".csvt", "w", encoding="utf-8") as file:
+    with open(types, "w", encoding="utf-8") as file:
         file.write(",".join(f'"{_TYPES[column.kind][0]}"' for column in columns) + "\n")
 
 
@@ -181,39 +193,44 @@ def _quoted(name: str) -> str:
 
 
 @contextlib.contextmanager
-def partly(path: str, beside: str = "", stem: str = "") -> Iterator[str]:
-    """A name to write to, in the same folder; afterwards it gets the right one, or is removed where something went wrong.
+def partly(path: str) -> Iterator[str]:
+    """A name to write to, in a private folder; the file gets the right one at the end, and nothing is left if something goes wrong.
 
-    Parameters
-    ----------
-    path : str
-    beside : str
-        The ending of a file that may come to stand beside the one that is written, by its whole name.
-    stem : str
-        What that ending comes after in the end, the whole path where it is empty.
+    Raises
+    ------
+    WriteFailed
     """
     check_target(path)
-    folder, name = os.path.split(os.path.abspath(path))
-    base, extension = os.path.splitext(name)
-    part = os.path.join(folder, f".{base}.{os.getpid()}.part{extension}")
+    with _removed_on_signals():
+        try:
+            with Output(path) as output:
+                yield output.path()
+        except RcellError:
+            raise
+        except OSError as error:
+            raise WriteFailed(path, error.strerror or str(error)) from None
+
+
+@contextlib.contextmanager
+def _removed_on_signals() -> Iterator[None]:
+    """Lets a signal that ends the process do so once what is half done is removed; only the main thread hears of signals."""
+    caught: list[int] = []
+
+    def end(number: int, _: Any) -> None:
+        caught.append(number)
+        raise SystemExit(128 + number)
+
+    is_main = threading.current_thread() is threading.main_thread()
+    ending = [number for number in _ENDING if is_main and signal.getsignal(number) == signal.SIG_DFL]
+    for number in ending:
+        signal.signal(number, end)
     try:
-        yield part
-        _rename(part, path, beside, (stem or path) + beside)
+        yield
     finally:
-        for left in (part, part + beside):
-            with contextlib.suppress(OSError):
-                os.unlink(left)
-
-
-def _rename(part: str, path: str, beside: str, beside_path: str) -> None:
-    try:
-        if beside and os.path.exists(part + beside):
-            os.replace(part + beside, beside_path)
-        elif beside and os.path.exists(beside_path):
-            os.unlink(beside_path)
-        os.replace(part, path)
-    except OSError as error:
-        raise WriteFailed(path, error.strerror or str(error)) from None
+        for number in ending:
+            signal.signal(number, signal.SIG_DFL)
+        if caught:
+            os.kill(os.getpid(), caught[0])
 
 
 def _write(part: str, driver: str, write_tiff: Callable[[str], bool]) -> bool:

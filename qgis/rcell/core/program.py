@@ -8,12 +8,10 @@ a pipe looks ten times a second whether the user has cancelled.
 
 from __future__ import annotations
 
-import fcntl
 import os
 import re
 import select
 import shlex
-import shutil
 import stat
 import subprocess
 import sys
@@ -25,15 +23,15 @@ from numpy.typing import NDArray
 
 from .cells import NULL, Words
 from .errors import Cancelled, Killed, MissingProgram, OutOfMemory, RcellError, Refused, WrongProgram
+from .front.programs import close, found_on_path, pipe
 from .rasters import Raster, Warn
 from .region import Region
-from .script import SCRIPT_LIMIT, Plan, Statement, plan_of
+from .script import SCRIPT_LIMIT, Plan, Statement, bad_option, plan_of
 
 PIPE_BYTES = 1 << 20
 # The program tells one line; of what another program may tell no more is kept.
 _MESSAGE_LIMIT = 1 << 16
 _MESSAGE = re.compile(r"rcell: ([^:]*):(\d+): (.*)")
-_F_SETPIPE_SZ = 1031
 _WAIT = 0.1
 
 BUNDLED = os.path.join(os.path.dirname(os.path.dirname(os.path.abspath(__file__))), "bin", "rcell")
@@ -88,7 +86,7 @@ def find_program(setting: str = "") -> str:
     if sys.platform == "win32":
         raise MissingProgram("the program rcell runs on Linux alone")
     bundled = BUNDLED if os.path.isfile(BUNDLED) else ""
-    path = setting or os.environ.get("RCELL", "") or bundled or shutil.which("rcell") or ""
+    path = setting or os.environ.get("RCELL", "") or bundled or found_on_path("rcell") or ""
     if not path:
         raise MissingProgram("the program rcell was not found: neither in the setting, nor in the environment variable RCELL, "
                              "nor in the plugin's folder bin, nor on the path")
@@ -119,6 +117,7 @@ def _set_executable(path: str) -> None:
 
 _UNKNOWN = "{} is not a program rcell of a version that this plugin knows"
 _PROBE_GRID = b"north: 1\nsouth: 0\neast: 3\nwest: 0\nrows: 1\ncols: 3\nnull: ***\n007 *** 012 "
+_ONE_CELL = b"north: 1\nsouth: 0\neast: 1\nwest: 0\nrows: 1\ncols: 1\n0\n"
 _PROBE_SCRIPT = b"r.clump -d input=g output=k\nr.stats -c input=g,k after=7,1\nr.stats input=k null_value=end\nr.stats -1 input=k\n"
 _PROBE_ANSWER = b"12 2 1\n* * 1\n1\n2\nend\n1\n*\n2\n"
 
@@ -157,27 +156,35 @@ class _Run:
         readers: list[int] = []
         try:
             for _ in range(len(names) + 1):
-                reader, writer = os.pipe()
+                reader, writer = pipe()
                 readers.append(reader)
                 self._writers.append(writer)
-                _widen(writer)
                 os.set_blocking(writer, False)
             words = [f"{name}={files.get(name, f'/dev/fd/{reader}')}" for name, reader in zip(names, readers)]
-            self._process = subprocess.Popen(
-                [path, f"/dev/fd/{readers[-1]}", *words], stdin=subprocess.DEVNULL, stdout=subprocess.PIPE, stderr=subprocess.PIPE,
-                pass_fds=readers, bufsize=0)
+            self._start([path, f"/dev/fd/{readers[-1]}", *words], readers)
         except BaseException:
             for writer in self._writers:
-                os.close(writer)
+                close(writer)
             raise
         finally:
             for reader in readers:
-                os.close(reader)
+                close(reader)
         self.is_reading = True
         self._message = b""
-        assert self._process.stdout is not None and self._process.stderr is not None
-        self._output, self._told = self._process.stdout.fileno(), self._process.stderr.fileno()
-        _widen(self._output)
+
+    def _start(self, words: Sequence[str], inherited: Sequence[int]) -> None:
+        """Starts the program; its output and its message come through pipes as well."""
+        self._output, output = pipe()
+        self._told, told = pipe()
+        try:
+            self._process = subprocess.Popen(words, stdin=subprocess.DEVNULL, stdout=output, stderr=told, pass_fds=inherited)
+        except BaseException:
+            close(self._output)
+            close(self._told)
+            raise
+        finally:
+            close(output)
+            close(told)
 
     def __enter__(self) -> _Run:
         return self
@@ -188,9 +195,8 @@ class _Run:
         if self._process.poll() is None:
             self._process.kill()
         self._process.wait()
-        assert self._process.stdout is not None and self._process.stderr is not None
-        self._process.stdout.close()
-        self._process.stderr.close()
+        close(self._output)
+        close(self._told)
 
     def write(self, place: int, data: bytes | memoryview) -> None:
         """Writes all of the data to a grid's pipe; nothing more once the program has stopped reading."""
@@ -214,7 +220,7 @@ class _Run:
     def close(self, place: int) -> None:
         """Ends a grid, or the script, which comes after them."""
         if self._writers[place] >= 0:
-            os.close(self._writers[place])
+            close(self._writers[place])
             self._writers[place] = -1
 
     def pieces(self) -> Iterator[bytes]:
@@ -243,12 +249,25 @@ class _Run:
         return self._process.wait(), self._message.decode("utf-8", "surrogateescape")
 
 
-def _widen(pipe: int) -> None:
-    """A pipe of a MiB, where the system allows it: fewer changes between the two processes."""
-    try:
-        fcntl.fcntl(pipe, _F_SETPIPE_SZ, PIPE_BYTES)
-    except OSError:
-        pass
+def judge(program: str, script: str, names: Sequence[str]) -> None:
+    """Runs a script over maps of one cell with these names.
+
+    Raises
+    ------
+    Refused
+        As the program refuses the script.
+    """
+    lines = script.split("\n")
+    with _Run(program, names, {}, Watch()) as run:
+        for place in range(len(names)):
+            run.write(place, _ONE_CELL)
+            run.close(place)
+        run.write_script(script.encode("utf-8", "surrogateescape"))
+        for _ in run.pieces():
+            pass
+        status, message = run.end()
+    if status:
+        _raise_fault(status, message, Plan(b"", list(range(1, len(lines) + 1)), []), script)
 
 
 def execute(program: str, script: str, maps: Mapping[str, Raster], wanted: Sequence[str] = (), watch: Watch | None = None) -> list[Output]:
@@ -348,7 +367,8 @@ def _raise_fault(status: int, message: str, plan: Plan, script: str) -> NoReturn
         line = plan.lines[line - 1]
         content = script.split("\n")[line - 1].rstrip("\r") if line else None
     kind: type[RcellError] = OutOfMemory if status == 3 or text == "no memory" else Refused
-    raise kind(text, source, line, status, content)
+    word, column = (bad_option(content) if text == "bad option" and content else None) or ("", None)
+    raise kind(text, source, line, status, content, word, column)
 
 
 class _Short(Exception):

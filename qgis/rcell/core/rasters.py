@@ -6,14 +6,15 @@ from __future__ import annotations
 import contextlib
 import os
 import re
-from dataclasses import dataclass, field
-from typing import Any, Callable, Iterator, Mapping
+from dataclasses import dataclass, field, replace
+from typing import Any, Callable, Iterator, Mapping, Sequence
 
 import numpy as np
 from osgeo import gdal
 
 from .cells import MAX_CATEGORY, Cells, Mask, NullRanges, range_of, within
-from .errors import BadMap, OtherRegion, ReadFailed
+from .crs import Crs, are_same, shown
+from .errors import BadMap, OtherCrs, OtherRegion, ReadFailed
 from .labels import labels_of_band
 from .region import GeoTransform, Region
 
@@ -83,6 +84,8 @@ class Raster:
         Values that are null.
     has_mask : bool
         Whether null is told by a mask of its own, as well.
+    alpha : int or None
+        The band in which a cell is 0 if it is transparent, and null.
     is_upside_down : bool
         Whether its rows go from south to north.
     block_shape : tuple of int
@@ -102,6 +105,7 @@ class Raster:
     dtype: np.dtype[Any]
     null_ranges: NullRanges
     has_mask: bool
+    alpha: int | None
     is_upside_down: bool
     block_shape: tuple[int, int]
     is_text: bool = False
@@ -109,7 +113,7 @@ class Raster:
 
     @classmethod
     def open(cls, name: str, path: str, band: int | None = None, labels: Mapping[int, str] | None = None,
-             null_ranges: NullRanges = (), use_nodata: bool = True) -> Raster:
+             null_ranges: NullRanges = (), use_nodata: bool = True, crs: str = "") -> Raster:
         """A band of a raster, the only one where none is named.
 
         Parameters
@@ -121,6 +125,8 @@ class Raster:
             Further values that the user has declared null.
         use_nodata : bool
             Whether the nodata value of the file is null.
+        crs : str, optional
+            The reference system that the user sees, as well-known text; that of the file if it is empty or the same.
 
         Raises
         ------
@@ -134,7 +140,10 @@ class Raster:
                 raise BadMap(name, f"has {count} band{'' if count == 1 else 's'}, and no band {band}")
             _check_values(name, layer)
             geotransform, is_upside_down = _place(name, dataset)
-            reference = dataset.GetSpatialRef()
+            system = Crs.of(dataset.GetSpatialRef())
+            if crs and not (system.wkt and are_same(system.wkt, crs)):
+                system = Crs.of_wkt(crs)
+            alpha = _alpha_of(dataset)
             height, width = layer.GetBlockSize()[::-1]
             return cls(
                 name=name,
@@ -142,12 +151,13 @@ class Raster:
                 band=layer.GetBand(),
                 region=Region.of_geotransform(name, geotransform, dataset.RasterYSize, dataset.RasterXSize),
                 geotransform=geotransform,
-                crs="" if reference is None else reference.ExportToWkt(),
-                is_geographic=reference is not None and bool(reference.IsGeographic()),
-                metres=1.0 if reference is None or reference.IsLocal() else float(reference.GetLinearUnits()),
+                crs=system.wkt,
+                is_geographic=system.is_geographic,
+                metres=system.metres,
                 dtype=_dtype_of(layer),
                 null_ranges=(*_nodata_of(layer, use_nodata), *null_ranges),
                 has_mask=bool(layer.GetMaskFlags() & gdal.GMF_PER_DATASET) and not layer.GetMaskFlags() & gdal.GMF_ALPHA,
+                alpha=None if alpha == layer.GetBand() else alpha,
                 is_upside_down=is_upside_down,
                 block_shape=(height, width),
                 is_text=is_grid(path),
@@ -216,16 +226,21 @@ class Raster:
         try:
             with quiet():
                 cells = band.ReadAsArray(col, top, cols, rows)
-                mask = band.GetMaskBand().ReadAsArray(col, top, cols, rows) if self.has_mask else None
+                masks = [mask.ReadAsArray(col, top, cols, rows) for mask in self._mask_bands(dataset, band)]
             text = gdal.GetLastErrorMsg()
         except RuntimeError as error:
-            cells, text = None, str(error)
-        if cells is None or (self.has_mask and mask is None):
+            cells, masks, text = None, [], str(error)
+        if cells is None or any(mask is None for mask in masks):
             raise ReadFailed(self.name, f"rows {row + 1} to {row + rows} cannot be read: {text or self.path}")
-        null = None if mask is None else mask == 0
+        null = np.logical_or.reduce([mask == 0 for mask in masks]) if masks else None
         if self.is_upside_down:
             cells, null = cells[::-1], None if null is None else null[::-1]
         return self._checked(cells, null, row, col, warn)
+
+    def _mask_bands(self, dataset: Any, band: Any) -> list[Any]:
+        """The bands in which 0 is null. (GDAL's own mask tells of an alpha band only if the file declares no nodata.)"""
+        masks = [band.GetMaskBand()] if self.has_mask else []
+        return masks if self.alpha is None else [*masks, dataset.GetRasterBand(self.alpha)]
 
     def _checked(self, cells: Cells, null: Mask | None, first_row: int, first_col: int, warn: Warn | None) -> tuple[Cells, Mask | None]:
         """Cells of any type of whole numbers as cells of at most four bytes."""
@@ -255,7 +270,44 @@ def is_grid(path: str) -> bool:
         return _GRID.match(file.read(64)) is not None
 
 
-def check_regions(rasters: list[Raster]) -> None:
+def fitted(rasters: Sequence[Raster], stated: str = "") -> list[Raster]:
+    """Maps of one run, which have one reference system and one region.
+
+    Parameters
+    ----------
+    rasters : sequence of Raster
+    stated : str, optional
+        The reference system of those that have none, as well-known text.
+
+    Raises
+    ------
+    OtherCrs, OtherRegion
+    """
+    _check_crs(rasters, stated)
+    system = Crs.of_wkt(stated)
+    found = [raster if raster.crs or not stated else replace(raster, crs=system.wkt, is_geographic=system.is_geographic, metres=system.metres)
+             for raster in rasters]
+    check_regions(found)
+    return found
+
+
+def _check_crs(rasters: Sequence[Raster], stated: str) -> None:
+    first = next((raster for raster in rasters if raster.crs), None)
+    if first is None:
+        return
+    common = stated or first.crs
+    for raster in rasters:
+        if not raster.crs and not stated:
+            has = f"`{first.name}` has {shown(common)}"
+            hint = 'choose it as "Coordinate reference system of rasters that have none"'
+            raise OtherCrs(raster.name, f"it has no coordinate reference system, and {has}: {hint}")
+        if raster.crs and not are_same(raster.crs, common):
+            other = f"the chosen one is {shown(common)}" if stated else f"that of `{first.name}` is {shown(common)}"
+            hint = "reproject one of them first, as with Warp (reproject)"
+            raise OtherCrs(raster.name, f"its coordinate reference system is {shown(raster.crs)}, and {other}: {hint}")
+
+
+def check_regions(rasters: Sequence[Raster]) -> None:
     """All maps of a run have the region of the first.
 
     Raises
@@ -298,6 +350,11 @@ def _only_band(name: str, dataset: Any) -> int:
     if len(bands) != 1:
         raise BadMap(name, f"has {len(bands)} bands: name one where a band can be named, or take one out first, as by Rearrange bands")
     return bands[0]
+
+
+def _alpha_of(dataset: Any) -> int | None:
+    bands = range(1, dataset.RasterCount + 1)
+    return next((number for number in bands if dataset.GetRasterBand(number).GetColorInterpretation() == gdal.GCI_AlphaBand), None)
 
 
 def _check_values(name: str, band: Any) -> None:

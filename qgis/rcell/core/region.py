@@ -3,6 +3,7 @@
 
 from __future__ import annotations
 
+import math
 from dataclasses import dataclass
 from fractions import Fraction
 from typing import Sequence
@@ -55,6 +56,8 @@ class Region:
             Where it is rotated or turned over, or where the program has no such region.
         """
         west, width, b, north, d, height = (float(number) for number in transform)
+        if not all(map(math.isfinite, (west, width, b, north, d, height))):
+            raise BadMap(name, f"a transform with a number that is not finite: {(width, b, west, d, height, north)}")
         if b or d:
             raise BadMap(name, f"a rotated transform {(width, b, west, d, height, north)}: warp the map to rows from west to east first")
         if width <= 0 or height >= 0:

@@ -17,6 +17,7 @@ from .cells import NULL
 MARK = "end"
 LINE_LIMIT = 65_535
 SCRIPT_LIMIT = 1_048_576
+MOST_MAPS = 16
 NAME = re.compile(r"[A-Za-z_][A-Za-z0-9_.]{0,63}")
 _FLAGS = {"r.stats": "clnN1", "r.out.ascii": "", "r.clump": "d", "r.reclass": ""}
 _KEYS = {
@@ -26,6 +27,8 @@ _KEYS = {
     "r.reclass": {"input", "output"},
 }
 _SEPARATORS = {"pipe", "comma", "space", "tab"}
+# The blanks of the program; Python's own are more, and would cut those of Unicode off a label.
+_BLANKS = re.compile(r"[ \t\r]+")
 _VISIBLE = re.compile(r"[!-~]{1,64}")
 _MAPCALC = re.compile(r"[ \t\r]*r\.mapcalc[ \t\r]+([A-Za-z_][A-Za-z0-9_.]{0,63})[ \t\r]*=(?!=)")
 
@@ -102,7 +105,7 @@ class Plan:
 
 
 def _words(line: str) -> list[str]:
-    return re.split(r"[ \t\r]+", line.strip(" \t\r"))
+    return _BLANKS.split(line.strip(" \t\r"))
 
 
 def _is_skipped(line: str) -> bool:
@@ -139,14 +142,35 @@ def _parsed(line: int, text: str, rules: tuple[str, ...]) -> Statement:
 def _options_are_good(command: str, flags: str, values: Mapping[str, str], maps: tuple[str, ...]) -> bool:
     if command in ("r.clump", "r.reclass"):
         return len(maps) == 1 and NAME.fullmatch(values.get("output", "")) is not None
-    null_text = values.get("null_value", "*")
-    if not _VISIBLE.fullmatch(null_text):
-        return False
-    if command == "r.out.ascii":
-        return len(maps) == 1 and ":" not in null_text
-    separator = values.get("separator", "space")
-    is_separator = separator in _SEPARATORS or re.fullmatch(r"[!-~]", separator) is not None
-    return len(maps) <= 16 and is_separator and not ("1" in flags and ("c" in flags or "after" in values))
+    are_good = all(_value_is_good(command, key, value) for key, value in values.items())
+    return are_good and (command == "r.stats" or len(maps) == 1) and not ("1" in flags and ("c" in flags or "after" in values))
+
+
+def _value_is_good(command: str, key: str, value: str) -> bool:
+    """Whether an option may have a value; names of maps are judged elsewhere."""
+    if key == "null_value":
+        return _VISIBLE.fullmatch(value) is not None and not (command == "r.out.ascii" and ":" in value)
+    if key == "separator":
+        return value in _SEPARATORS or re.fullmatch(r"[!-~]", value) is not None
+    return command != "r.stats" or key != "input" or value.count(",") < MOST_MAPS
+
+
+def bad_option(line: str) -> tuple[str, int] | None:
+    """The first word of a statement that is no option of its command, and its column in bytes from 1; None if none is found."""
+    words = list(re.finditer(r"[^ \t\r]+", line))
+    command = words[0][0]
+    flags, keys = "", []
+    for word in words[1:]:
+        key, equals, value = word[0].partition("=")
+        if key.startswith("-"):
+            is_bad = word[0] == "-" or not set(word[0][1:]) <= set(_FLAGS.get(command, ""))
+            flags += word[0][1:]
+        else:
+            is_bad = not equals or key in keys or key not in _KEYS.get(command, ()) or not _value_is_good(command, key, value)
+            keys.append(key)
+        if is_bad or ("1" in flags and ("c" in flags or "after" in keys)):
+            return word[0], len(line[: word.start()].encode("utf-8", "surrogateescape")) + 1
+    return None
 
 
 def statements_of(script: str) -> list[Statement]:
@@ -237,8 +261,8 @@ def labels_of_rules(rules: Iterable[str]) -> dict[int, str]:
     """The labels that the rules of an r.reclass give: a category has that of the last rule that gives both."""
     labels: dict[int, str] = {}
     for rule in rules:
-        words = rule.partition("=")[2].strip(" \t\r").split(maxsplit=1)
-        if not _is_skipped(rule) and len(words) == 2 and re.fullmatch(r"[-+]?\d+", words[0]):
+        words = _BLANKS.split(rule.partition("=")[2].strip(" \t\r"), maxsplit=1)
+        if not _is_skipped(rule) and len(words) == 2 and re.fullmatch(r"[-+]?[0-9]+", words[0]):
             labels[int(words[0])] = words[1]
     return labels
 
