@@ -12,7 +12,7 @@
 # make static    links bin/rcell-static and bin/rcell-join-static, each from the object of its program: for each Linux on x86-64
 # make dist      makes the release in dist/: tarball, package of Debian, wheel, packages for R and QGIS, objects, bill of materials
 # make debian11  runs the release's quick start in a root of Debian 11 (as root, with debootstrap)
-# make edits     tries the edits of crates/NAME/edits/, which the gate leaves alone: each must be refused
+# make edits     tries the edits of crates/NAME/edits/, of which the gate tries those of tools/edits.txt: each must be refused
 # make hostile   uses the program as an enemy would: each growth, read, write and byte in turn, and the greatest inputs (an hour)
 # make fuzz      runs it on random input beside a plain model, SECONDS=60 of them, from SEED=
 # make bench     times each task beside a yardstick in C++, and doubles one dimension after another; BENCH=--short takes five minutes
@@ -82,7 +82,7 @@ debian11: dist
 	sh tools/debian11.sh dist
 
 edits:
-	sh tools/edits.sh
+	python3 tools/edits.py --all
 
 hostile: bin/rcell
 	python3 tools/hostile.py --clang "$$(dirname "$$(rt doc)")/toolchain/bin/clang"

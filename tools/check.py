@@ -23,6 +23,8 @@ import build
 ROOT = build.ROOT
 COUNTS = re.compile(r"(\d+) passed, (\d+) failed(?:, (\d+) skipped)?\n?")
 SKIPPED = "skipped  "
+# How a command says what it ran and what was kept from earlier runs.
+NOTE = re.compile(r"rt: ok; |ran: ")
 PYTHON = [sys.executable]
 CLANG = "CLANG"  # stands for the kit's clang in a command
 
@@ -66,6 +68,7 @@ EARLY = [
 ]
 PROOFS = Part("proofs", "each proof, each edit that must fail, each test", [["rt", "ci"]], needs_programs=False)
 LATE = [
+    Part("edits", "wrong bodies that the proof must refuse, many in one check", [tool("edits.py")], needs_programs=False),
     Part("cases", "rcell on each case, with each growth refused in turn", [tool("cases.py", CLANG)]),
     Part("joined", "rcell-join beside a plain model and full maps", [tool("test_join.py", CLANG)]),
     Part("documents", "each example of the documents", [tool("documents.py")]),
@@ -108,7 +111,7 @@ def run(part):
                 lines.append(line)
                 print(line, end="", flush=True)
         result.add(*counts_of(lines, ran.returncode, part.has_counts))
-        result.note = next((it[len("rt: ok; "):].strip() for it in reversed(lines) if it.startswith("rt: ok; ")), result.note)
+        result.note = next((NOTE.sub("", it).strip() for it in reversed(lines) if NOTE.match(it)), result.note)
     result.seconds = processor_seconds() - begun
     return result
 
@@ -155,7 +158,7 @@ def table(results, wall):
               f"{sum(it.seconds for it in results):.0f}")]
     lines = ["{:<12}{:>8}{:>8}{:>9}{:>13}".format(*row) for row in rows]
     notes = [f"{it.name}: {it.note}" for it in results if it.note]
-    others = "the other parts keep nothing: each check was run" if len(results) > len(notes) else ""
+    others = "the other parts keep nothing: each of their checks was run" if len(results) > len(notes) else ""
     return "\n".join([*lines, *notes, *filter(None, [others]), f"{wall / 60:.0f} minutes on {len(os.sched_getaffinity(0))} processors"])
 
 

@@ -29,6 +29,9 @@ RUNS = "300"
 KIND_OF_INTERPRETER = 3  # PT_INTERP of an ELF file
 PROGRAMS = ("rcell", "rcell-join")
 PAGES = "share/man/man1"
+# The packages of Debian that a release is made with, each by a file of it.
+PACKAGES = {"libc6-dev": "/usr/lib/x86_64-linux-gnu/libc.a", "libgcc-12-dev": "/usr/lib/gcc/x86_64-linux-gnu/12/libgcc.a",
+            "python3-hatchling": "/usr/lib/python3/dist-packages/hatchling", "r-base-core": "/usr/bin/R"}
 # Two bands of a map, and the table of the whole.
 HEADER = "north: {}\nsouth: {}\neast: 3\nwest: 0\nrows: {}\ncols: 3\n"
 BANDS = {"upper": HEADER.format(3, 1, 2) + "5 5 *\n-1 5 7\n", "lower": HEADER.format(1, 0, 1) + "7 * 9\n"}
@@ -90,8 +93,9 @@ def check_needs(count, folder, names):
     count.add("the package depends on python3 alone, for the helpers", "" if said == "python3" else said)
 
 
-def make(folder):
-    ran = subprocess.run(["sh", "tools/dist.sh", folder], cwd=ROOT, stdout=subprocess.PIPE, stderr=subprocess.STDOUT, text=True)
+def said_of(*words):
+    """What is wrong with a command, or ''."""
+    ran = subprocess.run(words, cwd=ROOT, stdout=subprocess.PIPE, stderr=subprocess.STDOUT, text=True)
     return ran.stdout.strip() or f"status {ran.returncode}" if ran.returncode else ""
 
 
@@ -194,25 +198,38 @@ def check_version(count):
     count.add("README.md names VERSION and no other", " ".join(others))
 
 
+def check_made(count, room, keep):
+    """The static programs and the release are made and tried."""
+    fault = said_of("sh", "tools/static.sh")
+    count.add("the static programs", fault)
+    if fault:
+        return
+    check_static(count)
+    folder = f"{room}/made"
+    fault = said_of("sh", "tools/dist.sh", folder)
+    count.add("the release", fault)
+    if fault:
+        return
+    names = sorted(os.listdir(folder))
+    check_artefacts.check_all(count, pathlib.Path(folder), room)
+    check_needs(count, folder, names)
+    check_unpacked(count, room, folder, names)
+    if keep:
+        shutil.copytree(folder, keep, dirs_exist_ok=True)
+
+
 def main():
     words = argparse.ArgumentParser(description="Makes the release of what is built, and tries it.")
     words.add_argument("--keep")
     wanted = words.parse_args()
     count = Count()
     check_version(count)
-    ran = subprocess.run(["sh", "tools/static.sh"], cwd=ROOT, stdout=subprocess.PIPE, stderr=subprocess.STDOUT, text=True)
-    count.add("the static programs", ran.stdout.strip() if ran.returncode else "")
     with tempfile.TemporaryDirectory(prefix="rcell-release-") as room:
-        if not ran.returncode:
-            check_static(count)
-            folder = f"{room}/made"
-            count.add("the release", make(folder))
-            names = sorted(os.listdir(folder))
-            check_artefacts.check_all(count, pathlib.Path(folder), room)
-            check_needs(count, folder, names)
-            check_unpacked(count, room, folder, names)
-            if wanted.keep:
-                shutil.copytree(folder, wanted.keep, dirs_exist_ok=True)
+        missing = [name for name, file in PACKAGES.items() if not os.path.exists(file)]
+        if missing:
+            count.skip("what a release is made with is not installed", " ".join(missing))
+        else:
+            check_made(count, room, wanted.keep)
         check_install(count, room)
     print(f"{count.passed} passed, {count.failed} failed, {count.skipped} skipped")
     return 1 if count.failed else 0

@@ -41,6 +41,7 @@ def is_right(made, program, room):
 def compiled(crate, room):
     """The object of a program, from the sources of its crate over the libraries that are kept."""
     crates, made = build.crates_of([crate]), f"{room}/{crate}.o"
+    print(f"bin/{build.PROGRAMS[crate]}.o is missing: compiling {crate} over the libraries that are kept", flush=True)
     with build.cut(crates) as folder:
         if build.prove(folder, crates, 0, f"{build.ROOT}/bin/{build.PROGRAMS[crate]}.log"):
             return made
