@@ -1,0 +1,9 @@
+pub mod CountLemmas
+pub mod UnionLemmas
+pub mod OpenLemmas
+pub mod NumberLemmas
+pub mod PlaceLemmas
+pub mod SparseLemmas
+pub mod SearchLemmas
+pub mod PairLabelLemmas
+pub mod NumberedLemmas

@@ -1,0 +1,111 @@
+-- How many labels in ascending order come before another, and where a search finds it.
+use Rattle.std.proofs.Common.{◌≡◌, ℕ, zero, suc, ◌+◌, ◌-◌, ◌<◌, ◌≤◌, List, length, get_or, Ok, Err, Bool, true, false, ltb, refl, ap, sym, ◌∙◌, arith, ⊎_elim}
+use Rattle.std.specs.List.{AllPairs}
+use Rattle.std.specs.List.Sorted.{IsBinarySearchResult}
+use Rattle.std.specs.Ordering.{nat_cmp}
+use Rattle.std.proofs.Math.Nat.{add-suc}
+use Rattle.std.proofs.lemmas.Bool.{cases_lt}
+use Rattle.std.proofs.lemmas.List.Sorted.{searched}
+use Rattle.std.proofs.lemmas.List.Sums.{count_by-le-length}
+use Rattle.cell_join_numbers.specs.SparseLabels.{labels_before, is_touching}
+use Rattle.cell_join_numbers.proofs.CountLemmas.{one-if}
+use Rattle.cell_join_numbers.proofs.PlaceLemmas.{few-before, next-before, place-is, touching-at}
+
+module _ (ts : List ℕ) (order : AllPairs ◌<◌ ts) where
+  before-up : (l n : ℕ) → labels_before ts l ≤ labels_before ts (l + n)
+  before-up l zero = let same : labels_before ts (l + 0) ≡ labels_before ts l =
+      ap (labels_before ts) (omega arith) in omega (arith, same)
+  before-up l (suc n) =
+      let same : labels_before ts (l + suc n) ≡ labels_before ts (suc (l + n)) = ap (labels_before ts) (add-suc l n) in
+      omega (arith, same, next-before ts order (l + n), before-up l n)
+
+  pub before-most : (l m : ℕ) → l ≤ m → labels_before ts l ≤ labels_before ts m
+  before-most l m le =
+      let same : labels_before ts (l + (m - l)) ≡ labels_before ts m = ap (labels_before ts) (omega (arith, le)) in
+      omega (arith, same, before-up l (m - l))
+
+  -- no label is passed
+  pub alone-here : (l : ℕ) → labels_before ts (suc l) ≡ labels_before ts l → is_touching ts l ≡ false
+  alone-here l same = by (is_touching ts l) refl
+    where
+      by : (b : Bool) → is_touching ts l ≡ b → is_touching ts l ≡ false
+      by false e = e
+      by true e =
+          let one : one-if (is_touching ts l) ≡ 1 = ap one-if e in
+          absurd (omega (arith, one, next-before ts order l, same))
+
+  -- the label at a place is not before another
+  pub label-above : (l place : ℕ) → labels_before ts l ≡ place → place < length ts → l ≤ get_or ts place 0
+  label-above l place is within =
+      ⊎_elim
+      (λ lt.
+      let own : labels_before ts (get_or ts place 0) ≡ place = place-is ts order place 0 within in
+      let one : one-if (is_touching ts (get_or ts place 0)) ≡ 1 = ap one-if (touching-at ts place 0 within) in
+      let up = before-most (suc (get_or ts place 0)) l (omega (arith, lt)) in
+      absurd (omega (arith, own, one, up, is, next-before ts order (get_or ts place 0))))
+      (λ le. le)
+      (cases_lt (get_or ts place 0) l)
+
+  pub before-next : (place l : ℕ) → place < length ts → get_or ts place 0 ≡ l → labels_before ts (l + 1) ≡ place + 1
+  before-next place l within is =
+      let own : labels_before ts l ≡ place = ap (labels_before ts) (sym is) ∙ place-is ts order place 0 within in
+      let one : one-if (is_touching ts l) ≡ 1 = ap one-if (ap (is_touching ts) (sym is)
+      ∙ touching-at ts place 0 within) in
+      let same : labels_before ts (l + 1) ≡ labels_before ts (suc l) = ap (labels_before ts) (omega arith) in
+      omega (arith, own, one, same, next-before ts order l)
+
+  -- none is left before an end
+  pub before-end : (l place end : ℕ) → labels_before ts l ≡ place → l ≤ end
+      → ((place < length ts) × (get_or ts place 0 < end) → ⊥) → labels_before ts end ≡ place
+  before-end l place end is le none =
+      let up = before-most l end le in
+      ⊎_elim
+      (λ within.
+      let own : labels_before ts (get_or ts place 0) ≡ place = place-is ts order place 0 within in
+      ⊎_elim (λ lt. absurd (none (within, lt)))
+      (λ ge. let down = before-most end (get_or ts place 0) ge in omega (arith, own, up, down, is))
+      (cases_lt (get_or ts place 0) end))
+      (λ past. let most = count_by-le-length (λ k. ltb k end) ts in omega (arith, up, past, most, is))
+      (cases_lt place (length ts))
+
+pub place-low : (ts : List ℕ) → AllPairs ◌<◌ ts → (place : ℕ) → place < length ts → place ≤ get_or ts place 0
+place-low ts order place within = omega (arith, place-is ts order place 0 within, few-before ts order (get_or ts place 0))
+
+-- ---- a search
+
+rises : (found : List ℕ) → AllPairs ◌<◌ found → (i j : ℕ) → i ≤ j → j < length found
+    → get_or found i 0 ≤ get_or found j 0
+rises found order i j le within =
+    ⊎_elim (λ lt. let less = order i j 0 lt within in omega (arith, less))
+    (λ ge. let e : i ≡ j = omega (arith, le, ge) in let same = ap (λ (k : ℕ). get_or found k 0) e in
+    omega (arith, same))
+    (cases_lt i j)
+
+-- it was found, or the place is the one where it would stand
+pub place-found : (found : List ℕ) (label : ℕ) → AllPairs ◌<◌ found → (i : ℕ)
+    → IsBinarySearchResult (λ y. nat_cmp y label) found (Ok i)
+    → i ≡ labels_before found label
+place-found found label order i r =
+    let at = searched found label (Ok i) r (rises found order) in
+    sym (place-is found order i 0 at.0) ∙ ap (labels_before found) at.1
+
+pub place-missing : (found : List ℕ) (label : ℕ) → AllPairs ◌<◌ found → (i : ℕ)
+    → IsBinarySearchResult (λ y. nat_cmp y label) found (Err i)
+    → i ≡ labels_before found label
+place-missing found label order i r =
+    let at = searched found label (Err i) r (rises found order) in
+    by i at.0 at.1 at.2
+  where
+    by : (n : ℕ) → n ≤ length found → ((k : ℕ) → k < n → get_or found k 0 < label)
+        → ((k : ℕ) → n ≤ k → k < length found → label < get_or found k 0) → n ≡ labels_before found label
+    by zero le low high = sym (before-end found order 0 0 label (let few = few-before found order 0 in
+        omega (arith, few)) (omega arith)
+        (λ both. let above = high 0 (omega arith) both.0 in omega (arith, above, both.1)))
+    by (suc n) le low high =
+        let last = low n (omega arith) in
+        let own = before-next found order n (get_or found n 0) (omega (arith, le)) refl in
+        omega (
+          arith,
+          sym (before-end found order (get_or found n 0 + 1) (n + 1) label own (omega (arith, last))
+              (λ both. let above = high (n + 1) (omega arith) both.0 in omega (arith, above, both.1))),
+        )

@@ -1,0 +1,17 @@
+use Rattle.std.proofs.Common.{◌≡◌, ℕ, ◌<◌, ◌≤◌, List, length, get_or}
+use Rattle.cell_join_numbers.specs.LabelNumbers.{open_below}
+use Rattle.cell_join_numbers.specs.SparseLabels.{AreTouching, IsSparse}
+use Rattle.cell_join_numbers.specs.SparseNumbers.{ArePlacesNumbered}
+use Rattle.cell_join_numbers.proofs.numbers.number_places.Given as goal
+
+abbrev pub invariant-loop-place : goal.invariant-loop-place
+invariant-loop-place l = record {
+  long : length l.table ≡ length l.fn.table;
+  ready : (k : ℕ) → l.place ≤ k → get_or l.table k 0 ≤ k;
+  few : l.count ≤ l.place;
+  many : length l.roots.items ≡ l.place;
+  under : (k : ℕ) → k < l.place → get_or l.roots.items k 0 ≤ k;
+  low : (k : ℕ) → k < l.place → get_or l.table k 0 ≤ get_or l.paired k 0;
+  numbered : (labels : ℕ) (pairs : List (ℕ × ℕ)) → AreTouching labels pairs l.paired → IsSparse pairs l.paired l.fn.table → ArePlacesNumbered labels pairs l.paired l.fn.table l.place l.table l.count;
+  roots : (k : ℕ) → k < l.place → (labels : ℕ) (pairs : List (ℕ × ℕ)) → AreTouching labels pairs l.paired → IsSparse pairs l.paired l.fn.table → get_or l.roots.items k 0 ≡ length (open_below l.fn.table k);
+}

@@ -1,0 +1,17 @@
+use Rattle.std.proofs.Common.{arith}
+use Rattle.cell_join_numbers.proofs.UnionLemmas.{LeadTo-joined}
+use Rattle.cell_join_numbers.proofs.union_find.unite.Goals as goal
+
+pub returns-then-first-second-clause-leads : goal.returns-then-first-second-clause-leads
+returns-then-first-second-clause-leads c = λ open_of given.
+    let once = c.root_of-first.ensures.leads open_of given in
+    let twice = c.root_of-second.ensures.leads open_of once in
+    LeadTo-joined _ c.args.one c.args.other c.root_of-first.result c.root_of-second.result _ _ open_of (omega arith) (omega arith) twice
+    (c.root_of-first.ensures.root open_of given) (c.root_of-second.ensures.root open_of once) (omega arith) (omega arith)
+
+pub returns-else-first-second-clause-leads : goal.returns-else-first-second-clause-leads
+returns-else-first-second-clause-leads c = λ open_of given.
+    let once = c.root_of-first.ensures.leads open_of given in
+    let twice = c.root_of-second.ensures.leads open_of once in
+    LeadTo-joined _ c.args.one c.args.other c.root_of-first.result c.root_of-second.result _ _ open_of (omega arith) (omega arith) twice
+    (c.root_of-first.ensures.root open_of given) (c.root_of-second.ensures.root open_of once) (omega arith) (omega arith)

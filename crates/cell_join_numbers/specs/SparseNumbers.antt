@@ -1,0 +1,47 @@
+-- Numbers of labels, of which only those that are paired are held.
+use Rattle.std.specs.Prelude.{ℕ, false, ◌+◌, ◌-◌, ◌<◌, ◌≤◌, ◌≡◌, ◌↔◌, List, [], ◌∷◌, length, All, AllPairs, Contains, slice_index}
+use Rattle.cell_join_numbers.specs.LabelNumbers.{open_below}
+use Rattle.cell_join_numbers.specs.Labelled.{NumberLabels, CountLabels}
+use Rattle.cell_join_numbers.specs.SparseLabels.{AreTouching, IsSparse, labels_before, is_touching, sparse_number}
+
+-- the labels of pairs
+abbrev pub labels_of : List (ℕ × ℕ) → List ℕ
+labels_of [] = []
+labels_of (pair ∷ pairs) = pair.0 ∷ pair.1 ∷ labels_of pairs
+
+-- a list has these labels and no others
+abbrev pub AreLabelsOf : List (ℕ × ℕ) → List ℕ → Type 0
+AreLabelsOf pairs paired = (label : ℕ) → Contains paired label ↔ Contains (labels_of pairs) label
+
+-- a table of nodes in which the first are replaced by the numbers of their labels, from 0
+pub record ArePlacesNumbered (labels : ℕ) (pairs : List (ℕ × ℕ)) (paired joined : List ℕ) (place : ℕ) (table : List ℕ) (count : ℕ) : Type 0 where
+  pub touching : AreTouching labels pairs paired
+  pub is : IsSparse pairs paired joined
+  pub later : (k : ℕ) → place ≤ k → slice_index table k ≡ slice_index joined k
+  pub done : (k : ℕ) → k < place → slice_index table k + 1 ≡ sparse_number pairs paired joined (slice_index paired k)
+  pub counted : count ≡ length (open_below joined place)
+
+-- labels in order, for each a number from 0 that is no larger, and how many roots come before each of them and in all
+pub record AreInPlaces (paired numbers roots : List ℕ) : Type 0 where
+  pub in_order : AllPairs ◌<◌ paired
+  pub long : length numbers ≡ length paired
+  pub long_roots : length roots ≡ length paired + 1
+  pub low : (place : ℕ) → place < length paired → slice_index numbers place ≤ slice_index paired place
+  pub few : (place : ℕ) → place ≤ length paired → slice_index roots place ≤ place
+
+-- a number for each label, from 1: that of a label that is not paired is how many others like it come before it, and how many
+-- roots, and one
+pub record AreNumbersOf (number : ℕ → ℕ) (paired numbers roots : List ℕ) : Type 0 where
+  pub at : (place : ℕ) → place < length paired → slice_index numbers place + 1 ≡ number (slice_index paired place)
+  pub alone : (label : ℕ) → is_touching paired label ≡ false → number label ≡ (label - labels_before paired label) + slice_index roots (labels_before paired label) + 1
+
+-- they are the numbers of so many labels that are paired so
+pub record NumberPairs (labels : ℕ) (pairs : List (ℕ × ℕ)) (paired numbers roots : List ℕ) : Type 0 where
+  pub number : ℕ → ℕ
+  pub are : AreNumbersOf number paired numbers roots
+  pub right : NumberLabels labels pairs number
+  pub count : CountLabels labels pairs ((labels - length paired) + slice_index roots (length paired))
+
+-- both labels of each pair are among so many
+abbrev pub AreBelow : ℕ → List (ℕ × ℕ) → Type 0
+AreBelow labels pairs = All (λ pair. (pair.0 < labels) × (pair.1 < labels)) pairs

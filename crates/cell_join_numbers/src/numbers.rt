@@ -1,0 +1,100 @@
+//! The numbers of labels, of which only the paired ones are held.
+
+ghost use Rattle.std.specs.Prelude.{◌≡◌, ◌+◌, ◌<◌, ◌≤◌, ℕ, List, AllPairs, IfOk, length, slice_index};
+ghost use Rattle.cell_cats_areas.specs.parts.Labels.{PointDown};
+ghost use Rattle.cell_join_numbers.specs.LabelNumbers.{open_below};
+ghost use Rattle.cell_join_numbers.specs.SparseLabels.{AreTouching, IsSparse};
+ghost use Rattle.cell_join_numbers.specs.SparseNumbers.{AreBelow, AreInPlaces, ArePlacesNumbered, NumberPairs};
+
+use crate::sparse::{paired_labels, unite_pairs};
+use crate::union_find::add_nodes;
+use cell_core::memory::Memory;
+use std::alloc::Global;
+
+/// The paired labels and their numbers: 24 bytes for each.
+#[derive(Debug, Drop)]
+pub struct SparseNumbers {
+    /// The labels that are paired, in order.
+    pub paired: Vec<u64>,
+    /// The number of each of them, from 0.
+    pub numbers: Vec<u64>,
+    /// How many roots come before each of them, and how many there are.
+    pub roots: Vec<u64>,
+}
+
+// Numbers the label at a place: a root has the number after those before it, another that of the node that it points to.
+// Returns how many roots there are up to it.
+fn number_place(table: &mut [u64], paired: &[u64], place: usize, count: u64) -> u64
+    requires in_order { AllPairs ◌<◌ paired.now }
+    requires long { length table.old ≡ length paired.now }
+    requires inside { place < length table.old }
+    requires down { slice_index table.old place ≤ place }
+    requires low { (k : ℕ) → k < place → slice_index table.old k ≤ slice_index paired.now k }
+    requires few { count ≤ place }
+    ensures later { (k : ℕ) → place < k → slice_index table.new k ≡ slice_index table.old k }
+    ensures low { (k : ℕ) → k < place + 1 → slice_index table.new k ≤ slice_index paired.now k }
+    ensures few { result ≤ place + 1 }
+    ensures numbered { (labels : ℕ) (pairs : List (ℕ × ℕ)) (joined : List ℕ) →
+        ArePlacesNumbered labels pairs paired.now joined place table.old count →
+        ArePlacesNumbered labels pairs paired.now joined (place + 1) table.new result }
+{
+    let node = table[place];
+    if node == place as u64 {
+        table[place] = paired[place] - node + count;
+        count + 1
+    } else {
+        table[place] = table[node as usize];
+        count
+    }
+}
+
+// Numbers all paired labels, and counts the roots before each.
+fn number_places(alloc: Global, table: &mut [u64], paired: &[u64]) -> Result<Vec<u64>, Memory>
+    requires in_order { AllPairs ◌<◌ paired.now }
+    requires long { length table.old ≡ length paired.now }
+    requires down { PointDown table.old }
+    ensures ready { IfOk result (λ roots. AreInPlaces paired.now table.new roots.items) }
+    ensures roots { IfOk result (λ roots. (k : ℕ) → k ≤ length paired.now
+        → (labels : ℕ) (pairs : List (ℕ × ℕ)) → AreTouching labels pairs paired.now
+        → IsSparse pairs paired.now table.old
+        → slice_index roots.items k ≡ length (open_below table.old k)) }
+    ensures numbered { IfOk result (λ _. (labels : ℕ) (pairs : List (ℕ × ℕ))
+        → AreTouching labels pairs paired.now → IsSparse pairs paired.now table.old
+        → (count : ℕ) × ArePlacesNumbered labels pairs paired.now table.old (length paired.now) table.new count) }
+{
+    let mut roots = Vec::new(alloc);
+    let mut count = 0;
+    for place in 0..table.len() {
+        roots.push(count)?;
+        count = number_place(table, paired, place, count);
+    }
+    roots.push(count)?;
+    Ok(roots)
+}
+
+/// The numbers in the full map of labels that are paired so. The labels are those of the clumps of tiles that cover the map,
+/// from 0 on in the order of their first cells; the pairs are those of the cells of one category that meet at the seams.
+///
+/// It takes 16 bytes for each label of a pair while it works, and 24 for each that is paired.
+///
+/// # Errors
+///
+/// [`Memory`] when out of memory.
+pub fn number_pairs(alloc: Global, pairs: &[(u64, u64)]) -> Result<SparseNumbers, Memory>
+    ensures ready { IfOk result (λ sparse.
+        AreInPlaces sparse.paired.items sparse.numbers.items sparse.roots.items) }
+    ensures numbered { IfOk result (λ sparse. (labels : ℕ) → AreBelow labels pairs.now →
+        NumberPairs labels pairs.now sparse.paired.items sparse.numbers.items sparse.roots.items) }
+{
+    let paired = paired_labels(alloc, pairs)?;
+    let mut table = Vec::new(alloc);
+    add_nodes(&mut table, paired.len() as u64)?;
+    let each = table.as_mut_slice();
+    unite_pairs(each, &paired, pairs);
+    let roots = number_places(alloc, each, &paired)?;
+    Ok(SparseNumbers {
+        paired,
+        numbers: table,
+        roots,
+    })
+}

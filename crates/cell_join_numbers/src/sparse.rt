@@ -1,0 +1,63 @@
+//! The labels that are paired, each once and in order, and the table of their nodes.
+
+ghost use Rattle.std.specs.Prelude.{◌≡◌, ◌<◌, AllPairs, IfOk, length, map};
+ghost use Rattle.cell_cats_areas.specs.parts.Labels.{PointDown};
+ghost use Rattle.cell_join_numbers.specs.UnionFind.{JoinsEach};
+ghost use Rattle.cell_join_numbers.specs.SparseLabels.{labels_before, pair_places};
+ghost use Rattle.cell_join_numbers.specs.SparseNumbers.{AreLabelsOf, labels_of};
+
+use crate::union_find::unite;
+use cell_core::memory::Memory;
+use std::alloc::Global;
+
+// The labels of all pairs.
+fn labels_of(alloc: Global, pairs: &[(u64, u64)]) -> Result<Vec<u64>, Memory>
+    ensures { IfOk result (λ labels. labels.items ≡ labels_of pairs.now) }
+{
+    let mut labels = Vec::new(alloc);
+    for pair in pairs {
+        labels.push(pair.0)?;
+        labels.push(pair.1)?;
+    }
+    Ok(labels)
+}
+
+// Each label of the pairs once, in order.
+pub(crate) fn paired_labels(alloc: Global, pairs: &[(u64, u64)]) -> Result<Vec<u64>, Memory>
+    ensures ascending { IfOk result (λ paired. AllPairs ◌<◌ paired.items) }
+    ensures same { IfOk result (λ paired. AreLabelsOf pairs.now paired.items) }
+{
+    let mut paired = labels_of(alloc, pairs)?;
+    paired.sort_unstable();
+    paired.dedup();
+    Ok(paired)
+}
+
+/// How many of some labels in order come before one.
+pub fn place_of(paired: &[u64], label: u64) -> usize
+    requires { AllPairs ◌<◌ paired.now }
+    ensures { result ≡ labels_before paired.now label }
+{
+    match paired.binary_search(&label) {
+        Ok(place) => place,
+        Err(place) => place,
+    }
+}
+
+// Unites the nodes of each pair.
+pub(crate) fn unite_pairs(table: &mut [u64], paired: &[u64], pairs: &[(u64, u64)])
+    requires in_order { AllPairs ◌<◌ paired.now }
+    requires long { length table.old ≡ length paired.now }
+    requires all { AreLabelsOf pairs.now paired.now }
+    requires down { PointDown table.old }
+    ensures down { PointDown table.new }
+    ensures leads { JoinsEach (map (pair_places paired.now) pairs.now) table.old table.new }
+{
+    for pair in pairs {
+        unite(
+            table,
+            place_of(paired, pair.0) as u64,
+            place_of(paired, pair.1) as u64,
+        );
+    }
+}

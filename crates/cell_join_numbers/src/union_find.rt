@@ -1,0 +1,56 @@
+//! The nodes of labels, and which of them were united.
+
+ghost use Rattle.std.specs.Prelude.{◌≡◌, ℕ, ◌<◌, ◌≤◌, ◌+◌, [], ◌∷◌, OnOk, length};
+ghost use Rattle.cell_cats_areas.specs.parts.Labels.{PointDown};
+ghost use Rattle.cell_join_numbers.specs.UnionFind.{JoinsEach, Keeps, LeadTo};
+
+use cell_core::memory::Memory;
+
+// Puts so many nodes after the others, each a root.
+pub(crate) fn add_nodes(table: &mut Vec<u64>, count: u64) -> Result<(), Memory>
+    requires down { PointDown table.old.items }
+    ensures down { OnOk result (PointDown table.new.items) }
+    ensures long { OnOk result (length table.new.items ≡ length table.old.items + count) }
+    ensures leads { OnOk result (Keeps table.old.items table.new.items) }
+{
+    for _added in 0..count {
+        let node = table.len() as u64;
+        table.push(node)?;
+    }
+    Ok(())
+}
+
+// The root that a node leads to. The way to it is halved, after its first step.
+fn root_of(table: &mut [u64], node: u64) -> u64
+    requires down { PointDown table.old }
+    requires inside { node < length table.old }
+    ensures down { PointDown table.new }
+    ensures low { result ≤ node }
+    ensures leads { Keeps table.old table.new }
+    ensures root { (root_of : ℕ → ℕ) → LeadTo table.old root_of → result ≡ root_of node }
+{
+    let mut at = table[node as usize];
+    while table[at as usize] != at {
+        let next = table[table[at as usize] as usize];
+        table[at as usize] = next;
+        at = next;
+    }
+    at
+}
+
+// Unites two nodes: of the roots that they lead to the larger points to the smaller.
+pub(crate) fn unite(table: &mut [u64], one: u64, other: u64)
+    requires down { PointDown table.old }
+    requires one_inside { one < length table.old }
+    requires other_inside { other < length table.old }
+    ensures down { PointDown table.new }
+    ensures leads { JoinsEach ((one, other) ∷ []) table.old table.new }
+{
+    let first = root_of(table, one);
+    let second = root_of(table, other);
+    if first < second {
+        table[second as usize] = first;
+    } else {
+        table[first as usize] = second;
+    }
+}
