@@ -435,18 +435,26 @@ def main(words, folder):
     except (Missing, OSError) as fault:
         tell(["rcell-explain: %s" % fault])
         sys.exit(127)
+    except KeyboardInterrupt:
+        sys.exit(130)
+    try:
+        say(run, words)
+        sys.stderr.flush()
+    except OSError:
+        pass  # standard error is full or gone: there is nowhere to say so
+    os._exit(128 - run.status if run.status < 0 else run.status)  # a thread may wait for a pipe that nobody writes
+
+
+def say(run, words):
+    """Passes on what rcell said, and explains it."""
     sys.stderr.buffer.write(run.told)
     sys.stderr.buffer.flush()
-    status = run.status
-    if status == 0:
+    if run.status == 0:
         messages = Messages()
         for place, name, values in warnings_of(run):
             cause, instead = messages.warned(name, values)
             tell(["rcell-explain: warning: %s%s" % (place, cause)] + ([INDENT + instead] if instead else []))
-    elif status < 0:
-        tell(ended(status))
-        status = 128 - status
+    elif run.status < 0:
+        tell(ended(run.status))
     else:
         tell(explained(run, words))
-    sys.stderr.flush()
-    os._exit(status)  # a thread may wait for a pipe that nobody writes

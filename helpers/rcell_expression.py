@@ -297,6 +297,8 @@ class Assignment:
             fix = (start, end, "%d" % (floor if sign.text in (">", "<=") else floor + 1))
         if fix:
             fixed = "`%s` for `%s`" % (fix[2], shown(self.line[fix[0] : end]))
+            if "/" in fix[2]:
+                fixed += "; `/` drops the remainder (7 / 2 is 3), so multiply counts of cells instead if fractions matter"
         self.tell(start, end, "number not whole", "fraction", None, fixed=fixed)
         if fix:
             self.script.faults[-1].fixes.append(fix)

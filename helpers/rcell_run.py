@@ -6,10 +6,12 @@
     Run(program, words)       a run: its status and message, and the files that were given
 """
 import os
-import shutil
 import stat
 import subprocess
 import threading
+
+from rcell_front.files import write_all
+from rcell_front.programs import close, found_on_path, pipe
 
 MOST_START = 1 << 16  # bytes of the beginning of a file that are looked at
 MOST_TAIL = 1 << 22  # bytes of a pipe that are kept: a message is about what was read last
@@ -26,11 +28,11 @@ def found_program(folder):
     """RCELL, or the program beside the helper, in bin beside its folder, or on the path."""
     named = os.environ.get("RCELL")
     if named:
-        return named
+        return os.path.abspath(named)
     for path in (os.path.join(folder, "rcell"), os.path.join(os.path.dirname(folder), "bin", "rcell")):
         if os.access(path, os.X_OK) and os.path.isfile(path):
             return path
-    found = shutil.which("rcell")
+    found = found_on_path("rcell")
     if found is None:
         raise Missing("rcell is neither beside this program nor on the path; set RCELL to its path")
     return found
@@ -83,7 +85,7 @@ class Pipe:
         self.path = path
         self.is_kept = True
         self.first, self.tail, self.tail_size, self.lines_before = b"", [], 0, 1
-        self.reads, self.writes = os.pipe()
+        self.reads, self.writes = pipe()
 
     def hand_on(self, source):
         """Copies all that comes to the pipe; ends quietly where rcell has stopped reading."""
@@ -93,9 +95,7 @@ class Pipe:
                 break
             self.keep(piece)
             try:
-                view = memoryview(piece)
-                while view:
-                    view = view[os.write(self.writes, view) :]
+                write_all(self.writes, piece)
             except BrokenPipeError:
                 break
 
@@ -153,37 +153,41 @@ class Given:
     def given(self, at, before, path):
         if not is_read_once(path):
             return File(path)
-        pipe = Pipe(path)
-        self.pipes.append((at, pipe))
-        self.words[at] = "%s/dev/fd/%d" % (before, pipe.reads)
-        return pipe
+        held = Pipe(path)
+        self.pipes.append((at, held))
+        self.words[at] = "%s/dev/fd/%d" % (before, held.reads)
+        return held
 
     def feed(self):
         """Opens what can be read once in rcell's order, and hands it on in the order in which rcell reads: grids, then script."""
         try:
-            sources = {at: os.open(pipe.path, os.O_RDONLY) for at, pipe in self.pipes}
+            sources = {at: os.open(held.path, os.O_RDONLY) for at, held in self.pipes}
         except OSError:
             sources = {}
-        for at, pipe in sorted(self.pipes, key=lambda it: (it[0] == 0, it[0])):
+        for at, held in sorted(self.pipes, key=lambda it: (it[0] == 0, it[0])):
             if at in sources:
-                pipe.hand_on(sources[at])
+                held.hand_on(sources[at])
                 os.close(sources[at])
-            os.close(pipe.writes)
+            close(held.writes)
 
 
 class Run:
-    """A run of rcell: what was given, its status, and what it told."""
+    """A run of rcell: what was given, its status, and its message; the program ends with the run, whatever has happened."""
 
     def __init__(self, program, words):
         self.given = Given(words)
-        ends = [pipe.reads for _, pipe in self.given.pipes]
+        ends = [held.reads for _, held in self.given.pipes]
         for end in ends:
             os.set_inheritable(end, True)
         # What a shell has opened for us, as in NAME=<(..), is rcell's as well.
         child = subprocess.Popen([program] + self.given.words, stderr=subprocess.PIPE, close_fds=False)
-        for end in ends:
-            os.close(end)
-        if self.given.pipes:
-            threading.Thread(target=self.given.feed, daemon=True).start()
-        self.told = child.stderr.read()
-        self.status = child.wait()
+        try:
+            for end in ends:
+                close(end)
+            if self.given.pipes:
+                threading.Thread(target=self.given.feed, daemon=True).start()
+            self.told = child.stderr.read()
+            self.status = child.wait()
+        finally:
+            child.kill()
+            child.wait()

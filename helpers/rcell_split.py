@@ -11,6 +11,8 @@ import shutil
 import subprocess
 import sys
 
+from rcell_front.files import private_folder, write_all
+from rcell_front.programs import above_standard
 from rcell_run import Missing, found_program
 
 LONGEST_SCRIPT = 1048576
@@ -134,10 +136,8 @@ def read_script(path):
 
 def given_as_file(text):
     """A path that gives a text, for a child."""
-    file = os.memfd_create("script")
-    view = memoryview(text)
-    while view:
-        view = view[os.write(file, view) :]
+    file = above_standard(os.memfd_create("script"))
+    write_all(file, text)
     os.set_inheritable(file, True)
     return "/dev/fd/%d" % file
 
@@ -147,19 +147,19 @@ def run(program, words, folder):
     text = read_script(words[0])
     marked = Marked(text if text is not None else b"")
     script = words[0] if text is None else given_as_file(marked.text)
-    part = os.path.join(os.path.dirname(folder), ".%s.%d.part" % (os.path.basename(folder)[:200], os.getpid()))
-    os.mkdir(part)
+    room = private_folder(os.path.dirname(folder), os.path.basename(folder))
     try:
+        part = os.path.join(room, "outputs")
+        os.mkdir(part)
         child = subprocess.Popen([program, script] + words[2:], stdout=subprocess.PIPE, stderr=subprocess.PIPE, close_fds=False)
         parts = Parts(part, marked)
         try:
             parts.take(child.stdout)
-        except BaseException:
+            told = child.stderr.read()
+            status = child.wait()
+        finally:
             child.kill()
             child.wait()
-            raise
-        told = child.stderr.read()
-        status = child.wait()
         sys.stderr.buffer.write(marked.users_message(told))
         sys.stderr.buffer.flush()
         if status == 0 and not parts.is_whole():
@@ -168,7 +168,7 @@ def run(program, words, folder):
             keep(part, folder)
         return status if status >= 0 else 128 - status
     finally:
-        shutil.rmtree(part, ignore_errors=True)
+        shutil.rmtree(room, ignore_errors=True)
 
 
 def keep(part, folder):
@@ -198,7 +198,7 @@ def main(words, here, usage):
         sys.stderr.write("rcell-split: %s\n" % fault)
         return 127
     except OSError as fault:
-        sys.stderr.write("rcell-split: %s\n" % fault)
+        sys.stderr.write("rcell-split: %s: %s\n" % (folder, fault.strerror))
         return REFUSED_STATUS
     except KeyboardInterrupt:
         return 130

@@ -26,6 +26,10 @@ PIECE = 1 << 22  # bytes of a grid that are read at once
 MOST_HEADER = 1 << 16  # bytes within which the header of a grid ends
 
 
+VISIBLE = re.compile(rb"[!-~]{1,64}")
+LONE_SIGN = re.compile(rb"[+-](?![0-9])")
+
+
 class Refused(Exception):
     """A sentence that says why a raster can't be a grid, or a grid no raster."""
 
@@ -69,6 +73,8 @@ class Region:
         """The region of a geotransform of GDAL (None: cells of side 1), and whether its first row is the southern one."""
         if transform is None:
             return cls(Fraction(rows), Fraction(0), Fraction(cols), Fraction(0), rows, cols), False
+        if not np.isfinite(transform).all():
+            raise Refused("a transform with a number that is not finite: %s" % (tuple(transform),))
         left, wide, skew_x, top, skew_y, high = (Fraction(value) for value in transform)
         if skew_x or skew_y or wide <= 0 or high == 0:
             raise Refused("the raster is rotated or mirrored: straighten it with gdalwarp -r near")
@@ -212,14 +218,14 @@ class BadCell(Refused):
         self.row, self.col, self.fault = row, col, fault
 
 
-def whole_cells(block, null_values):
+def whole_cells(block, null_values, null=None):
     """A block of decimals as whole numbers, with the cells that are null; NaN is."""
-    null = np.isnan(block)
+    null = np.isnan(block) if null is None else np.isnan(block) | null
     for value in null_values:
         null |= block == block.dtype.type(value)
     bad = ~null & (block != np.rint(block)) | np.isinf(block) & ~null
     if not bad.any():
-        bad = ~null & (np.abs(block) > GREATEST)
+        bad = ~null & (np.abs(block) >= GREATEST + 1.0)
     if bad.any():
         row, col = np.argwhere(bad)[0]
         value = block[row, col]
@@ -234,7 +240,7 @@ def whole_cells(block, null_values):
 def null_values_of(band, given):
     """The values that are null: the given one, or that of the band; `none` for no one."""
     if given is not None:
-        return [] if given == "none" else [float(given) if re.search("[.eEnN]", given) else int(given)]
+        return [] if given == "none" else [float(given) if re.search("[.einEIN]", given) else int(given)]
     value = band.GetNoDataValue()
     getter = {"Int64": "GetNoDataValueAsInt64", "UInt64": "GetNoDataValueAsUInt64"}
     from osgeo import gdal
@@ -244,13 +250,31 @@ def null_values_of(band, given):
     return [] if value is None else [value]
 
 
-def mask_of(band, given):
-    """The band of the mask where the raster has one of its own, or an alpha band."""
+def masks_of(dataset, number, given):
+    """The bands whose zeros make a cell null: the raster's own mask, and its alpha band."""
     from osgeo import gdal
+    if given is not None:
+        return []
+    band = dataset.GetRasterBand(number)
     flags = band.GetMaskFlags()
-    if given is not None or flags & (gdal.GMF_ALL_VALID | gdal.GMF_NODATA) or not flags & (gdal.GMF_PER_DATASET | gdal.GMF_ALPHA):
-        return None
-    return band.GetMaskBand()
+    masks = [band.GetMaskBand()] if flags & gdal.GMF_PER_DATASET and not flags & gdal.GMF_ALPHA else []
+    return masks + [dataset.GetRasterBand(at) for at in alphas_of(dataset) if at != number]
+
+
+def alphas_of(dataset):
+    from osgeo import gdal
+    return [at for at in range(1, dataset.RasterCount + 1)
+            if dataset.GetRasterBand(at).GetColorInterpretation() == gdal.GCI_AlphaBand]
+
+
+def check_meaning(dataset, band):
+    """Refuses a raster whose cells stand for other values, or that has no place but control points."""
+    scale, offset = band.GetScale(), band.GetOffset()
+    if scale not in (None, 1) or offset not in (None, 0):
+        raise Refused("its values are scaled: each cell times %g, plus %g; write them out as whole numbers first (gdal_translate -unscale)"
+                      % (1 if scale is None else scale, offset or 0))
+    if dataset.GetGCPCount() and dataset.GetGeoTransform(can_return_null=True) is None:
+        raise Refused("it has ground control points and no transform: warp it first (gdalwarp -r near)")
 
 
 def blocks_of(band, is_turned):
@@ -269,30 +293,30 @@ def write_grid(dataset, number, write, nodata=None, like=None, like_name="the ot
     region, is_turned = Region.of_transform(dataset.GetGeoTransform(can_return_null=True), band.YSize, band.XSize)
     if like is not None:
         region = region.with_edges_of(like, like_name)
-    values, mask = null_values_of(band, nodata), mask_of(band, nodata)
+    check_meaning(dataset, band)
+    values, masks = null_values_of(band, nodata), masks_of(dataset, number, nodata)
     whole = [int(value) for value in values if value == value and abs(value) < 2**64 and value == int(value)]
     texts = CellText(whole)
     write(region.header())
     for first, count in blocks_of(band, is_turned):
         block = read_block(band, first, count)
-        null = read_block(mask, first, count) == 0 if mask is not None else None
+        null = np.logical_or.reduce([read_block(mask, first, count) == 0 for mask in masks]) if masks else None
         try:
             write(text_of(block, null, values, texts, is_turned))
         except BadCell as fault:
-            row = first + (count - 1 - fault.row if is_turned else fault.row)
-            raise BadCell(row, fault.col, fault.fault) from None
+            north = band.YSize - first - count if is_turned else first  # rows are counted from the north, as in the grid
+            raise BadCell(north + fault.row, fault.col, fault.fault) from None
     return region
 
 
 def text_of(block, null, values, texts, is_turned):
     if block.dtype.kind == "c":
         raise Refused("the cells are complex numbers")
-    if block.dtype.kind == "f":
-        block, is_null = whole_cells(block, values)
-        null = is_null if null is None else null | is_null
-        texts = CellText()
     if is_turned:
         block, null = block[::-1], null if null is None else null[::-1]
+    if block.dtype.kind == "f":
+        block, null = whole_cells(block, values, null)
+        texts = CellText()
     return texts.of(block, null)
 
 
@@ -305,7 +329,6 @@ def read_block(band, first, count):
 
 def one_band(dataset, number=None):
     """The number of the band: the given one, or the only one that is no alpha band."""
-    from osgeo import gdal
     count = dataset.RasterCount
     if count == 0:
         names = [name for name, _ in dataset.GetSubDatasets()]
@@ -314,8 +337,7 @@ def one_band(dataset, number=None):
         if not 1 <= number <= count:
             raise Refused("it has no band %d, only %d" % (number, count))
         return number
-    kept = [at for at in range(1, count + 1)
-            if dataset.GetRasterBand(at).GetColorInterpretation() != gdal.GCI_AlphaBand]
+    kept = sorted(set(range(1, count + 1)) - set(alphas_of(dataset)))
     if len(kept) != 1:
         raise Refused("it has %d bands: name one with --band" % count)
     return kept[0]
@@ -349,6 +371,9 @@ class Grid:
         self.rest = start[at:]
         self.null = self.values.get("null", b"*")
         self.multiplier = self.whole("multiplier") if "multiplier" in self.values else 1
+        if self.values.get("type", b"int") != b"int" or not VISIBLE.fullmatch(self.null) or b":" in self.null or abs(self.multiplier) > GREATEST:
+            raise Refused("it is not a grid of rcell: its type is int, its null text 1 to 64 bytes without blanks and colons, its multiplier at "
+                          "most %d" % GREATEST)
         self.region = self.found_region()
 
     def keep(self, key, value):
@@ -408,7 +433,7 @@ class Grid:
                 cells = np.fromstring(text, np.int64, sep=" ") if text.strip() else np.zeros(0, np.int64)
             except (DeprecationWarning, ValueError):
                 cells = None
-        if cells is None or len(cells) != words_in(text) or b"\v" in text or b"\f" in text:
+        if cells is None or len(cells) != words_in(text) or b"\v" in text or b"\f" in text or LONE_SIGN.search(text):
             raise self.bad_cell(piece, before)
         return self.multiplied(piece, cells, nulls, before)
 
@@ -416,9 +441,10 @@ class Grid:
         null = cells == NULL
         if np.count_nonzero(null) != nulls:  # the number that stands for null is a cell
             raise self.bad_cell(piece, before)
+        bad = (cells > GREATEST) | (cells < -GREATEST)
         if self.multiplier != 1:
             cells = np.where(null, NULL, cells.clip(-GREATEST - 1, GREATEST + 1) * self.multiplier)
-        bad = (cells > GREATEST) | (cells < -GREATEST)
+            bad |= (cells > GREATEST) | (cells < -GREATEST)
         if np.count_nonzero(bad) != nulls:
             at = int(np.argmax(bad & ~null))
             raise self.bad_place(before + at, "beyond %d" % GREATEST)

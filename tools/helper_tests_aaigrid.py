@@ -4,6 +4,8 @@ import os
 HEADER = "ncols 3\nnrows 2\nxllcorner 10\nyllcorner 20\ncellsize 5\n"
 RIGHT = "2 1\n3 2\n* 3\n"
 BIG = "9" * 70
+SPELLED = ("rcell-aaigrid: the cell {0} is the nodata value {1} in another spelling: run again with --nodata {1}.0, which turns the cells one "
+           "by one\n")
 
 # NODATA_value, the cells, what rcell counts or what is said.
 FORMS = [
@@ -29,8 +31,14 @@ FORMS = [
     ("-9999", "-9999 2 3\n3 -9999", "rcell: m:10: too few cells\n"),
     ("-9999", "-9999 2 3\n3 -9999 3 3", "rcell: m:9: too many cells\n"),
     ("-9999.0", "2 3 3\n3 3", "rcell-aaigrid: the header announces 2 rows of 3 cells, but there are 5 cells\n"),
-    ("-9999", "-09999 2 3\n3 -9999 -9999", "-9999 1\n2 1\n3 2\n* 2\n"),
-    ("0", "00 2 3\n3 +0 0", "0 2\n2 1\n3 2\n* 1\n"),
+    ("-9999", "-09999 2 3\n3 -9999 -9999", SPELLED.format("-09999", "-9999")), ("-9999", "2 2 3\n3 -9999 -09999", SPELLED.format("-09999", "-9999")),
+    ("0", "00 2 3\n3 0 0", SPELLED.format("00", "0")), ("0", "0 2 3\n3 +0 0", SPELLED.format("+0", "0")), ("0", "0 2 3\n3 0 -0", SPELLED.format("-0", "0")),
+    ("7", "7 2 3\n3 +7 7", SPELLED.format("+7", "7")), ("0", "100 2 3\n3 0 -10", "-10 1\n2 1\n3 2\n100 1\n* 1\n"),
+    ("0.0", "00 2 3\n3 +0 -0", "2 1\n3 2\n* 3\n"), ("-9999.0", "-09999 2 3\n3 9999 -9999", "2 1\n3 2\n9999 1\n* 2\n"),
+    ("-2147483648", "1.0 -2147483647 -2147481600\n3 3 3", "-2147483647 1\n-2147481600 1\n1 1\n3 3\n"),
+    ("2147483648", "2147483647.0 2147482000 3\n3 3 3", "3 4\n2147482000 1\n2147483647 1\n"),
+    ("1234567.5", "1.0 1234567 1234568\n3 3 1234567.50", "1 1\n3 2\n1234567 1\n1234568 1\n* 1\n"),
+    ("1e309", "2 3 3\n3 3 2", "2 2\n3 4\n"), ("-1e400", "2 3 3\n3 3 -1e400", "2 1\n3 4\n* 1\n"), ("1e4000", "2 3 3\n3 3 2", "2 2\n3 4\n"),
     ("1e9999999", "2 3 3\n3 3 2", "2 2\n3 4\n"),
     (BIG, "2 3 3\n3 3 2", "rcell: m:7: token too long\n"),
 ]

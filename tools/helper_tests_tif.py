@@ -81,6 +81,7 @@ MAPS = [
     ("complex64", None, "[[1, 2, 3], [4, 3, 3]]", {}, "the cells are complex numbers"),
     ("uint8", None, "[[1, 2, 3], [4, 5, 6]]", {"mask": [[255, 0, 255], [255, 255, 0]]}, "1 * 3\n4 5 *\n"),
     ("uint8", None, "[[[1, 2, 3], [4, 5, 6]], [[255, 0, 255], [255, 1, 0]]]", {"bands": 1, "alpha": 1}, "1 * 3\n4 5 *\n"),
+    ("uint8", 4, "[[[1, 2, 3], [4, 5, 6]], [[255, 0, 255], [255, 1, 0]]]", {"bands": 1, "alpha": 1}, "1 * 3\n* 5 *\n"),
     ("uint8", None, "[[[1, 2, 3], [4, 5, 6]], [[7, 8, 9], [1, 2, 3]]]", {"bands": 1}, "it has 2 bands: name one with --band"),
 ]
 
@@ -96,6 +97,8 @@ TRANSFORMS = [
     ([0, -1, 0, 0, 0, -1], 2, 3, "the raster is rotated or mirrored: straighten it with gdalwarp -r near"),
     ([1e11, 1, 0, 0, 0, -1], 2, 3, "the edge east has more than 10 digits before its point"),
     ([0, 1e-12, 0, 0, 0, -1], 2, 3, "north is not above south, or east is not above west, to 8 decimals"),
+    ([float("nan"), 1, 0, 0, 0, -1], 2, 3, "a transform with a number that is not finite: (nan, 1.0, 0.0, 0.0, 0.0, -1.0)"),
+    ([0, float("inf"), 0, 0, 0, -1], 2, 3, "a transform with a number that is not finite: (nan, inf, 0.0, 0.0, 0.0, -1.0)"),
     ([0, 1, 0, 0, 0, -1], 1, 70000, "1 rows of 70000 cells: rcell takes 65535 of each, and 2147483647 cells in all; "
      "cut the map into tiles (gdal_translate -srcwin)"),
 ]
@@ -159,8 +162,9 @@ def test_options(room, tally):
     tally.same("--like, far away", answers[-1][1], "rcell-tif: m.tif: north: 2.6 in far.txt, but 2 in the map: more than half a cell apart\n")
     make(room, [("scaled.tif", "uint8", None, "[[1, 2, 3], [4, 5, 6]]", {"scale": 0.1})])
     (status, said), = run_all(room, [["scaled.tif", "scaled.txt"]])
-    tally.same("a scale", (status, said, room.get("scaled.txt").decode()),
-               (0, "rcell-tif: warning: the band has a scale of 0.1 and an offset of 0; the grid has its stored values\n", HEADER + "1 2 3\n4 5 6\n"))
+    tally.same("a scale", (status, said, os.path.exists(f"{room.path}/scaled.txt")),
+               (1, "rcell-tif: scaled.tif: its values are scaled: each cell times 0.1, plus 0; write them out as whole numbers first "
+                   "(gdal_translate -unscale)\n", False))
     ran = room.run("rcell-tif", "m.tif", "no/folder/x.txt")
     tally.same("no such folder", (ran.returncode, b"Traceback" in ran.stderr), (1, False))
     ran = room.shell("rcell-tif m.tif - | rcell <(echo r.stats -c input=m) m=/dev/stdin")
@@ -178,6 +182,7 @@ BACK = [
     (HEADER + "multiplier: 3\n1 2 *\n10 0 -1\n", "3 6 *\n30 0 -3\n"), (HEADER + "2147483647 -2147483647 *\n+1 00 -1", "2147483647 -2147483647 *\n1 0 -1\n"),
     (HEADER + "1 2 3 4\t5\r\n\n6", "1 2 3\n4 5 6\n"), (HEADER + "null: -2147483648\n-2147483648 2 3\n4 5 6\n", "* 2 3\n4 5 6\n"),
 ]
+STRANGE = "it is not a grid of rcell: its type is int, its null text 1 to 64 bytes without blanks and colons, its multiplier at most 2147483647"
 BAD_GRIDS = [
     (HEADER + "1 2 3\n4 5.5 6\n", "the cell in row 2, column 2: 5.5 is not a whole number"),
     (HEADER + "1 2 3\n4 1_0 6\n", "the cell in row 2, column 2: 1_0 is not a whole number"),
@@ -193,6 +198,11 @@ BAD_GRIDS = [
     (HEADER.replace("rows: 2", "rows: 70000") + "1\n", "70000 rows of 3 cells: rcell takes 65535 of each, and 2147483647 cells in all; "
      "cut the map into tiles (gdal_translate -srcwin)"),
     (HEADER.replace("rows: 2", "rows: 1e9") + "1\n", "it is not a grid of rcell: rows: is 1e9"),
+    (HEADER + "1 2 3\n4 5 -", "the cell in row 2, column 3: - is not a whole number"),
+    (HEADER + "1 2 3\n4 + 6\n", "the cell in row 2, column 2: + is not a whole number"),
+    (HEADER + "multiplier: 0\n1 2 3\n4 3000000000 6\n", "the cell in row 2, column 2: beyond 2147483647"),
+    (HEADER + "type: float\n1 2 3\n4 5 6\n", STRANGE), (HEADER + "null: a b\n1 2 3\n4 5 6\n", STRANGE),
+    (HEADER + f"null: {'n' * 65}\n1 2 3\n4 5 6\n", STRANGE), (HEADER + "multiplier: 2147483648\n1 2 3\n4 5 6\n", STRANGE),
 ]
 
 

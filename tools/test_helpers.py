@@ -22,7 +22,7 @@ import explained
 
 ROOT = os.path.dirname(os.path.dirname(os.path.abspath(__file__)))
 CASES = f"{ROOT}/tools/explained.txt"
-TESTS = ("helper_tests_aaigrid", "helper_tests_judge", "helper_tests_explain", "helper_tests_split", "helper_tests_tif")
+TESTS = ("helper_tests_aaigrid", "helper_tests_judge", "helper_tests_explain", "helper_tests_split", "helper_tests_tif", "helper_tests_edge")
 SECONDS = 600  # only what hangs takes longer, also on a machine with much other work
 HEADER = "north: 3\nsouth: 0\neast: 4\nwest: 0\nrows: 3\ncols: 4\n"
 LAND = HEADER + "1 1 2 *\n1 2 2 2\n3 3 1 1\n"

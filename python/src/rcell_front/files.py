@@ -1,0 +1,229 @@
+# SPDX-License-Identifier: Apache-2.0 OR GPL-2.0-or-later
+"""Files that are written whole or not at all, and the standard streams.
+
+Nothing here is imported that takes time to load: most runs of a helper do little more than copy.
+"""
+
+from __future__ import annotations
+
+import errno
+import fcntl
+import os
+import select
+import stat
+import sys
+from types import TracebackType
+
+__all__ = ["SIDECARS", "Output", "end_on_signals", "is_same_file", "open_standard_streams", "private_folder", "remove_folder", "write_all"]
+
+SIDECARS = (".aux.xml", ".msk", ".ovr")
+"""What GDAL keeps beside a raster under its name: an old mask or old labels must not stand beside a new raster."""
+
+LONGEST_STEM = 200
+MOST_LINKS = 40
+PIECE = 1 << 20
+OWN_DESCRIPTORS = "/proc/self/fd"
+
+
+def open_standard_streams() -> None:
+    """Open /dev/null on each closed descriptor from 0 to 2, so that no other file of this program takes its number.
+
+    A closed standard output is opened for reading: what is written to it fails, as it should.
+    """
+    while (descriptor := os.open(os.devnull, os.O_RDWR)) <= 2:
+        if descriptor == 1:
+            os.close(descriptor)
+            os.open(os.devnull, os.O_RDONLY)
+        os.set_inheritable(descriptor, True)
+    os.close(descriptor)
+    sys.stdin = sys.stdin or open(0, closefd=False)
+    sys.stdout = sys.stdout or open(1, "w", closefd=False)
+    sys.stderr = sys.stderr or open(2, "w", closefd=False)
+
+
+def end_on_signals() -> None:
+    """Make the signals that end a program raise SystemExit instead, so that what is half done is removed."""
+    import signal
+
+    for name in ("SIGHUP", "SIGQUIT", "SIGTERM", "SIGXCPU"):
+        number = getattr(signal, name)
+        if signal.getsignal(number) == signal.SIG_DFL:  # one that is ignored, as by nohup, stays so
+            signal.signal(number, lambda number, _: sys.exit(128 + number))
+
+
+def is_same_file(path: str, other: str) -> bool:
+    """Return whether two paths lead to one regular file."""
+    try:
+        return os.path.samefile(path, other) and os.path.isfile(path)
+    except (OSError, ValueError):
+        return False
+
+
+def write_all(descriptor: int, data: bytes | memoryview) -> None:
+    """Write all bytes to a descriptor, also where it takes some at a time or is not ready."""
+    rest = memoryview(data).cast("B")
+    while rest:
+        try:
+            rest = rest[os.write(descriptor, rest) :]
+        except BlockingIOError:
+            select.select([], [descriptor], [])
+
+
+def private_folder(folder: str, name: str) -> str:
+    """Create a hidden folder of this user's own, named after a file."""
+    stem = os.fsdecode(os.fsencode(name)[:LONGEST_STEM])
+    while True:
+        path = os.path.join(folder, f".{stem}-{os.urandom(4).hex()}")
+        try:
+            os.mkdir(path, 0o700)
+        except FileExistsError:
+            continue
+        return path
+
+
+def remove_folder(path: str) -> None:
+    """Remove a folder and the files in it."""
+    for entry in os.scandir(path):
+        os.unlink(entry.path)
+    os.rmdir(path)
+
+
+def _own_descriptor(path: str) -> int | None:
+    """Return the number of the open descriptor that a path such as /dev/stdout leads to."""
+    own = os.path.realpath(OWN_DESCRIPTORS)
+    for _ in range(MOST_LINKS):
+        folder, name = os.path.split(os.path.abspath(path))
+        if name.isdecimal() and os.path.realpath(folder) == own:
+            return int(name)
+        if not os.path.islink(path):
+            return None
+        path = os.path.join(folder, os.readlink(path))
+    return None
+
+
+def _opened_for_writing(descriptor: int) -> int:
+    if fcntl.fcntl(descriptor, fcntl.F_GETFL) & os.O_ACCMODE == os.O_RDONLY:
+        name = "standard output" if descriptor == 1 else f"descriptor {descriptor}"
+        raise OSError(errno.EBADF, "is closed", name)
+    return os.dup(descriptor)
+
+
+def _opened_special(path: str) -> int | None:
+    """Open what is there and is no regular file: a device, a FIFO, an open descriptor; `-` is standard output."""
+    descriptor = 1 if path == "-" else _own_descriptor(path)
+    if descriptor is not None:
+        return _opened_for_writing(descriptor)
+    try:
+        is_special = not stat.S_ISREG(os.stat(path).st_mode)
+    except FileNotFoundError:
+        return None
+    return os.open(path, os.O_WRONLY) if is_special else None
+
+
+class Output:
+    """A file to write, which takes its name when the block ends without an exception.
+
+    It is written in a private folder beside its name. Links are followed; a file that is replaced keeps its mode; what GDAL keeps
+    beside a raster goes with it, and comes with the new one. What is there and is no regular file, such as a device, is opened and
+    written, and never replaced.
+
+    Parameters
+    ----------
+    path : str
+        `-` is standard output.
+    """
+
+    def __init__(self, path: str) -> None:
+        if "\0" in path or not os.path.basename(path):
+            raise OSError(errno.EINVAL, "is no name of a file", path)
+        self._given = path
+        self._special = _opened_special(path)
+        self._target = os.path.realpath(path)
+        self._room: str | None = None
+        self._stream: int | None = self._special
+        self._is_kept = False
+
+    def __enter__(self) -> Output:
+        return self
+
+    def path(self) -> str:
+        """Return a new path with the name of the file, for what opens its files itself."""
+        folder, name = os.path.split(self._target)
+        if self._room is None:
+            try:
+                if self._special is not None:
+                    folder = os.environ.get("TMPDIR") or "/tmp"
+                elif os.path.exists(self._target) and not os.access(self._target, os.W_OK):
+                    raise PermissionError(errno.EACCES, os.strerror(errno.EACCES))
+                self._room = private_folder(folder, name)
+            except OSError as error:
+                raise OSError(error.errno, error.strerror, self._given) from None
+        return os.path.join(self._room, name)
+
+    def stream(self) -> int:
+        """Return a descriptor that takes the bytes of the file."""
+        if self._stream is None:
+            self._stream = os.open(self.path(), os.O_WRONLY | os.O_CREAT | os.O_EXCL, 0o666)
+        return self._stream
+
+    def keep(self) -> None:
+        """Give the file its name; what is no regular file gets the bytes."""
+        if self._room is None or self._is_kept:
+            return
+        try:
+            self._copy() if self._special is not None else self._replace(self.path())
+        except OSError as error:
+            raise OSError(error.errno, error.strerror, self._given) from None
+        self._is_kept = True
+
+    def __exit__(self, kind: type[BaseException] | None, _: BaseException | None, __: TracebackType | None) -> None:
+        try:
+            if kind is None:
+                self.keep()
+        finally:
+            if self._stream is not None:
+                os.close(self._stream)
+            if self._room is not None:
+                remove_folder(self._room)
+
+    def _copy(self) -> None:
+        assert self._special is not None
+        with open(self.path(), "rb") as file:
+            while piece := file.read(PIECE):
+                write_all(self._special, piece)
+
+    def _adopt(self, part: str) -> None:
+        """Give the new file the owner and the mode of the one that it replaces."""
+        try:
+            old = os.stat(self._target)
+        except FileNotFoundError:
+            return
+        try:
+            os.chown(part, old.st_uid, old.st_gid)
+        except PermissionError:
+            pass
+        mode = stat.S_IMODE(old.st_mode) & 0o777
+        has_other_group = os.stat(part).st_gid != old.st_gid
+        os.chmod(part, mode & ~0o070 if has_other_group else mode)
+
+    def _replace(self, part: str) -> None:
+        """Put the new file and what belongs to it in place; if that fails, put the old ones back."""
+        assert self._room is not None
+        with open(part, "rb") as file:
+            os.fsync(file.fileno())
+        self._adopt(part)
+        done: list[tuple[str, str]] = []
+        try:
+            for at, ending in enumerate(SIDECARS):
+                beside, kept = self._target + ending, os.path.join(self._room, f"old-{at}")
+                if os.path.lexists(beside):
+                    os.rename(beside, kept)
+                    done.append((kept, beside))
+                if os.path.lexists(part + ending):
+                    os.rename(part + ending, beside)
+                    done.append((beside, part + ending))
+            os.replace(part, self._target)
+        except BaseException:
+            for now, before in reversed(done):
+                os.rename(now, before)
+            raise

@@ -1,0 +1,147 @@
+# SPDX-License-Identifier: Apache-2.0 OR GPL-2.0-or-later
+"""Programs that are found and started: with pipes that no other process holds open, and never left behind."""
+
+from __future__ import annotations
+
+import contextlib
+import errno
+import fcntl
+import os
+import select
+import subprocess
+import threading
+import time
+from collections.abc import Iterator, Sequence
+from types import TracebackType
+
+__all__ = ["Started", "above_standard", "close", "found_on_path", "pipe"]
+
+PIPE_BYTES = 1 << 20
+SET_PIPE_SIZE = getattr(fcntl, "F_SETPIPE_SZ", 1031)  # Python has it from 3.10 on
+MESSAGE_LIMIT = 1 << 16
+"""The programs print one line on standard error; of what another one prints no more is kept."""
+
+_held: set[int] = set()
+_lock = threading.RLock()
+
+
+def _let_go() -> None:
+    """Close in a forked child what would keep the parent waiting for the end of a pipe."""
+    while _held:
+        os.close(_held.pop())
+    _lock.release()
+
+
+os.register_at_fork(before=_lock.acquire, after_in_parent=_lock.release, after_in_child=_let_go)
+
+
+def found_on_path(name: str) -> str | None:
+    """Return the first program of this name on the path; folders that are not absolute are passed over."""
+    for folder in os.get_exec_path():
+        path = os.path.join(folder, name)
+        if os.path.isabs(folder) and os.path.isfile(path) and os.access(path, os.X_OK):
+            return path
+    return None
+
+
+def above_standard(descriptor: int) -> int:
+    """Return a descriptor of the same file that is none of a program's standard streams."""
+    if descriptor > 2:
+        return descriptor
+    try:
+        return fcntl.fcntl(descriptor, fcntl.F_DUPFD_CLOEXEC, 3)
+    finally:
+        os.close(descriptor)
+
+
+def pipe() -> tuple[int, int]:
+    """Create a pipe of a MiB, if the system allows it; both ends are closed in forked children."""
+    with _lock:
+        reader, writer = (above_standard(end) for end in os.pipe())
+        _held.update((reader, writer))
+    with contextlib.suppress(OSError):
+        fcntl.fcntl(writer, SET_PIPE_SIZE, PIPE_BYTES)
+    return reader, writer
+
+
+def close(descriptor: int) -> None:
+    """Close an end of a pipe."""
+    with _lock:
+        _held.discard(descriptor)
+        os.close(descriptor)
+
+
+class Started:
+    """A program at work; leaving the block ends it, whatever has happened.
+
+    Parameters
+    ----------
+    words : sequence of str
+    inherited : sequence of int
+        Descriptors that the program gets under their numbers.
+    seconds : float, optional
+        How long it may take.
+
+    Raises
+    ------
+    OSError
+        The program cannot be started; TimeoutError: it takes too long.
+    """
+
+    def __init__(self, words: Sequence[str], inherited: Sequence[int] = (), seconds: float | None = None) -> None:
+        self._until = None if seconds is None else time.monotonic() + seconds
+        self._message = b""
+        self._output, output = pipe()
+        self._told, told = pipe()
+        try:
+            self._process = subprocess.Popen(words, stdin=subprocess.DEVNULL, stdout=output, stderr=told, pass_fds=inherited)
+        except BaseException:
+            close(self._output)
+            close(self._told)
+            raise
+        finally:
+            close(output)
+            close(told)
+
+    def __enter__(self) -> Started:
+        return self
+
+    def __exit__(self, kind: type[BaseException] | None, _: BaseException | None, __: TracebackType | None) -> None:
+        if self._process.poll() is None:
+            self._process.kill()
+        self._process.wait()
+        close(self._output)
+        close(self._told)
+
+    def pieces(self) -> Iterator[bytes]:
+        """Yield the output as it comes, until it and the message have ended."""
+        poll = select.poll()
+        open_ends = {self._output, self._told}
+        for end in open_ends:
+            poll.register(end, select.POLLIN)
+        while open_ends:
+            left = self._seconds_left()
+            for end, _ in poll.poll(None if left is None else left * 1000):
+                piece = os.read(end, PIPE_BYTES)
+                if not piece:
+                    poll.unregister(end)
+                    open_ends.discard(end)
+                elif end == self._told:
+                    self._message = (self._message + piece)[:MESSAGE_LIMIT]
+                else:
+                    yield piece
+
+    def _seconds_left(self) -> float | None:
+        if self._until is None:
+            return None
+        left = self._until - time.monotonic()
+        if left <= 0:
+            raise TimeoutError(errno.ETIMEDOUT, "does not end")
+        return left
+
+    def end(self) -> tuple[int, bytes]:
+        """Return the status and the message, once all output has been read."""
+        try:
+            return self._process.wait(self._seconds_left()), self._message
+        except subprocess.TimeoutExpired:
+            raise TimeoutError(errno.ETIMEDOUT, "does not end") from None
