@@ -26,6 +26,6 @@ cp "$dist"/rcell-*.whl "$room/dist"
 cp -r python VERSION "$room"
 cp docs/python.md "$room/docs"
 cp -r examples/rasters examples/study.ipynb "$room/examples"
-cp tools/debian.sh "$room/tools"
+cp tools/debian.sh tools/counting.sh "$room/tools"
 # Its mounts are seen by nothing else, and end with it.
 unshare --mount sh -c 'mount -t proc proc "$1/proc" && mount --bind /dev "$1/dev" && exec chroot "$1" sh /tmp/rcell/python/check.sh' sh "$root"

@@ -1,18 +1,29 @@
 #!/bin/sh
-# The part of the Python package that needs numpy alone, on bin/rcell: what the gate runs of it. Where numpy is missing and cannot
-# be installed it is left out, and said. The last line is 'N passed, M failed'.
-cd "$(dirname "$0")" || exit 1
+# What the gate runs of the Python package, on bin/rcell: the tests that need numpy alone, and those of rasters and files at the edge.
+# The last line is 'N passed, M failed, K skipped'.
+cd "$(dirname "$0")/.." || exit 1
+room=$(mktemp -d) || exit 1
+trap 'rm -rf "$room"' EXIT
+. tools/counting.sh
 python=/usr/bin/python3
+export RCELL="$PWD/bin/rcell" PYTHONPATH="$PWD/python/src" PYTHONDONTWRITEBYTECODE=1
+cd python || exit 1
 
+has() {
+    "$python" -c "import $1" 2> /dev/null
+}
 if ! "$python" -c 'import sys; sys.exit(sys.version_info < (3, 11))' 2> /dev/null; then
-    echo 'python: left out: it needs /usr/bin/python3 of version 3.11 or later'
-    echo '0 passed, 0 failed'
-    exit 0
+    skip python 'it needs /usr/bin/python3 of version 3.11 or later' python3
+elif ! has numpy; then
+    skip python 'numpy is not installed' python3-numpy
+else
+    add 'with numpy alone' "$python" tests/gate.py
+    if has 'pytest, hypothesis, rasterio, osgeo, pandas, xarray, dask'; then
+        add 'at the edge' "$python" tests/gate.py tests/test_edge.py tests/test_edge_files.py
+        add 'random rasters' "$python" tools/random_rasters.py --count 300
+    else
+        # shellcheck disable=SC2046
+        skip python/edge 'pytest or a library of rasters is not installed' $(grep -v '^#' packages.txt)
+    fi
 fi
-"$python" -c 'import numpy' 2> /dev/null || sh ../tools/debian.sh python3-numpy
-if ! "$python" -c 'import numpy' 2> /dev/null; then
-    echo 'python: left out: numpy is missing (python3-numpy)'
-    echo '0 passed, 0 failed'
-    exit 0
-fi
-RCELL="$PWD/../bin/rcell" PYTHONPATH="$PWD/src" PYTHONDONTWRITEBYTECODE=1 exec "$python" tests/gate.py
+closing

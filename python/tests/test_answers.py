@@ -55,7 +55,7 @@ def test_units_of_area() -> None:
 
 
 def test_a_matrix() -> None:
-    zone = rcell.Map([[7, 7, 8, 8], [7, 7, 8, 8], [0, 7, 8, 8]], TRANSFORM, nodata=0)
+    zone = rcell.Map([[7, 7, 8, 8], [7, 7, 8, 8], [0, 7, 8, 8]], TRANSFORM, "EPSG:32632", nodata=0)
     frame = rcell.table("r.stats -c -l input=zone,lc", zone=zone, lc=land(), pivot=True)
     assert (frame.index.name, frame.columns.name) == ("zone", "lc")
     assert frame.index.tolist() == [7, 8, "null"] and frame.columns.tolist() == [*NAMES.values(), "null"]
@@ -156,7 +156,7 @@ def test_no_half_written_geotiff(tmp_path: pathlib.Path, monkeypatch: pytest.Mon
     with pytest.raises(rcell.Refused, match="written as .tif, .tiff or .txt"):
         grid.write(tmp_path / "lc.jpg")
     (tmp_path / "old.tif").write_text("old")
-    monkeypatch.setattr("rcell._geotiff.write_through", lambda *_: (_ for _ in ()).throw(OSError(28, "No space left on device")))
+    monkeypatch.setattr(os, "fsync", lambda *_: (_ for _ in ()).throw(OSError(28, "No space left on device")))
     with pytest.raises(rcell.WriteFailed, match="No space left"):
         grid.write(tmp_path / "old.tif")
     assert os.listdir(tmp_path) == ["old.tif"] and (tmp_path / "old.tif").read_text() == "old"
@@ -255,11 +255,11 @@ def test_lazy_arrays_are_computed_in_blocks() -> None:
 # The command line
 
 
-def test_csv(raster: Write, capsysbinary: Any, tmp_path: pathlib.Path) -> None:
+def test_csv(raster: Write, capfdbinary: Any, tmp_path: pathlib.Path) -> None:
     path = raster(LAND, nodata=0)
     _labels.write_labels(path, NAMES)
     assert main(["csv", "r.stats -cl input=lc", f"lc={path}", "--area", "ha", "--percent"]) == 0
-    lines = capsysbinary.readouterr().out.decode().splitlines()
+    lines = capfdbinary.readouterr().out.decode().splitlines()
     assert lines == ["lc,lc_label,cells,ha,percent", '1,"broad leaved, wood",5,0.3125,41.66666667', "2,größer,4,0.25,33.33333333", "3,c,2,0.125,16.66666667", ",,1,0.0625,8.333333333"]
     (tmp_path / "script").write_text("r.stats -cn input=lc,lc\n")
     assert main(["csv", str(tmp_path / "script"), f"lc={path}", "--pivot", "--out", str(tmp_path / "t.csv")]) == 0
@@ -317,7 +317,7 @@ def test_a_closed_output(raster: Write) -> None:
     os.close(reader)
     ran = subprocess.run([sys.executable, "-m", "rcell", "csv", "r.stats -c input=lc", f"lc={raster(LAND)}"], stdout=writer, stderr=subprocess.PIPE, env=environment)
     os.close(writer)
-    assert (ran.returncode, ran.stderr) == (4, b"rcell: standard output was closed\n")
+    assert (ran.returncode, ran.stderr) == (4, b"rcell: standard output cannot be written: Broken pipe\n")
 
 
 def test_progress_is_shown_on_a_terminal(raster: Write, monkeypatch: pytest.MonkeyPatch, capsys: Any) -> None:

@@ -21,6 +21,7 @@ from ._errors import (
     Killed,
     MissingLibrary,
     MissingProgram,
+    OtherCrs,
     OtherRegion,
     OutOfMemory,
     RcellError,
@@ -48,6 +49,7 @@ __all__ = [
     "Map",
     "MissingLibrary",
     "MissingProgram",
+    "OtherCrs",
     "OtherRegion",
     "OutOfMemory",
     "Pivot",
@@ -66,7 +68,6 @@ __all__ = [
     "program",
     "run",
     "table",
-    "tiles",
 ]
 
 

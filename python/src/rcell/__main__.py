@@ -5,9 +5,12 @@ from __future__ import annotations
 
 import argparse
 import contextlib
+import importlib
 import os
 import sys
-from typing import Any, Callable, Iterator, Sequence
+from typing import Any, Callable, Iterable, Iterator, Sequence
+
+from rcell_front.files import Output, end_on_signals, is_same_file, open_standard_streams, write_all
 
 from ._answers import grids_of, run_of, table_of
 from ._crs import UNITS_OF_AREA
@@ -18,7 +21,7 @@ from ._libraries import has, need
 from ._program import Progress
 from ._table import matrix_csv
 
-__all__ = ["main"]
+__all__ = ["emit", "main", "refuse_inputs", "script_of"]
 
 EPILOG = """\
 SCRIPT is a file, `-` for standard input, or a line itself, as "r.stats -c input=lc". NAME=PATH gives a map: anything that rasterio
@@ -50,6 +53,7 @@ def _command(commands: Any, name: str, told: str) -> argparse.ArgumentParser:
     parser: argparse.ArgumentParser = commands.add_parser(name, help=told, description=told, epilog=f"Example: {EXAMPLES[name]}")
     parser.add_argument("script", metavar="SCRIPT")
     parser.add_argument("maps", metavar="NAME=PATH", nargs="+")
+    parser.add_argument("--crs", metavar="EPSG:CODE", help="the coordinate reference system of the maps that have none")
     return parser
 
 
@@ -66,16 +70,41 @@ def _pairs(words: Sequence[str]) -> dict[str, str]:
     return found
 
 
-def _script(word: str) -> str:
+def script_of(word: str) -> str:
     if word == "-":
-        return sys.stdin.buffer.read().decode("utf-8", "surrogateescape")
+        with _told_of_script("standard input"):
+            return sys.stdin.buffer.read().decode("utf-8", "surrogateescape")
     if not os.path.exists(word) and word.startswith("r."):
         return word
+    with _told_of_script(word), open(word, encoding="utf-8", errors="surrogateescape", newline="") as file:
+        return file.read()
+
+
+@contextlib.contextmanager
+def _told_of_script(path: str) -> Iterator[None]:
+    """Raise what goes wrong with a script as Refused."""
     try:
-        with open(word, encoding="utf-8", errors="surrogateescape", newline="") as file:
-            return file.read()
-    except OSError as error:
-        raise Refused(f"cannot open {word}: {error.strerror}", "script", status=4) from None
+        yield
+    except (OSError, ValueError) as error:
+        raise Refused(f"cannot open {path}: {getattr(error, 'strerror', None) or error}", "script", status=4) from None
+
+
+def refuse_inputs(outputs: Iterable[str], script: str, maps: Iterable[str]) -> None:
+    """Raise Refused if a file is to be written that is read too, or that is named twice."""
+    seen: list[str] = []
+    for path in outputs:
+        if any(is_same_file(path, given) for given in (script, *maps)):
+            raise Refused(f"{path}: the output file is the input file: choose another name", status=2)
+        if os.path.realpath(path) in seen:
+            raise Refused(f"{path}: two maps go to one file", status=2)
+        seen.append(os.path.realpath(path))
+
+
+def emit(text: str) -> None:
+    """Write to standard output, and at once: what it does not take is not tried again when Python ends."""
+    sys.stdout.flush()
+    with told_of("standard output"), Output("-") as output:
+        write_all(output.stream(), text.encode("utf-8", "surrogateescape"))
 
 
 @contextlib.contextmanager
@@ -90,21 +119,22 @@ def _progress(paths: dict[str, str]) -> Iterator[Progress | None]:
 
 def _write_table(settings: argparse.Namespace) -> None:
     maps = _pairs(settings.maps)
+    refuse_inputs([settings.out] if settings.out else [], settings.script, maps.values())
     with _progress(maps) as progress:
-        answer = table_of(run_of(_script(settings.script), maps, progress), settings.area, settings.percent, settings.pivot)
+        run = run_of(script_of(settings.script), maps, progress, settings.crs)
+        answer = table_of(run, settings.area, settings.percent, settings.pivot)
     text = matrix_csv(answer) if settings.pivot else answer.csv()
-    data = text.encode("utf-8", "surrogateescape")
     if settings.out:
-        write_beside(settings.out, data)
+        write_beside(settings.out, text.encode("utf-8", "surrogateescape"))
     else:
-        sys.stdout.buffer.write(data)
-        sys.stdout.buffer.flush()
+        emit(text)
 
 
 def _write_grids(settings: argparse.Namespace, write: Callable[[Grid, str], object]) -> None:
     maps, paths = _pairs(settings.maps), _pairs(settings.out)
+    refuse_inputs(paths.values(), settings.script, maps.values())
     with _progress(maps) as progress:
-        grids = grids_of(run_of(_script(settings.script), maps, progress), list(paths))
+        grids = grids_of(run_of(script_of(settings.script), maps, progress, settings.crs), list(paths))
     for grid, path in zip(grids, paths.values()):
         write(grid, path)
 
@@ -121,28 +151,27 @@ def _draw(grid: Grid, path: str) -> None:
 
 
 def main(words: Sequence[str] | None = None) -> int:
-    """Runs a command line, and answers its exit status.
+    """Run a command line and return its exit status.
 
     Examples
     --------
     >>> main(["csv", "r.stats -c input=lc", "lc=/nowhere.tif"])
     4
     """
+    if words is None:
+        open_standard_streams()
+        end_on_signals()
     given = list(sys.argv[1:] if words is None else words)
     try:
         if given[:1] == ["tiles"]:
-            from .tiles._command import main as main_of_tiles
-
-            return int(main_of_tiles(given[1:]))
+            return int(importlib.import_module("rcell.tiles._command").main(given[1:]))
         settings = _words().parse_args(given)
         if settings.command == "csv":
             _write_table(settings)
         else:
             _write_grids(settings, Grid.write if settings.command == "tif" else _draw)
-    except BrokenPipeError:
-        sys.stderr.write("rcell: standard output was closed\n")
-        os.dup2(os.open(os.devnull, os.O_WRONLY), sys.stdout.fileno())
-        return 4
+    except KeyboardInterrupt:
+        return 130
     except RcellError as error:
         sys.stderr.write(f"rcell: {error}\n")
         return _status(error)

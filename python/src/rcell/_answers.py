@@ -3,6 +3,7 @@
 
 from __future__ import annotations
 
+import numbers
 from collections.abc import Sequence
 from dataclasses import dataclass, field
 from typing import Any, Iterable, Mapping, overload
@@ -16,7 +17,7 @@ from ._grid import Grid
 from ._libraries import has
 from ._maps import Source, source_of, sources_of
 from ._masked import filled, masked
-from ._program import Output, Progress, execute
+from ._program import Output, Progress, execute, judge
 from ._script import labels_in, statements_of
 from ._table import Table
 from ._texts import TextMap
@@ -88,13 +89,21 @@ class Result(Sequence["Table | Grid"]):
 class _Run:
     """A script over maps, and what its answers need to know of them."""
 
-    def __init__(self, script: str, maps: Mapping[str, Any] | None, named: Mapping[str, Any], progress: Progress | None = None) -> None:
+    def __init__(
+        self,
+        script: str,
+        maps: Mapping[str, Any] | None,
+        named: Mapping[str, Any],
+        progress: Progress | None = None,
+        crs: Any = None,
+    ) -> None:
         given = {**(maps or {}), **named}
         twice = set(maps or {}) & set(named)
         if twice:
             raise Refused(f"the map {sorted(twice)[0]} is given twice", status=2)
         self.script = script
-        self.sources: dict[str, Source] = sources_of(given)
+        self.sources: dict[str, Source]
+        self.sources, self.crs = sources_of(given, crs)
         self.first = next(iter(self.sources.values()))
         self._progress = progress
         self._made = labels_in(script)
@@ -122,7 +131,7 @@ class _Run:
             cells=values[:, count] if "c" in statement.flags else None,
             labels={name: self.labels(name) for name in statement.maps} if "l" in statement.flags else None,
             cell=self.cell,
-            crs=self.first.crs,
+            crs=self.crs,
         )
 
     @property
@@ -137,14 +146,14 @@ class _Run:
             name=name,
             region=self.first.region,
             transform=self.first.transform,
-            crs=self.first.crs,
+            crs=self.crs,
             labels=self.labels(name),
             command=output.statement.command,
             line=output.statement.line,
         )
 
 
-def run(script: str, maps: Mapping[str, Any] | None = None, /, **named: Any) -> Result:
+def run(script: str, maps: Mapping[str, Any] | None = None, /, *, crs: Any = None, **named: Any) -> Result:
     """Runs a script over maps of one region.
 
     Parameters
@@ -178,7 +187,7 @@ def run(script: str, maps: Mapping[str, Any] | None = None, /, **named: Any) -> 
     >>> result[0].rows
     [(1, 1, 2), (2, 2, 3), (3, 3, 1)]
     """
-    return Result(_Run(script, maps, named).outputs())
+    return Result(_Run(script, maps, named, crs=crs).outputs())
 
 
 def table(
@@ -189,6 +198,7 @@ def table(
     area: str | None = None,
     percent: bool = False,
     pivot: bool = False,
+    crs: Any = None,
     **named: Any,
 ) -> Any:
     """Runs a script whose only output is a table, and answers it.
@@ -228,15 +238,15 @@ def table(
     1   2      3  50.000000
     2   3      1  16.666667
     """
-    answer = table_of(_Run(script, maps, named), area, percent, pivot)
+    answer = table_of(_Run(script, maps, named, crs=crs), area, percent, pivot)
     if pivot:
         return answer.pivot_frame() if has("pandas") else answer.pivot()
     return answer.frame() if has("pandas") else answer
 
 
-def run_of(script: str, maps: Mapping[str, Any], progress: Progress | None = None) -> _Run:
-    """A run that tells its progress, for the command line."""
-    return _Run(script, maps, {}, progress)
+def run_of(script: str, maps: Mapping[str, Any], progress: Progress | None = None, crs: Any = None) -> _Run:
+    """Return a run that reports its progress, for the command line."""
+    return _Run(script, maps, {}, progress, crs)
 
 
 def table_of(of: _Run, area: str | None, percent: bool, pivot: bool) -> Table:
@@ -254,7 +264,7 @@ def table_of(of: _Run, area: str | None, percent: bool, pivot: bool) -> Table:
     return answer.with_percent() if percent else answer
 
 
-def grid(script: str, name: str, maps: Mapping[str, Any] | None = None, /, **named: Any) -> Grid:
+def grid(script: str, name: str, maps: Mapping[str, Any] | None = None, /, *, crs: Any = None, **named: Any) -> Grid:
     """Runs a script, and answers one of its maps.
 
     Parameters
@@ -281,7 +291,7 @@ def grid(script: str, name: str, maps: Mapping[str, Any] | None = None, /, **nam
     >>> rcell.grid("r.mapcalc right = lc[0,1]", "right", lc=np.array([[1, 1, 2]])).array.tolist()
     [[1, 2, None]]
     """
-    return grids_of(_Run(script, maps, named), [name])[0]
+    return grids_of(_Run(script, maps, named, crs=crs), [name])[0]
 
 
 def grids_of(of: _Run, names: Sequence[str]) -> list[Grid]:
@@ -290,6 +300,7 @@ def grids_of(of: _Run, names: Sequence[str]) -> list[Grid]:
     known = [*of.sources, *made]
     for name in names:
         if name not in known:
+            judge(of.script, of.sources)
             raise Refused(f"no map {name}: there are {', '.join(known)}", status=2)
     return [output for output in of.outputs(wanted=names)[-len(names) :] if isinstance(output, Grid)]
 
@@ -402,8 +413,14 @@ def _script_of_areas(diagonal: bool, classes: Iterable[int] | None) -> str:
     clump = f"r.clump{' -d' if diagonal else ''} input={'map' if classes is None else 'kept'} output=areas"
     if classes is None:
         return clump
-    rules = "\n".join(f"{int(category)} = {int(category)}" for category in classes)
+    rules = "\n".join(f"{_class_of(category)} = {_class_of(category)}" for category in classes)
     return f"r.reclass input=map output=kept\n{rules}\nend\n{clump}"
+
+
+def _class_of(given: Any) -> int:
+    if isinstance(given, numbers.Real) and given == int(given):
+        return int(given)
+    raise Refused(f"classes= are whole numbers, not {given!r}", status=2)
 
 
 def _first_cells(numbers: NDArray[np.int32]) -> NDArray[np.intp]:

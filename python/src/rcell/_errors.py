@@ -11,6 +11,7 @@ __all__ = [
     "Killed",
     "MissingLibrary",
     "MissingProgram",
+    "OtherCrs",
     "OtherRegion",
     "OutOfMemory",
     "RcellError",
@@ -20,6 +21,11 @@ __all__ = [
     "WrongProgram",
 ]
 
+_CAUSES = {
+    4: "the processor is older than x86-64-v2, which the program needs",
+    9: "too little memory, or someone ended it",
+    11: "too little room for its stack (ulimit -s), or a fault of the program",
+}
 _COLUMN = re.compile(r" at column (\d+)$")
 
 
@@ -150,6 +156,21 @@ class OtherRegion(BadMap):
     """
 
 
+class OtherCrs(BadMap):
+    """A map whose coordinate reference system is not that of the others, or that has none where others have one.
+
+    Examples
+    --------
+    >>> import rcell
+    >>> utm, arctic = (rcell.Map([[1]], crs=crs) for crs in ("EPSG:25832", "EPSG:3413"))
+    >>> try:
+    ...     rcell.table("r.stats -c input=a,b", a=utm, b=arctic)
+    ... except rcell.OtherCrs as refusal:
+    ...     print(refusal.source, refusal.text.partition(",")[0])
+    b its coordinate reference system is EPSG:3413 (WGS 84 / NSIDC Sea Ice Polar Stereographic North)
+    """
+
+
 class ReadFailed(BadMap):
     """A file that cannot be opened, or a part of it that cannot be read.
 
@@ -222,9 +243,7 @@ class Killed(RcellError):
         from signal import Signals
 
         name = next((f" ({known.name})" for known in Signals if known == self.signal), "")
-        causes = {4: "the processor is older than x86-64-v2, which the program needs", 9: "too little memory, or someone ended it"}
-        cause = causes.get(self.signal, "someone ended it")
-        return f"the program was killed by signal {self.signal}{name}: {cause}"
+        return f"the program was killed by signal {self.signal}{name}: {_CAUSES.get(self.signal, 'someone ended it')}"
 
 
 class WriteFailed(RcellError, OSError):

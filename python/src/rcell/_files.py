@@ -10,9 +10,11 @@ import shutil
 import tempfile
 from typing import Iterator
 
+from rcell_front.files import Output, write_all
+
 from ._errors import RcellError, WriteFailed
 
-__all__ = ["replacing", "told_of", "write_beside", "write_through"]
+__all__ = ["replacing", "told_of", "write_beside"]
 
 # A disk that has less room than this is full: so little is left where a block did not fit.
 FULL_BELOW = 1 << 18
@@ -20,10 +22,10 @@ FULL_BELOW = 1 << 18
 
 @contextlib.contextmanager
 def told_of(path: str, *kinds: type[Exception]) -> Iterator[None]:
-    """What goes wrong with files within, told as a WriteFailed of a path; other kinds of exceptions as well, where they are given.
+    """Raise what goes wrong with files, and the other kinds of exceptions that are given, as a WriteFailed of a path.
 
-    Libraries of rasters tell of a full disk on their own standard error alone, if at all, and fail later for a reason that is
-    none: so the disk is looked at.
+    Libraries of rasters report a full disk on their own standard error alone, if at all, and fail later for another reason: so
+    the free space is checked.
 
     Examples
     --------
@@ -48,15 +50,12 @@ def told_of(path: str, *kinds: type[Exception]) -> Iterator[None]:
 
 @contextlib.contextmanager
 def replacing(path: str) -> Iterator[str]:
-    """A new name beside a path, for what is written; at the end it gets the path's own name, unless something went wrong.
-
-    What lies beside the new name with `.aux.xml` after it moves along, first, so that a map never stands beside labels of another.
-    Nothing is left of what was written where it went wrong.
+    """Yield a new path, whose file takes the place of another at the end of the block, unless something went wrong.
 
     Raises
     ------
     WriteFailed
-        Where the folder is missing, or the name can't be taken.
+        The folder is missing, or the file cannot be replaced. Nothing is left then, and an old file is as it was.
 
     Examples
     --------
@@ -66,25 +65,21 @@ def replacing(path: str) -> Iterator[str]:
     ...     print(os.listdir(folder))
     ['a.txt']
     """
-    folder, name = os.path.split(os.path.abspath(path))
-    stem, extension = os.path.splitext(name)
-    with told_of(path):
-        room = tempfile.mkdtemp(prefix=f".{stem}-", dir=folder)
-    beside = os.path.join(room, f"{stem}{extension}")
-    try:
+    with contextlib.ExitStack() as opened:
+        with told_of(path):
+            output = opened.enter_context(Output(path))
+            beside = output.path()
         yield beside
         with told_of(path):
-            with contextlib.suppress(FileNotFoundError):
-                os.remove(path + ".aux.xml")
-            if os.path.exists(beside + ".aux.xml"):
-                os.replace(beside + ".aux.xml", path + ".aux.xml")
-            os.replace(beside, path)
-    finally:
-        shutil.rmtree(room, ignore_errors=True)
+            output.keep()
 
 
 def write_beside(path: str, data: bytes | memoryview) -> None:
-    """Writes bytes under a path, whole or not at all; a WriteFailed where that can't be.
+    """Write bytes to a file, whole or not at all.
+
+    Raises
+    ------
+    WriteFailed
 
     Examples
     --------
@@ -93,13 +88,5 @@ def write_beside(path: str, data: bytes | memoryview) -> None:
     ...     print(os.listdir(folder))
     ['a.txt']
     """
-    with replacing(path) as beside, told_of(path):
-        write_through(beside, data)
-
-
-def write_through(path: str, data: bytes | memoryview) -> None:
-    """Writes bytes to a new file, until they are on the disk."""
-    with open(path, "wb") as file:
-        file.write(data)
-        file.flush()
-        os.fsync(file.fileno())
+    with told_of(path), Output(path) as output:
+        write_all(output.stream(), data)

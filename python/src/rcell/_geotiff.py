@@ -5,7 +5,7 @@ from __future__ import annotations
 
 from typing import TYPE_CHECKING, Any
 
-from ._files import replacing, told_of, write_through
+from ._files import replacing, told_of
 from ._labels import write_labels
 from ._libraries import need
 from ._masked import compressed, filled
@@ -80,5 +80,6 @@ def write_geotiff(grid: Grid, path: str) -> None:
         with need("rasterio.io", "gis", "to write a GeoTIFF").MemoryFile() as memory:
             with memory.open(**profile) as dataset:
                 dataset.write(cells, 1)
-            write_through(beside, memory.getbuffer())
+            with open(beside, "wb") as file:
+                file.write(memory.getbuffer())
         write_labels(beside, grid.labels)

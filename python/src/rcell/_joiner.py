@@ -11,18 +11,18 @@ from __future__ import annotations
 
 import os
 import re
-import subprocess
-import tempfile
 from contextlib import ExitStack
-from typing import IO, Sequence
+from typing import Sequence
+
+from rcell_front.files import write_all
+from rcell_front.programs import Started, above_standard
 
 from ._errors import Killed, MissingProgram, OutOfMemory, RcellError, WriteFailed, WrongProgram
 from ._merging import counts_of, merge
-from ._program import candidates, find_program, known_after
+from ._program import PROBE_SECONDS, candidates, find_program, known_after
 
 __all__ = ["find_joiner", "joined", "joined_areas", "joined_sizes", "joined_tiles"]
 
-MESSAGE_LIMIT = 1 << 16
 _MESSAGE = re.compile(r"rcell-join: ([^:]*):(\d+): (.*)")
 _TOO_GREAT = "count too great"
 
@@ -49,7 +49,7 @@ def find_joiner(program: str | os.PathLike[str] | None = None) -> str:
     path = os.fspath(program) if program is not None else os.environ.get("RCELL_JOIN") or _found()
     if not path:
         raise MissingProgram("the program rcell-join was not found: neither in the environment variable RCELL_JOIN, nor beside rcell, nor on the path")
-    return known_after(_probe, path)
+    return known_after(_probe, os.path.abspath(path))
 
 
 def _found() -> str:
@@ -68,10 +68,13 @@ _PROBES: list[tuple[list[str], list[bytes], bytes]] = [
 
 
 def _probe(path: str) -> None:
-    """Runs each command of the program once."""
-    for words, texts, answer in _PROBES:
-        if _run(path, words, texts)[:2] != (0, answer):
-            raise WrongProgram(f"{path} is not a program rcell-join of a version that this package knows")
+    """Run each command of the program once."""
+    try:
+        is_known = all(_run(path, words, texts, PROBE_SECONDS)[:2] == (0, answer) for words, texts, answer in _PROBES)
+    except TimeoutError:
+        raise WrongProgram(f"{path} does not end within {PROBE_SECONDS} seconds: it is no program rcell-join") from None
+    if not is_known:
+        raise WrongProgram(f"{path} is not a program rcell-join of a version that this package knows")
 
 
 def joined(texts: Sequence[bytes], program: str | os.PathLike[str] | None = None) -> bytes:
@@ -172,30 +175,33 @@ def _answer(words: list[str], texts: Sequence[bytes], program: str | os.PathLike
     raise _fault(path, words, status, told, texts)
 
 
-def _run(path: str, words: list[str], texts: Sequence[bytes]) -> tuple[int, bytes, str]:
-    """The status, the output and what was told."""
+def _run(path: str, words: list[str], texts: Sequence[bytes], seconds: float | None = None) -> tuple[int, bytes, str]:
+    """Return the status, the output and the message."""
     with ExitStack() as opened:
-        files = [opened.enter_context(_held(text)).fileno() for text in texts]
+        files = []
+        for text in texts:
+            files.append(_held(text))
+            opened.callback(os.close, files[-1])
         given = [path, *words, *(f"/dev/fd/{file}" for file in files)]
         try:
-            ran = subprocess.run(given, stdin=subprocess.DEVNULL, capture_output=True, pass_fds=files, check=False)
+            run = opened.enter_context(Started(given, files, seconds))
         except OSError as error:
             raise MissingProgram(f"the program {path} cannot be executed: {error.strerror}") from None
-    return ran.returncode, ran.stdout, ran.stderr[:MESSAGE_LIMIT].decode("utf-8", "replace").rstrip("\n")
+        output = b"".join(run.pieces())
+        status, message = run.end()
+    return status, output, message.decode("utf-8", "replace").rstrip("\n")
 
 
-def _held(text: bytes) -> IO[bytes]:
-    """A file that has a text and no name: in memory, where the system has such files."""
-    if hasattr(os, "memfd_create"):
-        file: IO[bytes] = open(os.memfd_create("table", os.MFD_CLOEXEC), "w+b", buffering=0)
-    else:
-        file = tempfile.TemporaryFile(buffering=0)
+def _held(text: bytes) -> int:
+    """Return the descriptor of a file in memory that has a text."""
     try:
-        rest = memoryview(text)
-        while rest:
-            rest = rest[file.write(rest) :]
+        file = above_standard(os.memfd_create("table"))
+    except OSError as error:
+        raise WriteFailed(f"a text for rcell-join cannot be written: {error.strerror}") from None
+    try:
+        write_all(file, text)
     except BaseException as error:
-        file.close()
+        os.close(file)
         if isinstance(error, OSError):
             raise WriteFailed(f"a text for rcell-join cannot be written: {error.strerror}") from None
         raise

@@ -24,7 +24,7 @@ def has(library: str) -> bool:
 
 
 def need(library: str, extra: str, purpose: str) -> Any:
-    """A module, by the full name that it has; a MissingLibrary where it is not installed.
+    """Return a module by its full name; raise MissingLibrary if it, or a library that it needs itself, is not installed.
 
     Examples
     --------
@@ -33,5 +33,5 @@ def need(library: str, extra: str, purpose: str) -> Any:
     """
     try:
         return importlib.import_module(library)
-    except ImportError:
-        raise MissingLibrary(library.partition(".")[0], extra, purpose) from None
+    except ImportError as error:
+        raise MissingLibrary((error.name or library).partition(".")[0], extra, purpose) from None

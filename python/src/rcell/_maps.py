@@ -3,6 +3,8 @@
 
 from __future__ import annotations
 
+import math
+import numbers
 import os
 import warnings
 from dataclasses import dataclass, field
@@ -11,9 +13,11 @@ from typing import Any, Iterator, Mapping, Protocol, Sequence
 import numpy as np
 from numpy.typing import ArrayLike
 
-from ._errors import BadMap
+from ._crs import common_crs
+from ._errors import BadMap, OtherRegion, Refused
 from ._masked import data_of, is_masked_array, mask_of
-from ._region import Region, Transform
+from ._region import Region, Transform, six_numbers
+from ._script import check_names
 from ._text import MAX_CATEGORY, Cells, Mask, range_of
 
 __all__ = ["ArrayMap", "Block", "Map", "Source", "checked", "whole_nodata"]
@@ -127,10 +131,13 @@ def checked(name: str, cells: Cells, null: Mask | None, nodata: float | None, fi
 
 
 def _with_nodata(cells: Cells, null: Mask | None, nodata: float | None) -> Mask | None:
-    """What is null, with the cells of nodata and those that are no number."""
+    """Return what is null, with the cells of nodata and those that are no number."""
     found: list[Mask] = [] if null is None else [null]
-    if nodata is not None and nodata == nodata:
-        found.append(cells == nodata)
+    if nodata is not None and not math.isnan(nodata):
+        if cells.dtype.kind == "f":
+            found.append(cells == cells.dtype.type(nodata))
+        elif math.isfinite(nodata) and nodata == int(nodata) and np.iinfo(cells.dtype).min <= int(nodata) <= np.iinfo(cells.dtype).max:
+            found.append(cells == cells.dtype.type(int(nodata)))  # by whole numbers: floats do not have all of 64 bits
     if cells.dtype.kind == "f":
         found.append(np.isnan(cells))
     return None if not found else found[0] if len(found) == 1 else np.logical_or.reduce(found)
@@ -140,7 +147,7 @@ def _good(cells: Cells) -> Mask | None:
     """Where cells are whole numbers in range; None where all are."""
     if cells.dtype.kind == "f":
         with np.errstate(invalid="ignore"):
-            return np.asarray((np.rint(cells) == cells) & (np.abs(cells) <= MAX_CATEGORY))
+            return np.asarray((np.rint(cells) == cells) & (np.abs(cells) < MAX_CATEGORY + 1.0))
     if cells.size == 0 or (cells.min() >= -MAX_CATEGORY and cells.max() <= MAX_CATEGORY):
         return None
     good = cells <= MAX_CATEGORY
@@ -193,6 +200,8 @@ class ArrayMap:
 
     def __post_init__(self) -> None:
         _check_dimensions(self.name, self.array)
+        if not (self.nodata_value is None or isinstance(self.nodata_value, numbers.Real)):
+            raise BadMap(self.name, f"nodata is a number, not {self.nodata_value!r}")
         if self.array.shape != self.region.shape:
             rows, cols = self.array.shape
             raise BadMap(self.name, f"an array of {rows} x {cols} cells, and a region of {self.region.rows} x {self.region.cols}")
@@ -275,11 +284,14 @@ class Map:
         Region(north=1, south=0, east=2, west=0, rows=1, cols=2)
         """
         given: Any = self.array
-        array = data_of(given) if is_masked_array(given) else np.asarray(given)
+        try:
+            array = data_of(given) if is_masked_array(given) else np.asarray(given)
+        except ValueError as error:
+            raise BadMap(name, f"not an array of rows of one length: {error}") from None
         null = mask_of(given) if is_masked_array(given) else None
         _check_dimensions(name, array)
         array, null, region, transform = _placed(name, array, null, self.region)
-        return ArrayMap(name, array, region, null, self.nodata, self.labels, self.crs, transform)
+        return ArrayMap(name, array, region, null, self.nodata, self.labels, self.crs or None, transform)
 
 
 def _placed(name: str, array: Cells, null: Mask | None, place: Any) -> tuple[Cells, Mask | None, Region, Transform]:
@@ -290,7 +302,7 @@ def _placed(name: str, array: Cells, null: Mask | None, place: Any) -> tuple[Cel
     if place is None:
         region = in_region(name, Region.of_cells, rows, cols)
         return array, null, region, region.transform
-    a, b, c, d, e, f = (float(number) for number in tuple(place)[:6])
+    a, b, c, d, e, f = six_numbers(name, place)
     if e > 0 and not b and not d:
         array, null, e, f = array[::-1], None if null is None else null[::-1], -e, f + e * rows
     transform = (a, b, c, d, e, f)
@@ -339,6 +351,8 @@ def source_of(name: str, given: Any) -> Source:
         from ._xarray import source_of_data_array
 
         return source_of_data_array(name, given)
+    if module == "dask" and hasattr(given, "ndim"):
+        return Map(given.compute()).source(name)
     if isinstance(given, tuple) and len(given) == 2 and isinstance(given[0], np.ndarray):
         return Map(given[0], given[1]).source(name)
     if isinstance(given, (np.ndarray, list)):
@@ -346,23 +360,25 @@ def source_of(name: str, given: Any) -> Source:
     raise BadMap(name, f"neither a path nor an array nor a raster, but a {type(given).__name__}")
 
 
-def sources_of(maps: Mapping[str, Any]) -> dict[str, Source]:
-    """All maps of a call, which have the region of the first.
+def sources_of(maps: Mapping[str, Any], crs: Any = None) -> tuple[dict[str, Source], Any]:
+    """Return the maps of a call, and the coordinate reference system that they have in common.
 
     Raises
     ------
+    OtherCrs
+        A map has another reference system than the others, or none where others have one and `crs` does not state it.
     OtherRegion
-        Where one has not; it says which edges differ, and by how much.
+        A map has not the region of the first; it says which edges differ, and by how much.
     """
-    from ._errors import OtherRegion, Refused
-
     if not maps:
         raise Refused("no map is given: name them, as lc=\"landcover.tif\"", status=2)
+    check_names(maps)
     sources = {name: source_of(name, given) for name, given in maps.items()}
+    common = common_crs({name: source.crs for name, source in sources.items()}, crs)
     first_name, first = next(iter(sources.items()))
     for name, source in sources.items():
         if source.region != first.region:
             told = "; ".join(first.region.differences(source.region))
             text = f"not of the region of `{first_name}`, and nothing is resampled: {told}"
             raise OtherRegion(name, f"{text}\n  {first_name}: {first.region}\n  {name}: {source.region}")
-    return sources
+    return sources, common

@@ -11,6 +11,7 @@ from typing import Any
 import numpy as np
 import numpy.typing as npt
 
+from ._errors import RcellError
 from ._numbers import NULL, numbers_of
 
 __all__ = ["Counts", "TooManyCells", "counts_of", "merge"]
@@ -25,7 +26,7 @@ GREAT_COUNT = re.compile(rb"[0-9]{19}")
 """What a text has where a count may be above it; no category has so many digits."""
 
 
-class TooManyCells(ArithmeticError):
+class TooManyCells(RcellError, ArithmeticError):
     """A count of a merged table passes 2^63 - 1; `combination` is the one that it belongs to.
 
     Examples

@@ -9,33 +9,32 @@ from __future__ import annotations
 
 import os
 import re
-import select
-import shutil
-import subprocess
 import sys
 import sysconfig
 from dataclasses import dataclass
 from types import MappingProxyType
-from typing import Any, Callable, Iterator, Mapping, Sequence, TypeVar
+from typing import Any, Callable, Iterable, Iterator, Mapping, Sequence, TypeVar
 
 import numpy as np
 from numpy.typing import NDArray
 
-from ._errors import Killed, MissingProgram, OutOfMemory, RcellError, Refused, WrongProgram
-from ._maps import Source
+from rcell_front.files import write_all
+from rcell_front.programs import Started, above_standard, close, found_on_path, pipe
+
+from ._errors import Killed, MissingProgram, OutOfMemory, RcellError, ReadFailed, Refused, WrongProgram
+from ._maps import ArrayMap, Source
 from ._region import Region
 from ._script import SCRIPT_LIMIT, Plan, Statement, plan_of
 from ._text import NULL, Words, numbers_of
 from ._texts import TextMap
 
-__all__ = ["NULL", "Output", "candidates", "execute", "find_program", "known_after", "table_text"]
+__all__ = ["NULL", "Output", "candidates", "execute", "find_program", "judge", "known_after", "table_text"]
 
-PIPE_BYTES = 1 << 20
 PIECE_BYTES = 1 << 22
-# The program tells one line; of what another program may tell no more is kept.
-MESSAGE_LIMIT = 1 << 16
+PROBE_SECONDS = 60
+"""So long a program may take for a grid of three cells, on a machine that has much else to do."""
+
 _MESSAGE = re.compile(r"rcell: ([^:]*):(\d+): (.*)")
-_F_SETPIPE_SZ = 1031
 
 Progress = Callable[[int], None]
 Answer = TypeVar("Answer")
@@ -62,15 +61,13 @@ class Output:
 
 
 def candidates(name: str) -> Iterator[str]:
-    """Where a program of this name is: among the scripts of this installation of Python, beside it, on the path."""
-    for scheme in (sysconfig.get_default_scheme(), sysconfig.get_preferred_scheme("user")):
-        path = os.path.join(sysconfig.get_path("scripts", scheme), name)
-        if os.path.isfile(path):
+    """Yield where a program of this name is: among the scripts of this installation of Python, next to it, on the path."""
+    folders = [sysconfig.get_path("scripts", scheme) for scheme in (sysconfig.get_default_scheme(), sysconfig.get_preferred_scheme("user"))]
+    for folder in (*folders, os.path.dirname(sys.executable or "")):
+        path = os.path.join(folder, name)
+        if os.path.isabs(folder) and os.path.isfile(path):
             yield path
-    beside = os.path.join(os.path.dirname(sys.executable), name)
-    if os.path.isfile(beside):
-        yield beside
-    yield from filter(None, [shutil.which(name)])
+    yield from filter(None, [found_on_path(name)])
 
 
 _known: dict[str, tuple[int, int, int]] = {}
@@ -92,9 +89,9 @@ def find_program(program: str | os.PathLike[str] | None = None) -> str:
     path = os.fspath(program) if program is not None else os.environ.get("RCELL") or next(candidates("rcell"), "")
     if not path:
         raise MissingProgram(
-            "the program rcell was not found: neither in the environment variable RCELL, nor beside this Python, nor on the path"
+            "the program rcell was not found: neither in the environment variable RCELL, nor next to this Python, nor on the path"
         )
-    return known_after(_probe, path)
+    return known_after(_probe, os.path.abspath(path))
 
 
 def known_after(probe: Callable[[str], None], path: str) -> str:
@@ -116,9 +113,9 @@ _PROBE_ANSWER = b"12 2 1\n* * 1\n1\n2\nend\n1\n*\n2\n"
 
 
 def _probe(path: str) -> None:
-    """Runs the program once on a grid of three cells, with all that this package makes use of."""
+    """Run the program once on a grid of three cells, with all that this package makes use of."""
     try:
-        with _Run(path, ["g"]) as run:
+        with _Run(path, ["g"], seconds=PROBE_SECONDS) as run:
             run.write(0, _PROBE_GRID)
             run.close_grid(0)
             run.write_script(_PROBE_SCRIPT)
@@ -128,8 +125,8 @@ def _probe(path: str) -> None:
                 if len(answer) > len(_PROBE_ANSWER):
                     raise WrongProgram(_UNKNOWN.format(path))
             status = run.end()[0]
-    except OSError as error:
-        raise MissingProgram(f"the program {path} cannot be executed: {error.strerror}") from None
+    except TimeoutError:
+        raise WrongProgram(f"{path} does not end within {PROBE_SECONDS} seconds: it is no program rcell") from None
     if status != 0 or answer != _PROBE_ANSWER:
         raise WrongProgram(_UNKNOWN.format(path))
 
@@ -137,60 +134,49 @@ def _probe(path: str) -> None:
 # A run
 
 
-class _Run:
-    """The program at work: a pipe for each grid and one for the script, its output and its message.
+class _Run(Started):
+    """The program at work: a pipe for each grid and one for the script."""
 
-    Leaving it ends the program, whatever has happened, and closes all pipes.
-    """
-
-    def __init__(self, path: str, names: Sequence[str], files: Mapping[str, str] = MappingProxyType({})) -> None:
-        self._writers: list[int] = []
+    def __init__(
+        self, path: str, names: Sequence[str], files: Mapping[str, str] = MappingProxyType({}), seconds: float | None = None
+    ) -> None:
+        self.is_reading = True
+        self._writers: list[int | None] = []
         readers: list[int] = []
         try:
             for name in (*names, ""):
-                if name in files:
-                    readers.append(os.open(files[name], os.O_RDONLY))
-                    self._writers.append(-1)
-                    continue
-                reader, writer = os.pipe()
+                reader, writer = (_opened(name, files[name]), None) if name in files else pipe()
                 readers.append(reader)
                 self._writers.append(writer)
-                _widen(writer)
             words = [path, f"/dev/fd/{readers[-1]}", *(f"{name}=/dev/fd/{reader}" for name, reader in zip(names, readers))]
-            self._process = subprocess.Popen(
-                words, stdin=subprocess.DEVNULL, stdout=subprocess.PIPE, stderr=subprocess.PIPE, pass_fds=readers, bufsize=0
-            )
-        except BaseException:
-            for place in range(len(self._writers)):
-                self.close_grid(place)
+            super().__init__(words, readers, seconds)
+        except BaseException as error:
+            self._close_grids()
+            if isinstance(error, OSError) and not isinstance(error, RcellError):
+                raise MissingProgram(f"the program {path} cannot be executed: {error.strerror}") from None
             raise
         finally:
             for reader in readers:
-                os.close(reader)
-        self.is_reading = True
-        self._message = b""
-        assert self._process.stdout is not None and self._process.stderr is not None
-        _widen(self._process.stdout.fileno())
+                close(reader)
 
     def __enter__(self) -> _Run:
         return self
 
-    def __exit__(self, *_: object) -> None:
+    def __exit__(self, *ended: Any) -> None:
+        self._close_grids()
+        super().__exit__(*ended)
+
+    def _close_grids(self) -> None:
         for place in range(len(self._writers)):
             self.close_grid(place)
-        if self._process.poll() is None:
-            self._process.kill()
-        self._process.wait()
-        assert self._process.stdout is not None and self._process.stderr is not None
-        self._process.stdout.close()
-        self._process.stderr.close()
 
     def write(self, place: int, data: bytes | memoryview) -> None:
         """Writes all of the data to a grid's pipe; nothing more once the program has stopped reading."""
-        rest = memoryview(data)
+        writer = self._writers[place]
+        if writer is None or not self.is_reading:
+            return
         try:
-            while rest and self.is_reading:
-                rest = rest[os.write(self._writers[place], rest) :]
+            write_all(writer, data)
         except BrokenPipeError:
             self.is_reading = False
 
@@ -200,47 +186,17 @@ class _Run:
         self.close_grid(len(self._writers) - 1)
 
     def close_grid(self, place: int) -> None:
-        """Ends the pipe of a grid."""
-        if self._writers[place] >= 0:
-            os.close(self._writers[place])
-            self._writers[place] = -1
-
-    def pieces(self) -> Iterator[bytes]:
-        """The output, as it comes; what comes on standard error meanwhile is kept."""
-        assert self._process.stdout is not None and self._process.stderr is not None
-        output, told = self._process.stdout.fileno(), self._process.stderr.fileno()
-        poll = select.poll()
-        poll.register(output, select.POLLIN)
-        poll.register(told, select.POLLIN)
-        while True:
-            ready = {file for file, _ in poll.poll()}
-            if told in ready:
-                piece = os.read(told, PIPE_BYTES)
-                self._message = (self._message + piece)[:MESSAGE_LIMIT]
-                if not piece:
-                    poll.unregister(told)
-            if output in ready:
-                piece = os.read(output, PIPE_BYTES)
-                if not piece:
-                    return
-                yield piece
-
-    def end(self) -> tuple[int, str]:
-        """The status and the message, when all output has been read."""
-        assert self._process.stderr is not None
-        while piece := self._process.stderr.read(PIPE_BYTES):
-            self._message = (self._message + piece)[:MESSAGE_LIMIT]
-        return self._process.wait(), self._message.decode("utf-8", "surrogateescape")
+        """End the pipe of a grid."""
+        writer, self._writers[place] = self._writers[place], None
+        if writer is not None:
+            close(writer)
 
 
-def _widen(pipe: int) -> None:
-    """A pipe of a MiB, where the system allows it: fewer changes between the two processes."""
+def _opened(name: str, path: str) -> int:
     try:
-        import fcntl
-
-        fcntl.fcntl(pipe, _F_SETPIPE_SZ, PIPE_BYTES)
-    except (ImportError, OSError):
-        pass
+        return above_standard(os.open(path, os.O_RDONLY))
+    except OSError as error:
+        raise ReadFailed(name, f"cannot open: {path}: {error.strerror}") from None
 
 
 def execute(
@@ -282,6 +238,18 @@ def execute(
         return [reader.output(statement, mark, region) for statement, mark in zip(plan.outputs, plan.marks)]
 
     return _answered(script, maps, wanted, outputs, program, progress)
+
+
+def judge(script: str, names: Iterable[str]) -> None:
+    """Have the program judge a script over maps of one null cell.
+
+    Raises
+    ------
+    Refused
+        As the program refuses the script.
+    """
+    null = np.ones((1, 1), np.bool_)
+    execute(script, {name: ArrayMap(name, np.zeros((1, 1), np.uint8), Region.of_cells(1, 1), null) for name in names})
 
 
 def table_text(script: str, maps: Mapping[str, Source], *, program: str | os.PathLike[str] | None = None) -> bytes:
@@ -327,7 +295,7 @@ def _answered(
                 pass
         status, message = run.end()
     if status:
-        raise _fault(status, message, plan, script)
+        raise _fault(status, message.decode("utf-8", "surrogateescape"), plan, script)
     if rest or answer is None:
         raise WrongProgram(f"{path} has written what this package does not understand")
     return answer
@@ -384,11 +352,6 @@ class _Reader:
     def __init__(self, pieces: Iterator[bytes]) -> None:
         self._pieces = pieces
         self._held = b""
-
-    def _more(self) -> bool:
-        piece = next(self._pieces, b"")
-        self._held = self._held + piece if self._held else piece
-        return bool(piece)
 
     def output(self, statement: Statement, mark: bytes | None, region: Region) -> Output:
         """The output of a statement, up to its mark."""

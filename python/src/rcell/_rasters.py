@@ -6,6 +6,7 @@ from __future__ import annotations
 import functools
 import os
 import warnings
+import xml.etree.ElementTree as ElementTree
 from dataclasses import dataclass
 from typing import Any, Iterator, Mapping
 
@@ -15,10 +16,10 @@ from ._errors import BadMap, ReadFailed
 from ._labels import read_labels
 from ._libraries import need
 from ._maps import BLOCK_CELLS, Block, checked, in_region, whole_nodata
-from ._region import Region, Transform, check_upright
-from ._text import Mask, range_of
+from ._region import Region, Transform, check_upright, six_numbers
+from ._text import Cells, Mask, range_of
 
-__all__ = ["RasterMap", "check_scale", "only_band", "open_dataset", "open_raster", "upright"]
+__all__ = ["Layer", "RasterMap", "only_band", "open_dataset", "open_raster", "upright"]
 
 _PURPOSE = "to read a raster"
 _IDENTITY: Transform = (1.0, 0.0, 0.0, 0.0, 1.0, 0.0)
@@ -64,8 +65,76 @@ def open_dataset(name: str, path: str) -> Any:
         warnings.simplefilter("ignore", rasterio.errors.NotGeoreferencedWarning)
         try:
             return rasterio.open(path)
-        except rasterio.errors.RasterioIOError as error:
+        except (rasterio.errors.RasterioError, OSError, ValueError, TypeError) as error:
             raise ReadFailed(name, f"cannot open: {error}") from None
+
+
+@dataclass(frozen=True)
+class Layer:
+    """A band of a raster with all that says which of its cells are null.
+
+    Attributes
+    ----------
+    band : int
+    dtype : str
+    nodata : float or int or None
+    has_mask : bool
+        Whether the raster has a mask of its own.
+    alpha : int or None
+        The band that says which cells are transparent: those are null.
+    """
+
+    band: int
+    dtype: str
+    nodata: float | None
+    has_mask: bool
+    alpha: int | None
+
+    @classmethod
+    def of(cls, name: str, dataset: Any, band: int, enums: Any) -> Layer:
+        """Return a band of a dataset, unless its values are scaled or no whole numbers."""
+        check_scale(name, dataset, band)
+        dtype, nodata = dataset.dtypes[band - 1], dataset.nodatavals[band - 1]
+        if dtype.startswith("complex") or dtype not in np.sctypeDict:
+            raise BadMap(name, f"not a map of whole numbers: its cells are of the type {dtype}")
+        if np.dtype(dtype).kind in "iu" and np.dtype(dtype).itemsize == 8:
+            dtype, nodata = _of_64_bits(dataset, band)
+        flags = dataset.mask_flag_enums[band - 1]
+        alpha = next((at for at in dataset.indexes if dataset.colorinterp[at - 1] == enums.ColorInterp.alpha and at != band), None)
+        has_mask = enums.MaskFlags.per_dataset in flags and enums.MaskFlags.alpha not in flags
+        return cls(band, dtype, nodata, has_mask, alpha)
+
+    def read(self, name: str, dataset: Any, place: tuple[int, int, int, int], told: str) -> tuple[Cells, Mask | None]:
+        """Return the cells of a window, and which of them a mask or transparency makes null.
+
+        Raises
+        ------
+        ReadFailed
+            A part of the file is broken.
+        """
+        rasterio = need("rasterio", "gis", _PURPOSE)
+        top, left, rows, cols = place
+        window = need("rasterio.windows", "gis", _PURPOSE).Window(left, top, cols, rows)
+        try:
+            cells: Cells = dataset.read(self.band, window=window)
+            masks: list[Mask] = [dataset.read_masks(self.band, window=window) == 0] if self.has_mask else []
+            masks += [] if self.alpha is None else [dataset.read(self.alpha, window=window) == 0]
+        except (rasterio.errors.RasterioError, OSError) as error:
+            raise ReadFailed(name, f"{told} cannot be read: {error}") from None
+        # rasterio before 1.4 exchanges the two types of 64 bits, not their bits.
+        return cells.view(self.dtype) if cells.dtype.itemsize == 8 else cells, np.logical_or.reduce(masks) if masks else None
+
+
+def _of_64_bits(dataset: Any, band: int) -> tuple[str, int | None]:
+    """Return the type and the nodata of a band of 64 bits exactly, from GDAL's description of the raster as a VRT.
+
+    rasterio itself knows nodata as a float, and before 1.4 exchanges the two types of 64 bits.
+    """
+    with need("rasterio.io", "gis", _PURPOSE).MemoryFile(ext=".vrt") as memory:
+        need("rasterio.shutil", "gis", _PURPOSE).copy(dataset, memory.name, driver="VRT")
+        layer = ElementTree.fromstring(memory.read()).findall("VRTRasterBand")[band - 1]
+    nodata = layer.findtext("NoDataValue")
+    return str(layer.get("dataType")).lower(), None if nodata is None else int(nodata)
 
 
 @dataclass(frozen=True)
@@ -78,28 +147,22 @@ class RasterMap:
     dataset : rasterio.DatasetReader
         The caller's own, or one that is open as long as this map is there: opening costs milliseconds, and blocks that were
         looked at for the range need not be unpacked again.
-    band : int
+    layer : Layer
     region : Region
     transform : tuple of six float
         With its rows from north to south.
     crs : rasterio.crs.CRS or None
-    nodata_value : float or None
-    has_mask : bool
-        Whether null is told by a mask of its own, as well.
     is_upside_down : bool
         Whether its rows go from south to north.
     """
 
     name: str
     dataset: Any
-    band: int
+    layer: Layer
     region: Region
     transform: Transform
     crs: Any
-    nodata_value: float | None
-    has_mask: bool
     is_upside_down: bool
-    dtype: str
     block_shape: tuple[int, int]
     labels_path: str
 
@@ -108,21 +171,16 @@ class RasterMap:
         """A band of an open dataset; the only one where it is None."""
         enums = need("rasterio.enums", "gis", _PURPOSE)
         band = only_band(name, dataset, enums) if band is None else band
-        check_scale(name, dataset, band)
         transform, is_upside_down = upright(name, dataset)
         region = in_region(name, Region.from_transform, transform, dataset.height, dataset.width)
-        flags = dataset.mask_flag_enums[band - 1]
         return cls(
             name=name,
             dataset=dataset,
-            band=band,
+            layer=Layer.of(name, dataset, band, enums),
             region=region,
             transform=transform,
             crs=dataset.crs or None,
-            nodata_value=dataset.nodatavals[band - 1],
-            has_mask=enums.MaskFlags.per_dataset in flags,
             is_upside_down=is_upside_down,
-            dtype=dataset.dtypes[band - 1],
             block_shape=dataset.block_shapes[band - 1],
             labels_path=dataset.name,
         )
@@ -130,12 +188,12 @@ class RasterMap:
     @property
     def nodata(self) -> int | None:
         """The value that is null, where the blocks do not tell it."""
-        return whole_nodata(np.dtype(self.dtype), self.nodata_value)
+        return whole_nodata(np.dtype(self.layer.dtype), self.layer.nodata)
 
     @functools.cached_property
     def labels(self) -> Mapping[int, str]:
         """Category names, or the names of an attribute table."""
-        return read_labels(self.labels_path, self.band)
+        return read_labels(self.labels_path, self.layer.band)
 
     def range(self) -> tuple[int, int]:
         """A guess, from some windows."""
@@ -166,17 +224,11 @@ class RasterMap:
         BadMap
             Where a cell is no whole number in range.
         """
-        rasterio = need("rasterio", "gis", _PURPOSE)
         top = self.region.rows - row - rows if self.is_upside_down else row
-        window = rasterio.windows.Window(col, top, cols, rows)
-        try:
-            cells = self.dataset.read(self.band, window=window)
-            null: Mask | None = self.dataset.read_masks(self.band, window=window) == 0 if self.has_mask else None
-        except (rasterio.errors.RasterioError, OSError) as error:
-            raise ReadFailed(self.name, f"rows {row + 1} to {row + rows} cannot be read: {error}") from None
+        cells, null = self.layer.read(self.name, self.dataset, (top, col, rows, cols), f"rows {row + 1} to {row + rows}")
         if self.is_upside_down:
             cells, null = cells[::-1], None if null is None else null[::-1]
-        return checked(self.name, cells, null, self.nodata_value, row, col)
+        return checked(self.name, cells, null, self.layer.nodata, row, col)
 
     def _sample_windows(self) -> list[tuple[int, int, int, int]]:
         """Windows of one block of the file each, spread over the map."""
@@ -214,7 +266,7 @@ def upright(name: str, dataset: Any) -> tuple[Transform, bool]:
     BadMap
         Where it is rotated, or has its columns from east to west; control points in place of one.
     """
-    a, b, c, d, e, f = transform = tuple(float(number) for number in tuple(dataset.transform)[:6])
+    a, b, c, d, e, f = transform = six_numbers(name, dataset.transform)
     if transform == _IDENTITY:
         if dataset.gcps[0]:
             raise BadMap(name, "has ground control points and no transform: warp it first")

@@ -3,13 +3,15 @@
 
 from __future__ import annotations
 
+import math
+import numbers
 from dataclasses import dataclass
 from fractions import Fraction
-from typing import Callable, Sequence
+from typing import Any, Callable, Sequence
 
 from ._errors import BadMap
 
-__all__ = ["Region", "Transform", "check_upright", "differences_of", "edges_of_transform", "units_of"]
+__all__ = ["Region", "Transform", "check_upright", "differences_of", "edges_of_transform", "six_numbers", "units_of"]
 
 # a, b, c, d, e, f of x = a * column + b * row + c and y = d * column + e * row + f, as rasterio's Affine has them.
 Transform = tuple[float, float, float, float, float, float]
@@ -24,8 +26,21 @@ CELL_LIMIT = 2_147_483_647
 
 
 def units_of(edge: float | Fraction) -> int:
-    """An edge in units of 10^-8, which is all that the program keeps of it."""
+    """Return an edge in units of 10^-8, which is all that the program keeps of it."""
     return int(round(Fraction(edge) * UNITS))
+
+
+def _is_number(given: Any) -> bool:
+    return isinstance(given, numbers.Real)
+
+
+def six_numbers(name: str, given: Any) -> Transform:
+    """Return a transform of any kind as its six numbers."""
+    try:
+        a, b, c, d, e, f = (float(number) for number in tuple(given)[:6])
+    except (TypeError, ValueError):
+        raise BadMap(name, f"a transform is an Affine or six numbers, not {given!r}") from None
+    return a, b, c, d, e, f
 
 
 def _edge_text(units: int) -> str:
@@ -37,6 +52,8 @@ def _edge_text(units: int) -> str:
 def check_upright(name: str, transform: Transform) -> None:
     """Refuses, as the map of a name, a transform whose rows are not from north to south, or whose columns from west to east."""
     a, b, _, d, e, _ = transform
+    if not all(map(math.isfinite, transform)):
+        raise BadMap(name, f"a transform with a number that is not finite: {transform}")
     if b or d:
         raise BadMap(name, f"a rotated transform {transform}: warp the map to rows from west to east first")
     if a <= 0 or e >= 0:
@@ -92,18 +109,20 @@ class Region:
     True
     """
 
-    north: float
-    south: float
-    east: float
-    west: float
+    north: float | Fraction
+    south: float | Fraction
+    east: float | Fraction
+    west: float | Fraction
     rows: int
     cols: int
 
     def __post_init__(self) -> None:
         for name in ("north", "south", "east", "west"):
-            edge = float(getattr(self, name))
-            if edge - edge != 0 or abs(units_of(edge)) >= EDGE_LIMIT:
-                raise BadMap("region", f"an edge of more than ten digits: {name} is {edge:g}")
+            edge: Any = getattr(self, name)
+            if not _is_number(edge):
+                raise BadMap("region", f"an edge that is no number: {name} is {edge!r}")
+            if not math.isfinite(edge) or abs(units_of(edge)) >= EDGE_LIMIT:
+                raise BadMap("region", f"an edge of more than ten digits: {name} is {float(edge):g}")
         self._check_sizes()
         north, south, east, west = self.units
         if north <= south or east <= west:
@@ -111,6 +130,8 @@ class Region:
             raise BadMap("region", f"{high} is not above {low} once they are rounded to {DECIMALS} decimals: {self}")
 
     def _check_sizes(self) -> None:
+        if not (isinstance(self.rows, numbers.Integral) and isinstance(self.cols, numbers.Integral)):
+            raise BadMap("region", f"rows and columns that are no whole numbers: {self.rows!r} and {self.cols!r}")
         if not (1 <= self.rows <= SIDE_LIMIT and 1 <= self.cols <= SIDE_LIMIT and self.rows * self.cols <= CELL_LIMIT):
             size = f"{self.rows:,} rows and {self.cols:,} columns"
             limits = f"1 to {SIDE_LIMIT:,} each, and {CELL_LIMIT:,} cells in all"
@@ -142,10 +163,10 @@ class Region:
         >>> rcell.Region.from_transform((25, 0, 512300, 0, -25, 284450), 14, 22)
         Region(north=284450.0, south=284100.0, east=512850.0, west=512300.0, rows=14, cols=22)
         """
-        a, b, c, d, e, f = (float(number) for number in tuple(transform)[:6])
-        check_upright("region", (a, b, c, d, e, f))
-        _, south, east, _ = edges_of_transform((a, b, c, d, e, f), rows, cols)
-        return cls(f, float(south), float(east), c, rows, cols)
+        upright = six_numbers("region", transform)
+        check_upright("region", upright)
+        _, south, east, _ = edges_of_transform(upright, rows, cols)
+        return cls(upright[5], float(south), float(east), upright[2], rows, cols)
 
     @classmethod
     def of_cells(cls, rows: int, cols: int) -> Region:
@@ -193,7 +214,7 @@ class Region:
         >>> rcell.Region(300, 0, 100, 0, 3, 2).cell
         (100.0, 50.0)
         """
-        return (self.north - self.south) / self.rows, (self.east - self.west) / self.cols
+        return float(self.north - self.south) / self.rows, float(self.east - self.west) / self.cols
 
     @property
     def transform(self) -> Transform:

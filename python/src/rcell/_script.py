@@ -11,7 +11,9 @@ import re
 from dataclasses import dataclass, field
 from typing import Iterable
 
-__all__ = ["Plan", "Statement", "labels_in", "plan_of", "statements_of"]
+from ._errors import Refused
+
+__all__ = ["SCRIPT_LIMIT", "Plan", "Statement", "check_names", "labels_in", "plan_of", "statements_of"]
 
 # The line that ends a table. What is sent writes whole numbers alone, so that no line of an output has a letter.
 MARK = "end"
@@ -151,6 +153,16 @@ def _options_are_good(command: str, flags: str, values: dict[str, str], maps: tu
     )
 
 
+def check_names(names: Iterable[str]) -> None:
+    """Raise Refused for the first that is no name of a map."""
+    for name in names:
+        if not (isinstance(name, str) and _NAME.fullmatch(name)):
+            better = re.sub(r"[^A-Za-z0-9_.]", "_", str(name))[:64]
+            better = better if _NAME.fullmatch(better) else f"m_{better[:60]}"
+            told = f"{name!r} is no name of a map: 1 to 64 letters, digits, _ and ., a letter or _ first; write {better}"
+            raise Refused(told, status=2)
+
+
 def statements_of(script: str) -> list[Statement]:
     """The commands of a script in order, as far as they can be told without judging it.
 
@@ -259,7 +271,7 @@ def labels_in(script: str) -> dict[str, dict[int, str]]:
         for rule in statement.rules:
             if _is_skipped(rule):
                 continue
-            words = rule.partition("=")[2].strip(" \t\r").split(maxsplit=1)
-            if len(words) == 2 and re.fullmatch(r"[-+]?\d+", words[0]):
+            words = re.split(r"[ \t\r]+", rule.partition("=")[2].strip(" \t\r"), maxsplit=1)
+            if len(words) == 2 and re.fullmatch(r"[-+]?0*[0-9]{1,10}", words[0]):
                 labels[int(words[0])] = words[1]
     return {name: labels for name, labels in found.items() if labels}

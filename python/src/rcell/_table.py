@@ -6,6 +6,7 @@ from __future__ import annotations
 import csv
 import html
 import io
+from collections import Counter
 from dataclasses import dataclass, field
 from functools import cached_property
 from typing import Any, Iterator, Mapping, NamedTuple
@@ -49,7 +50,7 @@ class Pivot(NamedTuple):
     values: NDArray[Any]
 
 
-@dataclass(frozen=True)
+@dataclass(frozen=True, repr=False)
 class Table:
     """What one r.stats wrote.
 
@@ -150,6 +151,9 @@ class Table:
     def __len__(self) -> int:
         return len(self.categories)
 
+    def __repr__(self) -> str:
+        return f"<Table {self.command}: {len(self)} rows, {', '.join(self.columns)}>"
+
     def __iter__(self) -> Iterator[tuple[Value, ...]]:
         return iter(self.rows)
 
@@ -207,7 +211,8 @@ class Table:
         >>> rcell.run("r.stats -c input=lc", lc=lc).tables[0].with_area("ha").rows
         [(1, 2, 2.0), (2, 1, 1.0)]
         """
-        return self._with(unit=unit, area=self._counted("area=") * cell_area(unit, self.cell, self.crs))
+        square_metres, divisor = cell_area(unit, self.cell, self.crs)
+        return self._with(unit=unit, area=self._counted("area=") * square_metres / divisor)
 
     def with_percent(self) -> Table:
         """The table with a column of percentages of all its cells.
@@ -262,8 +267,11 @@ class Table:
         return np.where(categories == np.iinfo(np.int64).max, NULL, categories), at
 
     def _named(self, categories: NDArray[np.int64], place: int) -> list[int | str | None]:
+        """The labels of categories; those that two have, or that read as null, with the category behind them."""
         labels = (self.labels or {}).get(self.maps[place], {})
-        return [None if category == NULL else labels.get(category, category) for category in categories.tolist()]
+        names = [None if category == NULL else labels.get(category, category) for category in categories.tolist()]
+        often = Counter("null" if name is None else str(name) for name in names)
+        return [f"{name} ({category})" if isinstance(name, str) and often[name] > 1 else name for name, category in zip(names, categories.tolist())]
 
     def pivot_frame(self) -> Any:
         """The matrix as a DataFrame, the names of the maps over its rows and columns.

@@ -8,11 +8,12 @@ import os
 import re
 import stat
 from dataclasses import dataclass, field
+from fractions import Fraction
 from typing import Any, Iterator, Mapping
 
 from ._errors import BadMap, ReadFailed
 from ._maps import Block, Source, in_region
-from ._region import Region, Transform
+from ._region import Region, Transform, units_of
 
 __all__ = ["TextMap", "open_path"]
 
@@ -20,6 +21,7 @@ __all__ = ["TextMap", "open_path"]
 HEADER_BYTES = 1 << 16
 _KEYS = ("north", "south", "east", "west", "rows", "cols", "null", "type", "multiplier")
 _FIRST_LINE = re.compile(rb"\s*(?:%s):" % "|".join(_KEYS).encode())
+_EDGE = re.compile(r"[+-]?[0-9]+\.?[0-9]*")
 _VIRTUAL = re.compile(r"/vsi|[A-Za-z][A-Za-z0-9+.-]+:")
 
 
@@ -80,7 +82,9 @@ def open_path(name: str, path: str | os.PathLike[str]) -> Source:
     Refused
         As the program refuses, where it is a grid with a bad header.
     """
-    text = os.fspath(path)
+    text = os.fsdecode(path)
+    if "\0" in text:
+        raise ReadFailed(name, f"cannot open: {text!r}: no path has a NUL byte")
     if _VIRTUAL.match(text) and not os.path.exists(text):
         return _raster(name, text)
     try:
@@ -136,14 +140,20 @@ def _region_of(name: str, head: bytes) -> Region | None:
     """The region of a header; None where it is not one, which the program then says in its own words."""
     fields = _fields(head + b"\n")[0]
     try:
-        north, south, east, west = (float(fields[key]) for key in ("north", "south", "east", "west"))
+        north, south, east, west = (_edge_of(fields[key]) for key in ("north", "south", "east", "west"))
         rows, cols = int(fields["rows"]), int(fields["cols"])
-    except (KeyError, ValueError):
+    except (KeyError, ValueError, OverflowError):
         return None
     try:
         return in_region(name, Region, north, south, east, west, rows, cols)
     except BadMap:
         return None
+
+
+def _edge_of(text: str) -> float | Fraction:
+    """Return an edge as a float, if that is exact enough for the program; else exactly."""
+    exact = Fraction(text) if _EDGE.fullmatch(text) else Fraction(float(text))
+    return float(exact) if units_of(float(exact)) == units_of(exact) else exact
 
 
 def _refused_region(name: str, path: str, is_file: bool) -> Region:

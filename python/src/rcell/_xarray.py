@@ -3,6 +3,7 @@
 
 from __future__ import annotations
 
+import numbers
 from dataclasses import dataclass
 from typing import Any, Iterator, Mapping
 
@@ -13,11 +14,15 @@ from ._errors import BadMap
 from ._libraries import need
 from ._maps import BLOCK_CELLS, ArrayMap, Block, checked, in_region, whole_nodata
 from ._masked import MaskedCells, filled
-from ._region import Region, Transform
+from ._region import Region, Transform, six_numbers
 from ._text import NULL, range_of
 
 __all__ = ["data_array_of", "source_of_data_array"]
 
+_AXES = {
+    "Y": {"Y", "y", "lat", "latitude", "northing", "projection_y_coordinate"},
+    "X": {"X", "x", "lon", "longitude", "easting", "projection_x_coordinate"},
+}
 # By how much of a cell coordinates may be off the grid that they are taken for.
 _TOLERANCE = 1e-4
 
@@ -62,7 +67,7 @@ def source_of_data_array(name: str, array: Any) -> DataArrayMap | ArrayMap:
     ----------
     name : str
     array : xarray.DataArray
-        Of two dimensions, rows first (others have one element), with coordinates of the centres of cells or none at all.
+        Of two dimensions (others have one element), by their names or their CF axes, else rows first; with coordinates of the centres of cells or none at all.
         Null is NaN, and the value of `_FillValue`, `missing_value` or `nodata` among its attributes or its encoding. The
         reference system is that of rioxarray's coordinate `spatial_ref`; labels are CF's `flag_values` and `flag_meanings`.
 
@@ -71,12 +76,10 @@ def source_of_data_array(name: str, array: Any) -> DataArrayMap | ArrayMap:
     BadMap
         Where it can't be a map, or its coordinates are not evenly spaced.
     """
-    flat = array.squeeze(drop=False)
-    if flat.ndim != 2 and array.ndim >= 2:
-        flat = array.squeeze([dim for dim in array.dims[:-2] if array.sizes[dim] == 1])
-    if flat.ndim != 2:
-        sizes = ", ".join(f"{dim} {array.sizes[dim]}" for dim in array.dims)
-        raise BadMap(name, f"a DataArray of {flat.ndim} dimensions ({sizes}), and a map has two: select one, as .isel(band=0)")
+    if not hasattr(array, "ndim"):
+        raise BadMap(name, f"a {type(array).__name__} of several variables: give one of them, as dataset[{next(iter(array), 'name')!r}]")
+    _check_scale(name, array)
+    flat = _flat(name, array)
     rows, cols = flat.shape
     transform = _transform_of(name, flat)
     if transform is not None and transform[4] > 0:
@@ -88,7 +91,42 @@ def source_of_data_array(name: str, array: Any) -> DataArrayMap | ArrayMap:
         transform = region.transform
     else:
         region = in_region(name, Region.from_transform, transform, rows, cols)
-    return DataArrayMap(name, flat, region, transform, _crs_of(array), _nodata_of(array), _flags_of(array))
+    return DataArrayMap(name, flat, region, transform, _crs_of(array), _nodata_of(name, array), _flags_of(array))
+
+
+def _flat(name: str, array: Any) -> Any:
+    """Return an array with its rows first, by the names of its dimensions, else by their places."""
+    axes = {dim: _axis_of(array, dim) for dim in array.dims}
+    named = [next((dim for dim, axis in axes.items() if axis == wanted), None) for wanted in "YX"]
+    if len(set(axes.values()) - {None}) < len([axis for axis in axes.values() if axis]):
+        raise BadMap(name, f"a DataArray with two dimensions of one axis: {', '.join(map(str, array.dims))}")
+    kept = named if None not in named else _by_place(array, named)
+    others = [dim for dim in array.dims if dim not in kept]
+    if len(kept) != 2 or any(array.sizes[dim] != 1 for dim in others):
+        sizes = ", ".join(f"{dim} {array.sizes[dim]}" for dim in array.dims)
+        raise BadMap(name, f"a DataArray of {array.ndim} dimensions ({sizes}), and a map has two: select one, as .isel(band=0)")
+    return array.isel({dim: 0 for dim in others}).transpose(*kept)
+
+
+def _axis_of(array: Any, dim: Any) -> str | None:
+    """Return X or Y, if a dimension is known to be that: by CF's attributes of its coordinate, or by a usual name."""
+    attributes = array.coords[dim].attrs if dim in array.coords else {}
+    told = {attributes.get("axis"), attributes.get("standard_name"), str(dim).lower()}
+    return next((axis for axis, names in _AXES.items() if told & names), None)
+
+
+def _by_place(array: Any, named: list[Any]) -> list[Any]:
+    """Return the two dimensions that have more than one element, else the last two; a known one decides which comes first."""
+    long = [dim for dim in array.dims if array.sizes[dim] > 1 or dim in named]
+    kept = long if len(long) == 2 else list(array.dims[-2:])
+    return kept[::-1] if kept and (named[0] == kept[-1] or named[1] == kept[0]) else kept
+
+
+def _check_scale(name: str, array: Any) -> None:
+    """Refuse an array whose cells stand for other values; what xarray has decoded has the attributes in its encoding."""
+    scale, offset = array.attrs.get("scale_factor", 1), array.attrs.get("add_offset", 0)
+    if (scale, offset) != (1, 0):
+        raise BadMap(name, f"its values are scaled: each cell times {scale}, plus {offset}; write them out as whole numbers first")
 
 
 def _transform_of(name: str, array: Any) -> Transform | None:
@@ -96,7 +134,7 @@ def _transform_of(name: str, array: Any) -> Transform | None:
     y, x = array.dims
     if y not in array.coords or x not in array.coords:
         return None
-    told = _told_transform(array)
+    told = _told_transform(name, array)
     north, height = _spacing(name, array[y], None if told is None else (told[5], told[4]))
     west, width = _spacing(name, array[x], None if told is None else (told[2], told[0]))
     if width < 0:
@@ -104,19 +142,24 @@ def _transform_of(name: str, array: Any) -> Transform | None:
     return (width, 0.0, west, 0.0, height, north)
 
 
-def _told_transform(array: Any) -> Transform | None:
+def _told_transform(name: str, array: Any) -> Transform | None:
     """What rioxarray has kept of the transform, in GDAL's order; it is stale where the array was cut since."""
     reference = array.coords.get("spatial_ref")
     text = None if reference is None else reference.attrs.get("GeoTransform")
     if not text:
         return None
-    c, a, b, f, d, e = (float(number) for number in str(text).split())
+    c, a, b, f, d, e = six_numbers(name, str(text).split())
     return None if b or d else (a, b, c, d, e, f)
 
 
 def _spacing(name: str, coordinate: Any, told: tuple[float, float] | None) -> tuple[float, float]:
     """The outer edge and the step of the centres along a dimension."""
-    centres = np.asarray(coordinate.values, dtype=np.float64)
+    try:
+        centres = np.asarray(coordinate.values, dtype=np.float64)
+    except (TypeError, ValueError):
+        raise BadMap(name, f"its coordinate {coordinate.name} is not of numbers") from None
+    if not np.isfinite(centres).all():
+        raise BadMap(name, f"its coordinate {coordinate.name} has a number that is not finite")
     count = centres.size
     if told is not None:
         edge, step = told
@@ -137,12 +180,17 @@ def _crs_of(array: Any) -> Any:
     return attributes.get("crs_wkt") or attributes.get("spatial_ref") or array.attrs.get("crs") or None
 
 
-def _nodata_of(array: Any) -> float | None:
-    for told in (array.attrs, array.encoding):
-        for key in ("_FillValue", "missing_value", "nodata"):
-            if told.get(key) is not None:
-                return float(np.asarray(told[key]).reshape(-1)[0])
-    return None
+def _nodata_of(name: str, array: Any) -> float | None:
+    """Return the number that is null; NaN is in any case."""
+    told = [np.asarray(of[key]).reshape(-1) for of in (array.attrs, array.encoding)
+            for key in ("_FillValue", "missing_value", "nodata") if of.get(key) is not None]
+    values = [value.item() for values in told for value in values]
+    if not all(isinstance(value, numbers.Real) for value in values):
+        raise BadMap(name, f"a nodata value that is no number: {', '.join(map(repr, values))}")
+    found = {value for value in values if value == value}
+    if len(found) > 1:
+        raise BadMap(name, f"several nodata values: {', '.join(map(str, sorted(found)))}; keep one of _FillValue, missing_value and nodata")
+    return next(iter(found), None)
 
 
 def _flags_of(array: Any) -> dict[int, str]:

@@ -3,6 +3,7 @@
 
 import sys
 
-from ._command import main
+from ..__main__ import main
 
-sys.exit(main(sys.argv[1:]))
+sys.argv.insert(1, "tiles")
+sys.exit(main())

@@ -1,16 +1,22 @@
 # SPDX-License-Identifier: Apache-2.0 OR GPL-2.0-or-later
 """Dask: processes of this machine, or a cluster that is there already.
 
-The processes of this machine stand below one of their own, `python3 -m rcell.tiles._cluster`, which holds Dask's
-`LocalCluster`. So a script needs no `if __name__ == "__main__":` around it (workers would import it, and start workers
-themselves), and the workers end with whoever asked for them, also where that one is killed: their parent reads to the end of
-its standard input, and then closes the cluster.
+The processes of this machine are children of one of their own, `python3 -m rcell.tiles._cluster`, which holds Dask's
+`LocalCluster`. So a script needs no `if __name__ == "__main__":` (workers would import it, and start workers themselves), and
+the workers end with whoever asked for them, even if that one is killed: their parent reads to the end of its standard input,
+and then closes the cluster.
+
+Whoever reaches a Dask scheduler can run anything as its user. So the processes of this machine talk through TLS with keys that
+are made for each cluster and go through a pipe alone: no other user has them. No process looks for modules in the working folder.
 """
 
 from __future__ import annotations
 
 import contextlib
+import json
+import logging
 import os
+import re
 import subprocess
 import sys
 import tempfile
@@ -18,6 +24,10 @@ from dataclasses import dataclass
 from pathlib import Path
 from typing import Any
 
+from rcell_front.files import write_all
+from rcell_front.programs import close, pipe
+
+from .._errors import RcellError
 from .._libraries import need
 
 __all__ = ["RESOURCE", "Cluster", "ClusterFailed"]
@@ -32,7 +42,11 @@ SHARE = 0.8
 """How much of the memory that is free is given to tasks."""
 
 
-class ClusterFailed(RuntimeError):
+ADDRESS = re.compile(r"tls://127\.0\.0\.1:\d+\n")
+KEYS = ("tls_ca_file", *(f"tls_{role}_{part}" for role in ("client", "scheduler", "worker") for part in ("key", "cert")))
+
+
+class ClusterFailed(RcellError, RuntimeError):
     """The processes of this machine did not start, or the scheduler was not reached, or it has no workers.
 
     Examples
@@ -57,11 +71,9 @@ class Room:
 
 
 def free_memory() -> int:
-    """Bytes that this machine, or the limit that this process is under, has left."""
-    import psutil
-    from distributed.system import MEMORY_LIMIT
-
-    return int(min(psutil.virtual_memory().available, MEMORY_LIMIT))
+    """Return the bytes that this machine, or the limit that this process is under, has left."""
+    limit = need("distributed.system", "tiles", "for maps by tiles").MEMORY_LIMIT
+    return int(min(need("psutil", "tiles", "for maps by tiles").virtual_memory().available, limit))
 
 
 class Cluster:
@@ -69,19 +81,24 @@ class Cluster:
 
     Parameters
     ----------
-    scheduler : None, int or str
-        Nothing for as many processes as this machine has processors, a number for so many, or the address of a scheduler.
+    scheduler : None, int, str or distributed.Client
+        Nothing for as many processes as this machine has processors, a number for so many, the address of a scheduler, or a client
+        of one, which stays open.
     memory : int, optional
         The bytes that the tasks of this machine take together; 8/10 of what is free where it is not given.
     """
 
-    def __init__(self, scheduler: None | int | str = None, memory: int | None = None) -> None:
+    def __init__(self, scheduler: Any = None, memory: int | None = None) -> None:
         distributed = need("distributed", "tiles", "for maps by tiles")
-        self._parent: subprocess.Popen[str] | None = None
-        self.client: Any = None
+        self._parent: subprocess.Popen[bytes] | None = None
+        self._ends: list[int] = []
+        self._is_own = not isinstance(scheduler, distributed.Client)
+        self.client: Any = None if self._is_own else scheduler
+        if not self._is_own:
+            return
         try:
-            address = scheduler if isinstance(scheduler, str) else self._start(scheduler or os.cpu_count() or 1, memory)
-            self.client = distributed.Client(address, set_as_default=False, timeout=CONNECT_SECONDS)
+            address, security = (scheduler, None) if isinstance(scheduler, str) else self._start(scheduler or os.cpu_count() or 1, memory)
+            self.client = distributed.Client(address, security=security, set_as_default=False, timeout=CONNECT_SECONDS)
         except OSError as fault:
             self.close()
             raise ClusterFailed(f"no scheduler at {scheduler}: {fault}") from fault
@@ -89,19 +106,27 @@ class Cluster:
             self.close()
             raise
 
-    def _start(self, workers: int, memory: int | None) -> str:
+    def _start(self, workers: int, memory: int | None) -> tuple[str, Any]:
+        need("cryptography", "tiles", "for a cluster that no other user of this machine can use")
+        security = need("distributed.security", "tiles", "for maps by tiles").Security.temporary()
         share = (memory or int(free_memory() * SHARE)) // workers
-        paths = [str(Path(__file__).parents[2]), *filter(None, [os.environ.get("PYTHONPATH")])]
+        command = [sys.executable, "-P", "-m", "rcell.tiles._cluster", str(workers), str(share)]
+        (given, keys), (output, printed) = pipe(), pipe()
+        self._ends = [keys, output]
         with tempfile.TemporaryFile("w+", errors="replace") as log:
-            self._parent = subprocess.Popen([sys.executable, "-m", "rcell.tiles._cluster", str(workers), str(share)],
-                                            stdin=subprocess.PIPE, stdout=subprocess.PIPE, stderr=log, text=True, start_new_session=True,
-                                            env={**os.environ, "PYTHONPATH": os.pathsep.join(paths)})
-            assert self._parent.stdout is not None
-            address = self._parent.stdout.readline().strip()
-            if not address:
+            try:
+                self._parent = subprocess.Popen(command, stdin=given, stdout=printed, stderr=log, start_new_session=True, env=_environment())
+            finally:
+                close(given)
+                close(printed)
+            with contextlib.suppress(BrokenPipeError):
+                write_all(keys, json.dumps({name: getattr(security, name) for name in KEYS}).encode() + b"\n")
+            address = _line(output)
+            if not ADDRESS.fullmatch(address):
                 log.seek(0)
-                raise ClusterFailed(f"the processes of this machine did not start: {' '.join(log.read().strip().splitlines()[-1:])}")
-        return address
+                told = " ".join(log.read().strip().splitlines()[-1:]) or address
+                raise ClusterFailed(f"the processes of this machine did not start: {told}")
+        return address.strip(), security
 
     def room(self) -> Room:
         """What the workers that are there now have."""
@@ -123,27 +148,48 @@ class Cluster:
 
     def close(self) -> None:
         """End the processes of this machine; a cluster that was there stays."""
-        if self.client is not None:
+        if self.client is not None and self._is_own:
             self.client.close()
-            self.client = None
+        self.client = None
+        if self._ends:
+            close(self._ends.pop(0))
         if self._parent is not None:
-            assert self._parent.stdin is not None and self._parent.stdout is not None
-            self._parent.stdin.close()
             try:
                 self._parent.wait(STOP_SECONDS)
             except subprocess.TimeoutExpired:
                 self._parent.kill()
                 self._parent.wait()
-            self._parent.stdout.close()
             self._parent = None
+        while self._ends:
+            close(self._ends.pop())
+
+
+def _line(output: int) -> str:
+    """Return what the parent of the workers prints, up to the end of a line."""
+    line = b""
+    while not line.endswith(b"\n") and (piece := os.read(output, 1 << 12)):
+        line += piece
+    return line.decode("utf-8", "replace")
+
+
+def _environment() -> dict[str, str]:
+    """Return an environment in which Python imports nothing from the working folder, and Dask serves no pages."""
+    given = [] if sys.flags.ignore_environment else os.environ.get("PYTHONPATH", "").split(os.pathsep)
+    paths = [str(Path(__file__).parents[2]), *filter(os.path.isabs, given)]
+    no_pages = {f"DASK_DISTRIBUTED__{role}__HTTP__ROUTES": "[]" for role in ("SCHEDULER", "WORKER")}
+    return {**os.environ, **no_pages, "PYTHONPATH": os.pathsep.join(paths), "PYTHONSAFEPATH": "1"}
 
 
 def main(workers: int, memory: int) -> None:
-    """Hold a cluster of so many workers, each of so many bytes, until standard input ends."""
+    """Hold a cluster of so many workers, each of so many bytes, until standard input ends; its first line has the keys."""
     distributed = need("distributed", "tiles", "for maps by tiles")
+    security = distributed.Security(require_encryption=True, **json.loads(sys.stdin.readline()))
     with tempfile.TemporaryDirectory(prefix="rcell-tiles-", ignore_cleanup_errors=True) as folder:
-        cluster = distributed.LocalCluster(n_workers=workers, threads_per_worker=1, processes=True, dashboard_address=None,
-                                           memory_limit=0, resources={RESOURCE: memory}, local_directory=folder)
+        own = {"host": "127.0.0.1", "protocol": "tls://", "security": security, "dashboard": False, "dashboard_address": "127.0.0.1:0"}
+        worker = own | {"nthreads": 1, "memory_limit": 0, "resources": {RESOURCE: memory}, "local_directory": folder}
+        scheduler = {"cls": distributed.Scheduler, "options": own}
+        cluster = distributed.SpecCluster({at: {"cls": distributed.Nanny, "options": worker} for at in range(workers)}, scheduler,
+                                          security=security, silence_logs=logging.WARNING)
         try:
             print(cluster.scheduler_address, flush=True)
             sys.stdin.read()
@@ -152,9 +198,8 @@ def main(workers: int, memory: int) -> None:
 
 
 def _close(cluster: Any) -> None:
-    """Ends the workers. Dask waits for one that is just being started, minutes where the machine has much to do: not so long."""
-    import psutil
-
+    """End the workers. Dask waits for one that is just being started, minutes on a busy machine: not so long."""
+    psutil = need("psutil", "tiles", "for maps by tiles")
     with contextlib.suppress(Exception):
         cluster.close(timeout=CLOSE_SECONDS)
     for child in psutil.Process().children(recursive=True):

@@ -8,17 +8,16 @@ import os
 import sys
 import warnings
 from collections.abc import Sequence
-from pathlib import Path
 from typing import Any
 
+from ..__main__ import emit, script_of
 from .._errors import MissingLibrary, OutOfMemory, RcellError, Refused
 from .._table import Table
-from ._cluster import ClusterFailed
 from .mosaic import Mosaic, NeedlessTiles, TooLittleMemory, open_mosaic
 
 __all__ = ["main"]
 
-REFUSED, COMMAND_LINE, MEMORY, FILES = 1, 2, 3, 4
+COMMAND_LINE, MEMORY, FILES = 2, 3, 4
 """The exit statuses of rcell."""
 
 
@@ -41,9 +40,9 @@ def main(argv: Sequence[str]) -> int:
         warnings.simplefilter("always", NeedlessTiles)
         warnings.showwarning = lambda message, *_, **__: print(f"rcell: {message}", file=sys.stderr)
         try:
-            with open_mosaic(dict(given.maps), size=given.size, scheduler=given.scheduler or given.workers) as mosaic:
+            with open_mosaic(dict(given.maps), size=given.size, scheduler=given.scheduler or given.workers, crs=given.crs) as mosaic:
                 given.act(mosaic, given)
-        except (RcellError, ClusterFailed, OSError) as fault:
+        except (RcellError, OSError) as fault:
             print(f"rcell: {fault}", file=sys.stderr)
             return _status(fault)
     return 0
@@ -83,6 +82,7 @@ def _command(commands: Any, name: str, act: Any, text: str) -> argparse.Argument
     command: argparse.ArgumentParser = commands.add_parser(name, help=text, description=text)
     command.set_defaults(act=act)
     command.add_argument("--size", type=_positive, metavar="CELLS", help="rows and columns of a tile; chosen by memory if not given")
+    command.add_argument("--crs", metavar="EPSG:CODE", help="the coordinate reference system of the maps that have none")
     where = command.add_mutually_exclusive_group()
     where.add_argument("--workers", type=_positive, metavar="N", help="processes on this machine; one a processor if not given")
     where.add_argument("--scheduler", metavar="ADDRESS", help="a Dask scheduler")
@@ -112,7 +112,7 @@ def _grid(mosaic: Mosaic, given: argparse.Namespace) -> None:
 
 def _clump(mosaic: Mosaic, given: argparse.Namespace) -> None:
     [name] = mosaic.names
-    print(mosaic.clump(name, given.out, given.diagonal))
+    emit(f"{mosaic.clump(name, given.out, given.diagonal)}\n")
 
 
 def _patches(mosaic: Mosaic, given: argparse.Namespace) -> None:
@@ -122,23 +122,9 @@ def _patches(mosaic: Mosaic, given: argparse.Namespace) -> None:
 
 def _print(table: Any) -> None:
     """A table as CSV; where pandas is not installed it is a Table."""
-    if isinstance(table, Table):
-        sys.stdout.write(table.csv())
-    else:
-        table.to_csv(sys.stdout, index=False)
+    emit(table.csv() if isinstance(table, Table) else table.to_csv(index=False))
 
 
 def _script(word: str) -> str:
-    """A file, standard input, a line of a script or an expression."""
-    if word == "-":
-        return sys.stdin.read()
-    if not os.path.exists(word) and (word.startswith("r.") or "=" in word):
-        return word
-    try:
-        return Path(word).read_text("utf-8", "surrogateescape")
-    except OSError as fault:
-        raise Refused(f"cannot open {word}: {fault.strerror}", "script", status=FILES) from None
-
-
-if __name__ == "__main__":
-    sys.exit(main(sys.argv[1:]))
+    """Return the text of a file or of standard input, or the word if it is a line of a script or an expression."""
+    return word if "=" in word and not os.path.exists(word) else script_of(word)

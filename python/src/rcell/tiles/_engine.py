@@ -49,7 +49,7 @@ def same(value: Any) -> Any:
 class Engine:
     """A cluster that is started when it is first needed, and the tasks of one mosaic."""
 
-    def __init__(self, scheduler: None | int | str) -> None:
+    def __init__(self, scheduler: Any) -> None:
         self._scheduler = scheduler
         self._cluster: Cluster | None = None
         self._room: Room | None = None

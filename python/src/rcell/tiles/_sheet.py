@@ -6,16 +6,18 @@ from __future__ import annotations
 import os
 import re
 from collections.abc import Mapping
-from dataclasses import dataclass
+from dataclasses import dataclass, replace
 from typing import Any
 
 import numpy as np
 
-from .._errors import BadMap, OtherRegion, ReadFailed
+from .._crs import common_crs, wkt_of
+from .._errors import BadMap, OtherRegion
 from .._libraries import need
 from .._maps import ArrayMap, checked
-from .._rasters import check_scale, only_band, open_dataset, upright
+from .._rasters import Layer, only_band, open_dataset, upright
 from .._region import Region, Transform, differences_of, edges_of_transform, units_of
+from .._script import check_names
 from .joining import Rectangle
 
 __all__ = ["MapFile", "Sheet", "open_maps"]
@@ -74,31 +76,23 @@ class MapFile:
     ----------
     name, path : str
         The name in scripts, and what rasterio opens.
-    band : int
-        The band, from 1.
-    dtype : str
-        The type of its cells.
-    nodata : float or None
-        The value that is null.
-    has_mask : bool
-        Whether null is told by a mask beside the cells as well.
+    layer : Layer
+        Its band, and what is null in it.
     is_upside_down : bool
         Whether its rows go from south to north.
     """
 
     name: str
     path: str
-    band: int
-    dtype: str
-    nodata: float | None
-    has_mask: bool
+    layer: Layer
     is_upside_down: bool
 
     @property
     def bytes(self) -> int:
         """What a cell takes while it is read: cells of more than two bytes are checked, with masks, and copied to int32."""
-        size = np.dtype(self.dtype).itemsize
-        return size + self.has_mask if size <= 2 else size + 4 + 3
+        size = np.dtype(self.layer.dtype).itemsize
+        masks = self.layer.has_mask + (self.layer.alpha is not None)
+        return size + masks if size <= 2 else size + 4 + 3 + masks
 
     def read(self, place: Rectangle, sheet: Sheet) -> ArrayMap:
         """A rectangle of its cells as a map of its own, whose cells have side 1.
@@ -112,23 +106,17 @@ class MapFile:
         BadMap
             A cell that is no whole number in range, with its row and column in the whole.
         """
-        rasterio = need("rasterio", "gis", PURPOSE)
         top = sheet.rows - place.top - place.rows if self.is_upside_down else place.top
-        window = rasterio.windows.Window(place.left, top, place.cols, place.rows)
-        try:
-            with rasterio.Env(GDAL_CACHEMAX=READ_CACHE), open_dataset(self.name, self.path) as dataset:
-                cells = dataset.read(self.band, window=window)
-                null = dataset.read_masks(self.band, window=window) == 0 if self.has_mask else None
-        except (rasterio.errors.RasterioError, OSError) as fault:
-            where = f"the tile of {place.rows} x {place.cols} cells at row {place.top + 1}, column {place.left + 1}"
-            raise ReadFailed(self.name, f"{where} cannot be read: {fault}") from None
+        where = f"the tile of {place.rows} x {place.cols} cells at row {place.top + 1}, column {place.left + 1}"
+        with need("rasterio", "gis", PURPOSE).Env(GDAL_CACHEMAX=READ_CACHE), open_dataset(self.name, self.path) as dataset:
+            cells, null = self.layer.read(self.name, dataset, (top, place.left, place.rows, place.cols), where)
         if self.is_upside_down:
             cells, null = cells[::-1], None if null is None else null[::-1]
-        block = checked(self.name, cells, null, self.nodata, place.top, place.left)
-        return ArrayMap(self.name, block.cells, Region.of_cells(place.rows, place.cols), block.null, self.nodata)
+        block = checked(self.name, cells, null, self.layer.nodata, place.top, place.left)
+        return ArrayMap(self.name, block.cells, Region.of_cells(place.rows, place.cols), block.null, self.layer.nodata)
 
 
-def open_maps(paths: Mapping[str, Any]) -> tuple[Sheet, list[MapFile]]:
+def open_maps(paths: Mapping[str, Any], crs: Any = None) -> tuple[Sheet, list[MapFile]]:
     """The grid of maps and their files, once it is certain that they have one grid.
 
     Raises
@@ -137,18 +125,22 @@ def open_maps(paths: Mapping[str, Any]) -> tuple[Sheet, list[MapFile]]:
         A file that cannot be opened.
     BadMap
         A file that is no map; no map at all.
+    OtherCrs
+        A map of another coordinate reference system, or without one.
     OtherRegion
         A map of another grid than the first.
     """
     if not paths:
         raise BadMap("maps", 'no map is given: name at least one, as lc="landcover.tif"')
+    check_names(paths)
     opened = [_described(name, path) for name, path in paths.items()]
+    common = common_crs({file.name: sheet.crs for sheet, file in opened}, crs)
     sheet, first = opened[0]
     for other, file in opened[1:]:
         told = sheet.differences(other)
         if told:
             raise OtherRegion(file.name, f"not of the region of `{first.name}`, and nothing is resampled: {'; '.join(told)}")
-    return sheet, [file for _, file in opened]
+    return replace(sheet, crs=wkt_of(common) or None), [file for _, file in opened]
 
 
 def _described(name: str, path: Any) -> tuple[Sheet, MapFile]:
@@ -157,13 +149,8 @@ def _described(name: str, path: Any) -> tuple[Sheet, MapFile]:
     file = os.fspath(path) if GDAL_NAME.match(os.fspath(path)) else os.path.abspath(path)
     enums = need("rasterio.enums", "gis", PURPOSE)
     with open_dataset(name, file) as dataset:
-        band = only_band(name, dataset, enums)
-        check_scale(name, dataset, band)
-        dtype = dataset.dtypes[band - 1]
-        if np.dtype(dtype).kind not in "iuf":
-            raise BadMap(name, f"not a map of whole numbers: its cells are of the type {dtype}")
+        layer = Layer.of(name, dataset, only_band(name, dataset, enums), enums)
         transform, is_upside_down = upright(name, dataset)
-        rows, cols = dataset.block_shapes[band - 1]
+        rows, cols = dataset.block_shapes[layer.band - 1]
         sheet = Sheet(dataset.height, dataset.width, transform, dataset.crs.to_wkt() if dataset.crs else None, (rows, cols))
-        has_mask = enums.MaskFlags.per_dataset in dataset.mask_flag_enums[band - 1]
-        return sheet, MapFile(name, file, band, dtype, dataset.nodatavals[band - 1], has_mask, is_upside_down)
+        return sheet, MapFile(name, file, layer, is_upside_down)

@@ -20,9 +20,8 @@ from typing import Any, NamedTuple, Protocol
 
 import numpy as np
 import numpy.typing as npt
-from scipy.sparse import coo_matrix
-from scipy.sparse.csgraph import connected_components
 
+from .._libraries import need
 from .._merging import Counts, TooManyCells, merge
 from .._numbers import NULL
 
@@ -348,8 +347,9 @@ class _Sheet:
         # Law `numbers_join`: what a chain of links joins (one number in one tile, or a step over a border) is one area.
         # The first of the two labels is in the upper 32 bits.
         ends = (pairs >> 32, pairs & 0xFFFFFFFF)
-        links = coo_matrix((np.ones(len(pairs), dtype=np.int8), ends), shape=(self.count, self.count))
-        count, component = connected_components(links, directed=False)
+        sparse = need("scipy.sparse", "tiles", "to join areas")
+        links = sparse.coo_matrix((np.ones(len(pairs), dtype=np.int8), ends), shape=(self.count, self.count))
+        count, component = need("scipy.sparse.csgraph", "tiles", "to join areas").connected_components(links, directed=False)
         backwards = np.concatenate([_in_order(row) for row in self.rows])[::-1]
         first = np.empty(count, dtype=np.int64)
         first[component[backwards]] = backwards  # the last that is written stands: the label that comes first

@@ -11,14 +11,15 @@ from typing import Any
 
 import numpy as np
 
+from rcell_front.files import is_same_file
+
 from .._errors import RcellError, Refused
 from .._joiner import find_joiner
 from .._labels import read_labels
 from .._libraries import has
-from .._maps import ArrayMap
 from .._merging import Counts, counts_of
-from .._program import execute
-from .._region import SIDE_LIMIT, Region
+from .._program import judge
+from .._region import SIDE_LIMIT
 from .._script import labels_in
 from .._table import Table
 from .._text import NULL
@@ -66,7 +67,7 @@ def refused(script: str, statement: Statement | None, text: str) -> Refused:
 
 
 def open_mosaic(maps: Mapping[str, Any] | None = None, /, size: None | int | tuple[int, int] = None,
-                scheduler: None | int | str = None, **named: Any) -> Mosaic:
+                scheduler: Any = None, crs: Any = None, **named: Any) -> Mosaic:
     """Open maps of one grid, of any size, to be worked on by tiles.
 
     No cell is read before it is asked for. Tiles are for maps that do not fit into memory; where they do, a warning
@@ -79,9 +80,11 @@ def open_mosaic(maps: Mapping[str, Any] | None = None, /, size: None | int | tup
     size : int or tuple of two ints, optional
         Rows and columns of a tile, in cells. Where it is not given, each task has the largest tiles that the memory of a
         worker has room for, in multiples of 256.
-    scheduler : int or str, optional
-        The address of a Dask scheduler, whose workers have to see the files under the same paths and have this package and
-        the program; or a number of processes on this machine. Where it is not given, as many as there are processors.
+    scheduler : int, str or distributed.Client, optional
+        A client or the address of a Dask scheduler, whose workers have to see the files under the same paths and have this package
+        and the program; or a number of processes on this machine, one for each processor by default.
+    crs : any, optional
+        The coordinate reference system of the maps that have none.
     **named : str or path
         What rasterio opens, one band each, by the names that scripts have for them.
 
@@ -96,6 +99,8 @@ def open_mosaic(maps: Mapping[str, Any] | None = None, /, size: None | int | tup
         A file that cannot be opened.
     BadMap
         A file that is no map: several bands, rotated, scaled.
+    OtherCrs
+        Maps of different coordinate reference systems.
     OtherRegion
         Maps of different grids; it says which, and by how much.
 
@@ -114,7 +119,7 @@ def open_mosaic(maps: Mapping[str, Any] | None = None, /, size: None | int | tup
         raise Refused(f"the map {min(twice)} is given twice", status=2)
     if size is not None and min(np.atleast_1d(size)) < 1:
         raise Refused(f"a tile has at least one row and one column, not {size}", status=2)
-    sheet, files = open_maps({**(maps or {}), **named})
+    sheet, files = open_maps({**(maps or {}), **named}, crs)
     mosaic = Mosaic(sheet, files, (size, size) if isinstance(size, int) else size, scheduler)
     if mosaic.is_needless:
         warnings.warn("the maps fit into the memory of this machine: rcell.table and rcell.grid are as fast, without tiles",
@@ -137,7 +142,7 @@ class Mosaic:
     <Mosaic of lc: 2 x 3 cells, tiles of 2 x 2 cells>
     """
 
-    def __init__(self, sheet: Sheet, files: list[MapFile], size: tuple[int, int] | None, scheduler: None | int | str) -> None:
+    def __init__(self, sheet: Sheet, files: list[MapFile], size: tuple[int, int] | None, scheduler: Any) -> None:
         self.sheet = sheet
         self._files = {file.name: file for file in files}
         self._size = size
@@ -264,7 +269,7 @@ class Mosaic:
     def _labels(self, names: Iterable[str], script: str) -> dict[str, Mapping[int, str]]:
         """Labels of maps: those of the rules that made them, or those that their files have."""
         made = labels_in(script)
-        return {name: read_labels(self._files[name].path, self._files[name].band) if name in self._files else made.get(name, {})
+        return {name: read_labels(self._files[name].path, self._files[name].layer.band) if name in self._files else made.get(name, {})
                 for name in names}
 
     def grid(self, script: str, path: str | os.PathLike[str]) -> None:
@@ -299,6 +304,7 @@ class Mosaic:
         >>> rcell.grid("r.mapcalc same = right", "right", right="right.tif").array.tolist()
         [[1, 2, None], [2, 2, None]]
         """
+        self._refuse_inputs(path)
         run, labels = self._grid_run(script)
         demand = grid_demand(self._read(run), run.made, run.script.reach)
         tiles = self._tiles(demand)
@@ -340,6 +346,7 @@ class Mosaic:
         ...     mosaic.clump("lc", "areas.tif")
         3
         """
+        self._refuse_inputs(path)
         file = self._file(name)
         # Before they are joined, it is not known how many areas there are: at most as many as cells.
         demand = areas_demand(file.bytes, 4 if self.sheet.rows * self.sheet.cols < 2**31 else 8)
@@ -440,13 +447,15 @@ class Mosaic:
             raise Refused(f"no map {name}: there are {', '.join(self._files)}", status=2)
         return self._files[name]
 
+    def _refuse_inputs(self, path: str | os.PathLike[str]) -> None:
+        if any(is_same_file(os.fspath(path), file.path) for file in self._files.values()):
+            raise Refused(f"{path}: the output file is the input file: choose another name", status=2)
+
     # Scripts
 
     def _judged(self, script: str) -> list[Statement]:
-        """The statements of a script, once the program has taken it over a map of one null cell."""
-        null = np.ones((1, 1), dtype=bool)
-        maps = {name: ArrayMap(name, np.zeros((1, 1), np.uint8), Region.of_cells(1, 1), null) for name in self._files}
-        execute(script, maps)
+        """Return the statements of a script, once the program has taken it."""
+        judge(script, self._files)
         return statements(script)
 
     def _table_run(self, script: str) -> tuple[Stats, _tasks.TileRun]:
@@ -464,7 +473,7 @@ class Mosaic:
         return stats, run
 
     def _grid_run(self, script: str) -> tuple[_tasks.TileRun, Mapping[int, str]]:
-        lines = (line.split() for line in script.splitlines() if line.strip() and not line.lstrip().startswith("#"))
+        lines = (line.split() for line in script.split("\n") if line.strip() and not line.lstrip().startswith("#"))
         text = script if next(lines, [""])[0] in COMMANDS else f"r.mapcalc {script.strip()}"
         found = self._judged(text)
         if not found or not isinstance(found[-1], Assignment | Reclass):

@@ -1,0 +1,266 @@
+"""What is at the edge of the package: a cell is read exactly or refused, and what goes wrong is one error that says so."""
+
+from __future__ import annotations
+
+import os
+import pathlib
+import subprocess
+import sys
+from typing import Any, Callable
+
+import numpy as np
+import pytest
+
+import rcell
+
+from .conftest import LAND, TRANSFORM
+
+rasterio = pytest.importorskip("rasterio")
+Write = Callable[..., str]
+SCRIPT = "r.stats -c input=m"
+
+
+def cells(given: Any, **words: Any) -> Any:
+    return rcell.grid("", "m", m=given, **words).array.tolist()
+
+
+def refusal(given: Any, script: str = SCRIPT, **words: Any) -> rcell.Refused:
+    with pytest.raises(rcell.Refused) as refused:
+        rcell.run(script, m=given, **words)
+    return refused.value
+
+
+# Dimensions, nodata and scale of DataArrays
+
+
+def data_array(dims: tuple[str, ...] = ("y", "x"), values: Any = None, **words: Any) -> Any:
+    xarray = pytest.importorskip("xarray")
+    array = np.arange(12).reshape(3, 4) if values is None else values
+    coordinates = {"y": [2.5, 1.5, 0.5], "x": [0.5, 1.5, 2.5, 3.5]} if values is None else {}
+    return xarray.DataArray(array, coordinates, dims[: array.ndim], **words)
+
+
+def test_dimensions_are_known_by_their_names() -> None:
+    array = data_array()
+    assert cells(array.transpose("x", "y")) == cells(array) == np.arange(12).reshape(3, 4).tolist()
+    upward = array.isel(y=slice(None, None, -1))
+    assert cells(upward.transpose("x", "y")) == cells(array)
+    renamed = array.rename(y="lat", x="lon")
+    assert cells(renamed.transpose("lon", "lat")) == cells(array)
+    told = array.rename(y="rows", x="cols")
+    told.rows.attrs["axis"], told.cols.attrs["axis"] = "Y", "X"
+    assert cells(told.transpose("cols", "rows")) == cells(array)
+
+
+def test_dimensions_of_one_element_keep_their_place() -> None:
+    xarray = pytest.importorskip("xarray")
+    assert cells(xarray.DataArray([[[1], [2], [3]]], dims=("y", "x", "band"))) == [[1, 2, 3]]
+    assert cells(xarray.DataArray([[[1, 2, 3]]], dims=("band", "y", "x"))) == [[1, 2, 3]]
+    assert cells(xarray.DataArray([[1, 2, 3]])) == [[1, 2, 3]]
+    assert "two dimensions of one axis" in str(refusal(xarray.DataArray([[1, 2]], dims=("x", "lon"))))
+
+
+def test_nodata_of_a_data_array() -> None:
+    values = np.array([[1.0, 2.0, np.nan]])
+    assert cells(data_array(values=values, attrs={"_FillValue": np.nan, "nodata": 2})) == [[1, None, None]]
+    assert "several nodata values: 1, 2" in str(refusal(data_array(values=values, attrs={"_FillValue": 1, "nodata": 2})))
+    assert "a nodata value that is no number: 'x'" in str(refusal(data_array(values=values, attrs={"_FillValue": "x"})))
+
+
+def test_a_scaled_data_array_is_refused() -> None:
+    told = str(refusal(data_array(attrs={"scale_factor": 0.5})))
+    assert told == "m: its values are scaled: each cell times 0.5, plus 0; write them out as whole numbers first"
+    assert "plus 3" in str(refusal(data_array(attrs={"add_offset": 3})))
+    decoded = data_array()
+    decoded.encoding["scale_factor"] = 0.5
+    assert cells(decoded) == np.arange(12).reshape(3, 4).tolist()
+
+
+def test_arrays_of_other_kinds() -> None:
+    xarray = pytest.importorskip("xarray")
+    dask = pytest.importorskip("dask.array")
+    assert cells(dask.from_array(LAND, chunks=2)) == LAND.tolist()
+    assert "several variables: give one of them, as dataset['lc']" in str(refusal(xarray.Dataset({"lc": data_array()})))
+
+
+# Rasters
+
+
+def test_cells_of_64_bits_are_exact(tmp_path: pathlib.Path) -> None:
+    gdal = pytest.importorskip("osgeo.gdal")
+    for code, dtype, nodata in ((12, np.uint64, 2**64 - 1), (13, np.int64, -9999), (13, np.int64, 2**53), (13, np.int64, None)):
+        path = str(tmp_path / "wide.tif")
+        dataset = gdal.GetDriverByName("GTiff").Create(path, 3, 1, 1, code)
+        band = dataset.GetRasterBand(1)
+        if nodata is not None:
+            (band.SetNoDataValueAsUInt64 if code == 12 else band.SetNoDataValueAsInt64)(nodata)
+        band.WriteArray(np.array([[nodata or 1, 2, 3]], dtype))
+        del dataset, band
+        assert cells(path) == [[None if nodata else 1, 2, 3]]
+        assert cells(rasterio.open(path)) == [[None if nodata else 1, 2, 3]]
+    near = np.array([[2**53, 2**53 + 1]])
+    assert "row 1, column 2 is 9007199254740993" in str(refusal(rcell.Map(near, nodata=2.0**53)))
+
+
+def test_transparent_cells_are_null(raster: Write) -> None:
+    from rasterio.enums import ColorInterp
+
+    def transparent(dataset: Any) -> None:
+        dataset.colorinterp = [ColorInterp.gray, ColorInterp.alpha]
+
+    alpha = np.stack([LAND, np.where(LAND == 2, 0, 128).astype("uint8")])
+    wanted = [[None if cell == 2 else cell for cell in row] for row in LAND.tolist()]
+    assert cells(raster(alpha, edit=transparent)) == wanted
+    with_nodata = [[None if cell == 3 else cell for cell in row] for row in wanted]
+    assert cells(raster(alpha, edit=transparent, nodata=3)) == with_nodata
+
+
+@pytest.mark.parametrize("bad", [float("nan"), float("inf")])
+def test_a_transform_that_is_not_finite_is_refused(raster: Write, bad: float) -> None:
+    for place in (0, 2, 4):
+        transform = [*TRANSFORM]
+        transform[place] = bad
+        assert "not finite" in str(refusal((LAND, transform)))
+        assert "not finite" in str(refusal(raster(LAND, transform=transform)))
+    array = data_array()
+    assert "not finite" in str(refusal(array.assign_coords(x=[0.5, 1.5, 2.5, bad])))
+
+
+def test_what_is_no_map_is_refused(tmp_path: pathlib.Path, raster: Write) -> None:
+    assert "nodata is a number, not '3'" in str(refusal(rcell.Map([[1]], nodata="3")))  # type: ignore[arg-type]
+    assert "rows of one length" in str(refusal([[1, 2], [3]]))
+    assert "an Affine or six numbers" in str(refusal(rcell.Map([[1]], (1, 2, 3))))
+    with pytest.raises(rcell.BadMap, match="rows and columns that are no whole numbers: 1.5 and 1"):
+        rcell.Region(1, 0, 1, 0, rows=1.5, cols=1)  # type: ignore[arg-type]
+    assert "NUL" in str(refusal("a\0b"))
+    for name, better in (("a=b", "a_b"), ("a-b", "a_b"), ("1", "m_1"), ("a\0", "a_")):
+        with pytest.raises(rcell.Refused, match=f"is no name of a map: .* write {better}$"):
+            rcell.run("", {name: [[1]]})
+    stale = data_array()
+    stale = stale.assign_coords(spatial_ref=0)
+    stale.spatial_ref.attrs["GeoTransform"] = "1 2 3"
+    assert "an Affine or six numbers" in str(refusal(stale))
+
+
+def test_edges_of_a_grid_are_exact(tmp_path: pathlib.Path) -> None:
+    path, copy = tmp_path / "m.txt", tmp_path / "copy.txt"
+    path.write_text("north: 9999999999.12345678\nsouth: 9999999998.12345678\neast: 1\nwest: 0\nrows: 1\ncols: 1\n7\n")
+    rcell.grid("", "m", m=path).write(copy)
+    assert copy.read_text().startswith("north: 9999999999.12345678\nsouth: 9999999998.12345678\n")
+    assert rcell.run("r.stats input=a,b", a=path, b=copy).tables[0].rows == [(7, 7)]
+    assert "arguments" not in str(refusal(_grid(tmp_path, "north: 1e999")))
+
+
+def _grid(folder: pathlib.Path, first: str) -> pathlib.Path:
+    path = folder / "grid.txt"
+    path.write_text(f"{first}\nsouth: 0\neast: 1\nwest: 0\nrows: 1\ncols: 1\n7\n")
+    return path
+
+
+def test_classes_are_whole_numbers() -> None:
+    assert rcell.areas(LAND, classes=[1.0]).table.rows == rcell.areas(LAND, classes=[1]).table.rows  # type: ignore[list-item]
+    with pytest.raises(rcell.Refused, match="classes= are whole numbers, not 1.9"):
+        rcell.areas(LAND, classes=[1.9])  # type: ignore[list-item]
+
+
+@pytest.mark.parametrize("blank", ["\u3000", "\u2028", "\u0085", "\v", "\f", "\x1c", "\u00a0"])
+def test_labels_keep_the_blanks_of_unicode(blank: str) -> None:
+    table = rcell.run(f"r.reclass input=m output=k\n1 thru 9 = 1 {blank}wide\nend\nr.stats -l input=k", m=LAND).tables[0]
+    assert table.rows[0] == (1, f"{blank}wide")
+    assert rcell.run(f"r.reclass input=m output=k\n{'1' * 5} = 1 {'0' * 9}\nend\nr.stats -l input=k", m=LAND).tables[0].rows == [(None, None)]
+
+
+# Coordinate reference systems
+
+UTM, GAUSS = "EPSG:25832", "EPSG:31467"
+OTHER = ("its coordinate reference system is EPSG:31467 (DHDN / 3-degree Gauss-Kruger zone 3), and that of `a` is EPSG:25832 "
+         "(ETRS89 / UTM zone 32N): reproject one of them first, as with gdalwarp -t_srs EPSG:25832")
+NONE = 'it has no coordinate reference system, and `a` has EPSG:25832 (ETRS89 / UTM zone 32N): state it with crs="EPSG:25832"'
+
+
+def crossed(a: Any, b: Any, **words: Any) -> Any:
+    return rcell.run("r.stats -c input=a,b", a=a, b=b, **words).tables[0].rows
+
+
+def test_maps_of_two_reference_systems_are_refused(raster: Write) -> None:
+    maps = raster(LAND, "a.tif", crs=UTM), raster(LAND, "b.tif", crs=GAUSS)
+    with pytest.raises(rcell.OtherCrs) as refused:
+        crossed(*maps)
+    assert (refused.value.source, refused.value.text) == ("b", OTHER)
+    shifted = raster(LAND[:2], "c.tif", crs=GAUSS)
+    with pytest.raises(rcell.OtherCrs):  # before the region is looked at
+        crossed(maps[0], shifted)
+    with pytest.raises(rcell.OtherCrs, match="and crs= is EPSG:31467"):
+        crossed(maps[0], maps[0], crs=GAUSS)
+    assert crossed(maps[0], maps[0]) == crossed(maps[0], rcell.Map(LAND, TRANSFORM, rasterio.crs.CRS.from_epsg(25832)))
+
+
+def test_a_map_without_a_reference_system_is_refused_next_to_one(raster: Write) -> None:
+    given, array = raster(LAND, crs=UTM), (LAND, TRANSFORM)
+    for maps, name in (((given, array), "b"), ((array, given), "a")):
+        with pytest.raises(rcell.OtherCrs) as refused:
+            crossed(*maps)
+        assert (refused.value.source, refused.value.text) == (name, NONE if name == "b" else NONE.replace("`a`", "`b`"))
+    assert crossed(given, array, crs=UTM) == crossed(array, array) == crossed(given, given)
+    assert rcell.run("r.out.ascii input=m", m=array, crs=UTM).grids["m"].crs == UTM
+    with pytest.raises(rcell.Refused, match="crs= is no coordinate reference system: 'nonsense'"):
+        crossed(array, array, crs="nonsense")
+
+
+def test_a_reference_system_that_is_not_understood_is_refused(monkeypatch: pytest.MonkeyPatch) -> None:
+    assert "its coordinate reference system is not understood: 'nonsense'" in str(refusal(rcell.Map([[1]], crs="nonsense")))
+    compound = rcell.Map([[1]], (1, 0, 10, 0, -1, 50), "EPSG:9707")
+    assert list(rcell.areas(compound).sizes) == ["area", "category", "cells"]
+    with pytest.raises(rcell.Refused, match="in degrees the area of a cell differs"):
+        rcell.table(SCRIPT, m=compound, area="ha")
+    modules: dict[str, Any] = sys.modules
+    for name in ("rasterio", "rasterio.crs", "rasterio.errors"):
+        monkeypatch.setitem(modules, name, None)
+    with pytest.raises(rcell.MissingLibrary, match="to understand the coordinate reference system 'EPSG:4326'"):
+        rcell.table(SCRIPT, m=rcell.Map([[1, 1]], (1, 0, 10, 0, -1, 50), "EPSG:4326"), area="ha")
+
+
+def test_areas_are_the_nearest_floats() -> None:
+    table = rcell.run(SCRIPT, m=(np.ones((1, 5), int), (30, 0, 0, 0, -30, 0))).tables[0]
+    assert table.with_area("ha").rows == [(1, 5, 0.45)]
+
+
+# Errors that say what to do
+
+
+def test_the_program_judges_the_script_before_a_map_is_missed() -> None:
+    for script, column in (('r.mapcalc "x = lc * 2"', 11), ('r.mapcalc expression="x = lc * 2"', None)):
+        with pytest.raises(rcell.Refused) as refused:
+            rcell.grid(script, "x", lc=LAND)
+        assert (refused.value.source, refused.value.line) == ("script", 1)
+        if column:
+            assert (refused.value.text, refused.value.column) == ("bad byte at column 11", 11)
+            assert str(refused.value).splitlines()[2] == " " * 12 + "^"
+    with pytest.raises(rcell.Refused, match="no map y: there are lc, x"):
+        rcell.grid("r.mapcalc x = lc * 2", "y", lc=LAND)
+
+
+def test_all_errors_are_of_one_tree() -> None:
+    tiles = pytest.importorskip("rcell.tiles")
+    for error in (tiles.ClusterFailed, tiles.TooManyCells, tiles.WorkerLost, tiles.TooLittleMemory, rcell.OtherCrs):
+        assert issubclass(error, rcell.RcellError)
+    assert "x86-64-v2" in str(rcell.Killed(4))
+
+
+def test_a_pivot_tells_classes_of_one_label_apart() -> None:
+    labelled = rcell.Map([[1, 2, 3, 0]], nodata=0, labels={1: "x", 2: "x", 3: "null"})
+    table = rcell.run("r.stats -cl input=a,b", a=labelled, b=labelled).tables[0]
+    assert table.pivot().rows == ["x (1)", "x (2)", "null (3)", None]
+    assert repr(table) == "<Table r.stats: 4 rows, a, a_label, b, b_label, cells>"
+
+
+def test_modules_without_their_libraries(monkeypatch: pytest.MonkeyPatch) -> None:
+    code = ("import sys; sys.modules['scipy'] = sys.modules['psutil'] = None; from rcell import *; import rcell, rcell.tiles, numpy\n"
+            "for ask in (lambda: rcell.tiles._cluster.free_memory(), lambda: rcell.tiles.joining.need('scipy.sparse', 'tiles', 'to join')):\n"
+            "    try: ask()\n    except rcell.MissingLibrary as error: print(error.library)\n")
+    ran = subprocess.run([sys.executable, "-c", code], capture_output=True, text=True, env=environment(), check=False)
+    assert (ran.stdout.split(), ran.stderr) == (["psutil", "scipy"], "")
+
+
+def environment(**words: str) -> dict[str, str]:
+    return {**os.environ, "PYTHONPATH": str(pathlib.Path(rcell.__file__).parents[1]), "RCELL": rcell.program(), **words}

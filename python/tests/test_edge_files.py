@@ -1,0 +1,239 @@
+"""Files and programs at the edge: devices, links, modes, old masks, closed streams, signals, forks, full disks."""
+
+from __future__ import annotations
+
+import os
+import pathlib
+import shlex
+import signal
+import stat
+import subprocess
+import sys
+import time
+from typing import Any, Callable
+
+import numpy as np
+import pytest
+
+import rcell
+from rcell import _program
+
+from .conftest import LAND, TRANSFORM
+from .test_edge import cells, environment
+
+rasterio = pytest.importorskip("rasterio")
+Write = Callable[..., str]
+SECONDS = 120
+GRID = "north: 2\nsouth: 0\neast: 3\nwest: 0\nrows: 2\ncols: 3\n7 7 7\n8 8 8\n"
+CSV = "m,cells\n7,3\n8,3\n"
+TABLE = f"{shlex.quote(sys.executable)} -m rcell csv 'r.stats -c input=m' m=in.txt"
+TIF = f"{shlex.quote(sys.executable)} -m rcell tif <(echo) m=in.txt --out m="
+
+
+@pytest.fixture
+def room(tmp_path: pathlib.Path) -> pathlib.Path:
+    """A folder with a grid."""
+    (tmp_path / "in.txt").write_text(GRID)
+    return tmp_path
+
+
+def shell(room: pathlib.Path, command: str, **words: str) -> subprocess.CompletedProcess[str]:
+    return subprocess.run(["bash", "-c", command], cwd=room, capture_output=True, text=True, env=environment(**words), timeout=SECONDS, check=False)
+
+
+def hidden(room: pathlib.Path) -> list[str]:
+    return [name for name in os.listdir(room) if name.startswith(".")]
+
+
+# Files
+
+
+def test_what_is_no_file_is_written_and_never_replaced(room: pathlib.Path) -> None:
+    for command, begins in ((f"{TABLE} --out ", b"m,cells"), (TIF, b"II*\0")):
+        if os.geteuid() == 0:
+            subprocess.run(["mknod", str(room / "null.tif"), "c", "1", "3"], check=True)
+            assert shell(room, f"{command}null.tif").returncode == 0
+            assert stat.S_ISCHR((room / "null.tif").stat().st_mode)
+            (room / "null.tif").unlink()
+        shell(room, "rm -f fifo.tif link.tif real got; mkfifo fifo.tif; ln -s real link.tif; ln -sf /proc/self/fd/1 stdout.tif")
+        assert shell(room, f"cat fifo.tif > got & {command}fifo.tif; status=$?; wait; exit $status").returncode == 0
+        assert stat.S_ISFIFO((room / "fifo.tif").stat().st_mode) and (room / "got").read_bytes().startswith(begins)
+        assert shell(room, f"{command}link.tif").returncode == 0
+        assert (room / "link.tif").is_symlink() and (room / "real").read_bytes().startswith(begins)
+        assert shell(room, f"echo old > log; {command}stdout.tif >> log").returncode == 0
+        assert (room / "stdout.tif").is_symlink() and (room / "log").read_bytes().startswith(b"old\n" + begins)
+        full = shell(room, f"ln -sf /dev/full full.tif; {command}full.tif")
+        assert (full.returncode, full.stderr) == (4, "rcell: full.tif cannot be written: No space left on device\n")
+    assert hidden(room) == []
+
+
+def test_a_file_that_is_replaced_keeps_its_mode(raster: Write, tmp_path: pathlib.Path) -> None:
+    grid = rcell.grid("", "m", m=raster(LAND))
+    for name in ("out.txt", "out.tif"):
+        path = tmp_path / name
+        path.touch(0o600)
+        grid.write(path)
+        assert stat.S_IMODE(path.stat().st_mode) == 0o600 and path.stat().st_size > 0
+
+
+def test_a_map_over_one_with_a_mask_is_read_without_it(raster: Write, tmp_path: pathlib.Path) -> None:
+    path = raster(LAND)
+    grid = rcell.grid("r.mapcalc x = m + 1", "x", m=path)
+    with rasterio.Env(GDAL_TIFF_INTERNAL_MASK=False), rasterio.open(path, "r+") as dataset:
+        dataset.write_mask(LAND != 1)
+    for ending in (".aux.xml", ".ovr"):
+        pathlib.Path(path + ending).write_text("<PAMDataset/>")
+    assert cells(path)[0] == [None, None, 2, 0]
+    grid.write(path)
+    assert cells(path) == (LAND + 1).tolist() and os.listdir(tmp_path) == ["map.tif"]
+
+
+def test_an_old_file_and_its_mask_survive_a_failure(raster: Write, tmp_path: pathlib.Path, monkeypatch: pytest.MonkeyPatch) -> None:
+    path = raster(LAND)
+    pathlib.Path(path + ".msk").write_text("mask")
+    before = pathlib.Path(path).read_bytes()
+    grid = rcell.grid("", "m", m=LAND)
+
+    def fail(*_: Any) -> None:
+        raise OSError(28, "No space left on device")
+
+    monkeypatch.setattr(os, "replace", fail)
+    with pytest.raises(rcell.WriteFailed, match="map.tif cannot be written: No space left on device"):
+        grid.write(path)
+    assert pathlib.Path(path).read_bytes() == before and sorted(os.listdir(tmp_path)) == ["map.tif", "map.tif.msk"]
+
+
+def test_an_input_is_no_output(room: pathlib.Path) -> None:
+    (room / "script").write_text("r.stats -c input=m\n")
+    for command in (f"{TABLE} --out in.txt", f"{sys.executable} -m rcell csv script m=in.txt --out script", f"{TIF}in.txt"):
+        ran = shell(room, f"ln -sf in.txt link; {command}")
+        assert (ran.returncode, ran.stderr.endswith("the output file is the input file: choose another name\n")) == (2, True), ran.stderr
+    assert (room / "in.txt").read_text() == GRID
+    ran = shell(room, f"{TIF}x.tif --out n=./x.tif")
+    assert (ran.returncode, ran.stderr) == (2, "rcell: arguments: ./x.tif: two maps go to one file\n")
+
+
+# Streams and signals
+
+
+@pytest.mark.parametrize("closed", ["<&-", "2>&-", "<&- 2>&-"])
+def test_closed_streams(room: pathlib.Path, closed: str) -> None:
+    ran = shell(room, f"{TABLE} {closed}")
+    assert (ran.returncode, ran.stdout) == (0, CSV)
+
+
+def test_closed_and_full_standard_output(room: pathlib.Path) -> None:
+    for redirection, reason in ((">&-", "is closed"), (">&- <&-", "is closed"), ("> /dev/full", "No space left on device")):
+        ran = shell(room, f"{TABLE} {redirection}")
+        assert (ran.returncode, ran.stderr) == (4, f"rcell: standard output cannot be written: {reason}\n")
+    assert shell(room, f"{TABLE} | true; exit ${{PIPESTATUS[0]}}").returncode in (0, 4)
+
+
+def test_a_library_with_closed_streams(room: pathlib.Path) -> None:
+    code = "import os, sys, rcell; t = rcell.run('r.stats -c input=m', m=sys.argv[1])[0]; open(sys.argv[2], 'w').write(str(t.rows))"
+    for closed in ("<&-", ">&-", "2>&-", "<&- >&- 2>&-"):
+        ran = shell(room, f"{sys.executable} -c {shlex.quote(code)} in.txt out {closed}")
+        assert (ran.returncode, (room / "out").read_text()) == (0, "[(7, 3), (8, 3)]"), closed
+
+
+@pytest.mark.parametrize("name", ["SIGHUP", "SIGINT", "SIGTERM", "SIGQUIT", "SIGXCPU"])
+def test_signals_leave_nothing(room: pathlib.Path, name: str) -> None:
+    os.mkfifo(room / "fifo")
+    command = [sys.executable, "-m", "rcell", "csv", "r.stats -c input=m", "m=fifo", "--out", "out"]
+    (room / "out").write_text("old")
+    with subprocess.Popen(command, cwd=room, env=environment(RCELL_TEST=str(room)), stderr=subprocess.PIPE, text=True) as program:
+        with open(room / "fifo", "w") as fifo:
+            fifo.write(GRID[:-4])
+            fifo.flush()
+            time.sleep(1)
+            program.send_signal(getattr(signal, name))
+            said = program.communicate(timeout=SECONDS)[1]
+    assert (program.returncode % 256, said) == (128 + getattr(signal, name), "")
+    assert (hidden(room), (room / "out").read_text(), running(room)) == ([], "old", [])
+
+
+def running(room: pathlib.Path) -> list[str]:
+    """Processes with the mark of a folder, a moment given to those that are ending."""
+    found: list[str] = []
+    for _ in range(50):
+        found = []
+        for number in filter(str.isdecimal, os.listdir("/proc")):
+            try:
+                given = pathlib.Path(f"/proc/{number}/environ").read_bytes()
+            except OSError:
+                continue
+            found += [number] if f"RCELL_TEST={room}".encode() in given.split(b"\0") else []
+        if not found:
+            break
+        time.sleep(0.1)
+    return found
+
+
+def test_a_run_does_not_wait_for_forked_processes() -> None:
+    children = []
+
+    class Forking(rcell.Map):
+        """A map that forks while it is read."""
+
+    cells_of = np.ones((300, 300), np.uint8)
+    source = Forking(cells_of).source("m")
+    blocks = type(source).blocks
+
+    def forking(given: Any) -> Any:
+        child = os.fork()
+        if child == 0:
+            time.sleep(8)
+            os._exit(0)
+        children.append(child)
+        return blocks(given)
+
+    began = time.monotonic()
+    with pytest.MonkeyPatch.context() as patched:
+        patched.setattr(type(source), "blocks", forking)
+        assert rcell.run("r.stats -c input=m", m=source).tables[0].rows == [(1, 90_000)]
+    took = time.monotonic() - began
+    for child in children:
+        os.kill(child, signal.SIGKILL)
+        os.waitpid(child, 0)
+    assert children and took < 7
+
+
+# Programs
+
+
+def test_programs_are_not_found_through_relative_folders(room: pathlib.Path) -> None:
+    stranger = room / "rcell"
+    stranger.write_text("#!/bin/sh\necho stranger\n")
+    stranger.chmod(0o755)
+    code = "import rcell._program as p; print(list(p.candidates('rcell')))"
+    for path in (".:/nowhere", ":/nowhere", "/nowhere:"):
+        assert shell(room, f"PATH={path} {sys.executable} -c {shlex.quote(code)}").stdout == "[]\n"
+    ran = shell(room, TABLE, RCELL="rcell")
+    assert ran.stderr == f"rcell: {stranger} is not a program rcell of a version that this package knows\n"
+
+
+def test_a_program_that_does_not_end_is_told(room: pathlib.Path, monkeypatch: pytest.MonkeyPatch) -> None:
+    stranger = room / "sleeper"
+    stranger.write_text("#!/bin/sh\nexec sleep 60\n")
+    stranger.chmod(0o755)
+    monkeypatch.setattr(_program, "PROBE_SECONDS", 0.5)
+    with pytest.raises(rcell.WrongProgram, match="does not end within 0.5 seconds"):
+        rcell.program(stranger)
+
+
+def test_too_many_open_files_are_told() -> None:
+    code = ("import resource, rcell\nrcell.program()\nresource.setrlimit(resource.RLIMIT_NOFILE, (12, 12))\nheld = [open('/dev/null') for _ in range(7)]\n"
+            "try: rcell.run('r.stats -c input=m', m=[[1]])\nexcept rcell.MissingProgram as error: print(error)\n")
+    ran = subprocess.run([sys.executable, "-c", code], capture_output=True, text=True, env=environment(), check=False)
+    assert ran.stdout.endswith("cannot be executed: Too many open files\n"), ran.stderr
+
+
+def test_a_command_states_a_reference_system(raster: Write) -> None:
+    path = raster(LAND, crs="EPSG:25832")
+    plain = path.replace("map.tif", "plain.txt")
+    rcell.grid("", "m", m=(LAND, TRANSFORM)).write(plain)
+    words = [sys.executable, "-m", "rcell", "csv", "r.stats -c input=a,b", f"a={path}", f"b={plain}"]
+    ran = subprocess.run(words, capture_output=True, text=True, env=environment(), check=False)
+    assert (ran.returncode, 'state it with crs="EPSG:25832"' in ran.stderr) == (1, True)
+    ran = subprocess.run([*words, "--crs", "EPSG:25832"], capture_output=True, text=True, env=environment(), check=False)
+    assert (ran.returncode, ran.stdout.splitlines()[0]) == (0, "a,b,cells")
