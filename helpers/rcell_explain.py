@@ -424,8 +424,8 @@ def explained(run, words):
 
 def ended(status):
     """What is told of a run that a signal ended."""
-    why = " (the system kills programs when memory runs out)" if status == -9 else ""
-    return ["rcell-explain: rcell was killed by signal %d%s" % (-status, why)]
+    causes = {-4: " (the processor is older than x86-64-v2, which rcell needs)", -9: " (the system kills programs when memory runs out)"}
+    return ["rcell-explain: rcell was killed by signal %d%s" % (-status, causes.get(status, ""))]
 
 
 def main(words, folder):

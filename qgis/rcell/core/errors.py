@@ -110,7 +110,8 @@ class Killed(RcellError):
 
     def __str__(self) -> str:
         name = next((f" ({known.name})" for known in signal.Signals if known == self.signal), "")
-        cause = "too little memory, or someone ended it" if self.signal == 9 else "someone ended it"
+        causes = {4: "the processor is older than x86-64-v2, which the program needs", 9: "too little memory, or someone ended it"}
+        cause = causes.get(self.signal, "someone ended it")
         return f"the program was killed by signal {self.signal}{name}: {cause}"
 
 

@@ -59,7 +59,8 @@ write_failed <- function(path, text) signal("rcell_write_failed", sprintf("%s ca
 
 # The program was ended by a signal.
 killed <- function(number) {
-  name <- if (number == 9L) " (SIGKILL)" else if (number == 15L) " (SIGTERM)" else ""
-  cause <- if (number == 9L) "too little memory, or someone ended it" else "someone ended it"
+  name <- switch(as.character(number), "4" = " (SIGILL)", "9" = " (SIGKILL)", "15" = " (SIGTERM)", "")
+  cause <- switch(as.character(number), "4" = "the processor is older than x86-64-v2, which the program needs",
+                  "9" = "too little memory, or someone ended it", "someone ended it")
   signal("rcell_killed", sprintf("the program was killed by signal %d%s: %s", number, name, cause), signal = number)
 }
