@@ -5,10 +5,11 @@ import os
 import re
 import sys
 
-from rcell_advice import INDENT, Messages, marked, shown
-from rcell_grids import EDGES, FORGOTTEN, GridFile, SIX, SOUGHT, cause_of, quoted
+from rcell_front.advice import INDENT, Messages, marked, shown
+from rcell_front.grids import EDGES, FORGOTTEN, GridFile, SIX, SOUGHT, cause_of, quoted
+from rcell_front.mending import first_of, is_of_expression, mended_lines, order_of
+from rcell_front.script import Script, is_name
 from rcell_run import Missing, Run, found_program
-from rcell_script import Script, is_name
 
 MESSAGE = re.compile(r"rcell: ([A-Za-z0-9_.]+):([0-9]+): (.*)")
 COLUMN = re.compile(r" at column ([0-9]+)$")
@@ -295,52 +296,6 @@ class Explanation:
             self.say("write:")
             for it in mended:
                 self.say("  " + shown(it))
-
-
-def order_of(fault):
-    """The order in which rcell tells the faults of a line: its form, a missing option, an unknown map, one that exists."""
-    return {"missing option": 1, "unknown map": 2, "map exists": 3}.get(fault.text, 0), fault.start
-
-
-def first_of(faults):
-    return min(faults, key=order_of)
-
-
-def is_of_expression(script, fault):
-    """Whether a fault is told with a column."""
-    if not 1 <= fault.line <= len(script.lines):
-        return False
-    is_mapcalc = (script.lines[fault.line - 1].split() or [""])[0].lower() == "r.mapcalc"
-    return is_mapcalc and fault.text not in ("map exists", "unknown command", "line too long")
-
-
-def mended_lines(script, line, faults):
-    """The line as it is to be written, where all its faults can be mended and nothing else is wrong with it."""
-    if any(not fault.fixes for fault in faults):
-        return []
-    text, last = script.lines[line - 1], len(script.lines[line - 1]) + 1
-    fixes = sorted({fix for fault in faults for fix in fault.fixes}, reverse=True)
-    for start, end, by in fixes:
-        if end > last:
-            continue
-        text, last = text[:start] + by + text[end:], start
-    lines = [re.sub(r"[ \t]+", " ", it).strip() for it in text.split("\n")]
-    lines = [it for it in lines if it]
-    return lines if lines and is_right(script, line, lines) else []
-
-
-def is_right(script, line, lines):
-    """Whether lines in the place of one have no fault, over the maps that are known there."""
-    known = [name for name, whence in script.known.items() if whence == "a grid" or int(whence.split()[-1]) < line]
-    text = "\n".join(lines)
-    if lines[0].split()[0] == "r.reclass" and len(lines) == 1:
-        text += "\nend"
-    is_rule = lines[0][0] in "*+-0123456789"
-    if is_rule:
-        text, known = "r.reclass input=a output=b\n%s\nend" % text, ["a"]
-    if lines[0] == "end":
-        return True
-    return not Script(text.encode("latin-1"), known).faults
 
 
 def same_number(one, other):

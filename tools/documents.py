@@ -15,7 +15,7 @@ Its fenced blocks are taken from the top:
 The folder that a block goes to by `cd` is that of the next. With --write what is printed takes the place of what is shown.
 Of docs/grass.md the program's side of each table is run, too (tools/differences.py), and the flags and keys that
 docs/commands.md, docs/rcell-join.md and the manual pages name are tried (tools/command_options.py). What needs no program is tried
-first, and with --texts alone: docs/errors.md has the table of helpers/messages.json (tools/messages.py), docs/crates.svg the
+first, and with --texts alone: docs/errors.md has the table of python/src/rcell_front/messages.json (tools/messages.py), docs/crates.svg the
 crates of crates.txt (tools/crate_graph.py), docs/proofs.md and README.md the numbers of lines that have to be believed
 (tools/reading.py), README.md the figures of docs/SPEED.md, each link and anchor leads somewhere (tools/links.py), the edits, clauses and laws that the documents cite exist (tools/citations.py), and the
 manual pages pass the warnings of man where it is installed.

@@ -1,5 +1,5 @@
 #!/usr/bin/env python3
-"""The table of messages in docs/errors.md, which is made from helpers/messages.json.
+"""The table of messages in docs/errors.md, which is made from python/src/rcell_front/messages.json.
 
     messages.py            compares: the table is the one that the file gives, and the file has each message of the program, and no other
     messages.py --write    writes the table into the document
@@ -15,7 +15,7 @@ import sys
 import build
 
 ROOT = os.path.dirname(os.path.dirname(os.path.abspath(__file__)))
-FILE, DOCUMENT = f"{ROOT}/helpers/messages.json", f"{ROOT}/docs/errors.md"
+FILE, DOCUMENT = f"{ROOT}/python/src/rcell_front/messages.json", f"{ROOT}/docs/errors.md"
 TABLES = re.compile(r"^## Of the command line .*", re.MULTILINE | re.DOTALL)
 # Kinds of a fault that no run of the program reports.
 UNREPORTED = {"reader failed"}
@@ -74,12 +74,12 @@ def check(write=False):
     if write and right != document:
         with open(DOCUMENT, "w", encoding="utf-8") as file:
             file.write(right)
-    faults = [] if write or right == document else ["docs/errors.md: the table is not that of helpers/messages.json (tools/messages.py --write)"]
+    faults = [] if write or right == document else ["docs/errors.md: the table is not that of python/src/rcell_front/messages.json (tools/messages.py --write)"]
     texts, code = {message["text"] for part in read_parts() for message in part["messages"]}, messages_of_the_code()
-    faults += [f"helpers/messages.json: no row for the message '{text}'" for text in sorted(code - texts)]
-    faults += [f"helpers/messages.json: no such message: '{text}'" for text in sorted(texts - code)]
+    faults += [f"python/src/rcell_front/messages.json: no row for the message '{text}'" for text in sorted(code - texts)]
+    faults += [f"python/src/rcell_front/messages.json: no such message: '{text}'" for text in sorted(texts - code)]
     for part in read_parts():
-        faults += [f"helpers/messages.json: {message['text']}: an example lacks a word: {cells}" for message in part["messages"]
+        faults += [f"python/src/rcell_front/messages.json: {message['text']}: an example lacks a word: {cells}" for message in part["messages"]
                    for cells in rows_of({**part, "messages": [message]}) if re.search(r"\{[a-z_]+\}", "".join(cells))]
     return len(code & texts), faults
 

@@ -282,7 +282,7 @@ def test_tif_and_picture(raster: Write, tmp_path: pathlib.Path) -> None:
 @pytest.mark.parametrize(
     ("words", "status", "told"),
     [
-        (["csv", "r.stats -q input=lc", "lc=MAP"], 1, "rcell: script, line 1: bad option\n  r.stats -q input=lc\n"),
+        (["csv", "r.stats -q input=lc", "lc=MAP"], 1, "rcell: script, line 1: bad option\n  r.stats -q input=lc\n          ^\n  try: r.stats input=lc\n"),
         (["csv", "r.stats -c input=lc", "lc=/nowhere"], 4, "rcell: lc: cannot open: /nowhere: No such file or directory\n"),
         (["csv", "r.stats -c input=lc", "lc"], 2, "rcell: arguments: lc: write NAME=PATH\n"),
         (["csv", "r.stats -c input=lc", "lc=MAP", "lc=MAP"], 2, "rcell: arguments: lc=MAP: the name lc is given twice\n"),

@@ -236,8 +236,27 @@ def test_the_program_judges_the_script_before_a_map_is_missed() -> None:
         if column:
             assert (refused.value.text, refused.value.column) == ("bad byte at column 11", 11)
             assert str(refused.value).splitlines()[2] == " " * 12 + "^"
+            assert refused.value.advice == "r.mapcalc x = lc * 2"
     with pytest.raises(rcell.Refused, match="no map y: there are lc, x"):
         rcell.grid("r.mapcalc x = lc * 2", "y", lc=LAND)
+
+
+@pytest.mark.parametrize(
+    ("script", "column", "advice"),
+    [
+        ("r.stats -cn lc", 13, "r.stats -cn input=lc"),
+        ("r.stats -c in=lc", 12, "r.stats -c input=lc"),
+        ("r.stats -c input=lc output=t.txt", 21, "r.stats -c input=lc"),
+        ("r.stat input=lc", None, "r.stats input=lc"),
+        ("r.reclass input=lc output=k\n1 = 1 a", None, "a line `end` after the last rule"),
+        ("r.mapcalc x = lc = 2", 18, "r.mapcalc x = lc == 2"),
+    ],
+)
+def test_a_refusal_says_what_to_write(script: str, column: int | None, advice: str) -> None:
+    with pytest.raises(rcell.Refused) as refused:
+        rcell.run(script, lc=LAND)
+    assert (refused.value.column, refused.value.advice) == (column, advice)
+    assert str(refused.value).splitlines()[-1] == f"  try: {advice}"
 
 
 def test_all_errors_are_of_one_tree() -> None:

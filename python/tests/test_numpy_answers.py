@@ -188,7 +188,7 @@ class Refusals(unittest.TestCase):
     def test_the_mark_stands_under_the_column(self) -> None:
         with self.assertRaises(rcell.Refused) as caught:
             rcell.run("r.mapcalc\tx = lc + 1.5", lc=LAND)
-        self.assertEqual(str(caught.exception).splitlines()[1:], ["  r.mapcalc\tx = lc + 1.5", "           \t         ^"])
+        self.assertEqual(str(caught.exception).splitlines()[1:3], ["  r.mapcalc\tx = lc + 1.5", "           \t         ^"])
 
     def test_maps(self) -> None:
         for given, told in (

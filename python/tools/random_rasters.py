@@ -85,7 +85,7 @@ def random_nodata(chance: random.Random, cells: NDArray[Any]) -> float | None:
     kind = cells.dtype.kind
     some = cells.reshape(-1)[chance.randrange(cells.size)].item() if kind != "c" else 0
     choices: list[float | None] = [None, some, some, -9999, 255, 2**31, -(2**31), 0.5, float("nan"), -3.4028234663852886e38]
-    if kind in "iu" and not cells.any():
+    if kind in "iu" and not cells.any(axis=1).all():
         choices.remove(0.5)  # GDAL reads a block of zeros that it has not stored as this nodata, rounded
     found = chance.choice(choices)
     if found is not None and cells.dtype.itemsize == 8 and kind in "iu":

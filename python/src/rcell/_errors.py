@@ -55,11 +55,10 @@ class Refused(RcellError):
         The exit status of the program: 1 for a grid or the script, 2 for the command line, 3 out of memory, 4 for files.
     content : str, optional
         The line of the script itself.
-
-    Attributes
-    ----------
-    column : int or None
-        The place in the line, in bytes from 1, where the program tells it.
+    advice : str, optional
+        What to write instead, as `rcell-explain` says it.
+    column : int, optional
+        The place in the line, in bytes from 1, unless `text` names it.
 
     Examples
     --------
@@ -71,25 +70,37 @@ class Refused(RcellError):
     script, line 1: number not whole at column 23
       r.mapcalc half = lc * 0.5
                             ^
+      try: r.mapcalc half = lc / 2  (`/` drops the remainder (7 / 2 is 3), so multiply counts of cells instead if fractions matter)
     """
 
-    def __init__(self, text: str, source: str = "arguments", line: int = 0, status: int = 1, content: str | None = None) -> None:
-        super().__init__(text, source, line, status, content)
+    def __init__(
+        self,
+        text: str,
+        source: str = "arguments",
+        line: int = 0,
+        status: int = 1,
+        content: str | None = None,
+        advice: str | None = None,
+        column: int | None = None,
+    ) -> None:
+        super().__init__(text, source, line, status, content, advice, column)
         self.text = text
         self.source = source
         self.line = line
         self.status = status
         self.content = content
+        self.advice = advice
         found = _COLUMN.search(text)
-        self.column = int(found[1]) if found else None
+        self.column = int(found[1]) if found else column
 
     def __str__(self) -> str:
         place = f"{self.source}, line {self.line}" if self.line else self.source
-        message = f"{place}: {self.text}"
-        if self.content is None:
-            return message
-        message += f"\n  {self.content}"
-        return message if self.column is None else f"{message}\n  {self._mark()}"
+        lines = [f"{place}: {self.text}"]
+        if self.content is not None:
+            lines += [f"  {self.content}"] + ([] if self.column is None else [f"  {self._mark()}"])
+        if self.advice:
+            lines.append("  try: " + self.advice.replace("\n", "\n       "))
+        return "\n".join(lines)
 
     def _mark(self) -> str:
         """Blanks up to the column, which counts bytes, and a mark beneath it; a tab stays a tab."""

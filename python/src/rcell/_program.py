@@ -7,6 +7,8 @@ nothing before it has read them all; so each goes into a pipe of its own, one af
 
 from __future__ import annotations
 
+import contextlib
+import importlib
 import os
 import re
 import sys
@@ -34,6 +36,7 @@ PIECE_BYTES = 1 << 22
 PROBE_SECONDS = 60
 """So long a program may take for a grid of three cells, on a machine that has much else to do."""
 
+_AT_COLUMN = re.compile(r" at column [0-9]+$")
 _MESSAGE = re.compile(r"rcell: ([^:]*):(\d+): (.*)")
 
 Progress = Callable[[int], None]
@@ -295,7 +298,7 @@ def _answered(
                 pass
         status, message = run.end()
     if status:
-        raise _fault(status, message.decode("utf-8", "surrogateescape"), plan, script)
+        raise _fault(status, message.decode("utf-8", "surrogateescape"), plan, script, maps)
     if rest or answer is None:
         raise WrongProgram(f"{path} has written what this package does not understand")
     return answer
@@ -326,7 +329,7 @@ def _check_length(script: str, plan: Plan) -> None:
         raise Refused(f"the script has {own:,} bytes, {marked}: make several runs", "script")
 
 
-def _fault(status: int, message: str, plan: Plan, script: str) -> RcellError:
+def _fault(status: int, message: str, plan: Plan, script: str, names: Iterable[str]) -> RcellError:
     """The error of a run that ended in another status than 0."""
     if status < 0:
         return Killed(-status)
@@ -334,12 +337,22 @@ def _fault(status: int, message: str, plan: Plan, script: str) -> RcellError:
     if not found:
         return WrongProgram(f"the program ended in status {status} and said: {message.strip() or 'nothing'}")
     source, line, text = found[1], int(found[2]), found[3]
-    content = None
+    content = advice = column = None
     if source == "script" and 0 < line <= len(plan.lines):
         line = plan.lines[line - 1]
         content = script.split("\n")[line - 1].rstrip("\r") if line else None
+        column, advice = _advice(script, names, line, text)
     kind = OutOfMemory if status == 3 or text == "no memory" else Refused
-    return kind(text, source, line, status, content)
+    return kind(text, source, line, status, content, advice, column)
+
+
+def _advice(script: str, names: Iterable[str], line: int, text: str) -> tuple[int | None, str | None]:
+    """Return the column that a message is about, and what to write instead, if rcell-explain knows them."""
+    with contextlib.suppress(Exception):  # a fault of the advice must not hide the message
+        mending: Any = importlib.import_module("rcell_front.mending")
+        column, advice = mending.advice(script.encode("utf-8", "surrogateescape"), names, line, _AT_COLUMN.sub("", text))
+        return (column if text == "bad option" else None), advice
+    return None, None
 
 
 class _Short(Exception):

@@ -52,7 +52,7 @@ def test_statuses(lc: str, tmp_path: Path, scheduler: str, capfd: pytest.Capture
     assert main(["table"]) == main(["grid", "x = lc", lc]) == main(["patches", "lc"]) == 2
     assert main(["patches", lc, "--size", "0"]) == main(["patches", lc, "--size", "x"]) == 2
     assert main(["grid", "x = lc +", lc, "--out", "never.tif", *where]) == 1
-    assert capfd.readouterr().err.splitlines()[-3:] == ["rcell: script, line 1: unexpected token at column 19", "  r.mapcalc x = lc +",
+    assert capfd.readouterr().err.splitlines()[-4:-1] == ["rcell: script, line 1: unexpected token at column 19", "  r.mapcalc x = lc +",
                                                          "                    ^"]
     assert main(["patches", f"lc={tmp_path}/nowhere.tif", *where]) == 4
     assert main(["grid", "x = lc", lc, "--out", str(tmp_path / "nowhere" / "x.tif"), *where]) == 4

@@ -6,7 +6,7 @@
 import re
 from fractions import Fraction
 
-from rcell_advice import near_name, nearest, new_name, shown
+from .advice import near_name, nearest, new_name, shown
 
 MOST_TOKENS = 1000
 GREATEST, GREATEST_OFFSET, LONGEST_NAME = 2147483647, 255, 64

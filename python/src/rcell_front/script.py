@@ -7,9 +7,9 @@ A line is kept as text of one character a byte, so that places in it are bytes.
 """
 import re
 
-from rcell_advice import Fault, near_name, nearest, new_name, shown
-from rcell_expression import judge_assignment
-from rcell_grids import kind_of
+from .advice import Fault, near_name, nearest, new_name, shown
+from .expression import judge_assignment
+from .grids import kind_of
 
 LONGEST_SCRIPT, LONGEST_LINE = 1048576, 65535
 MOST_INPUTS = 16

@@ -8,7 +8,7 @@
 import re
 from decimal import Decimal, InvalidOperation
 
-from rcell_advice import shown
+from .advice import shown
 
 EDGES = ("north", "south", "east", "west")
 SIX = EDGES + ("rows", "cols")
