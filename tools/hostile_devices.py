@@ -4,6 +4,7 @@ from __future__ import annotations
 import os
 import resource
 import signal
+import shutil
 import subprocess
 import termios
 import threading
@@ -219,20 +220,21 @@ def wrong_output(program: Program, made: Made, expected: model.Answer, settings)
 DISK = """mount -t tmpfs -o size="$1" tmpfs "$2" || exit 99
 shift; disk=$1; shift
 "$@" > "$disk/out"; status=$?
-cat "$disk/out"; exit $status"""
+cat "$disk/out"; umount "$disk"; exit $status"""
+# In a chroot whose root is no mount point, the first is refused.
+OWN_MOUNTS = (["unshare", "--mount"], ["unshare", "--mount", "--propagation", "unchanged"])
 
 
 def on_a_full_disk(program: Program, made: Made, size: int) -> Optional[model.Answer]:
     """A run whose output goes to a file system of so many bytes; None where none may be mounted."""
     disk = f"{program.room}/disk"
     os.makedirs(disk, exist_ok=True)
-    words = ["unshare", "--mount", "sh", "-c", DISK, "sh", str(size), disk, program.path, *made.words]
-    try:
-        done = subprocess.run(words, stdin=subprocess.DEVNULL, capture_output=True, timeout=SECONDS)
-    except FileNotFoundError:
-        return None
-    is_mounted = done.returncode != 99 and b"unshare" not in done.stderr
-    return model.Answer(done.returncode, done.stdout, done.stderr) if is_mounted else None
+    words = ["sh", "-c", DISK, "sh", str(size), disk, program.path, *made.words]
+    for own_mounts in OWN_MOUNTS if shutil.which("unshare") else ():
+        done = subprocess.run([*own_mounts, *words], stdin=subprocess.DEVNULL, capture_output=True, timeout=SECONDS)
+        if done.returncode != 99 and b"unshare" not in done.stderr:
+            return model.Answer(done.returncode, done.stdout, done.stderr)
+    return None
 
 
 def large_output() -> Made:
