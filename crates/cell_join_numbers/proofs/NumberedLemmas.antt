@@ -4,7 +4,7 @@ use Rattle.std.proofs.lemmas.List.Sums.{count_by-le-length}
 use Rattle.std.proofs.lemmas.Bool.{cases_lt, ne_eqb, cond-false}
 use Rattle.cell_join_numbers.specs.LabelNumbers.{open_below, label_number}
 use Rattle.cell_join_numbers.specs.SparseLabels.{AreTouching, IsSparse, labels_before, is_touching, joined_places, number_among, sparse_number}
-use Rattle.cell_join_numbers.specs.SparseNumbers.{ArePlacesNumbered, NumberPairs}
+use Rattle.cell_join_numbers.specs.SparseNumbers.{AreBelow, ArePlacesNumbered, AreNumbersOf, NumberPairs}
 use Rattle.cell_join_numbers.proofs.OpenLemmas.{count-more, open-same}
 use Rattle.cell_join_numbers.proofs.SparseLemmas.{sparse-places-number, sparse-labels-number}
 
@@ -75,12 +75,12 @@ places-first labels pairs paired joined touching is = record {
 }
 
 -- all places
-pub number-pairs : (labels : ℕ) (pairs : List (ℕ × ℕ)) (paired joined numbers roots : List ℕ) (count : ℕ)
-    → ArePlacesNumbered labels pairs paired joined (length paired) numbers count
+pub number-pairs : (most : ℕ) (pairs : List (ℕ × ℕ)) (paired joined numbers roots : List ℕ) (count : ℕ)
+    → ((labels : ℕ) → AreBelow labels pairs → AreTouching labels pairs paired)
+    → ArePlacesNumbered most pairs paired joined (length paired) numbers count
     → ((k : ℕ) → k ≤ length paired → get_or roots k 0 ≡ length (open_below joined k))
-    → NumberPairs labels pairs paired numbers roots
-number-pairs labels pairs paired joined numbers roots count h are =
-    let touching = h.touching in
+    → NumberPairs pairs paired numbers roots
+number-pairs most pairs paired joined numbers roots count touching h are =
     let sparse = h.is in
     let roots-all : get_or roots (length paired) 0 ≡ length (open_below joined (length joined)) =
     are (length paired) (omega arith) ∙ ap (λ (k : ℕ). length (open_below joined k)) (sym sparse.long) in
@@ -92,16 +92,16 @@ number-pairs labels pairs paired joined numbers roots count h are =
             let led = cond-false (is_touching paired label) _ _ none in
             ap (number_among paired joined) led ∙ ap (λ (n : ℕ). (label - labels_before paired label) + n + 1) (sym (are (labels_before paired label) (few-labels paired label)));
       };
-      right = λ j m starts label_of labelled many p some.
-          (sparse-labels-number j m starts label_of pairs labelled paired joined (for-starts starts many touching) sparse).0 p some;
-      count = λ j m starts label_of labelled many.
-          let all = (sparse-labels-number j m starts label_of pairs labelled paired joined (for-starts starts many touching) sparse).1 in
+      right = λ labels below j m starts label_of labelled many p some.
+          (sparse-labels-number j m starts label_of pairs labelled paired joined (for-starts labels starts many (touching labels below)) sparse).0 p some;
+      count = λ labels below j m starts label_of labelled many.
+          let all = (sparse-labels-number j m starts label_of pairs labelled paired joined (for-starts labels starts many (touching labels below)) sparse).1 in
           let same : (length starts - length paired) + length (open_below joined (length joined)) ≡ (labels - length paired) + get_or roots (length paired) 0 = omega (arith, many, roots-all) in
           (all.0, all.1, all.2 ∙ same);
     }
   where
-    for-starts : {X : Type 0} (starts : List X) → length starts ≡ labels → AreTouching labels pairs paired → AreTouching (length starts) pairs paired
-    for-starts starts many t = subst (λ (n : ℕ). AreTouching n pairs paired) (sym many) t
+    for-starts : {X : Type 0} (labels : ℕ) (starts : List X) → length starts ≡ labels → AreTouching labels pairs paired → AreTouching (length starts) pairs paired
+    for-starts labels starts many t = subst (λ (n : ℕ). AreTouching n pairs paired) (sym many) t
 
     few-labels : (ts : List ℕ) (l : ℕ) → labels_before ts l ≤ length ts
     few-labels ts l = count_by-le-length (λ k. ltb k l) ts

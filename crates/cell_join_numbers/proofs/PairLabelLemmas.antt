@@ -1,6 +1,7 @@
 -- The labels of pairs, each once.
-use Rattle.std.proofs.Common.{◌≡◌, ℕ, zero, suc, ◌<◌, List, [], ◌∷◌, ◌++◌, take, drop, length, get_or, refl, ap, sym, ◌∙◌, arith}
-use Rattle.std.specs.Prelude.{All, Contains}
+use Rattle.std.proofs.Common.{◌≡◌, ℕ, zero, suc, ◌<◌, ◌≤◌, List, [], ◌∷◌, ◌++◌, take, drop, length, get_or, refl, ap, sym, ◌∙◌, arith}
+use Rattle.std.specs.Prelude.{All, Contains, sum}
+use Rattle.std.proofs.lemmas.List.Sums.{sum_by-cons}
 use Rattle.std.proofs.Math.Seq.{take-append_seam}
 use Rattle.std.specs.List.{AllPairs}
 use Rattle.std.proofs.lemmas.List.{get_or_append_left, get_or_push}
@@ -44,8 +45,17 @@ few-paired n pairs paired few are i d lt =
     let c = (are (get_or paired i d)).0 (Contains-get_or paired i d lt) in
     labels-few n pairs few c.0 (get_or paired i d) c.1 c.2
 
-pub are-touching : (n : ℕ) (pairs : List (ℕ × ℕ)) (paired : List ℕ) → AllPairs ◌<◌ paired → All (λ pair. (pair.0 < n) × (pair.1 < n)) pairs → AreLabelsOf pairs paired → AreTouching n pairs paired
-are-touching n pairs paired order few are = record { in_order = order; few = few-paired n pairs paired few are; paired = all-paired pairs paired are }
+pub are-touching : (n : ℕ) (pairs : List (ℕ × ℕ)) (paired : List ℕ) → AllPairs ◌<◌ paired → AreLabelsOf pairs paired → All (λ pair. (pair.0 < n) × (pair.1 < n)) pairs → AreTouching n pairs paired
+are-touching n pairs paired order are few = record { in_order = order; few = few-paired n pairs paired few are; paired = all-paired pairs paired are }
+
+-- whatever the labels are, there are more numbers than they
+element-le : (xs : List ℕ) (i d : ℕ) → i < length xs → get_or xs i d ≤ sum xs
+element-le [] i d lt = absurd (omega (arith, lt))
+element-le (x ∷ xs) zero d lt = omega (arith, sum_by-cons (λ (n : ℕ). n) x xs)
+element-le (x ∷ xs) (suc i) d lt = omega (arith, sum_by-cons (λ (n : ℕ). n) x xs, element-le xs i d (omega (arith, lt)))
+
+pub all-touching : (pairs : List (ℕ × ℕ)) (paired : List ℕ) → AllPairs ◌<◌ paired → AreLabelsOf pairs paired → AreTouching (suc (sum paired)) pairs paired
+all-touching pairs paired order are = record { in_order = order; few = λ i d lt. omega (arith, element-le paired i d lt); paired = all-paired pairs paired are }
 
 -- no label yet
 pub no-labels : LeadTo [] (λ k. k)

@@ -35,13 +35,13 @@ pub record AreNumbersOf (number : ℕ → ℕ) (paired numbers roots : List ℕ)
   pub at : (place : ℕ) → place < length paired → slice_index numbers place + 1 ≡ number (slice_index paired place)
   pub alone : (label : ℕ) → is_touching paired label ≡ false → number label ≡ (label - labels_before paired label) + slice_index roots (labels_before paired label) + 1
 
--- they are the numbers of so many labels that are paired so
-pub record NumberPairs (labels : ℕ) (pairs : List (ℕ × ℕ)) (paired numbers roots : List ℕ) : Type 0 where
-  pub number : ℕ → ℕ
-  pub are : AreNumbersOf number paired numbers roots
-  pub right : NumberLabels labels pairs number
-  pub count : CountLabels labels pairs ((labels - length paired) + slice_index roots (length paired))
-
 -- both labels of each pair are among so many
 abbrev pub AreBelow : ℕ → List (ℕ × ℕ) → Type 0
 AreBelow labels pairs = All (λ pair. (pair.0 < labels) × (pair.1 < labels)) pairs
+
+-- they are the numbers of labels that are paired so, whatever others there are
+pub record NumberPairs (pairs : List (ℕ × ℕ)) (paired numbers roots : List ℕ) : Type 0 where
+  pub number : ℕ → ℕ
+  pub are : AreNumbersOf number paired numbers roots
+  pub right : (labels : ℕ) → AreBelow labels pairs → NumberLabels labels pairs number
+  pub count : (labels : ℕ) → AreBelow labels pairs → CountLabels labels pairs ((labels - length paired) + slice_index roots (length paired))

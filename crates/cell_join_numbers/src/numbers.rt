@@ -4,7 +4,7 @@ ghost use Rattle.std.specs.Prelude.{◌≡◌, ◌+◌, ◌<◌, ◌≤◌, ℕ,
 ghost use Rattle.cell_cats_areas.specs.parts.Labels.{PointDown};
 ghost use Rattle.cell_join_numbers.specs.LabelNumbers.{open_below};
 ghost use Rattle.cell_join_numbers.specs.SparseLabels.{AreTouching, IsSparse};
-ghost use Rattle.cell_join_numbers.specs.SparseNumbers.{AreBelow, AreInPlaces, ArePlacesNumbered, NumberPairs};
+ghost use Rattle.cell_join_numbers.specs.SparseNumbers.{AreInPlaces, ArePlacesNumbered, NumberPairs};
 
 use crate::sparse::{paired_labels, unite_pairs};
 use crate::union_find::add_nodes;
@@ -83,8 +83,8 @@ fn number_places(alloc: Global, table: &mut [u64], paired: &[u64]) -> Result<Vec
 pub fn number_pairs(alloc: Global, pairs: &[(u64, u64)]) -> Result<SparseNumbers, Memory>
     ensures ready { IfOk result (λ sparse.
         AreInPlaces sparse.paired.items sparse.numbers.items sparse.roots.items) }
-    ensures numbered { IfOk result (λ sparse. (labels : ℕ) → AreBelow labels pairs.now →
-        NumberPairs labels pairs.now sparse.paired.items sparse.numbers.items sparse.roots.items) }
+    ensures numbered { IfOk result (λ sparse.
+        NumberPairs pairs.now sparse.paired.items sparse.numbers.items sparse.roots.items) }
 {
     let paired = paired_labels(alloc, pairs)?;
     let mut table = Vec::new(alloc);

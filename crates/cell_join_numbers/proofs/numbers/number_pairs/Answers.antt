@@ -1,9 +1,10 @@
-use Rattle.std.proofs.Common.{◌≡◌, ◌≤◌, ℕ, List, [], length, ap, sym, subst, arith, get_or}
+use Rattle.std.proofs.Common.{suc, ◌≡◌, ◌≤◌, ℕ, List, [], length, ap, sym, subst, arith, get_or}
+use Rattle.std.specs.Prelude.{sum}
 use Rattle.cell_join_numbers.specs.UnionFind.{LeadTo}
 use Rattle.cell_join_numbers.specs.LabelNumbers.{open_below}
 use Rattle.cell_join_numbers.specs.SparseLabels.{AreTouching, IsSparse, joined_places}
 use Rattle.cell_join_numbers.specs.SparseNumbers.{AreLabelsOf, ArePlacesNumbered, NumberPairs}
-use Rattle.cell_join_numbers.proofs.PairLabelLemmas.{are-touching, no-labels, written-whole}
+use Rattle.cell_join_numbers.proofs.PairLabelLemmas.{all-touching, are-touching, no-labels, written-whole}
 use Rattle.cell_join_numbers.proofs.NumberedLemmas.{number-pairs}
 use Rattle.cell_join_numbers.proofs.numbers.number_pairs.Goals as goal
 
@@ -11,10 +12,13 @@ pub unite_pairs-requires-clause-all : goal.unite_pairs-requires-clause-all
 unite_pairs-requires-clause-all c = subst (AreLabelsOf c.args.pairs.now) (sym c.deref.ensures.value) c.in_ok-paired.ensures.same
 
 pub returns-clause-numbered : goal.returns-clause-numbered
-returns-clause-numbered c = λ labels below.
+returns-clause-numbered c =
     let pairs = c.args.pairs.now in
     let paired = c.in_ok-paired.paired.items in
-    let touching = are-touching labels pairs paired c.in_ok-paired.ensures.ascending below c.in_ok-paired.ensures.same in
+    let most = suc (sum paired) in
+    let order = c.in_ok-paired.ensures.ascending in
+    let same_labels = c.in_ok-paired.ensures.same in
+    let touching = all-touching pairs paired order same_labels in
     let none : c.new-table.result.items ≡ [] = c.new-table.ensures.items in
     let first = c.in_ok-add_nodes.ensures.leads (λ k. k) (subst (λ (t : List ℕ). LeadTo t (λ k. k)) (sym none) no-labels) in
     let at_slice = subst (λ (t : List ℕ). LeadTo t (λ k. k)) (sym c.as_mut_slice-each.ensures.value) first in
@@ -24,14 +28,14 @@ returns-clause-numbered c = λ labels below.
     let lead : LeadTo joined (joined_places paired pairs) = subst (λ (ts : List ℕ). LeadTo joined (joined_places ts pairs)) one (c.unite_pairs.ensures.leads (λ k. k) at_slice) in
     let long : length joined ≡ length paired = omega (arith, c.unite_pairs.auto.table, c.as_mut_slice-each.ensures.len, c.in_ok-add_nodes.ensures.long, ap (length {A = ℕ}) none, c.len.ensures) in
     let is : IsSparse pairs paired joined = record { long = long; leads = lead } in
-    let touching_too = subst (AreTouching labels pairs) (sym two) touching in
+    let touching_too = subst (AreTouching most pairs) (sym two) touching in
     let is_too = subst (λ (ts : List ℕ). IsSparse pairs ts joined) (sym two) is in
-    let t = c.in_ok-roots.ensures.numbered labels pairs touching_too is_too in
+    let t = c.in_ok-roots.ensures.numbered most pairs touching_too is_too in
     let numbers = c.number_places.new.table in
-    let done : ArePlacesNumbered labels pairs paired joined (length paired) numbers t.0 = subst (λ (ts : List ℕ). ArePlacesNumbered labels pairs ts joined (length ts) numbers t.0) two t.1 in
+    let done : ArePlacesNumbered most pairs paired joined (length paired) numbers t.0 = subst (λ (ts : List ℕ). ArePlacesNumbered most pairs ts joined (length ts) numbers t.0) two t.1 in
     let roots = c.in_ok-roots.roots.items in
     let counted : (k : ℕ) → k ≤ length paired → get_or roots k 0 ≡ length (open_below joined k) = λ k le.
     let same = ap (length {A = ℕ}) two in
-    c.in_ok-roots.ensures.roots k (omega (arith, le, same)) labels pairs touching_too is_too in
+    c.in_ok-roots.ensures.roots k (omega (arith, le, same)) most pairs touching_too is_too in
     let value = written-whole c.add_nodes.new.table.len numbers c.add_nodes.new.table.items (omega arith) in
-    subst (λ (ns : List ℕ). NumberPairs labels pairs paired ns roots) (sym value) (number-pairs labels pairs paired joined numbers roots t.0 done counted)
+    subst (λ (ns : List ℕ). NumberPairs pairs paired ns roots) (sym value) (number-pairs most pairs paired joined numbers roots t.0 (λ labels below. are-touching labels pairs paired order same_labels below) done counted)
