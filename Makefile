@@ -16,7 +16,7 @@
 # make hostile   uses the program as an enemy would: each growth, read, write and byte in turn, and the greatest inputs (an hour)
 # make fuzz      runs it on random input beside a plain model, SECONDS=60 of them, from SEED=
 # make bench     times each task beside a yardstick in C++, and doubles one dimension after another; BENCH=--short takes five minutes
-# make figures   measures all that docs/SPEED.md shows and writes it there, into README.md and into docs/speed.png (an hour)
+# make figures   measures all that bench/RESULTS.md shows and writes it there, into README.md and into docs/speed.png (an hour)
 # make pictures  draws the pictures of the documents
 # make exchange  holds the program and the documents against GRASS and GDAL, where they are installed
 # make clean     removes all that was built

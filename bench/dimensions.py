@@ -6,7 +6,7 @@ else runs on the machine disturbs nothing; where valgrind is not installed, the 
 unit of its dimension at three sizes, and the last divided by the one before: 1 where all is linear, less where more units share a
 fixed cost, a little above 1 where something is sorted or found in a sorted table. What an empty run takes is taken off first, and
 where it is said, what reading the same grids takes. A row that grows by more than n log n would is marked. --write puts the table
-into docs/SPEED.md.
+into bench/RESULTS.md.
 """
 import argparse
 import concurrent.futures

@@ -3,7 +3,7 @@
 
 instructions.py [--program PATH] [--write]; they are counted by callgrind, so valgrind has to be installed. Grids of 4 million cells.
 The yardsticks are built anew without AVX-512, which valgrind does not know. Functions that the compiler put into others count
-with these. What takes less than one instruction a cell is left out. --write puts the table into docs/SPEED.md.
+with these. What takes less than one instruction a cell is left out. --write puts the table into bench/RESULTS.md.
 """
 import argparse
 import collections

@@ -1,5 +1,5 @@
 #!/usr/bin/python3
-"""Times rcell-join beside sort and scipy, and writes what it measured into docs/SPEED.md.
+"""Times rcell-join beside sort and scipy, and writes what it measured into bench/RESULTS.md.
 
     joining.py [--rounds N] [--short] [--only WORD] [--program PATH] [--write]
 
@@ -26,7 +26,7 @@ import numpy as np
 
 HERE = os.path.dirname(os.path.abspath(__file__))
 ROOT = os.path.dirname(HERE)
-DOCUMENT = f"{ROOT}/docs/SPEED.md"
+DOCUMENT = f"{ROOT}/bench/RESULTS.md"
 MARKS = ("<!-- The tables of bench/joining.py -->\n", "<!-- End of them -->\n")
 ENVIRONMENT = {"PATH": "/usr/bin:/bin", "LC_ALL": "C"}
 ROW_OF_CATEGORIES = 4  # categories of the cells of an edge: few, so that areas go on in the next band

@@ -4,7 +4,7 @@ too), by turns in one process, the least of the rounds, with everything from Geo
     RCELL=bin/rcell QT_QPA_PLATFORM=offscreen /usr/bin/python3 bench/qgis.py [--short] [--write]
 
 Two maps are made at random: patches of 15 classes, 4000 x 5000 cells, and noise of 12 classes, 2000 x 2000 cells; with --short 400 x 500
-and 300 x 300. The start of QGIS is not counted. With --write the table is put into docs/SPEED.md, under the heading QGIS.
+and 300 x 300. The start of QGIS is not counted. With --write the table is put into bench/RESULTS.md, under the heading QGIS.
 """
 
 from __future__ import annotations
@@ -29,7 +29,7 @@ from numpy.typing import NDArray  # noqa: E402
 from osgeo import gdal  # noqa: E402
 
 ROUNDS = 3
-SPEED = HERE.parent / "docs" / "SPEED.md"
+SPEED = HERE / "RESULTS.md"
 
 
 @dataclass(frozen=True)
@@ -153,7 +153,7 @@ def put_into_speed(text: str) -> None:
     whole = SPEED.read_text(encoding="utf-8")
     section = re.search(r"(?ms)^## QGIS$.*?(?=^## |\Z)", whole)
     if section is None:
-        sys.exit("docs/SPEED.md has no heading QGIS")
+        sys.exit("bench/RESULTS.md has no heading QGIS")
     changed = re.sub(r"(?m)(^\|.*\n)+", lambda _: text + "\n", section[0], count=1)
     SPEED.write_text(whole.replace(section[0], changed), encoding="utf-8")
 
@@ -161,7 +161,7 @@ def put_into_speed(text: str) -> None:
 def main() -> None:
     parser = argparse.ArgumentParser(description=__doc__.split("\n")[0])
     parser.add_argument("--short", action="store_true", help="small maps")
-    parser.add_argument("--write", action="store_true", help="put the table into docs/SPEED.md")
+    parser.add_argument("--write", action="store_true", help="put the table into bench/RESULTS.md")
     parser.add_argument("--rounds", type=int, default=ROUNDS)
     words = parser.parse_args()
     session.start()

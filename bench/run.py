@@ -13,7 +13,7 @@ in bytes a cell of one map.
 
 --short takes grids of a million cells; otherwise they are those that the tables name, written once under bench/out. The real
 maps are made by bench/real_maps.py, and GRASS is timed by bench/beside_grass.py, where what these need is installed; with --short
-both are left out. --only takes the parts whose title has the word. --write puts what was measured into docs/SPEED.md; `make
+both are left out. --only takes the parts whose title has the word. --write puts what was measured into bench/RESULTS.md; `make
 figures` does so, and all else that follows from it.
 """
 import argparse
@@ -30,7 +30,7 @@ import beside_grass
 HERE = os.path.dirname(os.path.abspath(__file__))
 ROOT = os.path.dirname(HERE)
 OUT = f"{HERE}/out"
-DOCUMENT = f"{ROOT}/docs/SPEED.md"
+DOCUMENT = f"{ROOT}/bench/RESULTS.md"
 # What stands before and after the tables there.
 MARKS = ("<!-- The tables of bench/run.py -->\n", "<!-- End of the tables -->\n")
 NAMES = "ghi"

@@ -2,7 +2,7 @@
 """Prints a table of which functions of rcell take how much of a task's time, by perf, which has to be installed.
 
 shares.py [--program PATH] [--write]; grids of 4 million cells, 4000 looks a second, three runs of each task. Functions that the
-compiler put into others count with these. Shares below 3 percent are left out. --write puts the table into docs/SPEED.md.
+compiler put into others count with these. Shares below 3 percent are left out. --write puts the table into bench/RESULTS.md.
 """
 import argparse
 import collections

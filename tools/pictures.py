@@ -3,7 +3,7 @@
 
     pictures.py study OUT.png [--program PATH]      examples/study: land cover, hectares by class, patches of woodland
     pictures.py islands OUT.png [--program PATH]    examples/islands: the countries, and the islands as r.clump numbers them
-    pictures.py speed OUT.png                       the figures of docs/SPEED.md as bars
+    pictures.py speed OUT.png                       the figures of bench/RESULTS.md as bars
 
 It needs matplotlib and numpy (of Debian: python3-matplotlib).
 """
@@ -137,7 +137,7 @@ def study(output, program):
     figure.savefig(output)
 
 
-# The tasks of the chart: what it says of each, and where the row stands in docs/SPEED.md.
+# The tasks of the chart: what it says of each, and where the row stands in bench/RESULTS.md.
 CHARTED = (
     ("reading\npatchy land cover", "reading", "patchy land cover, 25 million cells"),
     ("r.stats -c\npatchy land cover", "r.stats -c", "patchy land cover, 25 million cells"),
@@ -159,7 +159,7 @@ def speed(output, _):
         axes.bar_label(bars, fmt="%.1f", fontsize=8)
     axes.set_xticks(places, [title for title, _, _ in CHARTED], fontsize=8)
     axes.set_ylabel("CPU time, ms per million cells")
-    axes.set_title("From the start of a program to its end, texts read and written (docs/SPEED.md)", fontsize=10)
+    axes.set_title("From the start of a program to its end, texts read and written (bench/RESULTS.md)", fontsize=10)
     axes.legend(frameon=False)
     for side in ("top", "right"):
         axes.spines[side].set_visible(False)

@@ -8,7 +8,7 @@ memory nor on a disk. It is of blocks of 50 x 52 cells, one of 9 residues each: 
 column. Residue 0 is null, the others are categories. So blocks of one category meet at corners alone, along the diagonals; by edges each
 block is an area, by corners each diagonal, and how many cells they have is reckoned without a look at the map. T is one of table,
 corners, edges; table and corners where none is given. Tiles of S x S cells, 4,096 where it is not given, cut blocks and diagonals
-everywhere. With --write the answers take their place in docs/SPEED.md. Seconds are of the processors, of the workers, of what
+everywhere. With --write the answers take their place in bench/RESULTS.md. Seconds are of the processors, of the workers, of what
 they run and of this process.
 """
 

@@ -1,4 +1,4 @@
-"""Puts measured tables into docs/SPEED.md, between two comments that name them."""
+"""Puts measured tables into bench/RESULTS.md, between two comments that name them."""
 
 from __future__ import annotations
 
@@ -6,7 +6,7 @@ from pathlib import Path
 
 __all__ = ["PAGE", "load", "put"]
 
-PAGE = Path(__file__).resolve().parents[2] / "docs" / "SPEED.md"
+PAGE = Path(__file__).resolve().parents[2] / "bench" / "RESULTS.md"
 
 
 def put(name: str, text: str) -> None:

@@ -1,5 +1,5 @@
 #!/usr/bin/python3
-"""Measures the package beside others, by turns in one run, in processor time, and writes its tables into docs/SPEED.md.
+"""Measures the package beside others, by turns in one run, in processor time, and writes its tables into bench/RESULTS.md.
 
     speed.py [--cells N] [--rounds N] [--show] [MAP..]
 

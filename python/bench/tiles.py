@@ -7,7 +7,7 @@ PART is one of answers, grass, shapes, workers, memory, joining; without one the
 N x N cells, 4,096 where N is not given; in a folder F that is named, it stays, and so do the maps that the part grass makes, which
 answers then lays beside those of tiles (20,000 x 20,000 cells take some ten minutes of a processor in GRASS, half an hour in tiles,
 and 10 GB). T is one of what these two make: table, edges, corners, total, modes, sizes; all where none is given. With --write each
-part's table takes its place in docs/SPEED.md. Seconds are of the processors, of the workers, of what they run and of this process;
+part's table takes its place in bench/RESULTS.md. Seconds are of the processors, of the workers, of what they run and of this process;
 only `workers` tells those of the clock, which say something where nothing else runs.
 """
 
