@@ -75,7 +75,7 @@ def small_cases():
 def unexplained(text, messages):
     """What is wrong with the explanation of a grid, or None."""
     import model_grids
-    import rcell_grids
+    from rcell_front import grids as rcell_grids
 
     try:
         model_grids.read_map(b"m", text)
@@ -94,7 +94,7 @@ def unexplained(text, messages):
 
 
 def test_grids(tally):
-    from rcell_advice import Messages
+    from rcell_front.advice import Messages
 
     chance, messages = random.Random(SEED), Messages()
     texts = (spoiled(chance.choice(GRID_STARTS), GRID_PIECES, chance).encode("latin-1") for _ in range(GRIDS))
@@ -103,11 +103,10 @@ def test_grids(tally):
 
 
 def test(room, tally):
-    folder = next(path for path in (f"{room.programs}/../share/rcell", room.programs) if os.path.exists(f"{path}/rcell_script.py"))
+    folder = next(path for path in (f"{room.programs}/../share/rcell", room.programs) if os.path.exists(f"{path}/rcell_front"))
     sys.path[:0] = [folder, f"{ROOT}/tools"]
     import model
-    import rcell_explain
-    import rcell_script
+    from rcell_front import mending, script
 
     test_grids(tally)
     chance, names, differ = random.Random(SEED), ["land", "zone"], []
@@ -115,7 +114,7 @@ def test(room, tally):
     for at in range(SCRIPTS):
         start = chance.choice(starts)
         text = (spoiled(start, PIECES, chance) if at >= len(starts) else starts[at]).encode("latin-1")
-        wanted, got = model_fault(model, text, names), judged_fault(rcell_script, rcell_explain, text, names)
+        wanted, got = model_fault(model, text, names), judged_fault(script, mending, text, names)
         if not same(wanted, got):
             differ.append(f"{text!r}: {wanted}, {got}")
     tally.true(f"{SCRIPTS} spoiled scripts: {len(differ)} differ", not differ, "\n    " + "\n    ".join(differ[:20]))

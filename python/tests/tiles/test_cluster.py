@@ -199,3 +199,59 @@ def test_a_scheduler_without_workers_is_told(tif: MakeTif) -> None:
         with rcell.tiles.open(scheduler=cluster.scheduler_address, lc=tif("lc", np.ones((4, 4), np.uint8))) as mosaic:
             with pytest.raises(rcell.tiles.ClusterFailed, match="no workers"):
                 mosaic.table("r.stats -c input=lc")
+
+
+STRANGER = """
+import os, sys, distributed
+try:
+    distributed.Client(sys.argv[1], security=eval(sys.argv[2]), set_as_default=False, timeout=3).run(os.getuid)
+    print("connected", flush=True)
+except Exception:
+    print("refused", flush=True)
+os._exit(0)
+"""
+
+
+def test_no_other_user_reaches_the_processes(tif: MakeTif) -> None:
+    with rcell.tiles.open(size=4, scheduler=1, lc=tif("lc", np.ones((4, 4), np.uint8))) as mosaic:
+        cluster = mosaic._engine.cluster
+        assert mosaic.table("r.stats -c input=lc").to_csv(index=False) == "lc,cells\n1,16\n"
+        address = cluster.client.scheduler_info()["address"]
+        assert address.startswith("tls://127.0.0.1:")
+        for given in ("None", "distributed.Security.temporary()"):
+            for stranger in (address, address.replace("tls:", "tcp:")):
+                words = [sys.executable, "-c", STRANGER, stranger, given]
+                assert subprocess.run(words, capture_output=True, text=True, timeout=120).stdout == "refused\n"
+        assert cluster._parent is not None
+        family = [psutil.Process(cluster._parent.pid), *psutil.Process(cluster._parent.pid).children(recursive=True)]
+        listening = {at.laddr.ip for process in family for at in process.connections() if at.status == psutil.CONN_LISTEN}
+    assert listening == {"127.0.0.1"}
+
+
+def test_modules_of_the_working_folder_are_not_run(tmp_path: Path, tif: MakeTif, monkeypatch: pytest.MonkeyPatch) -> None:
+    path = tif("lc", np.ones((4, 4), np.uint8))
+    folder = tmp_path / "work"
+    folder.mkdir()
+    for name in ("random", "numpy", "rcell", "rcell_front", "rasterio", "dask", "csv", "psutil"):
+        (folder / f"{name}.py").write_text(f"open({str(tmp_path / 'hit')!r}, 'a').write({name!r}); print('stranger')\n")
+    monkeypatch.chdir(folder)
+    monkeypatch.setenv("PYTHONPATH", f".{os.pathsep}{os.environ.get('PYTHONPATH', '')}{os.pathsep}")
+    with rcell.tiles.open(size=4, scheduler=1, lc=path) as mosaic:
+        assert mosaic.table("r.stats -c input=lc").to_csv(index=False) == "lc,cells\n1,16\n"
+    assert not (tmp_path / "hit").exists()
+
+
+def test_a_client_is_a_scheduler_too(tif: MakeTif) -> None:
+    with distributed.LocalCluster(n_workers=1, threads_per_worker=1, processes=False, dashboard_address=None) as cluster:
+        with distributed.Client(cluster, set_as_default=False) as client:
+            with rcell.tiles.open(size=4, scheduler=client, lc=tif("lc", np.ones((4, 4), np.uint8))) as mosaic:
+                assert mosaic.table("r.stats -c input=lc").to_csv(index=False) == "lc,cells\n1,16\n"
+            assert client.status == "running"
+
+
+def test_an_input_of_tiles_is_no_output(tif: MakeTif) -> None:
+    path = tif("lc", np.ones((4, 4), np.uint8))
+    with rcell.tiles.open(size=4, scheduler=1, lc=path) as mosaic:
+        for write in (lambda: mosaic.grid("x = lc", path), lambda: mosaic.clump("lc", path)):
+            with pytest.raises(rcell.Refused, match="the output file is the input file"):
+                write()
