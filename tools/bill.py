@@ -17,7 +17,7 @@ import build
 import linked
 
 ROOT = pathlib.Path(build.ROOT)
-ISLANDS = "examples/islands, examples/rasters, docs/islands.png and docs/qgis-result.png"
+ISLANDS = "examples/islands, examples/rasters and docs/qgis-result.png"
 ISLANDS_LICENCE = "LGPL-3.0-or-later"
 HOLDER = "2026 the Nibzoqel authors"
 KIT = "Rattle kit"
