@@ -9,6 +9,7 @@ import time
 from helper_tests_tif import has_gdal, make
 
 SECONDS = 60
+HOSTILE = os.path.join(os.path.dirname(os.path.abspath(__file__)), "hostile_files.py")
 ASC = "ncols 3\nnrows 2\nxllcorner 0\nyllcorner 0\ncellsize 1\nNODATA_value -1\n1 2 3\n4 -1 6\n"
 HEADER = "north: 2\nsouth: 0\neast: 3\nwest: 0\nrows: 2\ncols: 3\n"
 GRID = HEADER + "7 7 7\n8 8 8\n"
@@ -203,7 +204,14 @@ def test_paths(room, tally):
     tally.same("RCELL=rcell", ran.stdout, b"stranger\n")
 
 
+def test_hostile_files(tally):
+    ran = subprocess.run(["/usr/bin/python3", "-W", "ignore", HOSTILE, "--count", "200"], capture_output=True, text=True, timeout=10 * SECONDS)
+    tally.true("hostile files", ran.returncode == 0, ran.stdout[-3000:] + ran.stderr[-1000:])
+
+
 def test(room, tally):
+    if has_gdal():
+        test_hostile_files(tally)
     room.put("in.asc", ASC)
     room.put("in.txt", GRID)
     if has_gdal():

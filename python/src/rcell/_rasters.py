@@ -3,6 +3,7 @@
 
 from __future__ import annotations
 
+import contextlib
 import functools
 import os
 import warnings
@@ -12,14 +13,14 @@ from typing import Any, Iterator, Mapping
 
 import numpy as np
 
-from ._errors import BadMap, ReadFailed
+from ._errors import BadMap, RcellError, ReadFailed
 from ._labels import read_labels
 from ._libraries import need
 from ._maps import BLOCK_CELLS, Block, checked, in_region, whole_nodata
 from ._region import Region, Transform, check_upright, six_numbers
 from ._text import Cells, Mask, range_of
 
-__all__ = ["Layer", "RasterMap", "only_band", "open_dataset", "open_raster", "upright"]
+__all__ = ["Layer", "RasterMap", "only_band", "open_dataset", "open_raster", "told_of_reading", "upright"]
 
 _PURPOSE = "to read a raster"
 _IDENTITY: Transform = (1.0, 0.0, 0.0, 0.0, 1.0, 0.0)
@@ -46,10 +47,24 @@ def open_raster(name: str, given: Any) -> RasterMap:
         Where it has several bands, scaled values, a rotated transform or control points in place of one.
     """
     rasterio = need("rasterio", "gis", _PURPOSE)
-    if isinstance(given, rasterio.Band):
-        return RasterMap.of_dataset(name, given.ds, int(given.bidx))
-    dataset = open_dataset(name, os.fspath(given)) if isinstance(given, (str, os.PathLike)) else given
-    return RasterMap.of_dataset(name, dataset, None)
+    with told_of_reading(name, "cannot open"):
+        if isinstance(given, rasterio.Band):
+            return RasterMap.of_dataset(name, given.ds, int(given.bidx))
+        dataset = open_dataset(name, os.fspath(given)) if isinstance(given, (str, os.PathLike)) else given
+        return RasterMap.of_dataset(name, dataset, None)
+
+
+@contextlib.contextmanager
+def told_of_reading(name: str, told: str) -> Iterator[None]:
+    """Raise what rasterio and the system say of a broken raster as ReadFailed."""
+    rasterio = need("rasterio", "gis", _PURPOSE)
+    gdal_error = need("rasterio._err", "gis", _PURPOSE).CPLE_BaseError  # some properties of a dataset raise it as it is
+    try:
+        yield
+    except (rasterio.errors.RasterioError, gdal_error, OSError, ValueError, TypeError) as error:
+        if isinstance(error, RcellError):
+            raise
+        raise ReadFailed(name, f"{told}: {error}") from None
 
 
 def open_dataset(name: str, path: str) -> Any:
@@ -63,10 +78,8 @@ def open_dataset(name: str, path: str) -> Any:
     rasterio = need("rasterio", "gis", _PURPOSE)
     with warnings.catch_warnings():
         warnings.simplefilter("ignore", rasterio.errors.NotGeoreferencedWarning)
-        try:
+        with told_of_reading(name, "cannot open"):
             return rasterio.open(path)
-        except (rasterio.errors.RasterioError, OSError, ValueError, TypeError) as error:
-            raise ReadFailed(name, f"cannot open: {error}") from None
 
 
 @dataclass(frozen=True)
@@ -112,15 +125,12 @@ class Layer:
         ReadFailed
             A part of the file is broken.
         """
-        rasterio = need("rasterio", "gis", _PURPOSE)
         top, left, rows, cols = place
         window = need("rasterio.windows", "gis", _PURPOSE).Window(left, top, cols, rows)
-        try:
+        with told_of_reading(name, f"{told} cannot be read"):
             cells: Cells = dataset.read(self.band, window=window)
             masks: list[Mask] = [dataset.read_masks(self.band, window=window) == 0] if self.has_mask else []
             masks += [] if self.alpha is None else [dataset.read(self.alpha, window=window) == 0]
-        except (rasterio.errors.RasterioError, OSError) as error:
-            raise ReadFailed(name, f"{told} cannot be read: {error}") from None
         # rasterio before 1.4 exchanges the two types of 64 bits, not their bits.
         return cells.view(self.dtype) if cells.dtype.itemsize == 8 else cells, np.logical_or.reduce(masks) if masks else None
 

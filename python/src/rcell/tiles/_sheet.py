@@ -15,7 +15,7 @@ from .._crs import common_crs, wkt_of
 from .._errors import BadMap, OtherRegion
 from .._libraries import need
 from .._maps import ArrayMap, checked
-from .._rasters import Layer, only_band, open_dataset, upright
+from .._rasters import Layer, only_band, open_dataset, told_of_reading, upright
 from .._region import Region, Transform, differences_of, edges_of_transform, units_of
 from .._script import check_names
 from .joining import Rectangle
@@ -148,7 +148,7 @@ def _described(name: str, path: Any) -> tuple[Sheet, MapFile]:
         raise BadMap(name, f"tiles are read from files: a path that rasterio opens is needed, not {type(path).__name__}")
     file = os.fspath(path) if GDAL_NAME.match(os.fspath(path)) else os.path.abspath(path)
     enums = need("rasterio.enums", "gis", PURPOSE)
-    with open_dataset(name, file) as dataset:
+    with told_of_reading(name, "cannot open"), open_dataset(name, file) as dataset:
         layer = Layer.of(name, dataset, only_band(name, dataset, enums), enums)
         transform, is_upside_down = upright(name, dataset)
         rows, cols = dataset.block_shapes[layer.band - 1]
