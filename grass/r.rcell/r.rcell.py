@@ -59,11 +59,13 @@
 # %end
 
 import atexit
+import errno
 import itertools
 import os
 import re
 import shutil
 import signal
+import stat
 import subprocess
 import sys
 import tempfile
@@ -87,6 +89,18 @@ BLOCK_CELLS = 1 << 20  # cells that are converted at a time
 SECONDS_OF_A_STEP = 0.5  # of the line of progress
 BLANKS = b" \t\r"
 NAME = re.compile(r"[A-Za-z_][A-Za-z0-9_.]{0,63}")
+WORD = re.compile(rb"[^ \t\r]+")
+SEPARATOR = re.compile(rb"pipe|comma|space|tab|[!-~]")
+NULL_TEXT = re.compile(rb"[!-~]{1,64}")
+MOST_MAPS = 16  # of a table
+FLAGS = {b"r.stats": b"clnN1", b"r.clump": b"d"}
+KEYS = {
+    b"r.stats": (b"input", b"separator", b"null_value", b"after"),
+    b"r.out.ascii": (b"input", b"null_value"),
+    b"r.clump": (b"input", b"output"),
+    b"r.reclass": (b"input", b"output"),
+}
+ONE_CELL = b"north: 1\nsouth: 0\neast: 1\nwest: 0\nrows: 1\ncols: 1\n0\n"
 MESSAGE = re.compile(r"rcell: ([^:]*):(\d+): (.*)")
 COLUMN = re.compile(r" at column (\d+)$")
 # Kinds of numbers as wide as a word of cells with the blank behind it.
@@ -117,15 +131,46 @@ def statements_of(script):
             is_closed = text == b"end"
             rules += [] if is_closed else [text]
         elif text and not text.startswith(b"#"):
-            rules, command = [], text.split()[0]
+            rules, command = [], words_of(text)[0]
             found.append(Statement(number, command, text, rules))
             is_closed = command != b"r.reclass"
     return found, is_closed
 
 
+def words_of(text):
+    """The words of a line, between the blanks that rcell knows."""
+    return WORD.findall(text)
+
+
+def bad_option(line):
+    """The first word of a statement that is no option of its command, and its place; None if none is found."""
+    words = list(WORD.finditer(line))
+    command, flags, keys = words[0][0], b"", []
+    for word in words[1:]:
+        key, equals, value = word[0].partition(b"=")
+        if key.startswith(b"-"):
+            is_bad = word[0] == b"-" or not set(word[0][1:]) <= set(FLAGS.get(command, b""))
+            flags += word[0][1:]
+        else:
+            is_bad = not equals or key in keys or key not in KEYS.get(command, ()) or not is_good_value(command, key, value)
+            keys.append(key)
+        if is_bad or (b"1" in flags and (b"c" in flags or b"after" in keys)):
+            return word[0], word.start()
+    return None
+
+
+def is_good_value(command, key, value):
+    """Whether an option may have a value; names of maps are judged elsewhere."""
+    if key == b"null_value":
+        return bool(NULL_TEXT.fullmatch(value)) and not (command == b"r.out.ascii" and b":" in value)
+    if key == b"separator":
+        return bool(SEPARATOR.fullmatch(value))
+    return command != b"r.stats" or key != b"input" or value.count(b",") < MOST_MAPS
+
+
 def option_of(statement, key):
     """The value of an option of a statement, or b''."""
-    words = [word for word in statement.text.split()[1:] if word.startswith(key + b"=")]
+    words = [word for word in words_of(statement.text)[1:] if word.startswith(key + b"=")]
     return words[0][len(key) + 1 :] if words else b""
 
 
@@ -137,12 +182,12 @@ def made_by(statement):
 
 
 def has_flag(statement, flag):
-    return any(word.startswith(b"-") and flag in word for word in statement.text.split()[1:])
+    return any(word.startswith(b"-") and flag in word for word in words_of(statement.text)[1:])
 
 
 def has_labels(statement):
     """Whether a rule of an r.reclass has a label."""
-    return any(len(rule.partition(b"=")[2].split()) > 1 for rule in statement.rules)
+    return any(len(words_of(rule.partition(b"=")[2])) > 1 for rule in statement.rules)
 
 
 def with_labels(script):
@@ -216,10 +261,11 @@ class Request:
         if own > len(self.lines) - (not self.lines[-1]):
             return Stopped(_("rcell: while it wrote the maps: {}").format(COLUMN.sub("", text)))
         shown = self.lines[own - 1].decode(errors="replace").rstrip("\r").replace("\t", " ")
-        column = COLUMN.search(text)
-        before = self.lines[own - 1][: int(column[1]) - 1].decode(errors="replace") if column else ""
-        caret = "    " + " " * len(before) + "^\n" if column else ""
-        return Stopped("rcell: script:%d: %s" % (own, text), "    %s\n%s" % (shown, caret))
+        column, bad = COLUMN.search(text), bad_option(self.lines[own - 1]) if text == "bad option" else None
+        place = int(column[1]) - 1 if column else bad[1] if bad else None
+        caret = "" if place is None else "    " + " " * len(self.lines[own - 1][:place].decode(errors="replace")) + "^\n"
+        word = ": " + bad[0].decode(errors="replace") if bad else ""
+        return Stopped("rcell: script:%d: %s%s" % (own, text, word), "    %s\n%s" % (shown, caret))
 
 
 # Cells as text
@@ -444,10 +490,10 @@ class Rcell:
     """A run of rcell whose grids and script come through pipes, in the order in which it reads them."""
 
     def __init__(self, names):
-        ends = [os.pipe() for _ in ["script", *names]]
+        ends = [os.pipe() for _ in ["script", *names]]  # above 2: main opens the standard streams
         words = ["/dev/fd/%d" % ends[0][0]] + ["%s=/dev/fd/%d" % (name, end[0]) for name, end in zip(names, ends[1:])]
         reading = [end[0] for end in ends]
-        self.process = subprocess.Popen(["rcell", *words], pass_fds=reading, stdin=subprocess.DEVNULL,
+        self.process = subprocess.Popen([program(), *words], pass_fds=reading, stdin=subprocess.DEVNULL,
                                         stdout=subprocess.PIPE, stderr=subprocess.PIPE)
         for end in reading:
             os.close(end)
@@ -479,6 +525,25 @@ class Rcell:
         if self.process.poll() is None:
             self.process.kill()
             self.process.wait()
+
+
+def program():
+    """The program on the path; a folder of the path that is not absolute does not count."""
+    folders = [folder for folder in os.get_exec_path() if os.path.isabs(folder)]
+    return shutil.which("rcell", path=os.pathsep.join(folders)) if folders else None
+
+
+def judge(request, names):
+    """Raises what rcell says of a script, if it refuses it over maps of one cell."""
+    rcell = Rcell(names)
+    try:
+        rcell.feed([[(ONE_CELL, 0)] for _name in names] + [[(request.text, 0)]], Progress(0))
+        rcell.process.stdout.read()
+        status, told = rcell.end()
+    finally:
+        rcell.stop()
+    if status:
+        raise request.stopped(told)
 
 
 def run(request, inputs, outputs, region, table):
@@ -611,17 +676,28 @@ def request_of(script, shown, statements, inputs, outputs):
 
 
 class Table:
-    """The tables of the script: kept aside until all is there, so that the file of this name is never half a table."""
+    """The tables of the script: kept aside until all is there, so that the file of this name is never half a table.
 
-    def __init__(self, path):
+    A link is followed. What is there and is no regular file, such as a device, is written and never replaced.
+    """
+
+    def __init__(self, path, script):
         self.path, self.file = path, None
-        self.is_stream = path in ("", "-")
-        folder = None if self.is_stream else os.path.dirname(os.path.abspath(path))
+        self.target = os.path.realpath(path) if path not in ("", "-") else ""
+        if self.target and os.path.isfile(self.target) and script != "-" and os.path.realpath(script) == self.target:
+            raise Stopped(_("The table <{}> is the script; give it another name").format(path))
+        self.is_stream = not self.target or (os.path.exists(self.target) and not os.path.isfile(self.target))
         try:
+            if self.target and os.path.isdir(self.target):
+                raise IsADirectoryError(errno.EISDIR, os.strerror(errno.EISDIR))
+            folder = None if self.is_stream else os.path.dirname(self.target)
             self.file = tempfile.NamedTemporaryFile(dir=folder, prefix=".rcell-", delete=False)
         except OSError as fault:
-            raise Stopped(_("The table <{}> cannot be written: {}").format(path, fault.strerror)) from None
+            raise self.failed(fault) from None
         atexit.register(self.remove)
+
+    def failed(self, fault):
+        return Stopped(_("The table <{}> cannot be written: {}").format(self.path or "-", fault.strerror))
 
     def remove(self):
         """Removes what did not get its name."""
@@ -629,45 +705,79 @@ class Table:
             os.remove(self.file.name)
 
     def finish(self):
-        """Gives the file its name, or writes it to standard output."""
-        self.file.close()
-        if self.is_stream:
-            try:
-                with open(self.file.name, "rb") as kept:
-                    shutil.copyfileobj(kept, sys.stdout.buffer)
-                sys.stdout.buffer.flush()
-            except BrokenPipeError:  # whoever reads has enough
+        """Gives the file its name, or writes it to standard output, a device or a pipe."""
+        try:
+            self.file.close()
+            if self.is_stream:
+                self.copy()
+            else:
+                os.chmod(self.file.name, self.mode())
+                os.replace(self.file.name, self.target)
+        except BrokenPipeError:  # whoever reads has enough
+            if not self.target:
                 os.dup2(os.open(os.devnull, os.O_WRONLY), sys.stdout.fileno())
-        else:
-            mask = os.umask(0)
-            os.umask(mask)
-            os.chmod(self.file.name, 0o666 & ~mask)
-            os.replace(self.file.name, self.path)
+        except OSError as fault:
+            raise self.failed(fault) from None
+
+    def copy(self):
+        with open(self.file.name, "rb") as kept, open(self.target or 1, "ab", closefd=bool(self.target)) as stream:
+            shutil.copyfileobj(kept, stream)
+
+    def mode(self):
+        """The mode of the file that is replaced, or that of a new file."""
+        if os.path.exists(self.target):
+            return stat.S_IMODE(os.stat(self.target).st_mode)
+        mask = os.umask(0)
+        os.umask(mask)
+        return 0o666 & ~mask
+
+
+def open_standard_streams():
+    """Opens /dev/null on each closed descriptor from 0 to 2, so that no pipe takes its number; to write to one that was closed fails."""
+    descriptor = os.open(os.devnull, os.O_RDWR)
+    while descriptor <= 2:
+        if descriptor == 1:
+            os.close(1)
+            os.open(os.devnull, os.O_RDONLY)
+        os.set_inheritable(descriptor, True)
+        descriptor = os.open(os.devnull, os.O_RDWR)
+    os.close(descriptor)
+    sys.stdout = sys.stdout or open(1, "w", closefd=False)
+    sys.stderr = sys.stderr or open(2, "w", closefd=False)
 
 
 def done(options, flags):
     """All of a run: what is wrong is found before rcell begins, and what is made gets its name at the end."""
-    if not shutil.which("rcell"):
+    if not program():
         raise Stopped(_("The program rcell is not on the path"))
     inputs, asked = pairs_of(options["maps"], Input), pairs_of(options["output"], Output)
     look_up_inputs(inputs)
     given = read_script(options["script"])
     script = with_labels(given) if flags["l"] else given
     statements, _closed = statements_of(script)
-    outputs = look_up_outputs(asked, statements, inputs)
+    try:
+        outputs = look_up_outputs(asked, statements, inputs)
+    except Stopped:
+        # What seems to make no map may be misspelled.
+        judge(Request(given, given, [], {}, [], b""), [it.name for it in inputs])
+        raise
     region = look_up_region()
     if not outputs and not any(it.command in (b"r.stats", b"r.out.ascii") for it in statements):
         gs.warning(_("The script writes no table, and no map is asked for by output="))
     request = request_of(script, given, statements, inputs, outputs)
-    table = Table(options["table"])
+    table = Table(options["table"], options["script"])
     imports = run(request, inputs, outputs, region, table.file)
+    if table.is_stream:  # which may fail, and then no map gets its name
+        table.finish()
     imports.finish({made_by(it).decode(errors="replace") for it in statements if it.command == b"r.clump"})
-    table.finish()
+    if not table.is_stream:
+        table.finish()
 
 
 def main():
+    open_standard_streams()
     options, flags = gs.parser()
-    for interruption in (signal.SIGTERM, signal.SIGINT):
+    for interruption in (signal.SIGTERM, signal.SIGINT, signal.SIGHUP, signal.SIGQUIT):
         signal.signal(interruption, lambda *_: sys.exit(1))
     try:
         done(options, flags)

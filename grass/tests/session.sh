@@ -21,6 +21,22 @@ printf 'r.mapcalc x = lc +\n' > wrong
 if r.rcell script=wrong maps=lc output=x 2> told; then exit 1; fi
 grep -q 'rcell: script:1: unexpected token at column 19' told
 grep -q '^    r.mapcalc x = lc +$' told
+printf 'r.mapcalc "x = lc * 2"\n' > quoted
+if r.rcell script=quoted maps=lc output=x 2> told; then exit 1; fi
+grep -q 'rcell: script:1: bad byte at column 11' told
+printf 'r.stats -c input=lc\n' > tally
+for closed in '<&-' '>&-' '2>&-' '> /dev/full' '<&- >&- 2>&-'; do
+    status=0
+    timeout 60 sh -c "r.rcell script=tally maps=lc table=counted --overwrite --quiet $closed" 2> told || status=$?
+    [ $status = 0 ]
+    status=0
+    timeout 60 sh -c "r.rcell script=tally maps=lc --quiet $closed" > printed 2> told || status=$?
+    if grep -q Traceback told; then exit 1; fi
+    case $closed in
+        *'>&-'*'2>&-' | '>&-' | '> /dev/full') [ $status = 1 ] ;;
+        *) [ $status = 0 ] && cmp printed counted ;;
+    esac
+done
 printf 'r.mapcalc r = row() * 1000 + col()\nr.stats -1 input=r,lc\n' > long
 r.rcell script=long maps=lc 2> told | true
 if grep -q Traceback told; then exit 1; fi

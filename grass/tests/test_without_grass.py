@@ -7,11 +7,13 @@ import importlib.util
 import io
 import os
 import re
+import stat
 import subprocess
 import sys
 import tempfile
 import types
 import unittest
+from unittest import mock
 
 HERE = os.path.dirname(os.path.abspath(__file__))
 ROOT = os.path.dirname(os.path.dirname(HERE))
@@ -168,6 +170,24 @@ class Streams(unittest.TestCase):
             self.assertEqual(str(told), "rcell: script:2: unknown map at column 20")
             self.assertEqual(told.beneath, "     r.mapcalc x = a + ab\n                       ^\n")
 
+    def test_the_word_that_is_no_option_is_named(self):
+        for line, word in ((b"r.stats -cn a", b"a"), (b"r.stats in=a", b"in=a"), (b"\tr.stats -c -1 input=a", b"-1"), (b"r.clump -n input=a output=b", b"-n"),
+                           (b"r.stats input=a input=a", b"input=a"), (b"r.out.ascii input=a null_value=a:b", b"null_value=a:b"),
+                           (b"r.stats -c input=a output=t.txt", b"output=t.txt"), (b"r.stats input=a separator=ab", b"separator=ab")):
+            asked = request(line)
+            told = asked.stopped(self.output(asked).stderr.decode().strip())
+            self.assertEqual(str(told), "rcell: script:1: bad option: " + word.decode())
+            self.assertEqual(told.beneath, "    %s\n    %s^\n" % (line.decode().replace("\t", " "), " " * line.rindex(word)))
+
+    def test_quotes_are_reported_by_rcell(self):
+        with tempfile.TemporaryDirectory() as room:
+            os.symlink(PROGRAM, f"{room}/rcell")
+            with mock.patch.dict(os.environ, {"PATH": f"bin:{room}:{os.environ['PATH']}"}), self.assertRaises(rcell.Stopped) as caught:
+                self.assertEqual(rcell.program(), f"{room}/rcell")
+                rcell.judge(request(b'r.mapcalc "x = a * 2"'), ["a"])
+        self.assertEqual(str(caught.exception), "rcell: script:1: bad byte at column 11")
+        self.assertEqual(caught.exception.beneath, '    r.mapcalc "x = a * 2"\n              ^\n')
+
     def test_messages_of_other_places(self):
         asked = request(b"r.stats -c input=a\n", ["a"], {"a": [(b"1", b"one")]})
         self.assertEqual(str(asked.stopped("rcell: _cells_0_1:0: no memory")), "rcell: a:0: no memory")
@@ -179,6 +199,46 @@ class Streams(unittest.TestCase):
     def test_labels_with_tabs(self):
         with self.assertRaises(rcell.Stopped):
             rcell.label_lines(io.BytesIO(b"1\ta\tb\n"), b"mark")
+
+
+class Tables(unittest.TestCase):
+    """The file of the tables: whole or not at all, and never in the place of what is no file."""
+
+    def setUp(self):
+        folder = tempfile.TemporaryDirectory()
+        self.addCleanup(folder.cleanup)
+        self.room = folder.name
+
+    def write(self, path, script="-"):
+        table = rcell.Table(path, script)
+        table.file.write(b"1 2\n")
+        table.finish()
+        table.remove()
+
+    def test_links_and_modes(self):
+        path, link = f"{self.room}/t", f"{self.room}/link"
+        self.write(path)
+        os.chmod(path, 0o600)
+        os.symlink("t", link)
+        self.write(link)
+        self.assertEqual((os.readlink(link), stat.S_IMODE(os.stat(path).st_mode)), ("t", 0o600))
+        self.assertEqual(sorted(os.listdir(self.room)), ["link", "t"])
+
+    def test_pipes_stay_pipes(self):
+        path = f"{self.room}/pipe"
+        os.mkfifo(path)
+        with subprocess.Popen(["cat", path], stdout=subprocess.PIPE) as reader:
+            self.write(path)
+            self.assertEqual(reader.communicate()[0], b"1 2\n")
+        self.assertTrue(stat.S_ISFIFO(os.stat(path).st_mode))
+
+    def test_what_cannot_be_written(self):
+        with open(f"{self.room}/script", "w", encoding="ascii") as file:
+            file.write("r.stats input=a\n")
+        for path, script in ((f"{self.room}/script", f"{self.room}/script"), (self.room, "-"), (f"{self.room}/no/t", "-"), ("/dev/full", "-")):
+            with self.assertRaises(rcell.Stopped):
+                self.write(path, script)
+        self.assertEqual(os.listdir(self.room), ["script"])
 
 
 class Form(unittest.TestCase):
@@ -201,4 +261,9 @@ class Form(unittest.TestCase):
 
 
 if __name__ == "__main__":
-    unittest.main()
+    result = unittest.TextTestRunner(verbosity=1).run(unittest.TestLoader().loadTestsFromModule(sys.modules[__name__]))
+    for test, why in result.skipped:
+        print(f"skipped  grass: {test}: {why}; install: apt-get install python3-numpy")
+    wrong = len(result.failures) + len(result.errors)
+    print(f"{result.testsRun - wrong - len(result.skipped)} passed, {wrong} failed, {len(result.skipped)} skipped")
+    sys.exit(bool(wrong))
