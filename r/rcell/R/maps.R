@@ -64,7 +64,7 @@ raster_source <- function(name, raster, is_opened_here = FALSE) {
   }
   check_file(name, raster, chosen$facts, chosen$band)
   region <- region_of(name, raster)
-  list(name = name, raster = raster, alpha = chosen$alpha, path = chosen$path, template = template_of(raster), region = region,
+  list(name = name, raster = raster, alpha = chosen$alpha, alpha_null = chosen$alpha_null, path = chosen$path, template = template_of(raster), region = region,
     labels = labels_of(raster), crs = crs(raster))
 }
 
@@ -78,8 +78,11 @@ opaque_layer <- function(name, raster) {
   if (nlyr(raster) != 1L) bad_map(name, sprintf("has %d layers: give one, as x[[1]]", nlyr(raster)))
   if (is.null(facts)) return(list(raster = raster, path = ""))
   band <- sources(raster, bands = TRUE)$bands[[1]]
-  alpha <- if (length(facts$alpha) && !(band %in% facts$alpha)) alpha_layer(raster, paths, facts$alpha[[1]])
-  list(raster = raster, alpha = alpha, path = paths, facts = facts, band = band)
+  found <- list(raster = raster, path = paths, facts = facts, band = band)
+  if (!length(facts$alpha) || band %in% facts$alpha) return(found)
+  # A TIFF has one nodata value for all bands, and terra takes an alpha of this value for NA.
+  null <- null_text(facts$bands[[facts$alpha[[1]]]])
+  c(found, list(alpha = alpha_layer(raster, paths, facts$alpha[[1]]), alpha_null = suppressWarnings(as.numeric(null))))
 }
 
 alpha_layer <- function(raster, path, band) {
@@ -122,8 +125,11 @@ check_file <- function(name, raster, facts, band) {
   }
 }
 
+# The nodata value of a band, as GDAL spells it.
+null_text <- function(told) sub("^ *NoData Value=", "", grep("^ *NoData Value=", told, value = TRUE))
+
 check_wide_null <- function(name, told) {
-  text <- sub("^ *NoData Value=", "", grep("^ *NoData Value=", told, value = TRUE))
+  text <- null_text(told)
   value <- suppressWarnings(as.numeric(text))
   if (length(value) == 1L && !is.na(value) && abs(value) >= INEXACT_FLOAT) {
     bad_map(name, sprintf(paste("its cells have 64 bits and its nodata value is %s, which terra cannot tell from its neighbours:",
@@ -243,7 +249,10 @@ is_exact_type <- function(raster) isTRUE(is.int(raster)) && isTRUE(datatype(rast
 # The cells of some rows, those that are transparent null. A broken part of a file is an error, and never null.
 read_block <- function(source, row, count) {
   cells <- read_rows(source, source$raster, row, count)
-  if (!is.null(source$alpha)) cells[read_rows(source, source$alpha, row, count) %in% 0] <- NA
+  if (!is.null(source$alpha)) {
+    alpha <- read_rows(source, source$alpha, row, count)
+    cells[alpha %in% 0 | (is.na(alpha) & any(source$alpha_null %in% 0))] <- NA
+  }
   cells
 }
 

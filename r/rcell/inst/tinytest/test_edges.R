@@ -31,6 +31,12 @@ expect_identical(counts(rast(transparent)), expected)
 expect_identical(counts(rast(transparent)[[1]]), expected)
 expect_identical(counts(rast(transparent)[[2]])$x, c(0L, 1L, 255L))
 expect_identical(as_rows(rcell_grid("", "x", x = transparent)), matrix(c(1, 2, NA, 3), 2))
+# Also if both bands have a nodata value, as those of a TIFF have.
+for (case in list(list(null = 0, x = expected), list(null = 255, x = expected), list(null = 2, x = data.frame(x = c(1L, 3L, NA), cells = c(1L, 1L, 2L))))) {
+  inner <- sprintf("<NoDataValue>%d</NoDataValue>", case$null)
+  both_bands <- c(band("cells.raw", inner = inner), band("alpha.raw", 2, inner = paste0(inner, "<ColorInterp>Alpha</ColorInterp>")))
+  expect_identical(counts(write_vrt("null.vrt", both_bands)), case$x, info = case$null)
+}
 part <- rast(transparent)[[1]]
 window(part) <- ext(500020, 500040, 5399960, 5400000)
 expect_identical(counts(part), data.frame(x = c(3L, NA), cells = 1L))
