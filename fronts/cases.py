@@ -3,6 +3,7 @@
 from __future__ import annotations
 
 import pathlib
+import shutil
 from dataclasses import dataclass, field
 
 HERE = pathlib.Path(__file__).resolve().parent
@@ -18,11 +19,15 @@ class Case:
     maps : dict of str to str
         Paths of rasters by the names of the maps.
     call : str
-        `table`, `grid NAME`, or `areas 4` or `areas 8` of the first map.
+        `table`, `grid NAME`, `write NAME`, or `areas` of the first map, by default or with a connectivity of 4 or 8.
     script : str
     area : str
         The unit of areas that is asked for, or nothing.
     percent : bool
+    crs : str
+        The reference system that is stated for maps that have none, or nothing.
+    over : str
+        The path of the raster over which `write` writes.
     expected : dict of str to (list of str, bool)
         The lines that must come out, or of a refusal those that must be told, and whether it is one: under the name of a front where
         its answer is another, and else under no name.
@@ -36,6 +41,8 @@ class Case:
     script: str = ""
     area: str = ""
     percent: bool = False
+    crs: str = ""
+    over: str = ""
     expected: dict[str, tuple[list[str], bool]] = field(default_factory=dict)
     left_out: dict[str, str] = field(default_factory=dict)
 
@@ -73,9 +80,19 @@ def read(path: pathlib.Path) -> Case:
         script="\n".join(blocks.get("script", [])),
         area="".join(blocks.get("area", [])),
         percent="percent" in blocks,
+        crs="".join(blocks.get("crs", [])),
+        over=str(HERE / "rasters" / blocks["over"][0]) if "over" in blocks else "",
         expected=expected,
         left_out={key.split()[1]: " ".join(lines) for key, lines in blocks.items() if key.startswith("without ")},
     )
+
+
+def copied(path: str, folder: str) -> str:
+    """Copies a raster with what stands beside it, and returns the path of the copy."""
+    source = pathlib.Path(path)
+    for beside in source.parent.glob(f"{source.name}*"):
+        shutil.copy(beside, folder)
+    return str(pathlib.Path(folder) / source.name)
 
 
 def cases() -> list[Case]:

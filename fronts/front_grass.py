@@ -71,7 +71,7 @@ def asked(case: Case) -> tuple[str, list[str]]:
     """The script, and the words after r.rcell."""
     kind, *words = case.call.split()
     if kind == "areas":
-        flag = " -d" if words[0] == "8" else ""
+        flag = " -d" if words == ["8"] else ""
         return f"r.clump{flag} input={next(iter(case.maps))} output=areas", ["output=areas=found"]
     return TABLE.sub(lambda found: f"{found[0]} separator=pipe", case.script), [f"output={words[0]}=found"] if kind == "grid" else []
 
@@ -81,8 +81,9 @@ def refusal(case: Case, told: str) -> list[str]:
     text = " ".join(line.removeprefix("ERROR: ").strip() for line in told.splitlines() if not line.startswith(("    ", "WARNING")))
     found = REFUSED.search(text)
     if found:
-        column = re.search(r" at column (\d+)$", found[3].strip())
-        lines = [("kind", "refused"), ("source", found[1]), ("line", int(found[2]) or None), ("column", column and column[1])]
+        # The mark stands beneath its column, four blanks farther to the right.
+        marks = [len(line) - 4 for line in told.splitlines() if line.startswith("    ") and line.endswith("^")]
+        lines = [("kind", "refused"), ("source", found[1]), ("line", int(found[2]) or None), ("column", marks[0] if marks else None)]
         return [f"{key}: {value}" for key, value in [*lines, ("text", found[3].strip())] if value is not None]
     missing = NO_MAP.search(text)
     names = {raster_of(path): name for name, path in case.maps.items()}

@@ -3,14 +3,16 @@
 from __future__ import annotations
 
 import sys
+import tempfile
 import warnings
+from dataclasses import replace
 from typing import Any
 
 import rasterio.errors
 import rcell
-from cases import Case, cases
+from cases import Case, cases, copied
 
-KINDS = [("other region", rcell.OtherRegion), ("read failed", rcell.ReadFailed), ("bad map", rcell.BadMap), ("refused", rcell.Refused)]
+KINDS = [("other crs", rcell.OtherCrs), ("other region", rcell.OtherRegion), ("read failed", rcell.ReadFailed), ("bad map", rcell.BadMap), ("refused", rcell.Refused)]
 
 
 def plain(value: Any) -> str:
@@ -18,7 +20,7 @@ def plain(value: Any) -> str:
 
 
 def of_table(case: Case) -> list[str]:
-    outputs = rcell.run(case.script, case.maps)
+    outputs = rcell.run(case.script, case.maps, crs=case.crs or None)
     table = outputs.tables[0]
     if case.area:
         table = table.with_area(case.area)
@@ -36,8 +38,19 @@ def answer(case: Case) -> list[str]:
     if kind == "table":
         return of_table(case)
     if kind == "grid":
-        return of_grid(rcell.grid(case.script, words[0], case.maps))
-    return of_grid(rcell.areas(next(iter(case.maps.values())), diagonal=words[0] == "8"))
+        return of_grid(rcell.grid(case.script, words[0], case.maps, crs=case.crs or None))
+    if kind == "write":
+        return written(case, words[0])
+    first = next(iter(case.maps.values()))
+    return of_grid(rcell.areas(first, diagonal=words[0] == "8") if words else rcell.areas(first))
+
+
+def written(case: Case, name: str) -> list[str]:
+    """A map that was written over another raster, as it is read again."""
+    with tempfile.TemporaryDirectory() as room:
+        path = copied(case.over, room)
+        rcell.grid(case.script, name, case.maps).write(path)
+        return of_table(replace(case, script="r.stats -c -l input=x", maps={"x": path}))
 
 
 def refusal(error: rcell.Refused) -> list[str]:

@@ -17,15 +17,16 @@ HERE = pathlib.Path(__file__).resolve().parent
 os.environ.setdefault("QT_QPA_PLATFORM", "offscreen")
 sys.path[:0] = [str(HERE.parent / "qgis"), "/usr/share/qgis/python/plugins"]
 
-from cases import Case, cases  # noqa: E402  (the path above has to be set first)
+from cases import Case, cases, copied  # noqa: E402  (the path above has to be set first)
 from osgeo import gdal  # noqa: E402
 from qgis.core import NULL, QgsApplication, QgsProcessingException  # noqa: E402
 
 # QGIS has one kind of error; which of ours it was is told by the text, as fronts/README.md lists it.
 KINDS = [
+    ("other crs", r"its coordinate reference system is |it has no coordinate reference system"),
     ("other region", r"not of the region of "),
     ("read failed", r"cannot open|rows \d+ to \d+ cannot be read"),
-    ("bad map", r"not a map of whole numbers|has \d+ bands|a rotated transform|its values are scaled"),
+    ("bad map", r"not a map of whole numbers|has \d+ bands|a (rotated )?transform|its values are scaled"),
     ("refused", r""),
 ]
 UNITS = ["", "m2", "ha", "km2"]
@@ -39,9 +40,12 @@ def asked(case: Case) -> tuple[str, dict[str, Any]]:
     """The algorithm and its parameters."""
     kind, *words = case.call.split()
     if kind == "areas":
-        return "rcell:areas", {"INPUT": next(iter(case.maps.values())), "DIAGONAL": words[0] == "8", "SIZES": "TEMPORARY_OUTPUT"}
+        chosen = {"DIAGONAL": words[0] == "8"} if words else {}
+        return "rcell:areas", {"INPUT": next(iter(case.maps.values())), **chosen, "SIZES": "TEMPORARY_OUTPUT"}
     common = {"INPUT": list(case.maps.values()), "NAMES": ",".join(case.maps), "SCRIPT": case.script}
-    if kind == "grid":
+    if case.crs:
+        common["CRS"] = case.crs
+    if kind in ("grid", "write"):
         return "rcell:script", {**common, "MAP": words[0]}
     return "rcell:script", {**common, "UNIT": UNITS.index(case.area), "PERCENT": case.percent, "TABLE": "TEMPORARY_OUTPUT"}
 
@@ -64,20 +68,25 @@ def answer(case: Case, room: str) -> list[str]:
     algorithm, parameters = asked(case)
     if case.call.startswith("table"):
         return of_layer(processing.run(algorithm, parameters)["TABLE"])
+    if case.over:
+        path = processing.run(algorithm, {**parameters, "OUTPUT": copied(case.over, room)})["OUTPUT"]
+        again = {"INPUT": [path], "NAMES": "x", "SCRIPT": "r.stats -c -l input=x", "TABLE": "TEMPORARY_OUTPUT"}
+        return of_layer(processing.run("rcell:script", again)["TABLE"])
     path = os.path.join(room, f"{case.name}.tif")
     return of_raster(processing.run(algorithm, {**parameters, "OUTPUT": path})["OUTPUT"])
 
 
 def refusal(message: str) -> list[str]:
     """The parts of a refusal: `SOURCE, line N: TEXT`, or `SOURCE: TEXT`."""
-    first = message.removeprefix("Unable to execute algorithm\n").splitlines()[0]
+    first, *rest = message.removeprefix("Unable to execute algorithm\n").splitlines()
     place, _, text = first.partition(": ")
     source, _, line = place.partition(", line ")
     kind = next(name for name, form in KINDS if re.match(form, text))
     cell = re.search(r"the cell at row (\d+), column (\d+)", text)
-    column = re.search(r" at column (\d+)$", text)
+    # The mark stands beneath its column, two blanks farther to the right.
+    column = len(rest[-1]) - 2 if rest and rest[-1].endswith("^") else None
     found = [("kind", kind), ("source", source), ("line", line), ("row", cell and cell[1])]
-    found += [("column", cell[2] if cell else column and column[1]), ("text", text)]
+    found += [("column", cell[2] if cell else column), ("text", text)]
     return [f"{name}: {value}" for name, value in found if value]
 
 

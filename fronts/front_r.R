@@ -2,7 +2,7 @@
 
 suppressMessages(library(rcell))
 here <- normalizePath(commandArgs(TRUE)[[1]])
-kinds <- c(rcell_other_region = "other region", rcell_read_failed = "read failed", rcell_bad_map = "bad map", rcell_refused = "refused")
+kinds <- c(rcell_other_crs = "other crs", rcell_other_region = "other region", rcell_read_failed = "read failed", rcell_bad_map = "bad map", rcell_refused = "refused")
 
 # The lines of each key: that after its colon, or those that are indented below it.
 blocks_of <- function(path) {
@@ -25,16 +25,30 @@ plain <- function(values) {
   ifelse(is.na(values), "*", text)
 }
 
+of_table <- function(table) c(paste(names(table), collapse = "|"), do.call(paste, c(unname(lapply(table, plain)), sep = "|")))
+
+# A map that was written over another raster, as it is read again.
+written <- function(case, name, maps) {
+  room <- tempfile("written")
+  dir.create(room)
+  on.exit(unlink(room, recursive = TRUE))
+  file.copy(list.files(file.path(here, "rasters"), paste0("^", case$over), full.names = TRUE), room)
+  path <- file.path(room, case$over)
+  rcell_grid(case$script, name, maps = maps, filename = path, overwrite = TRUE)
+  of_table(rcell_table("r.stats -c -l input=x", x = path))
+}
+
 answer <- function(case) {
   words <- strsplit(case$call, " ")[[1]]
   files <- strsplit(strsplit(case$maps, " ")[[1]], "=")
   maps <- lapply(files, function(file) file.path(here, "rasters", file[[2]]))
   names(maps) <- vapply(files, `[[`, "", 1)
   if (words[[1]] == "table") {
-    table <- rcell_table(case$script, maps = maps, area = case$area, percent = !is.null(case$percent))
-    return(c(paste(names(table), collapse = "|"), do.call(paste, c(unname(lapply(table, plain)), sep = "|"))))
+    return(of_table(rcell_table(case$script, maps = maps, area = case$area, percent = !is.null(case$percent), crs = case$crs)))
   }
-  grid <- if (words[[1]] == "grid") rcell_grid(case$script, words[[2]], maps = maps) else rcell_areas(maps[[1]], as.numeric(words[[2]]))
+  if (words[[1]] == "write") return(written(case, words[[2]], maps))
+  grid <- if (words[[1]] == "grid") rcell_grid(case$script, words[[2]], maps = maps, crs = case$crs) else
+    do.call(rcell_areas, c(unname(maps[1]), if (length(words) > 1) as.numeric(words[[2]])))
   cells <- matrix(plain(as.integer(terra::values(grid, mat = FALSE))), terra::nrow(grid), byrow = TRUE)
   apply(cells, 1, paste, collapse = " ")
 }

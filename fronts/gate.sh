@@ -1,13 +1,16 @@
 #!/bin/sh
-# Runs the table of cases on the fronts that are installed, over bin/rcell, and says which it left out. The last line is
-# 'N passed, M failed'.
+# Runs the table of cases, and some random rasters, on the fronts that are installed, over bin/rcell. The last line is
+# 'N passed, M failed, K skipped'.
 cd "$(dirname "$0")/.." || exit 1
 room=$(mktemp -d) || exit 1
 trap 'rm -rf "$room"' EXIT
+. tools/counting.sh
 if command -v Rscript > /dev/null; then
     mkdir "$room/library"
-    # Where a package is missing that it stands on, the cases say so.
+    # If a package is missing that it needs, the cases say so.
     R CMD INSTALL --no-docs --no-byte-compile --no-test-load --library="$room/library" r/rcell > "$room/log" 2>&1 || tail -n 3 "$room/log"
     export R_LIBS="$room/library"
 fi
-/usr/bin/python3 fronts/run.py "$@"
+add 'the table of cases' /usr/bin/python3 fronts/run.py "$@"
+add 'random rasters' /usr/bin/python3 fronts/random_rasters.py "$@"
+closing

@@ -6,6 +6,7 @@
 from __future__ import annotations
 
 import pathlib
+from typing import Sequence
 from xml.sax.saxutils import escape
 
 import numpy as np
@@ -44,6 +45,48 @@ def write_wide(name: str, cells: object) -> None:
     file.SetProjection(rasterio.crs.CRS.from_epsg(32632).to_wkt())
     file.GetRasterBand(1).WriteArray(array)
     file.GetRasterBand(1).SetNoDataValue(NULL)
+
+
+def write_by_gdal(name: str, bands: list[object], kind: int, *, transform: Sequence[float] = METRES.to_gdal(), options: Sequence[str] = (),
+                  nodata: int | None = None) -> None:
+    """What rasterio does not write: complex cells, alpha bands, transforms that are no place, 64 bits without a sign."""
+    arrays = [np.asarray(cells) for cells in bands]
+    file = gdal.GetDriverByName("GTiff").Create(str(ROOM / f"{name}.tif"), arrays[0].shape[1], arrays[0].shape[0], len(arrays), kind, list(options))
+    file.SetGeoTransform(transform)
+    file.SetProjection(rasterio.crs.CRS.from_epsg(32632).to_wkt())
+    for number, array in enumerate(arrays, 1):
+        file.GetRasterBand(number).WriteArray(array)
+    if nodata is not None:
+        band = file.GetRasterBand(1)
+        set_nodata = {gdal.GDT_Int64: band.SetNoDataValueAsInt64, gdal.GDT_UInt64: band.SetNoDataValueAsUInt64}
+        set_nodata.get(kind, band.SetNoDataValue)(nodata)
+
+
+def write_edges() -> None:
+    """Rasters at the edge of what a file can say."""
+    cover, alpha, nan, inf = np.asarray(COVER), np.full((4, 5), 255), float("nan"), float("inf")
+    alpha[0, 3] = alpha[1, 1] = 0
+    bytes_of_cover = np.where(cover == NULL, 9, cover).astype("uint8")
+    grey = ["ALPHA=YES", "PHOTOMETRIC=MINISBLACK"]
+    write_by_gdal("alpha", [bytes_of_cover, alpha.astype("uint8")], gdal.GDT_Byte, options=grey)
+    write_by_gdal("alpha_nodata", [bytes_of_cover, alpha.astype("uint8")], gdal.GDT_Byte, options=grey, nodata=3)
+    write_by_gdal("complex", [np.where(cover == NULL, 0, cover) + 5j], gdal.GDT_CFloat32)
+    write_by_gdal("nowhere_at_all", [cover], gdal.GDT_Int16, transform=(nan, 20, 0, 5400000, 0, -20))
+    write_by_gdal("endless", [cover], gdal.GDT_Int16, transform=(500000, inf, 0, 5400000, 0, -20))
+    write_by_gdal("mirrored", [cover], gdal.GDT_Int16, transform=(500100, -20, 0, 5400000, 0, -20))
+    great = np.where(cover == NULL, 0, cover).astype("uint64")
+    great[0, 3] = 2**64 - 1
+    write_by_gdal("unsigned", [great], gdal.GDT_UInt64, nodata=2**64 - 1)
+    write_by_gdal("unsigned_undeclared", [great], gdal.GDT_UInt64)
+    near = np.where(cover == NULL, 2**53, cover).astype("int64")
+    near[2, 0] = 2**53 + 1
+    write_by_gdal("near_null", [near], gdal.GDT_Int64, nodata=2**53)
+    write("gauss", COVER, crs="EPSG:31467")
+    write("bare", ZONES, crs="")
+    write("old", COVER)
+    write_labels("old")
+    with rasterio.Env(GDAL_TIFF_INTERNAL_MASK=False), rasterio.open(ROOM / "old.tif", "r+") as file:
+        file.write_mask(np.arange(20).reshape(4, 5) % 3 > 0)
 
 
 def write_labels(name: str) -> None:
@@ -123,6 +166,7 @@ def main() -> None:
     write_table("odd", ODD_LABELS)
     write("noise", noise(9, 12))
     write_masked("masked", COVER)
+    write_edges()
     write_text("own", ["1 1 2 * 3", "1 2 2 2 3", "3 3 1 1 2", "3 1 1 2 2"])
     write_text("broken", ["1 1 2 * 3", "1 2 2.5 2 3", "3 3 1 1 2", "3 1 1 2 2"])
     write_text("short", ["1 1 2 * 3", "1 2 2 2 3", "3 3 1 1 2"])

@@ -1,4 +1,4 @@
-"""Runs the table of cases on each front that is installed, and compares; the last line is 'N passed, M failed'.
+"""Runs the table of cases on each front that is installed, and compares; the last line is 'N passed, M failed, K skipped'.
 
     /usr/bin/python3 fronts/run.py [FRONT...]
 
@@ -21,20 +21,20 @@ FRONTS = ("python", "r", "qgis", "grass")
 
 
 def environment() -> dict[str, str]:
-    known = {"PYTHONDONTWRITEBYTECODE": "1", "LC_ALL": "C.UTF-8", "RCELL": str(REPOSITORY / "bin/rcell")}
+    known = {"PYTHONDONTWRITEBYTECODE": "1", "LC_ALL": "C.UTF-8", "RCELL": os.environ.get("RCELL") or str(REPOSITORY / "bin/rcell")}
     return {**os.environ, **known, "PYTHONPATH": str(REPOSITORY / "python/src")}
 
 
 def missing_of_python() -> str:
     for library in ("numpy", "rasterio"):
         if subprocess.run([sys.executable, "-c", f"import {library}"], capture_output=True).returncode:
-            return f"python3-{library} is not installed"
+            return f"{library} is not installed"
     return ""
 
 
 def missing_of_r() -> str:
     if not shutil.which("Rscript"):
-        return "R is not installed (r-base-core)"
+        return "R is not installed"
     test = 'for (p in c("terra", "data.table", "processx", "rcell")) if (!nzchar(system.file(package = p))) cat(p, "")'
     missing = subprocess.run(["Rscript", "--no-init-file", "-e", test], capture_output=True, text=True).stdout.strip()
     return f"packages of R are not installed: {missing}" if missing else ""
@@ -43,14 +43,21 @@ def missing_of_r() -> str:
 def missing_of_qgis() -> str:
     test = "import osgeo.gdal, numpy, qgis.core, sys; sys.path.append('/usr/share/qgis/python/plugins'); import processing"
     ran = subprocess.run([sys.executable, "-c", test], capture_output=True, env={**os.environ, "QT_QPA_PLATFORM": "offscreen"})
-    return "QGIS is not installed (python3-qgis)" if ran.returncode else ""
+    return "QGIS is not installed" if ran.returncode else ""
 
 
 def missing_of_grass() -> str:
-    return "" if shutil.which("grass") else "GRASS is not installed (grass-core)"
+    return "" if shutil.which("grass") else "GRASS is not installed"
 
 
 MISSING = {"python": missing_of_python, "r": missing_of_r, "qgis": missing_of_qgis, "grass": missing_of_grass}
+# Packages of Debian.
+PACKAGES = {
+    "python": "python3-numpy python3-rasterio",
+    "r": "r-base-core r-cran-terra r-cran-data.table r-cran-processx r-cran-codetools",
+    "qgis": "python3-qgis python3-gdal python3-numpy",
+    "grass": "grass-core python3-numpy",
+}
 COMMANDS = {
     "python": [sys.executable, str(HERE / "front_python.py")],
     "r": ["Rscript", str(HERE / "front_r.R"), str(HERE)],
@@ -84,14 +91,14 @@ def is_right(case: Case, front: str, lines: list[str]) -> bool:
     return told.get("text", "").startswith(text) and all(told.get(key) == value for key, value in wanted.items())
 
 
-def run(front: str) -> tuple[int, int]:
-    """How many cases passed on a front, and how many failed."""
+def run(front: str) -> tuple[int, int, int]:
+    """How many cases passed on a front, failed, and were skipped since the front is not installed."""
+    tried = [case for case in cases() if front not in case.left_out]
     missing = MISSING[front]()
     if missing:
-        print(f"fronts: {front} is left out: {missing}")
-        return 0, 0
+        print(f"skipped  fronts/{front}: {missing}; install: apt-get install {PACKAGES[front]}")
+        return 0, 0, len(tried)
     found, said = found_by(front)
-    tried = [case for case in cases() if front not in case.left_out]
     wrong = [case for case in tried if not is_right(case, front, found.get(case.name, []))]
     for case in wrong:
         print(f"fronts: {front}: {case.name}", "  expected:", *(f"    {line}" for line in case.expected_of(front)[0]), "  found:", sep="\n")
@@ -101,13 +108,13 @@ def run(front: str) -> tuple[int, int]:
     right = len(tried) - len(wrong)
     without = f"; {len(cases()) - len(tried)} are not for it" if len(tried) < len(cases()) else ""
     print(f"fronts: {front}: {right} cases of {len(tried)}{without}")
-    return right, len(wrong)
+    return right, len(wrong), 0
 
 
 def main() -> int:
     counts = [run(front) for front in sys.argv[1:] or FRONTS]
-    failed = sum(count[1] for count in counts)
-    print(f"{sum(count[0] for count in counts)} passed, {failed} failed")
+    passed, failed, skipped = (sum(numbers) for numbers in zip(*counts))
+    print(f"{passed} passed, {failed} failed, {skipped} skipped")
     return 1 if failed else 0
 
 
