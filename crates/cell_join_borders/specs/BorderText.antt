@@ -1,0 +1,65 @@
+-- The border of a tile as a grid text of ten rows (this project's own form).
+use Rattle.std.specs.Prelude.{ℕ, pos, max, List, [], ◌∷◌, ◌++◌, map, sum, Some, None, slice_index_or}
+use Rattle.std.specs.List.{range_with_len}
+use Rattle.cell_core_devices.specs.Device.{Coming}
+use Rattle.cell_core_values.specs.Region.{RegionValue}
+use Rattle.cell_core.specs.Grid.{CellValue, Grid, no_labels}
+use Rattle.cell_ascii_meaning.specs.GridText.{Denotes}
+use Rattle.cell_ascii_meaning.specs.GridWords.{usual_null}
+use Rattle.cell_ascii_meaning.specs.Writing.{grid_text}
+use Rattle.cell_cats_areas.specs.declared.clump.Joining.{Joining}
+use Rattle.cell_cats_areas.specs.declared.clump.Joining.TheVariants.{Edges, EdgesAndCorners}
+use Rattle.cell_join_tiles.specs.declared.border.Border.{Border}
+use Rattle.cell_join_tiles.specs.declared.border.Side.{Side}
+
+-- the largest of the rows and the columns of a tile and 4
+abbrev pub border_width : RegionValue → ℕ
+border_width tile = max (max tile.rows tile.cols) 4
+
+-- the four coordinates of the tile, and ten rows
+abbrev pub border_region : RegionValue → RegionValue
+border_region tile = record { north = tile.north; south = tile.south; east = tile.east; west = tile.west; rows = 10; cols = border_width tile }
+
+-- how a connectivity is written
+abbrev pub connectivity : Joining → ℕ
+connectivity Edges = 4
+connectivity EdgesAndCorners = 8
+
+-- cells from the left on, filled up with nulls
+abbrev pub filled_row : ℕ → List CellValue → List CellValue
+filled_row width cells = map (λ col. slice_index_or cells col None) (range_with_len 0 width)
+
+-- rows, columns, number of clumps, connectivity
+abbrev pub size_line : Joining → RegionValue → ℕ → List CellValue
+size_line j tile clumps = Some (pos tile.rows) ∷ Some (pos tile.cols) ∷ Some (pos clumps) ∷ Some (pos (connectivity j)) ∷ []
+
+-- how many clumps begin in each row
+abbrev pub count_line : List ℕ → List CellValue
+count_line begun = map (λ n. Some (pos n)) begun
+
+-- the cells of a side, and below them their numbers
+abbrev pub side_rows : ℕ → Side → List (List CellValue)
+side_rows width side = filled_row width side.cells.items ∷ filled_row width side.numbers.items ∷ []
+
+-- first row and its numbers, last row and its numbers, first column and its numbers, last column and its numbers; the size; the counts
+abbrev pub border_rows : ℕ → Joining → RegionValue → Border → List (List CellValue)
+border_rows width j tile border =
+    side_rows width border.first
+    ++ side_rows width border.last
+    ++ side_rows width border.left
+    ++ side_rows width border.right
+    ++ filled_row width (size_line j tile (sum border.begun.items))
+    ∷ filled_row width (count_line border.begun.items)
+    ∷ []
+
+-- the map of the border of a tile of a region
+abbrev pub border_grid : Joining → RegionValue → Border → Grid
+border_grid j tile border = record { region = border_region tile; rows = border_rows (border_width tile) j tile border; labels = no_labels }
+
+-- what is written of it
+abbrev pub border_text : Joining → RegionValue → Border → List ℕ
+border_text j tile border = grid_text usual_null (border_grid j tile border)
+
+-- a text is that of the border of a tile of this region, by this connectivity
+abbrev pub SpellsBorder : Coming → Joining → RegionValue → Border → Type 0
+SpellsBorder text j tile border = Denotes text (border_grid j tile border)

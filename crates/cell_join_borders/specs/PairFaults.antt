@@ -1,0 +1,31 @@
+-- Cells and the numbers of their clumps that do not go together.
+use Rattle.std.specs.Prelude.{ℕ, ℤ, pos, negsuc, ◌≡◌, ◌<◌, ◌==◌, List, length, Option, Some, None, nat_lt, if◌then◌else◌, slice_index, slice_index_or}
+use Rattle.cell_core.specs.Grid.{CellValue}
+use Rattle.cell_join_borders.specs.declared.pair_fault.PairKind.{PairKind}
+use Rattle.cell_join_borders.specs.declared.pair_fault.PairKind.TheVariants.{NoCell, NoNumber, BelowOne, TooLarge}
+
+-- why a number is not one from 1 to the most
+abbrev pub number_fault : ℕ → ℤ → Option PairKind
+number_fault most (pos n) = if n == 0 then Some BelowOne else (if nat_lt most n then Some TooLarge else None)
+number_fault most (negsuc n) = Some BelowOne
+
+-- why a cell and a number do not go together
+abbrev pub pair_fault : ℕ → (cell number : CellValue) → Option PairKind
+pair_fault most None None = None
+pair_fault most None (Some n) = Some NoCell
+pair_fault most (Some v) None = Some NoNumber
+pair_fault most (Some v) (Some n) = number_fault most n
+
+-- the same of the cells at a column of two rows, where each column has a greatest number of its own
+abbrev pub column_fault : List ℕ → (cells numbers : List CellValue) → ℕ → Option PairKind
+column_fault most cells numbers col = pair_fault (slice_index most col) (slice_index_or cells col None) (slice_index_or numbers col None)
+
+-- two rows go together, up to as many columns
+abbrev pub AreLinesFit : List ℕ → (cells numbers : List CellValue) → Type 0
+AreLinesFit most cells numbers = (col : ℕ) → col < length most → column_fault most cells numbers col ≡ None
+
+-- up to a column they do, and there is why they do not
+pub record IsFirstPair (most : List ℕ) (cells numbers : List CellValue) (col : ℕ) (kind : PairKind) : Type 0 where
+  pub within : col < length most
+  pub wrong : column_fault most cells numbers col ≡ Some kind
+  pub before : (k : ℕ) → k < col → column_fault most cells numbers k ≡ None

@@ -1,0 +1,41 @@
+-- The text of the border of a tile, made of the text of its map.
+use Rattle.std.specs.Prelude.{ℕ, ◌≡◌, ◌≤◌, List, length, take, Option, Some}
+use Rattle.cell_core_devices.specs.Device.{Coming, append_known}
+use Rattle.cell_core.specs.Grid.{Grid}
+use Rattle.cell_ascii_meaning.specs.FaultPlaces.{text_fault}
+use Rattle.cell_ascii_meaning.specs.GridText.{Denotes}
+use Rattle.cell_cats_areas.specs.declared.clump.Joining.{Joining}
+use Rattle.cell_join_tiles.specs.Joined.{HasBorder}
+use Rattle.cell_join_tiles.specs.Values.{border_value}
+use Rattle.cell_join_tiles.specs.declared.border.Border.{Border}
+use Rattle.cell_join_borders.specs.BorderText.{border_text}
+use Rattle.cell_join_borders.specs.declared.map_fault.MapFault.{MapFault}
+use Rattle.cell_join_borders.specs.declared.map_fault.MapFault.TheVariants.{Text, Memory, Write}
+
+-- a text denotes a map, and this is the border of it and of the numbers of its clumps
+pub record IsBorderOfText (j : Joining) (text : Coming) (m : Grid) (border : Border) : Type 0 where
+  pub denoted : Denotes text m
+  pub numbers : Grid
+  pub has : HasBorder j m.region.rows m.region.cols m numbers (border_value border)
+
+-- the sink took exactly the text of the border of a map, and its length is told
+pub record HasWrittenBorder (j : Joining) (text : Coming) (before now : Option (List ℕ)) (written : ℕ) : Type 0 where
+  pub m : Grid
+  pub border : Border
+  pub is : IsBorderOfText j text m border
+  pub taken : now ≡ append_known before (border_text j m.region border)
+  pub count : written ≡ length (border_text j m.region border)
+
+-- the sink took a prefix of that text, and its length is told
+pub record HasBorderPrefix (j : Joining) (text : Coming) (before now : Option (List ℕ)) (written : ℕ) : Type 0 where
+  pub m : Grid
+  pub border : Border
+  pub is : IsBorderOfText j text m border
+  pub taken : now ≡ append_known before (take written (border_text j m.region border))
+  pub count : written ≤ length (border_text j m.region border)
+
+-- why no border is written: the text's first fault; of being out of memory and of a failed write nothing is said of the text
+abbrev pub IsMapFault : Coming → MapFault → Type 0
+IsMapFault text (Text fault) = text_fault text ≡ Some fault
+IsMapFault text Memory = Unit {0}
+IsMapFault text Write = Unit {0}

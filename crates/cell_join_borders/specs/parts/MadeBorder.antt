@@ -1,0 +1,34 @@
+-- The map of the border of a map, and the faults of its text.
+use Rattle.std.specs.Prelude.{◌≡◌}
+use Rattle.cell_core_devices.specs.Device.{Coming}
+use Rattle.cell_core.specs.Grid.{Grid}
+use Rattle.cell_ascii_meaning.specs.declared.grid_fault.GridFault.{GridFault}
+use Rattle.cell_ascii_meaning.specs.declared.grid_fault.GridKind.{GridKind}
+use Rattle.cell_ascii_meaning.specs.declared.grid_fault.GridKind.TheVariants as kinds
+use Rattle.cell_cats_areas.specs.declared.clump.Joining.{Joining}
+use Rattle.cell_join_tiles.specs.Joined.{HasBorder}
+use Rattle.cell_join_tiles.specs.Values.{border_value}
+use Rattle.cell_join_tiles.specs.declared.border.Border.{Border}
+use Rattle.cell_join_borders.specs.BorderText.{border_grid}
+use Rattle.cell_join_borders.specs.WrittenBorder.{IsBorderOfText}
+use Rattle.cell_join_borders.specs.declared.map_fault.MapFault.{MapFault}
+use Rattle.cell_join_borders.specs.declared.map_fault.MapFault.TheVariants as faults
+
+-- a map is that of the border of a map and of the numbers of its clumps
+pub record IsMapOfBorder (j : Joining) (m made : Grid) : Type 0 where
+  pub numbers : Grid
+  pub border : Border
+  pub has : HasBorder j m.region.rows m.region.cols m numbers (border_value border)
+  pub is : made ≡ border_grid j m.region border
+
+-- and a text denotes that map
+pub record IsMadeOfText (j : Joining) (text : Coming) (made : Grid) : Type 0 where
+  pub m : Grid
+  pub border : Border
+  pub of_text : IsBorderOfText j text m border
+  pub is : made ≡ border_grid j m.region border
+
+-- the fault of a grid text, or being out of memory
+abbrev pub of_map_text : GridKind → GridFault → MapFault
+of_map_text kinds.Memory fault = faults.Memory
+of_map_text kind fault = faults.Text fault

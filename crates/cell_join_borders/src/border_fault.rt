@@ -1,0 +1,38 @@
+//! Why a text is no border of a tile.
+
+use crate::cell_place::CellPlace;
+use crate::pair_fault::PairFault;
+use cell_ascii_meaning::grid_fault::GridFault;
+use cell_core::memory::Memory;
+
+/// Why a text is no border of a tile: the first reason in this order.
+#[derive(Clone, Copy, Debug, PartialEq, Eq)]
+pub enum BorderFault {
+    /// It is no grid.
+    Text(GridFault),
+    /// It has not ten rows.
+    Rows,
+    /// The ninth row is not the rows, columns, number of clumps and connectivity of a tile whose border is as wide as the text.
+    Size,
+    /// The tenth row is not a count for each row of the tile.
+    Counts,
+    /// The counts do not add up to the number of clumps.
+    Sum,
+    /// A cell or a number behind the end of a side.
+    End(CellPlace),
+    /// A cell and a number of a side do not go together.
+    Pair(PairFault),
+    /// Memory was refused.
+    Memory,
+}
+
+impl From<Memory> for BorderFault {
+    ghost use Rattle.std.specs.Prelude.{◌≡◌};
+    ghost use Rattle.cell_join_borders.specs.declared.border_fault.BorderFault.TheVariants.{Memory};
+
+    ghost from_gives = { λ _ fault. fault ≡ Memory };
+
+    fn from(_memory: Memory) -> BorderFault {
+        BorderFault::Memory
+    }
+}

@@ -1,0 +1,23 @@
+//! Where a cell stands in a map.
+
+use std::error::Error;
+use std::fmt;
+
+/// Where a cell stands in a map: its row and its column, from 0. It is printed with both counted from 1.
+#[derive(Clone, Copy, Debug, PartialEq, Eq)]
+pub struct CellPlace {
+    /// The row, from 0.
+    pub row: u64,
+    /// The column, from 0.
+    pub col: u64,
+}
+
+impl fmt::Display for CellPlace {
+    fn fmt<W: fmt::Write>(&self, f: &mut fmt::Formatter<W>) -> fmt::Result {
+        let row = self.row.saturating_add(1);
+        let col = self.col.saturating_add(1);
+        write!(f, "row {row}, column {col}")
+    }
+}
+
+impl Error for CellPlace {}

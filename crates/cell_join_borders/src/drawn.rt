@@ -1,0 +1,237 @@
+//! The map of the border of a tile.
+
+ghost use Rattle.std.specs.Prelude.{◌≡◌, ◌≤◌, ◌<◌, ◌+◌, ◌++◌, [], ◌∷◌, IfOk, OnOk, None, Some, pos, length, slice_index_or, sum};
+ghost use Rattle.cell_join_borders.specs.BorderText.{border_grid, border_region, border_rows, border_width, connectivity, count_line, filled_row, side_rows, size_line};
+ghost use Rattle.cell_join_borders.specs.BorderFaults.{most_clumps};
+
+use cell_cats_areas::clump::Joining;
+use cell_core::cell::Cell;
+use cell_core::map::{CellMap, MapBuilder};
+use cell_core::memory::Memory;
+use cell_core::region::Region;
+use cell_join_tiles::border::{Border, Side};
+use std::alloc::Global;
+
+/// How many rows the map of a border has.
+pub(crate) const ROWS: u32 = 10;
+
+/// How many cells of the ninth row are not null: rows, columns, number of clumps and connectivity.
+pub(crate) const SIZE_CELLS: u32 = 4;
+
+/// How wide the map of the border of a tile is.
+pub(crate) fn border_width(tile: Region) -> u32
+    ensures { result ≡ border_width tile }
+{
+    tile.rows().max(tile.cols()).max(SIZE_CELLS)
+}
+
+/// How a connectivity is written.
+pub(crate) fn connectivity(joining: Joining) -> u64
+    ensures { result ≡ connectivity joining }
+{
+    match joining {
+        Joining::Edges => 4,
+        Joining::EdgesAndCorners => 8,
+    }
+}
+
+/// How many clumps begin in all rows.
+pub(crate) fn clumps_in(begun: &[u64]) -> u64
+    requires { sum begun.now ≤ most_clumps }
+    ensures { result ≡ sum begun.now }
+{
+    let mut clumps = 0;
+    for count in begun {
+        clumps += *count;
+    }
+    clumps
+}
+
+// The region of the map of a border.
+fn border_region(tile: Region) -> Region
+    ensures { result ≡ border_region tile }
+{
+    let made = Region::new(
+        tile.north(),
+        tile.south(),
+        tile.east(),
+        tile.west(),
+        ROWS,
+        border_width(tile),
+    );
+    match made {
+        Ok(region) => region,
+        Err(_) => unreachable!(),
+    }
+}
+
+// The cell at a column, null where the cells end.
+fn cell_at(cells: &[Cell], col: u32) -> Cell
+    ensures { result ≡ slice_index_or cells.now col None }
+{
+    match cells.get(col as usize) {
+        Some(cell) => *cell,
+        None => Cell::null(),
+    }
+}
+
+// Cells from the left on, filled up with nulls.
+fn filled_row(alloc: Global, width: u32, cells: &[Cell]) -> Result<Vec<Cell>, Memory>
+    ensures { IfOk result (λ row. row.items ≡ filled_row width cells.now) }
+{
+    let mut row = Vec::new(alloc);
+    for col in 0..width {
+        row.push(cell_at(cells, col))?;
+    }
+    Ok(row)
+}
+
+// A count as a cell.
+fn count_cell(count: u64) -> Cell
+    requires { count ≤ most_clumps }
+    ensures { result ≡ Some (pos count) }
+{
+    match Cell::value(count as i32) {
+        Some(cell) => cell,
+        None => unreachable!(),
+    }
+}
+
+// Counts as cells.
+fn count_line(alloc: Global, begun: &[u64]) -> Result<Vec<Cell>, Memory>
+    requires { sum begun.now ≤ most_clumps }
+    ensures { IfOk result (λ line. line.items ≡ count_line begun.now) }
+{
+    let mut line = Vec::new(alloc);
+    for count in begun {
+        line.push(count_cell(*count))?;
+    }
+    Ok(line)
+}
+
+// Rows, columns, number of clumps and connectivity as cells.
+fn size_line(
+    alloc: Global,
+    joining: Joining,
+    tile: Region,
+    clumps: u64,
+) -> Result<Vec<Cell>, Memory>
+    requires { clumps ≤ most_clumps }
+    ensures { IfOk result (λ line. line.items ≡ size_line joining tile clumps) }
+{
+    let mut line = Vec::new(alloc);
+    line.push(count_cell(u64::from(tile.rows())))?;
+    line.push(count_cell(u64::from(tile.cols())))?;
+    line.push(count_cell(clumps))?;
+    line.push(count_cell(connectivity(joining)))?;
+    Ok(line)
+}
+
+// Puts cells, filled up with nulls, below a map.
+fn push_line(
+    alloc: Global,
+    builder: &mut MapBuilder,
+    width: u32,
+    cells: &[Cell],
+) -> Result<(), Memory>
+    requires width { width ≡ builder.old.region.cols }
+    requires room { length builder.old.rows < builder.old.region.rows }
+    ensures { OnOk result (builder.new
+        ≡ record builder.old { rows = builder.old.rows ++ filled_row width cells.now ∷ [] }) }
+{
+    let row = filled_row(alloc, width, cells)?;
+    builder.push_row(row.as_slice())
+}
+
+// Puts the cells of a side and their numbers below a map.
+fn push_side(alloc: Global, builder: &mut MapBuilder, width: u32, side: &Side) -> Result<(), Memory>
+    requires width { width ≡ builder.old.region.cols }
+    requires room { length builder.old.rows + 1 < builder.old.region.rows }
+    ensures { OnOk result (builder.new
+        ≡ record builder.old { rows = builder.old.rows ++ side_rows width side.now }) }
+{
+    push_line(alloc, builder, width, &side.cells)?;
+    push_line(alloc, builder, width, &side.numbers)
+}
+
+// Puts the size of the tile below a map.
+fn push_size(
+    alloc: Global,
+    builder: &mut MapBuilder,
+    width: u32,
+    joining: Joining,
+    tile: Region,
+    clumps: u64,
+) -> Result<(), Memory>
+    requires clumps { clumps ≤ most_clumps }
+    requires width { width ≡ builder.old.region.cols }
+    requires room { length builder.old.rows < builder.old.region.rows }
+    ensures { OnOk result (builder.new ≡ record builder.old {
+      rows = builder.old.rows ++ filled_row width (size_line joining tile clumps) ∷ [];
+    }) }
+{
+    let size = size_line(alloc, joining, tile, clumps)?;
+    push_line(alloc, builder, width, size.as_slice())
+}
+
+// Puts the counts of clumps by row below a map.
+fn push_counts(
+    alloc: Global,
+    builder: &mut MapBuilder,
+    width: u32,
+    begun: &[u64],
+) -> Result<(), Memory>
+    requires clumps { sum begun.now ≤ most_clumps }
+    requires width { width ≡ builder.old.region.cols }
+    requires room { length builder.old.rows < builder.old.region.rows }
+    ensures { OnOk result (builder.new ≡ record builder.old {
+      rows = builder.old.rows ++ filled_row width (count_line begun.now) ∷ [];
+    }) }
+{
+    let counts = count_line(alloc, begun)?;
+    push_line(alloc, builder, width, counts.as_slice())
+}
+
+// Puts all rows below a map of none.
+fn draw_rows(
+    alloc: Global,
+    builder: &mut MapBuilder,
+    joining: Joining,
+    tile: Region,
+    border: &Border,
+) -> Result<(), Memory>
+    requires begun { builder.old ≡ record { region = border_region tile; rows = [] } }
+    requires clumps { sum border.now.begun.items ≤ most_clumps }
+    ensures { OnOk result (builder.new ≡ record {
+      region = border_region tile;
+      rows = border_rows (border_width tile) joining tile border.now;
+    }) }
+{
+    let width = border_width(tile);
+    push_side(alloc, builder, width, &border.first)?;
+    push_side(alloc, builder, width, &border.last)?;
+    push_side(alloc, builder, width, &border.left)?;
+    push_side(alloc, builder, width, &border.right)?;
+    let clumps = clumps_in(&border.begun);
+    push_size(alloc, builder, width, joining, tile, clumps)?;
+    push_counts(alloc, builder, width, &border.begun)
+}
+
+/// The map of the border of a tile of a region, whose clumps are joined so.
+///
+/// # Errors
+///
+/// [`Memory`] if it was refused.
+pub(crate) fn border_map(
+    alloc: Global,
+    joining: Joining,
+    tile: Region,
+    border: &Border,
+) -> Result<CellMap, Memory>
+    requires { sum border.now.begun.items ≤ most_clumps }
+    ensures { IfOk result (λ map. map ≡ border_grid joining tile border.now) }
+{
+    let mut builder = MapBuilder::new(alloc, border_region(tile));
+    draw_rows(alloc, &mut builder, joining, tile, border)?;
+    Ok(builder.finish())
+}

@@ -1,0 +1,210 @@
+//! The text of the border of a tile, made of the text of the tile's map.
+
+ghost use Rattle.std.specs.Prelude.{ℕ, ◌≡◌, ◌≢◌, ◌<◌, ◌≤◌, true, false, None, Some, IfErr, IfOk, IfSome, length, slice_index_or, sum};
+ghost use Rattle.cell_core_devices.specs.Device.{after_flush, has_failed};
+ghost use Rattle.cell_core.specs.Grid.{cell_at};
+ghost use Rattle.cell_cats_areas.specs.Areas.{IsClumping};
+ghost use Rattle.cell_cats_areas.specs.parts.CellPlaces.{position};
+ghost use Rattle.cell_join_tiles.specs.Joined.{HasBorder};
+ghost use Rattle.cell_join_tiles.specs.SeamLines.{HasSide};
+ghost use Rattle.cell_join_tiles.specs.Values.{border_value};
+ghost use Rattle.cell_join_borders.specs.BorderFaults.{most_clumps};
+ghost use Rattle.cell_join_borders.specs.WrittenBorder.{HasBorderPrefix, HasWrittenBorder, IsMapFault};
+ghost use Rattle.cell_join_borders.specs.parts.MadeBorder.{IsMapOfBorder, IsMadeOfText, of_map_text};
+
+use crate::drawn::border_map;
+use crate::map_fault::MapFault;
+use crate::sides::row_of;
+use crate::size::map_is_filled;
+use cell_ascii::grid_reader::read_map;
+use cell_ascii::writer::write_map;
+use cell_ascii_meaning::grid_fault::{GridFault, GridKind};
+use cell_cats_areas::clump::{Joining, clump_with};
+use cell_core::cell::Cell;
+use cell_core::map::CellMap;
+use cell_core::memory::Memory;
+use cell_core::sink::Sink;
+use cell_core::source::Source;
+use cell_join_tiles::begun::begun_by_row;
+use cell_join_tiles::border::{Border, Side};
+use std::alloc::Global;
+
+/// What the writing of a border did.
+#[derive(Clone, Copy, Debug, PartialEq, Eq)]
+pub struct BorderOutcome {
+    /// The number of bytes that the sink took.
+    pub written: u64,
+    /// Why not all was written.
+    pub fault: Option<MapFault>,
+}
+
+// The cells of a column.
+fn column_of(alloc: Global, map: &CellMap, col: u32) -> Result<Vec<Cell>, Memory>
+    requires { col < map.now.region.cols }
+    ensures long { IfOk result (λ cells. length cells.items ≡ map.now.region.rows) }
+    ensures each { IfOk result (λ cells. (k : ℕ) → k < map.now.region.rows →
+        slice_index_or cells.items k None ≡ cell_at map.now k col) }
+{
+    let mut cells = Vec::new(alloc);
+    for row in 0..map.region().rows() {
+        cells.push(map.cell(row, col))?;
+    }
+    Ok(cells)
+}
+
+// A row as a side.
+fn row_side(alloc: Global, map: &CellMap, numbers: &CellMap, row: u32) -> Result<Side, Memory>
+    requires row { row < map.now.region.rows }
+    requires region { numbers.now.region ≡ map.now.region }
+    ensures { IfOk result (λ side. HasSide map.now numbers.now map.now.region.cols (position row)
+        side.cells.items side.numbers.items) }
+{
+    map_is_filled(map);
+    let cells = row_of(alloc, map, row)?;
+    let ids = row_of(alloc, numbers, row)?;
+    Ok(Side {
+        cells,
+        numbers: ids,
+    })
+}
+
+// A column as a side.
+fn column_side(alloc: Global, map: &CellMap, numbers: &CellMap, col: u32) -> Result<Side, Memory>
+    requires col { col < map.now.region.cols }
+    requires region { numbers.now.region ≡ map.now.region }
+    ensures { IfOk result (λ side. HasSide map.now numbers.now map.now.region.rows
+        (λ k. position k col) side.cells.items side.numbers.items) }
+{
+    let cells = column_of(alloc, map, col)?;
+    let ids = column_of(alloc, numbers, col)?;
+    Ok(Side {
+        cells,
+        numbers: ids,
+    })
+}
+
+// The border of a tile, of its map and the numbers of its clumps.
+fn border_of(
+    alloc: Global,
+    joining: Joining,
+    map: &CellMap,
+    numbers: &CellMap,
+) -> Result<Border, Memory>
+    requires { IsClumping joining map.now numbers.now }
+    ensures border { IfOk result (λ border. HasBorder joining map.now.region.rows
+        map.now.region.cols map.now numbers.now (border_value border)) }
+    ensures clumps { IfOk result (λ border. sum border.begun.items ≤ most_clumps) }
+{
+    map_is_filled(numbers);
+    numbers.cells_are_in_range();
+    let last_row = map.region().rows() - 1;
+    let last_col = map.region().cols() - 1;
+    let first = row_side(alloc, map, numbers, 0)?;
+    let last = row_side(alloc, map, numbers, last_row)?;
+    let left = column_side(alloc, map, numbers, 0)?;
+    let right = column_side(alloc, map, numbers, last_col)?;
+    let begun = begun_by_row(alloc, numbers)?;
+    Ok(Border {
+        first,
+        last,
+        left,
+        right,
+        begun,
+    })
+}
+
+// The map of the border of a tile, of its map.
+fn border_drawn(alloc: Global, joining: Joining, map: &CellMap) -> Result<CellMap, Memory>
+    ensures { IfOk result (IsMapOfBorder joining map.now) }
+{
+    let numbers = clump_with(alloc, map, joining)?;
+    let border = border_of(alloc, joining, map, &numbers)?;
+    border_map(alloc, joining, map.region(), &border)
+}
+
+// The fault of a text that is no grid, or memory.
+fn of_map_text(fault: GridFault) -> MapFault
+    ensures { result ≡ of_map_text fault.kind fault }
+{
+    match fault.kind {
+        GridKind::Memory => MapFault::Memory,
+        _ => MapFault::Text(fault),
+    }
+}
+
+// The map of the border of the tile whose map a text denotes.
+fn border_made<R: Source + Drop>(
+    alloc: Global,
+    joining: Joining,
+    map: R,
+) -> Result<CellMap, MapFault>
+    ensures made { IfOk result (λ made. IfSome (R.coming map)
+        (λ text. IsMadeOfText joining text made)) }
+    ensures fault { IfErr result (λ fault. IfSome (R.coming map)
+        (λ text. IsMapFault text fault)) }
+    ensures unwritten { IfErr result (λ fault. fault ≢ MapFault.Write) }
+{
+    let cells = match read_map(alloc, map) {
+        Ok(cells) => cells,
+        Err(fault) => return Err(of_map_text(fault)),
+    };
+    match border_drawn(alloc, joining, &cells) {
+        Ok(made) => Ok(made),
+        Err(_) => Err(MapFault::Memory),
+    }
+}
+
+/// Writes the text of the border of a tile, of the text of its map: its clumps are numbered as r.clump numbers those of the map.
+/// The sink is flushed once at the end, unless it refused a put.
+pub fn write_border<R: Source + Drop, W: Sink>(
+    alloc: Global,
+    joining: Joining,
+    map: R,
+    out: &mut W,
+) -> BorderOutcome
+    // Without a fault the sink has taken exactly the text of the border of the map that the text denotes.
+    ensures written { result.fault ≡ None → IfSome (R.coming map) (λ text.
+        HasWrittenBorder joining text (W.taken out.old) (W.taken out.new) result.written) }
+    // Any other fault than a failed write is that of the text, and the sink is as it was.
+    ensures fault { IfSome result.fault (λ fault. IfSome (R.coming map)
+        (λ text. IsMapFault text fault)) }
+    ensures untouched { IfSome result.fault (λ fault. fault ≢ MapFault.Write
+        → (out.new ≡ out.old) × (result.written ≡ 0)) }
+    // After a failed write it has taken the first bytes of that text.
+    ensures cut { result.fault ≡ Some MapFault.Write → IfSome (R.coming map) (λ text.
+        HasBorderPrefix joining text (W.taken out.old) (W.taken out.new) result.written) }
+    // No fault comes only if no call of the sink failed and it was flushed once; and, of a sink that had not failed before, Write
+    // only if it failed.
+    ensures sound { result.fault ≡ None
+        → W.faults out.new ≡ after_flush (W.faults out.old) false }
+    ensures write { result.fault ≡ Some MapFault.Write → has_failed (W.faults out.new) ≡ true }
+{
+    let made = match border_made(alloc, joining, map) {
+        Ok(made) => made,
+        Err(fault) => {
+            return BorderOutcome {
+                written: 0,
+                fault: Some(fault),
+            };
+        }
+    };
+    let written = match write_map(&made, b"*", out) {
+        Ok(written) => written,
+        Err(fault) => {
+            return BorderOutcome {
+                written: fault.written,
+                fault: Some(MapFault::Write),
+            };
+        }
+    };
+    match out.flush() {
+        Ok(()) => BorderOutcome {
+            written,
+            fault: None,
+        },
+        Err(_) => BorderOutcome {
+            written,
+            fault: Some(MapFault::Write),
+        },
+    }
+}

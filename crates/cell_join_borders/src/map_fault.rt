@@ -1,0 +1,26 @@
+//! Why no border is written of the text of a map.
+
+use cell_ascii_meaning::grid_fault::GridFault;
+use cell_core::memory::Memory;
+
+/// Why no border is written of the text of a map.
+#[derive(Clone, Copy, Debug, PartialEq, Eq)]
+pub enum MapFault {
+    /// The first fault of the text.
+    Text(GridFault),
+    /// Memory was refused.
+    Memory,
+    /// A write failed.
+    Write,
+}
+
+impl From<Memory> for MapFault {
+    ghost use Rattle.std.specs.Prelude.{◌≡◌};
+    ghost use Rattle.cell_join_borders.specs.declared.map_fault.MapFault.TheVariants.{Memory};
+
+    ghost from_gives = { λ _ fault. fault ≡ Memory };
+
+    fn from(_memory: Memory) -> MapFault {
+        MapFault::Memory
+    }
+}

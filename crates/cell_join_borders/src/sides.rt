@@ -1,0 +1,179 @@
+//! The sides of a tile, read of the map of its border.
+
+ghost use Rattle.std.specs.Prelude.{◌≡◌, ◌≢◌, ◌≤◌, ◌<◌, IfErr, IfOk, OnOk, length, replicate, slice_index, sum, take};
+ghost use Rattle.cell_core.specs.Grid.{row_at};
+ghost use Rattle.cell_join_borders.specs.BorderFaults.{AreRowsRight, AreRowsWrong, AreSidesWrong, most_clumps, most_down};
+ghost use Rattle.cell_join_borders.specs.parts.ReadBorder.{AreFourIn, AreMosts, IsSideIn, most_places};
+
+use crate::border_fault::BorderFault;
+use crate::cell_place::CellPlace;
+use crate::pair_fault::{PairFault, first_of_lines};
+use crate::size::{first_behind, map_is_filled};
+use cell_core::cell::Cell;
+use cell_core::map::CellMap;
+use cell_core::memory::Memory;
+use cell_core::region::Region;
+use cell_join_tiles::border::Side;
+use std::alloc::Global;
+
+/// The cells of a row.
+pub(crate) fn row_of(alloc: Global, map: &CellMap, row: u32) -> Result<Vec<Cell>, Memory>
+    requires { row < map.now.region.rows }
+    ensures { IfOk result (λ cells. cells.items ≡ row_at map.now row) }
+{
+    let mut cells = vec![in alloc; Cell::null(); map.region().cols() as usize]?;
+    map.copy_row(row, cells.as_mut_slice());
+    Ok(cells)
+}
+
+/// For each cell of the sides of a tile the greatest number that it may have: of the clumps that begin in its row or above it.
+#[derive(Debug, Drop)]
+pub(crate) struct SideMosts {
+    pub(crate) first: Vec<u64>,
+    pub(crate) last: Vec<u64>,
+    pub(crate) left: Vec<u64>,
+    pub(crate) right: Vec<u64>,
+}
+
+// For each row, how many clumps begin in it or above it.
+fn most_down(alloc: Global, begun: &[u64]) -> Result<Vec<u64>, Memory>
+    requires { sum begun.now ≤ most_clumps }
+    ensures { IfOk result (λ most. most.items ≡ most_down begun.now) }
+{
+    let mut most = Vec::new(alloc);
+    let mut clumps = 0;
+    for count in begun {
+        clumps += *count;
+        most.push(clumps)?;
+    }
+    Ok(most)
+}
+
+// The number of a row for each of so many cells.
+fn most_of_row(alloc: Global, cols: u32, down: &[u64], row: usize) -> Result<Vec<u64>, Memory>
+    requires { row < length down.now }
+    ensures { IfOk result (λ line. line.items ≡ replicate cols (slice_index down.now row)) }
+{
+    Ok(vec![in alloc; down[row]; cols as usize]?)
+}
+
+/// The greatest numbers of a tile whose clumps begin so.
+pub(crate) fn side_mosts(alloc: Global, tile: Region, begun: &[u64]) -> Result<SideMosts, Memory>
+    requires long { length begun.now ≡ tile.rows }
+    requires few { sum begun.now ≤ most_clumps }
+    ensures { IfOk result (AreMosts tile begun.now) }
+{
+    let last_row = tile.rows() as usize - 1;
+    let left = most_down(alloc, begun)?;
+    let right = most_down(alloc, begun)?;
+    let first = most_of_row(alloc, tile.cols(), left.as_slice(), 0)?;
+    let last = most_of_row(alloc, tile.cols(), left.as_slice(), last_row)?;
+    Ok(SideMosts {
+        first,
+        last,
+        left,
+        right,
+    })
+}
+
+// The first so many cells and numbers of two rows.
+fn cut_side(count: usize, cells: Vec<Cell>, numbers: Vec<Cell>) -> Side
+    ensures cells { result.cells.items ≡ take count cells.items }
+    ensures numbers { result.numbers.items ≡ take count numbers.items }
+{
+    let mut cells = cells;
+    let mut numbers = numbers;
+    cells.truncate(count);
+    numbers.truncate(count);
+    Side { cells, numbers }
+}
+
+// The fault of a cell behind the end of a side.
+fn end_fault(row: u32, col: u32) -> BorderFault
+    ensures { result ≡ BorderFault.End (record { row = row; col = col }) }
+{
+    BorderFault::End(CellPlace {
+        row: u64::from(row),
+        col: u64::from(col),
+    })
+}
+
+/// The side that a row and the one below it are, with a greatest number for each of its cells.
+pub(crate) fn side_in(
+    alloc: Global,
+    map: &CellMap,
+    row: u32,
+    most: Vec<u64>,
+) -> Result<Side, BorderFault>
+    requires ten { map.now.region.rows ≡ 10 }
+    requires row { row < 9 }
+    requires few { length most.items ≤ map.now.region.cols }
+    ensures side { IfOk result (IsSideIn map.now row most.items) }
+    ensures right { OnOk result (AreRowsRight map.now row most.items) }
+    ensures fault { IfErr result (λ fault. fault ≢ BorderFault.Memory
+        → AreRowsWrong map.now row most.items fault) }
+{
+    map_is_filled(map);
+    let count = most.len() as u32;
+    if let Some(col) = first_behind(map, row, count) {
+        return Err(end_fault(row, col));
+    }
+    if let Some(col) = first_behind(map, row + 1, count) {
+        return Err(end_fault(row + 1, col));
+    }
+    let cells = row_of(alloc, map, row)?;
+    let numbers = row_of(alloc, map, row + 1)?;
+    let unfit = first_of_lines(&most, &cells, &numbers);
+    match unfit {
+        Some((col, kind)) => Err(BorderFault::Pair(PairFault {
+            row: u64::from(row + 1),
+            col: col as u64,
+            kind,
+        })),
+        None => Ok(cut_side(most.len(), cells, numbers)),
+    }
+}
+
+/// The four sides of a tile.
+#[derive(Debug, Drop)]
+pub(crate) struct FourSides {
+    pub(crate) first: Side,
+    pub(crate) last: Side,
+    pub(crate) left: Side,
+    pub(crate) right: Side,
+}
+
+/// The sides that the first eight rows are, with a greatest number for each of their cells.
+pub(crate) fn sides_in(
+    alloc: Global,
+    map: &CellMap,
+    most: SideMosts,
+) -> Result<FourSides, BorderFault>
+    requires ten { map.now.region.rows ≡ 10 }
+    requires first { length most.first.items ≤ map.now.region.cols }
+    requires last { length most.last.items ≤ map.now.region.cols }
+    requires left { length most.left.items ≤ map.now.region.cols }
+    requires right { length most.right.items ≤ map.now.region.cols }
+    ensures sides { IfOk result (AreFourIn map.now most) }
+    ensures fault { IfErr result (λ fault. fault ≢ BorderFault.Memory
+        → AreSidesWrong map.now (most_places most) fault) }
+{
+    let SideMosts {
+        first: first_most,
+        last: last_most,
+        left: left_most,
+        right: right_most,
+    } = most;
+    let first = side_in(alloc, map, 0, first_most)?;
+    let last = side_in(alloc, map, 2, last_most)?;
+    let left = side_in(alloc, map, 4, left_most)?;
+    match side_in(alloc, map, 6, right_most) {
+        Ok(right) => Ok(FourSides {
+            first,
+            last,
+            left,
+            right,
+        }),
+        Err(fault) => Err(fault),
+    }
+}
