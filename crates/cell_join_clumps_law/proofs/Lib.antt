@@ -1,0 +1,2 @@
+-- Lemmas on texts of borders.
+pub mod BorderLemmas

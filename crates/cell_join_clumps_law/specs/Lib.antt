@@ -1,0 +1,2 @@
+-- What the laws of joined clumps state.
+pub mod ReadBorders
