@@ -1,7 +1,17 @@
 # make lint      holds the crates to the rules of the house, in seconds; WRITE=1 shortens the lists of exceptions
 # make reading   prints the definitions that have to be believed, in reading order; COMMAND=r.stats for one command
+# make site      makes dist/site, the documents as pages of HTML with search and references; it works from the file system
+# make site-check  opens each page of it in headless Chromium
 
-.PHONY: lint reading
+.PHONY: lint reading site site-check
+
+site:
+	@sh tools/debian.sh mkdocs groff r-base-core python3-numpy
+	/usr/bin/python3 tools/site
+
+site-check: site
+	@sh tools/debian.sh chromium
+	/usr/bin/python3 tools/site --check
 
 lint:
 	python3 tools/lint $(if $(WRITE),--write)

@@ -16,7 +16,8 @@ ROOT = pathlib.Path(__file__).resolve().parent.parent.parent
 MEAN_WORDS, LONG, MOST_LONG, VERY_LONG, MOST_VERY_LONG = 18, 25, 0.10, 45, 0.01
 # For those who change the program, not for those who use it.
 FOR_DEVELOPERS = {"docs/MAP.md", "docs/REFUSALS.md", "docs/DECISIONS.md", "docs/architecture.md", "bench/RESULTS.md", "bench/hostile.md",
-                  "packaging/object.md", "fronts/README.md"}
+                  "packaging/object.md", "fronts/README.md",
+                  "qgis/README.md", "grass/README.md"}
 # Pages that have not been written anew yet. None is added.
 PENDING = set((pathlib.Path(__file__).parent / "pending.txt").read_text(encoding="utf-8").split())
 FENCED = re.compile(r"^```.*?^```$", re.MULTILINE | re.DOTALL)
