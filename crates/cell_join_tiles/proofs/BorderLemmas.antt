@@ -9,7 +9,7 @@ use Rattle.cell_cats_areas.specs.Areas.{Position, cell_at_spot, IsEarlierCell, A
 use Rattle.cell_cats_areas.specs.parts.CellPlaces.{position}
 use Rattle.cell_parts.specs.Parts.{Rectangle}
 use Rattle.cell_parts.specs.AreaParts.{moved_position}
-use Rattle.cell_tiles_joining.specs.Labelled.{AreLabelled}
+use Rattle.cell_join_numbers.specs.Labelled.{AreLabelled}
 use Rattle.cell_tiles_joining.proofs.AreaLemmas.{Spot, spot-of, spot-own, first-some}
 use Rattle.cell_tiles_grid.specs.Grids.{tile_place}
 use Rattle.cell_tiles_grid.proofs.TileLemmas.{before-moved, joined-moved}
@@ -64,7 +64,7 @@ module _ (j : Joining) (whole : Grid) (heights widths : List ℕ) (map_of number
     pub line : line_of grid r c k ≡ (first_in r c k).row
     pub clump : IsClump grid r c k
 
-  at-of : (r c k : ℕ) → Clump r c k → At r c k
+  pub at-of : (r c k : ℕ) → Clump r c k → At r c k
   at-of r c k x =
       let t = tell.tiles r c x.r_in x.c_in in
       let tile = cut.tiles r c x.r_in x.c_in in

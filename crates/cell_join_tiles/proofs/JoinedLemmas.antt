@@ -25,15 +25,15 @@ module _ (j : Joining) (whole : Grid) (heights widths : List ℕ) (map_of number
   abbrev row_at : ℕ → List BorderValue
   row_at r = get_or grid r []
 
-  begun-row : (r : ℕ) → r < length heights → get_or (begun_in grid) r [] ≡ map (λ border. border.begun) (row_at r)
+  pub begun-row : (r : ℕ) → r < length heights → get_or (begun_in grid) r [] ≡ map (λ border. border.begun) (row_at r)
   begun-row r lt = get_or-map (λ (row : List BorderValue). map (λ border. border.begun) row) grid r [] [] (omega (arith, lt, have.high))
 
-  begun-tile : (r c : ℕ) → r < length heights → c < length widths → get_or (get_or (begun_in grid) r []) c [] ≡ (border_at grid r c).begun
+  pub begun-tile : (r c : ℕ) → r < length heights → c < length widths → get_or (get_or (begun_in grid) r []) c [] ≡ (border_at grid r c).begun
   begun-tile r c r_lt c_lt =
       ap (λ (row : List Begun). get_or row c []) (begun-row r r_lt)
       ∙ get_or-map (λ (border : BorderValue). border.begun) (row_at r) c no_border [] (omega (arith, c_lt, have.wide r r_lt))
 
-  borders : AreBorders j heights widths map_of numbers_of (begun_in grid)
+  pub borders : AreBorders j heights widths map_of numbers_of (begun_in grid)
   borders = record {
     high = length-map grid (λ (row : List BorderValue). map (λ border. border.begun) row) ∙ have.high;
     wide = λ r lt. ap (λ (row : List Begun). length row) (begun-row r lt) ∙ length-map (row_at r) (λ (border : BorderValue). border.begun) ∙ have.wide r lt;
@@ -66,7 +66,7 @@ module _ (j : Joining) (whole : Grid) (heights widths : List ℕ) (map_of number
       let at : get_or (map one (range_with_len 0 (length (row_at r)))) c [] ≡ one c = get_or-map-range_with_len one 0 (length (row_at r)) c c [] (omega (arith, lt, have.wide r r_lt)) (omega arith) in
       subst (IsLineOf whole label_of (get_or widths c 0) (λ k. moved_position (tile_place heights widths r c) (position inner k))) (sym at) own)
 
-  lines : AreSeamLines whole heights widths label_of (left_line grid) (right_line grid) (first_line grid) (last_line grid)
+  pub lines : AreSeamLines whole heights widths label_of (left_line grid) (right_line grid) (first_line grid) (last_line grid)
   lines = record {
     lefts = λ r c r_lt c_lt. side r c r_lt c_lt (get_or heights r 0) (λ k. position k 0) (border_at grid r c).left (λ k lt. (lt, width-some c c_lt)) (have.tiles r c r_lt c_lt).left;
     rights = λ r c r_lt c_lt. side r c r_lt c_lt (get_or heights r 0) (λ k. position k (get_or widths c 0 - 1)) (border_at grid r c).right (λ k lt. (lt, omega (arith, width-some c c_lt))) (have.tiles r c r_lt c_lt).right;

@@ -13,3 +13,13 @@ pub mod BeforeLemmas
 pub mod LabelLineLemmas
 pub mod JoinedLemmas
 pub mod TileNumberLemmas
+pub mod RunLineLemmas
+pub mod RowLabelLemmas
+pub mod AddsLemmas
+pub mod RowsLemmas
+pub mod SideLemmas
+pub mod FinishLemmas
+pub mod RunLemmas
+pub mod RowStepLemmas
+pub mod SpanLemmas
+pub mod JoinRowLemmas

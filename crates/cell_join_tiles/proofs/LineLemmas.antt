@@ -12,7 +12,8 @@ use Rattle.cell_parts.specs.AreaParts.{moved_position}
 use Rattle.cell_tiles_grid.specs.Grids.{tile_place}
 use Rattle.cell_join_tiles.specs.Beginnings.{clump_label}
 use Rattle.cell_join_tiles.specs.Borders.{number_of, cell_label}
-use Rattle.cell_join_tiles.specs.SeamLines.{Mark, Line, mark_of, IsLineOf, side_mark, row_line, SidesAreLines, RowsAreLines}
+use Rattle.cell_join_tiles.specs.declared.marks.Mark.{Mark}
+use Rattle.cell_join_tiles.specs.SeamLines.{Line, mark_of, IsLineOf, side_mark, row_line, SidesAreLines, RowsAreLines}
 use Rattle.cell_join_tiles.proofs.StretchLemmas.{sum-cons}
 use Rattle.cell_join_tiles.proofs.NumberLemmas.{label-moved}
 

@@ -14,7 +14,8 @@ use Rattle.cell_cats_areas.specs.declared.clump.Joining.{Joining}
 use Rattle.cell_cats_areas.specs.declared.clump.Joining.TheVariants.{Edges, EdgesAndCorners}
 use Rattle.cell_cats_areas.specs.Areas.{AreNeighbours}
 use Rattle.cell_tiles_joining.proofs.MeetingLemmas.{Touch}
-use Rattle.cell_join_tiles.specs.SeamLines.{Mark, Line, line_meeting, line_meetings, line_meetings_at}
+use Rattle.cell_join_tiles.specs.declared.marks.Mark.{Mark}
+use Rattle.cell_join_tiles.specs.SeamLines.{Line, line_meeting, line_meetings, line_meetings_at}
 
 -- ---- two marks
 

@@ -10,7 +10,7 @@ use Rattle.cell_cats_areas.proofs.PathLemmas.{AreJoined-adjacent}
 use Rattle.cell_parts.specs.AreaParts.{moved_position}
 use Rattle.cell_parts.proofs.AreaLemmas.{is-some}
 use Rattle.cell_tiles_joining.proofs.GreatestLemmas.{has-areas}
-use Rattle.cell_tiles_joining.specs.Bands.{HasAreas}
+use Rattle.cell_join_numbers.specs.Labelled.{HasAreas}
 use Rattle.cell_tiles_joining.specs.parts.Greatest.{greatest_of}
 use Rattle.cell_tiles_grid.specs.Grids.{tile_place}
 use Rattle.cell_tiles_grid.proofs.TileLemmas.{adjacent-back}
@@ -129,7 +129,7 @@ borders-are-labelled j whole heights widths map_of numbers_of grid cut borders p
     )
 
 pub borders-number-the-whole : BordersNumberTheWhole
-borders-number-the-whole j whole heights widths map_of numbers_of grid cut borders pairs at_cuts numbers are r c r_in c_in p k is =
+borders-number-the-whole j whole heights widths map_of numbers_of grid cut borders pairs at_cuts number are r c r_in c_in p k is =
     let labelled = borders-are-labelled j whole heights widths map_of numbers_of grid cut borders pairs at_cuts in
     let label = cell_label heights widths numbers_of grid in
     let clumping = borders.clumpings r c r_in c_in in
@@ -139,7 +139,7 @@ borders-number-the-whole j whole heights widths map_of numbers_of grid cut borde
     let q : Position = moved_position (tile_place heights widths r c) p in
     let some_too : IsSome (cell_at_spot whole q) = subst (λ (v : CellValue). IsSome v) (tile.cells p inside.0 inside.1) some in
     let own : label q ≡ clump_label grid r c (k - 1) = cells-bear-labels heights widths numbers_of grid r c r_in c_in p inside.0 inside.1 k is in
-    subst (λ (n : ℕ). HasNumber j whole q (get_or numbers n 0)) own (are j whole labelled.0 label labelled.2 labelled.1 q some_too)
+    subst (λ (n : ℕ). HasNumber j whole q (number n)) own (are j whole labelled.0 label labelled.2 labelled.1 q some_too)
 
 pub borders-count-the-whole : BordersCountTheWhole
 borders-count-the-whole j whole heights widths map_of numbers_of grid cut borders pairs at_cuts n are =

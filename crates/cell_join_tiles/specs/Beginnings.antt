@@ -6,7 +6,7 @@ use Rattle.cell_cats_areas.specs.Areas.{Position, cell_at_spot, IsEarlierCell, A
 use Rattle.cell_cats_areas.specs.ClumpLaw.{AreFirsts}
 use Rattle.cell_cats_areas.specs.parts.CellPlaces.{position}
 use Rattle.cell_parts.specs.AreaParts.{IsTile, moved_position}
-use Rattle.cell_tiles_joining.specs.Labelled.{IsMeeting, AreLabelled}
+use Rattle.cell_join_numbers.specs.Labelled.{IsMeeting, AreLabelled}
 use Rattle.cell_tiles_grid.specs.Grids.{tile_place}
 
 -- ---- the arithmetic of labels

@@ -6,8 +6,7 @@ use Rattle.cell_cats_areas.specs.Areas.{Position, cell_at_spot, AreAdjacent, Has
 use Rattle.cell_cats_areas.specs.ClumpLaw.{AreFirsts}
 use Rattle.cell_cats_areas.specs.parts.CellPlaces.{position}
 use Rattle.cell_parts.specs.AreaParts.{moved_position}
-use Rattle.cell_tiles_joining.specs.Bands.{HasAreas}
-use Rattle.cell_tiles_joining.specs.Labelled.{IsMeeting, AreLabelled, NumberLabels, CountLabels}
+use Rattle.cell_join_numbers.specs.Labelled.{HasAreas, IsMeeting, AreLabelled, NumberLabels, CountLabels}
 use Rattle.cell_tiles_joining.specs.parts.Greatest.{greatest_of}
 use Rattle.cell_tiles_grid.specs.Grids.{tile_place}
 use Rattle.cell_join_tiles.specs.Beginnings.{Begun, begun_before, stretch_of, clumps_in_grid, clump_label, IsCutIntoTiles, HasBegun, BearLabels}
@@ -56,7 +55,7 @@ BordersAreLabelled = (j : Joining) (whole : Grid) (heights widths : List ℕ) (m
 
 -- numbers of the labels number the whole, for each number of each tile
 abbrev pub BordersNumberTheWhole : Type 0
-BordersNumberTheWhole = (j : Joining) (whole : Grid) (heights widths : List ℕ) (map_of numbers_of : ℕ → ℕ → Grid) (grid : List (List Begun)) → IsCutIntoTiles whole heights widths map_of → AreBorders j heights widths map_of numbers_of grid → (pairs : List (ℕ × ℕ)) → ArePairedAtSeams j whole heights widths (cell_label heights widths numbers_of grid) pairs → (numbers : List ℕ) → NumberLabels (clumps_in_grid grid) pairs numbers → (r c : ℕ) → r < length heights → c < length widths → (p : Position) (k : ℕ) → cell_at_spot (numbers_of r c) p ≡ Some (pos k) → HasNumber j whole (moved_position (tile_place heights widths r c) p) (slice_index numbers (clump_label grid r c (k - 1)))
+BordersNumberTheWhole = (j : Joining) (whole : Grid) (heights widths : List ℕ) (map_of numbers_of : ℕ → ℕ → Grid) (grid : List (List Begun)) → IsCutIntoTiles whole heights widths map_of → AreBorders j heights widths map_of numbers_of grid → (pairs : List (ℕ × ℕ)) → ArePairedAtSeams j whole heights widths (cell_label heights widths numbers_of grid) pairs → (number : ℕ → ℕ) → NumberLabels (clumps_in_grid grid) pairs number → (r c : ℕ) → r < length heights → c < length widths → (p : Position) (k : ℕ) → cell_at_spot (numbers_of r c) p ≡ Some (pos k) → HasNumber j whole (moved_position (tile_place heights widths r c) p) (number (clump_label grid r c (k - 1)))
 
 -- and the whole has as many areas
 abbrev pub BordersCountTheWhole : Type 0

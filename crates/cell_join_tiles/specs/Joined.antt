@@ -1,11 +1,11 @@
 -- The borders of the tiles of a grid, the pairs of labels at its seams, and the numbers of the whole.
 use Rattle.std.specs.Prelude.{ℕ, suc, ◌≡◌, ◌-◌, ◌<◌, List, [], ◌++◌, length, map, flat_map, All, slice_index, slice_index_or}
 use Rattle.std.specs.List.{range_with_len}
-use Rattle.cell_core.specs.Grid.{Grid, CellValue}
+use Rattle.cell_core.specs.Grid.{Grid}
 use Rattle.cell_cats_areas.specs.declared.clump.Joining.{Joining}
 use Rattle.cell_cats_areas.specs.Areas.{Position, IsClumping}
 use Rattle.cell_cats_areas.specs.parts.CellPlaces.{position}
-use Rattle.cell_tiles_joining.specs.Labelled.{AreLabelled}
+use Rattle.cell_join_numbers.specs.Labelled.{AreLabelled}
 use Rattle.cell_join_tiles.specs.Values.{BorderValue, no_border}
 use Rattle.cell_join_tiles.specs.Beginnings.{Begun, clumps_in_grid, IsCutIntoTiles}
 use Rattle.cell_join_tiles.specs.Borders.{Rises, cell_label}

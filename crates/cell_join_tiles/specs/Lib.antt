@@ -1,8 +1,11 @@
--- Clumps of the tiles of a grid, labelled by the rows in which they begin.
+-- Clumps of the tiles of a grid, labelled by the rows in which they begin, and joined.
 pub mod Beginnings
 pub mod Borders
 pub mod SeamLines
 pub mod Values
 pub mod Joined
+pub mod JoinedTiles
+pub mod JoinedLaw
 pub mod LabelLines
 pub mod TileNumbers
+pub mod parts

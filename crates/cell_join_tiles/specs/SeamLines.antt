@@ -1,5 +1,5 @@
 -- The pairs of labels at the seams of a grid, from the lines of cells on both sides of each.
-use Rattle.std.specs.Prelude.{ℕ, ℤ, [], ◌∷◌, ◌++◌, flat_map, map, Some, if◌then◌else◌, ◌≡◌, ◌⊎◌, ◌↔◌, ◌+◌, ◌-◌, ◌<◌, suc, List, length, take, sum, All, Contains, Option, None, IsSome, slice_index, slice_index_or}
+use Rattle.std.specs.Prelude.{ℕ, [], ◌∷◌, ◌++◌, flat_map, map, Some, if◌then◌else◌, ◌≡◌, ◌⊎◌, ◌↔◌, ◌+◌, ◌-◌, ◌<◌, suc, List, length, take, sum, All, Contains, Option, None, IsSome, slice_index, slice_index_or}
 use Rattle.std.specs.Option.{option_map}
 use Rattle.std.specs.Ordering.{int_eq}
 use Rattle.std.specs.List.{range_with_len}
@@ -10,13 +10,9 @@ use Rattle.cell_cats_areas.specs.Areas.{Position, cell_at_spot}
 use Rattle.cell_cats_areas.specs.parts.CellPlaces.{position}
 use Rattle.cell_parts.specs.AreaParts.{moved_position}
 use Rattle.cell_tiles_grid.specs.Grids.{tile_place}
+use Rattle.cell_join_tiles.specs.declared.marks.Mark.{Mark}
 use Rattle.cell_join_tiles.specs.Beginnings.{Begun, clump_label, IsCutIntoTiles}
 use Rattle.cell_join_tiles.specs.Borders.{ArePairedAtSeams, number_of, cell_label}
-
--- what stands at a cell: its category and its label
-pub record Mark : Type 0 where
-  pub category : ℤ
-  pub label : ℕ
 
 -- a line of cells
 abbrev pub Line : Type 0

@@ -1,25 +1,57 @@
 //! The labels of the clumps of a row of tiles.
 
-ghost use Rattle.std.specs.Prelude.{ℕ, ◌≡◌, ◌<◌, ◌+◌, ◌-◌, ◌^◌, length, sum, slice_index};
-ghost use Rattle.cell_join_tiles.specs.Beginnings.{begun_before, row_begun};
+ghost use Rattle.std.specs.Prelude.{ℕ, ◌≡◌, ◌≤◌, ◌<◌, ◌+◌, ◌^◌, IfNone, IfOk, IfSome, length, nat_le, sum, slice_index};
+ghost use Rattle.std.specs.List.Sorted.{IsNonDecreasingBy};
+ghost use Rattle.cell_join_tiles.specs.parts.RowLabels.{AreEnds, tile_label};
 
-/// The label of a clump of a tile, counted from 0 in its tile: `line` has for each row of the tile the label of the first
-/// clump that begins in it, and `begun` how many begin in it.
-pub fn label_of(line: &[u64], begun: &[u64], clump: u64) -> u64
-    requires long { length line.now ≡ length begun.now }
-    requires of_tile { clump < sum begun.now }
-    requires fits { (i : ℕ) → i < length begun.now →
-        slice_index line.now i + slice_index begun.now i < 2 ^ 64 }
-    ensures { result ≡ slice_index line.now (row_begun begun.now clump)
-        + (clump - begun_before begun.now (row_begun begun.now clump)) }
+use cell_core::memory::Memory;
+use std::alloc::Global;
+
+// How many clumps of a tile begin up to the end of each of its rows.
+pub(crate) fn ends_of(alloc: Global, begun: &[u64]) -> Result<Vec<u64>, Memory>
+    requires { sum begun.now < 2 ^ 64 }
+    ensures { IfOk result (λ ends. AreEnds begun.now ends.items) }
 {
-    let mut row = 0;
-    let mut left = clump;
-    while left >= begun[row] {
-        left -= begun[row];
-        row += 1;
+    let mut ends = Vec::new(alloc);
+    let mut end = 0;
+    for row in 0..begun.len() {
+        end += begun[row];
+        ends.push(end)?;
     }
-    line[row] + left
+    Ok(ends)
+}
+
+// The label of a clump of a tile, counted from 0 in its tile: `firsts` has for each row of the tile the label of the first
+// clump that begins in it, and `begun` how many begin in it.
+pub(crate) fn label_of(firsts: &[u64], begun: &[u64], ends: &[u64], clump: u64) -> Option<u64>
+    requires long { length firsts.now ≡ length begun.now }
+    requires ends { AreEnds begun.now ends.now }
+    requires fits { (i : ℕ) → i < length begun.now →
+        slice_index firsts.now i + slice_index begun.now i < 2 ^ 64 }
+    ensures none { IfNone result (sum begun.now ≤ clump) }
+    ensures some { IfSome result (λ label. (clump < sum begun.now)
+        × (label ≡ tile_label firsts.now begun.now clump)) }
+{
+    let row = row_of(ends, clump);
+    if row >= begun.len() {
+        return None;
+    }
+    let before = ends[row] - begun[row];
+    Some(firsts[row] + (clump - before))
+}
+
+// The row of a tile in which a clump begins, or how many there are.
+fn row_of(ends: &[u64], clump: u64) -> usize
+    requires { IsNonDecreasingBy (λ end. end) ends.now }
+    ensures inside { result ≤ length ends.now }
+    ensures before { (i : ℕ) → i < result → slice_index ends.now i ≤ clump }
+    ensures after { (i : ℕ) → result ≤ i → i < length ends.now → clump < slice_index ends.now i }
+{
+    ends.partition_point(
+        |end: &u64| -> bool
+            ensures { result ≡ nat_le end.now clump }
+        { *end <= clump },
+    )
 }
 
 /// The labels of the first clumps of each row of the next tile on the right.

@@ -4,6 +4,7 @@ ghost use Rattle.cell_join_tiles.specs.Beginnings.{ClumpLabelsAreLabels, LabelsF
 ghost use Rattle.cell_join_tiles.specs.Borders.{BordersAreLabelled, BordersCountTheWhole, BordersNumberTheWhole, CellsBearLabels, RisesCountBegun};
 ghost use Rattle.cell_join_tiles.specs.SeamLines.{SeamLinesPair, RowsAreLines, SidesAreLines};
 ghost use Rattle.cell_join_tiles.specs.Joined.{GridsAreLabelled};
+ghost use Rattle.cell_join_tiles.specs.JoinedLaw.{JoinedTilesCount, JoinedTilesNumber, RowsJoin};
 ghost use Rattle.cell_join_tiles.specs.LabelLines.{LabelLinesLabel, LabelLinesPass};
 ghost use Rattle.cell_join_tiles.specs.TileNumbers.{TileNumbersAreListed};
 
@@ -75,4 +76,19 @@ pub fn grids_are_labelled()
 /// Numbers that are listed tile by tile: where that of each clump is.
 pub fn tile_numbers_are_listed()
     ensures { TileNumbersAreListed }
+{}
+
+/// What is held of rows of tiles that were joined is enough for the next row.
+pub fn rows_join()
+    ensures { RowsJoin }
+{}
+
+/// And for the numbering: in each map that is cut into these tiles each cell has the number of its clump.
+pub fn joined_tiles_number()
+    ensures { JoinedTilesNumber }
+{}
+
+/// And for the count of the clumps of each such map.
+pub fn joined_tiles_count()
+    ensures { JoinedTilesCount }
 {}

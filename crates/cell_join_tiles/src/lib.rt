@@ -5,5 +5,12 @@
 
 pub mod begun;
 pub mod border;
-pub mod labels;
+pub mod joiner;
+mod labels;
 pub mod law;
+mod marks;
+mod meetings;
+mod rows;
+mod run_lines;
+mod runs;
+mod spans;

@@ -1,0 +1,218 @@
+-- Labels of a row of tiles, from the labels of the first clumps of each row of each tile.
+use Rattle.std.proofs.Common.{◌≡◌, ℕ, zero, suc, ◌+◌, ◌-◌, ◌<◌, ◌≤◌, List, [], ◌∷◌, ◌++◌, map, take, length, get_or, refl, ap, sym, ◌∙◌, arith, ⊎_elim}
+use Rattle.std.specs.Prelude.{sum, flat_map}
+use Rattle.std.specs.List.{range_with_len}
+use Rattle.std.specs.List.Sorted.{IsNonDecreasingBy}
+use Rattle.std.proofs.lemmas.Bool.{cases_lt}
+use Rattle.std.proofs.lemmas.List.{get_or_past, get_or_default, map-append, map-id, append-nil}
+use Rattle.std.proofs.lemmas.List.Sums.{sum_by-cons}
+use Rattle.std.proofs.lemmas.List.Concat.{flat_map-cons}
+use Rattle.std.proofs.lemmas.List.FromFn.{map-range_with_len_more}
+use Rattle.std.proofs.lemmas.Grind.{flat_map-append}
+use Rattle.cell_join_tiles.specs.Beginnings.{Begun, begun_before, begun_above, begun_on_left, row_begun, clumps_in_row, clumps_in_tile}
+use Rattle.cell_join_tiles.specs.parts.RowLabels.{AreEnds, AreFirstLabels, in_each, tile_label, row_label, labels_in_tile}
+use Rattle.cell_join_tiles.proofs.StretchLemmas.{Lies, lies, stretch-is}
+use Rattle.cell_join_tiles.proofs.LabelSums.{more-le, next-one, all-of, begun-next, above-next, above-le, above-whole}
+
+-- ---- one more of a list of lists
+
+pub range-more : (n : ℕ) → range_with_len 0 (n + 1) ≡ range_with_len 0 n ++ n ∷ []
+range-more n = sym (map-id (range_with_len 0 (n + 1))) ∙ map-range_with_len_more (λ (k : ℕ). k) 0 n n (omega arith) ∙ ap (λ ks. ks ++ n ∷ []) (map-id (range_with_len 0 n))
+
+pub lists-more : {X : Type 0} (f : ℕ → List X) (n : ℕ) → flat_map f (range_with_len 0 (n + 1)) ≡ flat_map f (range_with_len 0 n) ++ f n
+lists-more f n =
+    ap (flat_map f) (range-more n) ∙ flat_map-append f (range_with_len 0 n) (n ∷ []) ∙ ap (λ ps. flat_map f (range_with_len 0 n) ++ ps) (flat_map-cons f n [] ∙ append-nil (f n))
+
+pub list-more : {X : Type 0} (f : ℕ → X) (n : ℕ) → map f (range_with_len 0 (n + 1)) ≡ map f (range_with_len 0 n) ++ f n ∷ []
+list-more f n = map-range_with_len_more f 0 n n (omega arith)
+
+-- ---- ends of the rows of a tile
+
+module _ (begun ends : List ℕ) (are : AreEnds begun ends) where
+  pub ends-rise : IsNonDecreasingBy (λ end. end) ends
+  ends-rise i j d le lt =
+      let j_in : j < length begun = omega (arith, lt, are.long) in
+      let i_in : i < length begun = omega (arith, le, j_in) in
+      let one = are.each i i_in in
+      let other = are.each j j_in in
+      let low = get_or_default ends i d 0 (omega (arith, i_in, are.long)) in
+      let high = get_or_default ends j d 0 lt in
+      omega (arith, one, other, low, high, more-le (λ (n : ℕ). n) begun (suc i) (suc j) (omega (arith, le)))
+
+  -- the row in which a clump begins
+  pub row-is : (row clump : ℕ) → row < length begun → ((i : ℕ) → i < row → get_or ends i 0 ≤ clump) → clump < get_or ends row 0 → Lies begun clump row
+  row-is zero clump inside before after =
+      let own = are.each 0 inside in
+      record { inside = inside; low = omega arith; high = omega (arith, own, after, begun-next begun 0) }
+  row-is (suc row) clump inside before after =
+      let own = are.each (suc row) inside in
+      let last = are.each row (omega (arith, inside)) in
+      let low = before row (omega arith) in
+      record { inside = inside; low = omega (arith, last, low); high = omega (arith, own, after, begun-next begun (suc row)) }
+
+  -- a clump that begins in no row
+  pub no-row : (row clump : ℕ) → length begun ≤ row → row ≤ length ends → ((i : ℕ) → i < row → get_or ends i 0 ≤ clump) → sum begun ≤ clump
+  no-row zero clump past le before =
+      let none : sum (take 0 begun) ≡ sum begun = all-of (λ (n : ℕ). n) begun 0 past in
+      omega (arith, none)
+  no-row (suc row) clump past le before =
+      let low = before row (omega arith) in
+      let own = are.each row (omega (arith, le, are.long)) in
+      let all : sum (take (suc row) begun) ≡ sum begun = all-of (λ (n : ℕ). n) begun (suc row) past in
+      omega (arith, low, own, all)
+
+  -- where the clumps of a row begin
+  pub end-before : (row : ℕ) → row < length begun → get_or ends row 0 ≡ begun_before begun row + get_or begun row 0
+  end-before row inside = are.each row inside ∙ begun-next begun row
+
+-- ---- firsts
+
+pub first-label : (base : ℕ) (tiles : List Begun) (c : ℕ) (firsts : List ℕ) → AreFirstLabels base tiles c firsts → length (get_or tiles c []) ≤ length firsts → (k : ℕ) → k < sum (get_or tiles c []) → tile_label firsts (get_or tiles c []) k ≡ row_label base tiles c k
+first-label base tiles c firsts are long k lt =
+    let begun : Begun = get_or tiles c [] in
+    let at = lies begun k lt in
+    let i = row_begun begun k in
+    let first = are i (omega (arith, at.inside, long)) in
+    omega (arith, first)
+
+pub few-in-tile : (tiles : List Begun) (c : ℕ) → c < length tiles → sum (get_or tiles c []) ≤ clumps_in_row tiles
+few-in-tile tiles c lt =
+    omega (arith, next-one clumps_in_tile tiles c [] lt, more-le clumps_in_tile tiles (suc c) (length tiles) (omega (arith, lt)), all-of clumps_in_tile tiles (length tiles) (omega arith))
+
+-- the clumps that begin in a row of a tile have labels of the row of tiles
+pub firsts-fit : (base rows : ℕ) (tiles : List Begun) (c : ℕ) (firsts : List ℕ) → AreFirstLabels base tiles c firsts → length firsts ≡ rows → ((d : ℕ) → d < length tiles → length (get_or tiles d []) ≤ rows) → c < length tiles → (i : ℕ) → i < rows → get_or firsts i 0 + get_or (get_or tiles c []) i 0 ≤ base + clumps_in_row tiles
+firsts-fit base rows tiles c firsts are long even c_in i lt =
+    let f = λ (begun : Begun). get_or begun i 0 in
+    let first = are i (omega (arith, lt, long)) in
+    let here = next-one f tiles c [] c_in in
+    let up = more-le f tiles (suc c) (length tiles) (omega (arith, c_in)) in
+    let all = all-of f tiles (length tiles) (omega arith) in
+    omega (arith, first, here, up, all, above-next tiles i, above-le tiles (suc i) rows (omega (arith, lt)), above-whole tiles rows even)
+
+pub firsts-pass : (base : ℕ) (tiles : List Begun) (c : ℕ) (firsts next : List ℕ) → AreFirstLabels base tiles c firsts → c < length tiles → length next ≡ length firsts → ((i : ℕ) → i < length firsts → get_or next i 0 ≡ get_or firsts i 0 + get_or (get_or tiles c []) i 0) → AreFirstLabels base tiles (c + 1) next
+firsts-pass base tiles c firsts next are c_in long each i lt =
+    let i_in : i < length firsts = omega (arith, lt, long) in
+    let one : suc c ≡ c + 1 = omega arith in
+    let left : begun_on_left tiles i (suc c) ≡ begun_on_left tiles i (c + 1) = ap (begun_on_left tiles i) one in
+    omega (arith, are i i_in, each i i_in, next-one (λ (begun : Begun). get_or begun i 0) tiles c [] c_in, left)
+
+-- the first tile
+pub firsts-start : (base : ℕ) (tiles : List Begun) (firsts : List ℕ) → ((i : ℕ) → i < length firsts → get_or firsts i 0 ≡ base + begun_above tiles i) → AreFirstLabels base tiles 0 firsts
+firsts-start base tiles firsts are i lt =
+    let none : begun_on_left tiles i 0 ≡ 0 = refl in
+    omega (arith, are i lt, none)
+
+-- ---- sums over a row of tiles
+
+begun-le : (begun : Begun) (i : ℕ) → get_or begun i 0 ≤ sum begun
+begun-le [] i = let none = get_or_past {X = ℕ} [] i 0 (omega arith) in omega (arith, none)
+begun-le (n ∷ begun) zero = omega (arith, sum_by-cons (λ (k : ℕ). k) n begun)
+begun-le (n ∷ begun) (suc i) = omega (arith, sum_by-cons (λ (k : ℕ). k) n begun, begun-le begun i)
+
+pub in-each-le : (tiles : List Begun) (i : ℕ) → in_each tiles i ≤ clumps_in_row tiles
+in-each-le [] i = omega arith
+in-each-le (t ∷ tiles) i =
+    omega (arith, sum_by-cons (λ (begun : Begun). get_or begun i 0) t tiles, sum_by-cons (λ (begun : Begun). sum begun) t tiles, begun-le t i, in-each-le tiles i)
+
+-- the labels of the first clumps of the rows that come next
+pub above-more : (tiles : List Begun) (i : ℕ) → begun_above tiles (i + 1) ≡ begun_above tiles i + in_each tiles i
+above-more tiles i = let one : i + 1 ≡ suc i = omega arith in ap (begun_above tiles) one ∙ above-next tiles i
+
+-- ---- the labels of all clumps of a tile
+
+pub run-of : (f : ℕ → ℕ) (a b n : ℕ) → ((k : ℕ) → k < n → f (b + k) ≡ a + k) → range_with_len a n ≡ map f (range_with_len b n)
+run-of f a b zero same = refl
+run-of f a b (suc n) same =
+    let first : a ≡ f b = (let zero_a : a + 0 ≡ a = omega arith in let zero_b : b ≡ b + 0 = omega arith in sym (ap f zero_b ∙ same 0 (omega arith) ∙ zero_a)) in
+    let rest = run-of f (a + 1) (b + 1) n (λ k lt. let e : b + 1 + k ≡ b + suc k = omega arith in let g : a + suc k ≡ a + 1 + k = omega arith in ap f e ∙ same (suc k) (omega (arith, lt)) ∙ g) in
+    ap (λ (k : ℕ). k ∷ range_with_len (a + 1) n) first ∙ ap (λ (l : List ℕ). f b ∷ l) rest
+
+pub range-append : (a n m : ℕ) → range_with_len a (n + m) ≡ range_with_len a n ++ range_with_len (a + n) m
+range-append a zero m = let e : a ≡ a + 0 = omega arith in let z : 0 + m ≡ m = omega arith in ap (range_with_len a) z ∙ ap (λ (k : ℕ). range_with_len k m) e
+range-append a (suc n) m =
+    let e : a + 1 + n ≡ a + suc n = omega arith in
+    let s : suc n + m ≡ suc (n + m) = omega arith in
+    ap (range_with_len a) s ∙ ap (λ (l : List ℕ). a ∷ l) (range-append (a + 1) n m ∙ ap (λ (k : ℕ). range_with_len (a + 1) n ++ range_with_len k m) e)
+
+pub range-joined : (a n m b : ℕ) → a + n ≡ b → range_with_len a n ++ range_with_len b m ≡ range_with_len a (n + m)
+range-joined a n m b e = ap (λ (k : ℕ). range_with_len a n ++ range_with_len k m) (sym e) ∙ sym (range-append a n m)
+
+module _ (firsts begun : List ℕ) where
+  abbrev pub row_labels : ℕ → List ℕ
+  row_labels i = range_with_len (get_or firsts i 0) (get_or begun i 0)
+
+  in-row : (i k : ℕ) → i < length begun → k < get_or begun i 0 → tile_label firsts begun (begun_before begun i + k) ≡ get_or firsts i 0 + k
+  in-row i k inside lt =
+      let is : row_begun begun (begun_before begun i + k) ≡ i = stretch-is begun i (begun_before begun i + k) (record { inside = inside; low = omega arith; high = omega (arith, lt) }) in
+      ap (λ (row : ℕ). get_or firsts row 0 + (begun_before begun i + k - begun_before begun row)) is ∙ omega arith
+
+  pub labels-so-far : (n : ℕ) → n ≤ length begun → flat_map row_labels (range_with_len 0 n) ≡ map (tile_label firsts begun) (range_with_len 0 (begun_before begun n))
+  labels-so-far zero le = refl
+  labels-so-far (suc n) le =
+      let one : suc n ≡ n + 1 = omega arith in
+      let before = begun_before begun n in
+      let count = get_or begun n 0 in
+      let more : range_with_len 0 (begun_before begun (suc n)) ≡ range_with_len 0 before ++ range_with_len before count =
+      ap (range_with_len 0) (begun-next begun n) ∙ range-append 0 before count ∙ ap (λ (k : ℕ). range_with_len 0 before ++ range_with_len k count) (let z : 0 + before ≡ before = omega arith in z) in
+      ap (λ (k : ℕ). flat_map row_labels (range_with_len 0 k)) one
+      ∙ lists-more row_labels n
+      ∙ ap (λ (l : List ℕ). l ++ row_labels n) (labels-so-far n (omega (arith, le)))
+      ∙ ap (λ (l : List ℕ). map (tile_label firsts begun) (range_with_len 0 before) ++ l) (run-of (tile_label firsts begun) (get_or firsts n 0) before count (λ k lt. in-row n k (omega (arith, le)) lt))
+      ∙ sym (ap (map (tile_label firsts begun)) more ∙ map-append (tile_label firsts begun) (range_with_len 0 before) (range_with_len before count))
+
+  pub all-labels : (n : ℕ) → n ≡ length begun → flat_map row_labels (range_with_len 0 n) ≡ map (tile_label firsts begun) (range_with_len 0 (sum begun))
+  all-labels n e =
+      labels-so-far n (omega (arith, e)) ∙ ap (λ (k : ℕ). map (tile_label firsts begun) (range_with_len 0 k)) (all-of (λ (k : ℕ). k) begun n (omega (arith, e)))
+
+-- the labels of the clumps of a tile of a row of tiles
+pub tile-labels : (base : ℕ) (tiles : List Begun) (c : ℕ) (firsts : List ℕ) → AreFirstLabels base tiles c firsts → length (get_or tiles c []) ≤ length firsts → map (tile_label firsts (get_or tiles c [])) (range_with_len 0 (sum (get_or tiles c []))) ≡ labels_in_tile base tiles c
+tile-labels base tiles c firsts are long =
+    let begun = get_or tiles c [] in
+    same-map (tile_label firsts begun) (row_label base tiles c) (sum begun) (λ k lt. first-label base tiles c firsts are long k lt)
+  where
+    same-from : (f g : ℕ → ℕ) (a n : ℕ) → ((k : ℕ) → k < a + n → f k ≡ g k) → map f (range_with_len a n) ≡ map g (range_with_len a n)
+    same-from f g a zero same = refl
+    same-from f g a (suc n) same =
+        let first : f a ≡ g a = same a (omega arith) in
+        let rest = same-from f g (a + 1) n (λ k lt. same k (omega (arith, lt))) in
+        λ i. first i ∷ rest i
+
+    same-map : (f g : ℕ → ℕ) (n : ℕ) → ((k : ℕ) → k < n → f k ≡ g k) → map f (range_with_len 0 n) ≡ map g (range_with_len 0 n)
+    same-map f g n same = same-from f g 0 n (λ k lt. same k (omega (arith, lt)))
+
+-- a clump that begins in a row is one of the tile
+pub low-in-tile : (begun : List ℕ) (row clump : ℕ) → Lies begun clump row → clump < sum begun
+low-in-tile begun row clump lies =
+    omega (arith, lies.high, begun-next begun row, more-le (λ (n : ℕ). n) begun (suc row) (length begun) (let t = lies.inside in omega (arith, t)), all-of (λ (n : ℕ). n) begun (length begun) (omega arith))
+
+pub before-le : (begun : List ℕ) (i : ℕ) → begun_before begun i ≤ sum begun
+before-le begun i =
+    ⊎_elim
+    (λ lt. omega (arith, more-le (λ (n : ℕ). n) begun i (length begun) (omega (arith, lt)), all-of (λ (n : ℕ). n) begun (length begun) (omega arith)))
+    (λ past. omega (arith, all-of (λ (n : ℕ). n) begun i past))
+    (cases_lt i (length begun))
+
+-- ---- tiles so far
+
+pub in-each-more : (tiles : List Begun) (i c : ℕ) → c < length tiles → in_each (take (c + 1) tiles) i ≡ in_each (take c tiles) i + get_or (get_or tiles c []) i 0
+in-each-more tiles i c lt =
+    let one : c + 1 ≡ suc c = omega arith in
+    ap (λ (n : ℕ). in_each (take n tiles) i) one ∙ next-one (λ (begun : Begun). get_or begun i 0) tiles c [] lt
+
+pub in-each-first : (tiles : List Begun) (i n : ℕ) → in_each (take n tiles) i ≤ clumps_in_row tiles
+in-each-first tiles i n =
+    let f = λ (begun : Begun). get_or begun i 0 in
+    omega (arith, more-le f tiles n (n + length tiles) (omega arith), all-of f tiles (n + length tiles) (omega arith), in-each-le tiles i)
+
+pub clumps-more : (tiles : List Begun) (c : ℕ) → c < length tiles → clumps_in_row (take (c + 1) tiles) ≡ clumps_in_row (take c tiles) + sum (get_or tiles c [])
+clumps-more tiles c lt =
+    let one : c + 1 ≡ suc c = omega arith in
+    ap (λ (n : ℕ). clumps_in_row (take n tiles)) one ∙ next-one clumps_in_tile tiles c [] lt
+
+pub clumps-first : (tiles : List Begun) (n : ℕ) → clumps_in_row (take n tiles) ≤ clumps_in_row tiles
+clumps-first tiles n = omega (arith, more-le clumps_in_tile tiles n (n + length tiles) (omega arith), all-of clumps_in_tile tiles (n + length tiles) (omega arith))
+
+pub above-all : (tiles : List Begun) (i : ℕ) → begun_above tiles i ≤ clumps_in_row tiles
+above-all [] i = omega arith
+above-all (t ∷ tiles) i =
+    omega (arith, sum_by-cons (λ (begun : Begun). begun_before begun i) t tiles, sum_by-cons (λ (begun : Begun). sum begun) t tiles, before-le t i, above-all tiles i)

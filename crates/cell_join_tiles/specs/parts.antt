@@ -1,0 +1,6 @@
+-- What the joiner holds of a row of tiles.
+pub mod RowLabels
+pub mod RowMarks
+pub mod Spans
+pub mod RunLines
+pub mod Runs

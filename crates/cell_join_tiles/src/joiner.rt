@@ -1,0 +1,177 @@
+//! Rows of tiles joined one below the other.
+
+ghost use Rattle.std.specs.Prelude.{ℕ, ◌≡◌, ◌≤◌, ◌^◌, ◌+◌, ◌++◌, ◌∷◌, [], List, IfErr, IfOk};
+ghost use Rattle.cell_join_tiles.specs.Beginnings.{clumps_in_row};
+ghost use Rattle.cell_join_tiles.specs.JoinedTiles.{AreJoinedTiles, AreRunsOf, GridClumps};
+ghost use Rattle.cell_join_tiles.specs.Values.{BorderValue, border_values};
+ghost use Rattle.cell_join_tiles.specs.parts.RowMarks.{AreEven, begun_of};
+
+use crate::border::Border;
+use crate::marks::Mark;
+use crate::meetings::add_meetings;
+use crate::rows::{RowJoin, clumps_with_row, join_row, rows_of};
+use crate::runs::runs_of;
+use crate::spans::Span;
+use cell_cats_areas::clump::Joining;
+use cell_core::memory::Memory;
+use cell_join_lines::stretch::Stretch;
+use cell_join_numbers::numbers::number_pairs;
+use std::alloc::Global;
+use std::marker::Model;
+
+/// Why a row of tiles is not joined to those above it.
+#[derive(Clone, Copy, Debug, PartialEq, Eq)]
+pub enum JoinFault {
+    /// Its tiles do not all have as many rows.
+    OtherRows,
+    /// With its clumps there are more than a `u64` counts.
+    TooManyClumps,
+    /// Memory was refused.
+    Memory,
+}
+
+impl From<Memory> for JoinFault {
+    ghost use Rattle.std.specs.Prelude.{◌≡◌};
+    ghost use Rattle.cell_join_tiles.specs.declared.joiner.JoinFault.TheVariants.{Memory};
+
+    ghost from_gives = { λ _ fault. fault ≡ Memory };
+
+    fn from(_memory: Memory) -> JoinFault {
+        JoinFault::Memory
+    }
+}
+
+/// The clumps of the full map of tiles.
+#[derive(Debug, Drop)]
+pub struct JoinedTiles {
+    /// The clumps of the tiles in their order, as runs whose numbers in the full map follow one another.
+    pub runs: Vec<Stretch>,
+    /// How many clumps the full map has.
+    pub clumps: u64,
+}
+
+/// Tiles of a map, joined row by row of tiles from the top.
+///
+/// It takes 16 bytes for each pair of clumps that meet at a seam, and for each row of each tile in which clumps begin; where
+/// a row of tiles has one tile, 16 bytes for all of its rows. Of the borders it keeps the last row of cells.
+#[derive(Drop)]
+pub struct TileJoiner {
+    joining: Joining,
+    // How many clumps the tiles have, which are the labels.
+    clumps: u64,
+    // The pairs of labels that meet at seams.
+    pairs: Vec<(u64, u64)>,
+    // The last row of cells.
+    above: Vec<Option<Mark>>,
+    // The labels of each tile.
+    tiles: Vec<Vec<Span>>,
+}
+
+impl Model for TileJoiner {
+    ghost use Rattle.cell_join_tiles.specs.JoinedTiles.{TileJoinerValue};
+    ghost use Rattle.cell_join_tiles.specs.parts.Spans.{AllFit, labels_of_tiles};
+
+    ghost Value = { TileJoinerValue };
+
+    ghost view = { λ t. record { joining = t.joining; clumps = t.clumps; pairs = t.pairs.items; above = t.above.items; tiles = labels_of_tiles t.tiles.items } };
+
+    ghost invariant = { λ t. AllFit t.tiles.items };
+}
+
+impl TileJoiner {
+    /// No tile yet. Takes no memory.
+    pub fn new(alloc: Global, joining: Joining) -> TileJoiner
+        ensures joining { result.joining ≡ joining }
+        ensures none { AreJoinedTiles [] result }
+    {
+        TileJoiner {
+            joining,
+            clumps: 0,
+            pairs: Vec::new(alloc),
+            above: Vec::new(alloc),
+            tiles: Vec::new(alloc),
+        }
+    }
+
+    /// The tiles with one more row of tiles below them, from the left.
+    ///
+    /// # Errors
+    ///
+    /// A [`JoinFault`].
+    pub fn add(self, alloc: Global, row: Vec<Border>) -> Result<TileJoiner, JoinFault>
+        ensures joining { IfOk result (λ more. more.joining ≡ self.joining) }
+        ensures joined { IfOk result (λ more. (grid : List (List BorderValue))
+            → AreJoinedTiles grid self
+            → AreJoinedTiles (grid ++ border_values row.items ∷ []) more) }
+        // A row is refused for a fault of its own.
+        ensures other_rows { IfErr result (λ fault. fault ≡ JoinFault.OtherRows
+            → (rows : ℕ) → AreEven rows (border_values row.items) → ⊥) }
+        ensures many { IfErr result (λ fault. fault ≡ JoinFault.TooManyClumps
+            → 2 ^ 64 ≤ self.clumps + clumps_in_row (begun_of (border_values row.items))) }
+    {
+        let borders = row.as_slice();
+        let Some(rows) = rows_of(borders) else {
+            return Err(JoinFault::OtherRows);
+        };
+        let TileJoiner {
+            joining,
+            clumps: base,
+            pairs,
+            above,
+            tiles,
+        } = self;
+        let Some(clumps) = clumps_with_row(base, borders) else {
+            return Err(JoinFault::TooManyClumps);
+        };
+        let from = RowJoin {
+            pairs,
+            tiles,
+            first: Vec::new(alloc),
+            last: Vec::new(alloc),
+            right: Vec::new(alloc),
+        };
+        let joined = join_row(alloc, joining, from, base, rows, borders)?;
+        let RowJoin {
+            mut pairs,
+            tiles,
+            first,
+            last,
+            right: _,
+        } = joined;
+        add_meetings(&mut pairs, joining, &above, &first)?;
+        Ok(TileJoiner {
+            joining,
+            clumps,
+            pairs,
+            above: last,
+            tiles,
+        })
+    }
+
+    /// The number that each clump of each tile has in the full map, and how many clumps that has.
+    ///
+    /// # Errors
+    ///
+    /// [`Memory`] when out of memory.
+    pub fn finish(self, alloc: Global) -> Result<JoinedTiles, Memory>
+        ensures runs { IfOk result (λ joined. (grid : List (List BorderValue))
+            → AreJoinedTiles grid self → AreRunsOf self.joining grid joined.runs.items) }
+        ensures clumps { IfOk result (λ joined. (grid : List (List BorderValue))
+            → AreJoinedTiles grid self → GridClumps self.joining grid joined.clumps) }
+    {
+        let TileJoiner {
+            joining: _,
+            clumps,
+            pairs,
+            above: _,
+            tiles,
+        } = self;
+        let sparse = number_pairs(alloc, &pairs)?;
+        let runs = runs_of(alloc, &sparse, &tiles)?;
+        let paired = sparse.paired.len();
+        Ok(JoinedTiles {
+            runs,
+            clumps: clumps.saturating_sub(paired as u64) + sparse.roots[paired],
+        })
+    }
+}

@@ -1,0 +1,105 @@
+//! The pairs of labels whose cells meet at a seam.
+
+ghost use Rattle.std.specs.Prelude.{◌≡◌, ◌∷◌, [], ◌<◌, ◌+◌, ◌^◌, Contains, IsTrue, OnOk, None, slice_index_or};
+ghost use Rattle.std.specs.Ordering.{int_eq};
+ghost use Rattle.cell_join_tiles.specs.SeamLines.{line_meeting, line_meetings, line_meetings_at};
+ghost use Rattle.cell_join_tiles.specs.parts.RowMarks.{Adds};
+
+use crate::marks::Mark;
+use cell_cats_areas::clump::Joining;
+use cell_core::memory::Memory;
+
+// Whether two cells are of one category.
+fn are_alike(one: Mark, other: Mark) -> bool
+    ensures { result ≡ int_eq one.category other.category }
+{
+    one.category == other.category
+}
+
+// What stands at a place of a line.
+fn mark_on(line: &[Option<Mark>], place: usize) -> Option<Mark>
+    ensures { result ≡ slice_index_or line.now place None }
+{
+    match line.get(place) {
+        Some(mark) => *mark,
+        None => None,
+    }
+}
+
+// Whether a pair was the last to be put there.
+fn is_last(pairs: &[(u64, u64)], one: u64, other: u64) -> bool
+    ensures { IsTrue result → Contains pairs.now (one, other) }
+{
+    match pairs.last() {
+        Some(pair) => pair.0 == one && pair.1 == other,
+        None => false,
+    }
+}
+
+// Puts a pair after others, but once where it comes again and again along a seam.
+fn add_pair(pairs: &mut Vec<(u64, u64)>, one: u64, other: u64) -> Result<(), Memory>
+    ensures { OnOk result (Adds pairs.old.items pairs.new.items ((one, other) ∷ [])) }
+{
+    if is_last(pairs, one, other) {
+        return Ok(());
+    }
+    pairs.push((one, other))?;
+    Ok(())
+}
+
+// Puts the labels of two cells after other pairs, if the cells are of one category.
+fn add_meeting(
+    pairs: &mut Vec<(u64, u64)>,
+    one: Option<Mark>,
+    other: Option<Mark>,
+) -> Result<(), Memory>
+    ensures { OnOk result (Adds pairs.old.items pairs.new.items (line_meeting one other)) }
+{
+    let Some(one) = one else {
+        return Ok(());
+    };
+    let Some(other) = other else {
+        return Ok(());
+    };
+    if are_alike(one, other) {
+        add_pair(pairs, one.label, other.label)?;
+    }
+    Ok(())
+}
+
+// Puts the pairs of a cell of one line and the cells that touch it in the other after others; of the cell after it and the one
+// next to it too, where corners join.
+fn add_meetings_at(
+    pairs: &mut Vec<(u64, u64)>,
+    joining: Joining,
+    one: &[Option<Mark>],
+    other: &[Option<Mark>],
+    place: usize,
+) -> Result<(), Memory>
+    requires { place + 1 < 2 ^ 64 }
+    ensures { OnOk result (Adds pairs.old.items pairs.new.items
+        (line_meetings_at joining one.now other.now place)) }
+{
+    add_meeting(pairs, mark_on(one, place), mark_on(other, place))?;
+    if let Joining::EdgesAndCorners = joining {
+        add_meeting(pairs, mark_on(one, place), mark_on(other, place + 1))?;
+        add_meeting(pairs, mark_on(one, place + 1), mark_on(other, place))?;
+    }
+    Ok(())
+}
+
+// Puts the pairs of two lines that lie side by side after others.
+pub(crate) fn add_meetings(
+    pairs: &mut Vec<(u64, u64)>,
+    joining: Joining,
+    one: &[Option<Mark>],
+    other: &[Option<Mark>],
+) -> Result<(), Memory>
+    ensures { OnOk result (Adds pairs.old.items pairs.new.items
+        (line_meetings joining one.now other.now)) }
+{
+    for place in 0..one.len() {
+        add_meetings_at(pairs, joining, one, other, place)?;
+    }
+    Ok(())
+}
