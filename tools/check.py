@@ -61,7 +61,7 @@ def tool(name, *words):
 
 # Those before the proofs take seconds: if one fails, the gate ends there.
 EARLY = [
-    Part("counts", "how the gate counts", [tool("test_check.py")], needs_programs=False),
+    Part("tools", "how the gate counts, and how it tries edits", [tool("test_check.py"), tool("test_edits.py")], needs_programs=False),
     Part("stale_edits", "the edits outside the gate still fit their files", [tool("stale_edits.py")], has_counts=False, needs_programs=False),
     Part("texts", "messages, figures and pages that need no program", [tool("documents.py", "--texts")], needs_programs=False),
     Part("lint", "widths, names, limits, licences", [tool("lint")], needs_programs=False),

@@ -112,16 +112,20 @@ def verdicts(crate, edits, kept):
     return VERDICT.findall(ran.stdout), ran.stdout
 
 
+def is_of(path, name, function):
+    """Whether a path of a verdict is that of the function of a file, or of a closure in it; types stand before it, but no other module."""
+    module = [] if name == "src/lib.rt" else list(pathlib.Path(name).with_suffix("").parts[1:])
+    parts = [it.split("+")[0] for it in path.split("::")]
+    if parts[: len(module)] != module or function not in parts[len(module) :]:
+        return False
+    before = parts[len(module) : parts.index(function, len(module))]
+    return all(it == "fn" or it[:1].isupper() for it in before)
+
+
 def is_refused(edit, found):
     """Whether a function that the edit changes, or a closure in it, is not proved for a reason of its own."""
-    for name, function in edit.functions:
-        module = [] if name == "src/lib.rt" else pathlib.Path(name).with_suffix("").parts[1:]
-        for path, said in found:
-            parts = path.split("::")
-            is_of = not function or (parts[: len(module)] == list(module) and function in re.split(r"[:+]+", path)[len(module) :])
-            if is_of and not PROVED.match(said):
-                return True
-    return False
+    return any(not PROVED.match(said) for name, function in edit.functions for path, said in found
+               if not function or is_of(path, name, function))
 
 
 class Kept:
