@@ -107,6 +107,7 @@ figures: bin/rcell
 pictures: bin/rcell
 	@sh tools/debian.sh python3-matplotlib graphviz
 	$(PICTURES) study docs/study.png
+	$(PICTURES) examples examples
 	$(PICTURES) islands examples/islands/islands.png
 	$(PICTURES) speed docs/speed.png
 	python3 tools/crate_graph.py docs/crates.svg

@@ -41,7 +41,8 @@ import messages
 
 ROOT = os.path.dirname(os.path.dirname(os.path.abspath(__file__)))
 DOCUMENTS = ["README.md", "docs/tutorial.md", "docs/howto.md", "docs/large-maps.md", "docs/commands.md", "docs/rcell-join.md",
-             "docs/errors.md", "docs/grass.md", "examples/islands/README.md", "docs/proofs.md"]
+             "docs/errors.md", "docs/grass.md", "examples/islands/README.md", "docs/proofs.md",
+             *(f"examples/{name}/README.md" for name in ("change", "woodland", "stream", "majority", "protected", "large-map"))]
 FENCE = re.compile(r"```(\S*)(?: file=(\S+))?(?: needs=(\S+))?\n(.*?)^```$", re.MULTILINE | re.DOTALL)
 # What is said of the lines that have to be believed: numbers, and what stands around them.
 READING_ROW = re.compile(r"(`make reading(?: COMMAND=(?P<command>\S+))?` \| )(\d+)( \| )(\d+)( \| )(\d+)( \|)")

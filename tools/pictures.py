@@ -3,6 +3,7 @@
 
     pictures.py study OUT.png [--program PATH]      examples/study: land cover, hectares by class, patches of woodland
     pictures.py islands OUT.png [--program PATH]    examples/islands: the countries, and the islands as r.clump numbers them
+    pictures.py examples FOLDER [--program PATH]    FOLDER/NAME/picture.png of the examples over the maps of examples/study
     pictures.py speed OUT.png                       the figures of bench/RESULTS.md as bars
 
 It needs matplotlib and numpy (of Debian: python3-matplotlib).
@@ -127,14 +128,50 @@ def study(output, program):
 
     cover = grid(answer("r.out.ascii input=landcover\n"))
     figure, (left, middle, right) = plt.subplots(1, 3, figsize=(13, 3.2), dpi=100, width_ratios=(1.1, 0.9, 1.1))
-    codes = np.searchsorted(list(CLASSES), cover)
-    colours = ["white", *(colour for _, colour in CLASSES.values())]
-    left.imshow(np.where(cover == 0, 0, codes + 1), cmap=ListedColormap(colours), vmin=0, vmax=len(colours) - 1, interpolation="nearest")
-    without_ticks(left, "landcover.tif: 25 m cells")
+    draw_cover(left, cover, "landcover.tif: 25 m cells")
     draw_hectares(middle, table("r.stats -c -n input=landcover\n"))
     draw_patches(right, grid(answer(f"{PATCHES}r.out.ascii input=patches\n")), table(f"{PATCHES}r.stats -c -n input=patches\n"))
     figure.tight_layout()
     figure.savefig(output)
+
+
+# What the picture of each example shows of the land cover: the map that its cells come from, and which part of it.
+SMOOTH = ("r.mapcalc m = nmode(g[-1,-1],g[-1,0],g[-1,1],g[0,-1],g,g[0,1],g[1,-1],g[1,0],g[1,1])\n"
+          "r.mapcalc x = if(isnull(g), null(), m)\n")
+GROWN = "if(g == 21 && row() > 8 && col() > 11, 11, if(g == 23 && col() < 8, 32, g))"
+NEAR = "nmax(w[-1,-1],w[-1,0],w[-1,1],w[0,-1],w[0,1],w[1,-1],w[1,0],w[1,1])"
+EXAMPLES = {
+    "change": f"r.mapcalc later = {GROWN}\nr.mapcalc x = if(later != g, later, null())\n",
+    "woodland": "r.reclass input=g output=wood\n31 thru 39 = 1\nend\nr.clump -d input=wood output=p\n"
+                "r.mapcalc x = if(p == 1 || p == 4, g, null())\n",
+    "stream": f"r.mapcalc w = g == 51\nr.mapcalc n = {NEAR}\nr.mapcalc x = if(n == 1 || w == 1, g, null())\n",
+    "majority": SMOOTH,
+    "protected": "r.mapcalc x = if(isnull(zones), null(), g)\n",
+    "large-map": "r.mapcalc x = g\n",
+}
+
+
+def draw_cover(axes, cover, title):
+    colours = ["white", *(colour for _, colour in CLASSES.values())]
+    codes = np.where(cover == 0, 0, np.searchsorted(list(CLASSES), cover) + 1)
+    axes.imshow(codes, cmap=ListedColormap(colours), vmin=0, vmax=len(colours) - 1, interpolation="nearest")
+    without_ticks(axes, title)
+
+
+def examples(folder, program):
+    """The land cover of the study next to what each example shows of it."""
+    for name, script in EXAMPLES.items():
+        words = [program, "/dev/stdin", "g=landcover.txt", "zones=zones.txt"]
+        shown, whole = (grid(subprocess.run(words, cwd=STUDY, check=True, capture_output=True, text=True, input=f"{text}r.out.ascii input={of}\n").stdout)
+                        for text, of in ((script, "x"), ("", "g")))
+        figure, (left, right) = plt.subplots(1, 2, figsize=(9, 3), dpi=80)
+        draw_cover(left, whole, "land cover")
+        draw_cover(right, shown, "two tiles" if name == "large-map" else "shown by the example")
+        if name == "large-map":
+            right.axhline(6.5, color="black", linewidth=3)
+        figure.tight_layout()
+        figure.savefig(f"{folder}/{name}/picture.png")
+        plt.close(figure)
 
 
 # The tasks of the chart: what it says of each, and where the row stands in bench/RESULTS.md.
@@ -169,11 +206,11 @@ def speed(output, _):
 
 def main():
     words = argparse.ArgumentParser(description="Draws a picture of the documents.")
-    words.add_argument("picture", choices=("study", "islands", "speed"))
+    words.add_argument("picture", choices=("study", "examples", "islands", "speed"))
     words.add_argument("output")
     words.add_argument("--program", default=f"{ROOT}/bin/rcell")
     wanted = words.parse_args()
-    {"study": study, "islands": islands, "speed": speed}[wanted.picture](wanted.output, os.path.abspath(wanted.program))
+    {"study": study, "examples": examples, "islands": islands, "speed": speed}[wanted.picture](wanted.output, os.path.abspath(wanted.program))
 
 
 if __name__ == "__main__":

@@ -14,14 +14,18 @@ HERE = pathlib.Path(__file__).resolve().parent
 MENU = {
     "Learn": {"Tutorial": "docs/tutorial.md", "How to": "docs/howto.md", "Large maps": "docs/large-maps.md", "Cheat sheet": "docs/cheatsheet.md"},
     "Reference": {"Commands": "docs/commands.md", "Errors": "docs/errors.md", "rcell-join": "docs/rcell-join.md", "From GRASS": "docs/grass.md"},
+    "Examples": {"All examples": "examples/README.md", "Change": "examples/change/README.md", "Woodland": "examples/woodland/README.md",
+                 "Stream": "examples/stream/README.md", "Majority": "examples/majority/README.md", "Protected zones": "examples/protected/README.md",
+                 "A large map": "examples/large-map/README.md", "Islands": "examples/islands/README.md"},
     "Packages": {"Python": "docs/python.md", "R": "docs/r.md", "QGIS": "docs/qgis.md"},
     "About": {"What is proved": "docs/proofs.md", "Speed": "docs/speed.md", "Changes": "CHANGELOG.md", "Licence": "LICENSE.md",
-              "Contributing": "CONTRIBUTING.md", "Security": "SECURITY.md", "Code of conduct": "CODE_OF_CONDUCT.md", "Islands": "examples/islands/README.md",
-              "Example rasters": "examples/rasters/README.md", "Benchmarks": "bench/RESULTS.md", "Hostile use": "bench/hostile.md"},
+              "Contributing": "CONTRIBUTING.md", "Security": "SECURITY.md", "Code of conduct": "CODE_OF_CONDUCT.md", "Example rasters": "examples/rasters/README.md", "Benchmarks": "bench/RESULTS.md", "Hostile use": "bench/hostile.md"},
     "Sources": {"Map of the sources": "docs/MAP.md", "Refusals": "docs/REFUSALS.md", "Decisions": "docs/DECISIONS.md"},
 }
 PICTURES = {"study.png": ("A land-cover study", "tutorial.html"), "landcover.png": ("A map drawn with GDAL", "howto.html"),
-            "islands.png": ("Islands of South-East Asia", "islands.html"), "qgis-result.png": ("Patches in QGIS", "qgis.html"),
+            "islands-islands.png": ("Islands of South-East Asia", "islands.html"), "change-picture.png": ("Change between two years", "change.html"),
+            "woodland-picture.png": ("Large woods", "woodland.html"), "stream-picture.png": ("Along a stream", "stream.html"),
+            "majority-picture.png": ("Majority filter", "majority.html"), "protected-picture.png": ("Protected zones", "protected.html"), "qgis-result.png": ("Patches in QGIS", "qgis.html"),
             "qgis-dialog.png": ("A cross table in QGIS", "qgis.html"), "qgis-model.png": ("A model in QGIS", "qgis.html"),
             "speed.png": ("Compared with C++", "speed.html")}
 LINK = re.compile(r"(!?\[[^\]]*\])\(([^)\s#]*)(#[^)\s]*)?\)")
@@ -33,7 +37,8 @@ def named(root):
     for titles in MENU.values():
         for name in titles.values():
             if (root / name).exists():
-                found[name] = f"{pathlib.Path(name).parent.name}.md" if name.endswith("/README.md") else pathlib.Path(name).name.lower()
+                own = pathlib.Path(name)
+                found[name] = f"{own.parent.name}.md" if own.name == "README.md" else own.name.lower()
     return found
 
 
@@ -51,9 +56,15 @@ def linked(text, name, root, names):
         if whole in names:
             return f"{words}({names[whole]}{anchor})"
         if whole.endswith((".png", ".svg")):
-            return f"{words}({pathlib.Path(whole).name})"
+            return f"{words}({picture_name(whole)})"
         return words.strip("[]") if not words.startswith("!") else words
     return LINK.sub(target, text)
+
+
+def picture_name(path):
+    """The name in the site of a picture: those of an example have its name before their own."""
+    path = pathlib.Path(path)
+    return path.name if path.parent.name == "docs" else f"{path.parent.name}-{path.name}"
 
 
 def lay_out(root, folder):
@@ -63,8 +74,8 @@ def lay_out(root, folder):
         text = (root / name).read_text(encoding="utf-8")
         text = re.sub(r"^```(\w+) [^\n]*$", r"```\1", text, flags=re.MULTILINE)
         (folder / own).write_text(linked(text, name, root, names), encoding="utf-8")
-    for picture in [*(root / "docs").glob("*.png"), *(root / "docs").glob("*.svg"), *(root / "examples" / "islands").glob("*.png")]:
-        shutil.copy(picture, folder)
+    for picture in [*(root / "docs").glob("*.png"), *(root / "docs").glob("*.svg"), *(root / "examples").glob("*/*.png")]:
+        shutil.copy(picture, folder / picture_name(picture.relative_to(root)))
     for name in ("site.css", "search.js"):
         shutil.copy(HERE / name, folder)
     (folder / "search.md").write_text(SEARCH, encoding="utf-8")
