@@ -3,6 +3,7 @@ pub mod LabelLemmas
 pub mod LabelledFieldLemmas
 pub mod LinePartLemmas
 pub mod PlaceLemmas
+pub mod SequenceLemmas
 pub mod TextLemmas
 pub mod ToldLemmas
 pub mod WritingLemmas

@@ -34,6 +34,16 @@ areas_kind table_kind.CutOff = areas_kinds.CutOff
 areas_kind table_kind.Read = areas_kinds.Read
 areas_kind table_kind.Memory = areas_kinds.Memory
 
+-- whether it says that the text cannot be read on
+abbrev pub is_read_areas : AreasKind → Bool
+is_read_areas areas_kinds.NotNumbers = false
+is_read_areas areas_kinds.Reversed = false
+is_read_areas areas_kinds.NotNext = false
+is_read_areas areas_kinds.LongLine = false
+is_read_areas areas_kinds.CutOff = false
+is_read_areas areas_kinds.Read = true
+is_read_areas areas_kinds.Memory = false
+
 abbrev pub areas_fault : TableFault → AreasFault
 areas_fault fault = record { line = fault.line; kind = areas_kind fault.kind }
 

@@ -2,17 +2,20 @@
 use Rattle.std.specs.Prelude.{ℕ, ◌≡◌, ◌≢◌, ◌==◌, nat_lt, true, false, Bool, List, [], ◌++◌, length, Option, Some, None, IfSome, Result, Ok, Err, if◌then◌else◌}
 use Rattle.std.specs.List.{position_or_len, before_first, after_first}
 use Rattle.std.specs.Option.{option_map}
+use Rattle.cell_core_devices.specs.Asking.{Heard}
 use Rattle.cell_core_devices.specs.Device.{Coming}
 use Rattle.cell_join_lines.specs.LineReading.{is_line_feed}
 use Rattle.cell_join_lines.specs.declared.table_fault.TableKind.{TableKind}
-use Rattle.cell_join_lines.specs.declared.table_fault.TableKind.TheVariants.{LongLine, CutOff, Read, Memory}
+use Rattle.cell_join_lines.specs.declared.table_fault.TableKind.TheVariants.{BadCell, BadCount, BadWidth, ListedTwice, OutOfOrder, LongLine, CutOff, Read, Memory}
 use Rattle.cell_join_lines.specs.declared.table_fault.TheConstants.{MOST_BYTES}
 
--- the bytes that a buffer holds, what its source still gives, where that is known, and the line that was read last
+-- the bytes that a buffer holds, what its source still gives, where that is known, the line that was read last, and what was
+-- heard of the source
 pub record LinesValue : Type 0 where
   pub held : List ℕ
   pub rest : Option Coming
   pub line : List ℕ
+  pub heard : Heard
 
 -- bytes, and then those of a source
 abbrev pub held_before : List ℕ → Coming → Coming
@@ -44,3 +47,20 @@ IsFirstLine old (Err kind) new = kind ≢ Memory → IfSome old (λ coming. firs
 abbrev pub IsPassed : LinesValue → Bool → LinesValue → Type 0
 IsPassed old true new = (position_or_len is_line_feed old.held ≢ length old.held) × (new.line ≡ old.line ++ before_first is_line_feed old.held) × (new.held ≡ after_first is_line_feed old.held)
 IsPassed old false new = (position_or_len is_line_feed old.held ≡ length old.held) × (new.line ≡ old.line ++ old.held) × (new.held ≡ [])
+
+-- whether a fault says that the text cannot be read on
+abbrev pub is_read_fault : TableKind → Bool
+is_read_fault BadCell = false
+is_read_fault BadCount = false
+is_read_fault BadWidth = false
+is_read_fault ListedTwice = false
+is_read_fault OutOfOrder = false
+is_read_fault LongLine = false
+is_read_fault CutOff = false
+is_read_fault Read = true
+is_read_fault Memory = false
+
+-- whether an answer says so
+abbrev pub says_read : {X : Type 0} → Result X TableKind → Bool
+says_read (Ok x) = false
+says_read (Err kind) = is_read_fault kind

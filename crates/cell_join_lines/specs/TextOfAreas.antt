@@ -1,15 +1,19 @@
 -- What an areas text is still read as, its head first.
-use Rattle.std.specs.Prelude.{ℕ, Option, Some, None}
+use Rattle.std.specs.Prelude.{ℕ, Bool, false, Option, Some, None, Result, Ok, Err}
 use Rattle.std.specs.Option.{option_map}
+use Rattle.cell_core_devices.specs.Asking.{Heard}
 use Rattle.cell_join_lines.specs.LineReading.{TableReading}
 use Rattle.cell_join_lines.specs.declared.stretch.Stretch.{Stretch}
-use Rattle.cell_join_lines.specs.AreasReading.{AreasReading, areas_ended, areas_read, with_stretch}
+use Rattle.cell_join_lines.specs.declared.areas_fault.AreasFault.{AreasFault}
+use Rattle.cell_join_lines.specs.AreasReading.{AreasReading, areas_ended, areas_read, is_read_areas, with_stretch}
 
--- the stretch that was read last, the number of the line behind it, and what is read behind it as a table, where that is known
+-- the stretch that was read last, the number of the line behind it, what is read behind it as a table, where that is known, and
+-- what was heard of the source
 pub record AreasTextValue : Type 0 where
   pub head : Option Stretch
   pub line : ℕ
   pub rest : Option TableReading
+  pub heard : Heard
 
 -- what is read behind the head
 abbrev pub areas_behind : AreasTextValue → Option AreasReading
@@ -22,3 +26,8 @@ areas_from_head text (Some s) = option_map (λ rest. with_stretch s (areas_read 
 
 abbrev pub areas_from : AreasTextValue → Option AreasReading
 areas_from text = areas_from_head text text.head
+
+-- whether an answer says that the text cannot be read on
+abbrev pub says_read_areas : {X : Type 0} → Result X AreasFault → Bool
+says_read_areas (Ok x) = false
+says_read_areas (Err fault) = is_read_areas fault.kind

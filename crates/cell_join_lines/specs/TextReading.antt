@@ -1,20 +1,24 @@
 -- What a text is still read as, its head first.
-use Rattle.std.specs.Prelude.{ℕ, ◌≡◌, List, [], ◌++◌, Option, Some, None, Ok, IfSome, codes}
+use Rattle.std.specs.Prelude.{ℕ, ◌≡◌, Bool, false, List, [], ◌++◌, Option, Some, None, Result, Ok, Err, IfSome, codes}
 use Rattle.std.specs.Option.{option_map}
+use Rattle.cell_core_devices.specs.Asking.{Heard}
 use Rattle.cell_core_devices.specs.Device.{Coming}
 use Rattle.cell_stats_combinations.specs.Combinations.{Combination}
 use Rattle.cell_stats.specs.TableText.{FormatValue}
 use Rattle.cell_join_lines.specs.LineFields.{spelled_entry}
+use Rattle.cell_join_lines.specs.SourceLines.{is_read_fault}
+use Rattle.cell_join_lines.specs.declared.table_fault.TableFault.{TableFault}
 use Rattle.cell_join_lines.specs.LineReading.{TableReading, ended, reading_of_rest, with_entry}
 
--- how many cells each line has, or 0, the entry that was read last, its line, the number of the line behind it, and what is to
--- come behind it, where that is known
+-- how many cells each line has, or 0, the entry that was read last, its line, the number of the line behind it, what is to come
+-- behind it, where that is known, and what was heard of the source
 pub record TextValue : Type 0 where
   pub width : ℕ
   pub head : Option (Combination × ℕ)
   pub line : List ℕ
   pub number : ℕ
   pub coming : Option Coming
+  pub heard : Heard
 
 -- the combination of an entry that may be
 abbrev pub combination_of : Option (Combination × ℕ) → Option Combination
@@ -47,3 +51,8 @@ bytes_behind text = option_map (λ coming. coming.bytes) text.coming
 -- the head is what its line spells
 abbrev pub IsSpelled : FormatValue → TextValue → Type 0
 IsSpelled format text = IfSome text.head (λ entry. spelled_entry format text.line ≡ Ok entry)
+
+-- whether an answer says that the text cannot be read on
+abbrev pub says_read_fault : {X : Type 0} → Result X TableFault → Bool
+says_read_fault (Ok x) = false
+says_read_fault (Err fault) = is_read_fault fault.kind

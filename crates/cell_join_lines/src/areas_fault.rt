@@ -1,7 +1,8 @@
 //! Why a text is no areas text.
 
 ghost use Rattle.std.specs.Prelude.{◌≡◌};
-ghost use Rattle.cell_join_lines.specs.AreasReading.{areas_kind};
+ghost use Rattle.cell_join_lines.specs.AreasReading.{areas_kind, is_read_areas};
+ghost use Rattle.cell_join_lines.specs.SourceLines.{is_read_fault};
 
 use crate::table_fault::TableKind;
 use thiserror::Error;
@@ -43,7 +44,8 @@ pub struct AreasFault {
 
 // What a fault of a table of three columns is of an areas text.
 pub(crate) fn areas_kind(kind: TableKind) -> AreasKind
-    ensures { result ≡ areas_kind kind }
+    ensures value { result ≡ areas_kind kind }
+    ensures read { is_read_areas result ≡ is_read_fault kind }
 {
     match kind {
         TableKind::BadCell => AreasKind::NotNumbers,

@@ -1,7 +1,8 @@
 //! The entry of a line, field by field.
 
-ghost use Rattle.std.specs.Prelude.{◌≡◌, ◌≢◌, ◌<◌, Ok, Err, IfOk, IfErr, option_map};
+ghost use Rattle.std.specs.Prelude.{◌≡◌, ◌≢◌, ◌<◌, Ok, Err, IfOk, IfErr, false, option_map};
 ghost use Rattle.cell_join_lines.specs.LineFields.{capped_value, category_of_field, cell_of_field, count_of_field, entry_of_line, labelled_cell, labelled_entry_of_line, spelled_entry};
+ghost use Rattle.cell_join_lines.specs.SourceLines.{says_read};
 
 use crate::places::cut_at;
 use crate::table_fault::TableKind;
@@ -84,6 +85,7 @@ fn read_plain_line(
         (cells.new.items, count)) }
     ensures err { IfErr result (λ kind. kind ≢ TableKind.Memory → entry_of_line separator
         null_text.now line.now ≡ Err kind) }
+    ensures unread { says_read result ≡ false }
 {
     cells.clear();
     let mut rest = line;
@@ -114,6 +116,7 @@ fn read_labelled_line(
         (cells.new.items, count)) }
     ensures err { IfErr result (λ kind. kind ≢ TableKind.Memory → labelled_entry_of_line separator
         null_text.now line.now ≡ Err kind) }
+    ensures unread { says_read result ≡ false }
 {
     cells.clear();
     let mut rest = line;
@@ -146,6 +149,7 @@ pub fn read_line(format: &Format, line: &[u8], cells: &mut Vec<Cell>) -> Result<
         (λ count. spelled_entry format.now line.now ≡ Ok (cells.new.items, count)) }
     ensures err { IfErr result
         (λ kind. kind ≢ TableKind.Memory → spelled_entry format.now line.now ≡ Err kind) }
+    ensures unread { says_read result ≡ false }
 {
     let separator = format.separator();
     let null_text = format.null_text();

@@ -1,19 +1,21 @@
 //! The areas text read.
 
 ghost use Rattle.std.specs.Prelude.{◌≡◌, ◌≢◌, ◌-◌, None, IfErr, IfOk, IfSome, OnOk, Ok, Err, option_map, slice_index_or};
+ghost use Rattle.cell_core_devices.specs.Asking.{hears, heard_first};
 ghost use Rattle.cell_join_lines.specs.LineReading.{line_after};
-ghost use Rattle.cell_join_lines.specs.AreasReading.{areas_fault, areas_format, areas_reading_of, areas_stopped, comes_next, in_sequence, number_in_column, number_of_cell, stretch_of_entry};
-ghost use Rattle.cell_join_lines.specs.TextOfAreas.{areas_behind, areas_from};
+ghost use Rattle.cell_join_lines.specs.AreasReading.{areas_fault, areas_format, areas_reading_of, areas_stopped, comes_next, in_sequence, is_read_areas, number_in_column, number_of_cell, stretch_of_entry};
+ghost use Rattle.cell_join_lines.specs.SourceLines.{is_read_fault};
+ghost use Rattle.cell_join_lines.specs.TextOfAreas.{areas_behind, areas_from, says_read_areas};
 ghost use Rattle.cell_join_lines.specs.parts.HeadStretch.{stretch_of_head};
 
 use crate::areas_fault::{AreasFault, AreasKind, areas_kind};
 use crate::stretch::{Stretch, is_next};
+use crate::table_fault::TableFault;
+use crate::text::TableText;
 use cell_core::cell::Cell;
 use cell_core::source::Source;
 use cell_stats::format::Format;
 use cell_stats_combinations::combination::Combo;
-use crate::table_fault::TableFault;
-use crate::text::TableText;
 use std::alloc::Global;
 use std::marker::Model;
 
@@ -111,7 +113,8 @@ fn stretch_of_head(
 
 // What a fault of a table is of an areas text.
 fn of_table(fault: TableFault) -> AreasFault
-    ensures { result ≡ areas_fault fault }
+    ensures value { result ≡ areas_fault fault }
+    ensures read { is_read_areas result.kind ≡ is_read_fault fault.kind }
 {
     AreasFault {
         line: fault.line,
@@ -138,6 +141,7 @@ impl<R: Source> Model for AreasText<R> {
       head = areas.head;
       line = areas.line;
       rest = reading_behind areas_format areas.text;
+      heard = areas.text.heard;
     } };
 }
 
@@ -157,6 +161,8 @@ impl<R: Source> AreasText<R> {
         ensures line { IfOk result (λ areas. areas.line ≡ 2) }
         ensures sequence { IfOk result (λ areas. IfSome areas.head
             (λ stretch. in_sequence None stretch ≡ Ok stretch)) }
+        // The source is asked only while it goes on, and an `Err` of it is told as Read: so far none was.
+        ensures heard { IfOk result (λ areas. areas.heard ≡ heard_first (R.asked source)) }
     {
         let text = match TableText::from_source(alloc, &areas_format(), 3, source) {
             Ok(text) => text,
@@ -198,6 +204,8 @@ impl<R: Source> AreasText<R> {
         ensures line { OnOk result (self.new.line ≡ line_after self.old.line) }
         ensures sequence { OnOk result (IfSome self.new.head
             (λ stretch. in_sequence self.old.head stretch ≡ Ok stretch)) }
+        // The source is asked only while it goes on, and an `Err` of it is told as Read.
+        ensures heard { self.new.heard ≡ hears (says_read_areas result) self.old.heard }
     {
         let line = self.line;
         if let Err(fault) = self.text.next(alloc, &areas_format()) {

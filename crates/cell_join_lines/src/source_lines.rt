@@ -1,7 +1,8 @@
 //! The lines of a source, one after the other.
 
-ghost use Rattle.std.specs.Prelude.{◌≡◌, ◌<◌, ◌≤◌, ◌==◌, nat_le, nat_lt, if◌then◌else◌, [], false, true, length, IfOk, OnErr, Ok, Err};
-ghost use Rattle.cell_join_lines.specs.SourceLines.{HasEnded, IsFirstLine, IsPassed, lines_coming};
+ghost use Rattle.std.specs.Prelude.{◌≡◌, ◌<◌, ◌≤◌, ◌==◌, nat_le, nat_lt, if◌then◌else◌, [], false, true, length, IfOk, OnErr, Ok, Err, is_err};
+ghost use Rattle.cell_core_devices.specs.Asking.{hears, heard_first};
+ghost use Rattle.cell_join_lines.specs.SourceLines.{HasEnded, IsFirstLine, IsPassed, lines_coming, says_read};
 
 use crate::places::place_of;
 use crate::table_fault::{MOST_BYTES, TableKind};
@@ -22,11 +23,14 @@ pub struct Lines<R: Source> {
     at: usize,
     filled: usize,
     line: Vec<u8>,
+    ended: bool,
+    failed: bool,
 }
 
 impl<R: Source> Model for Lines<R> {
-    ghost use Rattle.std.specs.Prelude.{◌≤◌, ◌<◌, take, drop, length};
-    ghost use Rattle.cell_join_lines.specs.SourceLines.{LinesValue};
+    ghost use Rattle.std.specs.Prelude.{◌≤◌, ◌<◌, ◌≡◌, take, drop, length, true, false};
+    ghost use Rattle.cell_core_devices.specs.Asking.{is_at};
+    ghost use Rattle.cell_join_lines.specs.SourceLines.{HasEnded, LinesValue};
 
     ghost Value = { LinesValue };
 
@@ -34,10 +38,12 @@ impl<R: Source> Model for Lines<R> {
       held = drop lines.at (take lines.filled lines.buffer.items);
       rest = R.coming lines.source;
       line = lines.line.items;
+      heard = record { sure = is_at (R.asked lines.source) lines.ended lines.failed; failed = lines.failed };
     } };
 
-    ghost invariant = { λ lines. (lines.at ≤ lines.filled) × (lines.filled ≤ length
-        lines.buffer.items) × (0 < length lines.buffer.items) };
+    ghost invariant = { λ lines. (lines.at ≤ lines.filled) × (lines.filled ≤ length lines.buffer.items) × (0 < length lines.buffer.items)
+        × (lines.ended ≡ true → (lines.at ≡ lines.filled) × HasEnded false (R.coming lines.source))
+        × (lines.failed ≡ true → (lines.at ≡ lines.filled) × HasEnded true (R.coming lines.source) × (lines.ended ≡ false)) };
 }
 
 impl<R: Source> Lines<R> {
@@ -52,8 +58,8 @@ impl<R: Source> Lines<R> {
         ensures { IfOk result (λ lines. lines ≡ record {
           held = [];
           rest = R.coming source;
-          line =
-              [];
+          line = [];
+          heard = heard_first (R.asked source);
         }) }
     {
         let buffer = vec![in alloc; 0u8; BLOCK]?;
@@ -63,6 +69,8 @@ impl<R: Source> Lines<R> {
             at: 0,
             filled: 0,
             line: Vec::new(alloc),
+            ended: false,
+            failed: false,
         })
     }
 
@@ -73,20 +81,35 @@ impl<R: Source> Lines<R> {
         self.line.as_slice()
     }
 
-    // Whether there are more bytes, of which it then holds some.
+    // Whether there are more bytes, of which it then holds some. The source is not asked again after its end, nor after an `Err`,
+    // which is told from then on.
     fn fill(&mut self) -> Result<bool, DeviceFault>
         ensures same { lines_coming self.new ≡ lines_coming self.old }
         ensures line { self.new.line ≡ self.old.line }
         ensures some { result ≡ Ok true → 0 < length self.new.held }
         ensures end { result ≡ Ok false → HasEnded false (lines_coming self.old) }
         ensures fault { OnErr result (HasEnded true (lines_coming self.old)) }
+        ensures heard { self.new.heard ≡ hears (is_err result) self.old.heard }
     {
         if self.at < self.filled {
             return Ok(true);
         }
-        let filled = self.source.take(&mut self.buffer)?;
+        if self.ended {
+            return Ok(false);
+        }
+        if self.failed {
+            return Err(DeviceFault);
+        }
+        let filled = match self.source.take(&mut self.buffer) {
+            Ok(filled) => filled,
+            Err(fault) => {
+                self.failed = true;
+                return Err(fault);
+            }
+        };
         self.at = 0;
         self.filled = filled;
+        self.ended = filled == 0;
         Ok(0 < filled)
     }
 
@@ -94,6 +117,7 @@ impl<R: Source> Lines<R> {
     fn pass(&mut self) -> Result<bool, Memory>
         ensures passed { IfOk result (λ whole. IsPassed self.old whole self.new) }
         ensures rest { self.new.rest ≡ self.old.rest }
+        ensures heard { self.new.heard ≡ self.old.heard }
     {
         let held = &self.buffer[self.at..self.filled];
         match place_of(b'\n', held) {
@@ -145,7 +169,9 @@ impl<R: Source> Lines<R> {
     /// [`TableKind::LongLine`], [`TableKind::CutOff`], [`TableKind::Read`] or [`TableKind::Memory`], after which it is not
     /// to be asked again.
     pub fn next_line(&mut self) -> Result<bool, TableKind>
-        ensures { IsFirstLine (lines_coming self.old) result self.new }
+        ensures first { IsFirstLine (lines_coming self.old) result self.new }
+        // The source is asked only while it goes on, and an `Err` of it is told as Read.
+        ensures heard { self.new.heard ≡ hears (says_read result) self.old.heard }
     {
         self.line.clear();
         'parts: while self.is_short() {

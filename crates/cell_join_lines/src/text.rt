@@ -1,11 +1,12 @@
 //! The entries of a text, one after the other.
 
-ghost use Rattle.std.specs.Prelude.{◌≡◌, ◌≢◌, ℕ, length, Ok, Err, IfOk, IfErr, IfSome, None, OnOk, MatchResult, option_map};
+ghost use Rattle.std.specs.Prelude.{◌≡◌, ◌≢◌, ℕ, length, Ok, Err, IfOk, IfErr, IfSome, None, OnOk, MatchResult, false, option_map};
+ghost use Rattle.cell_core_devices.specs.Asking.{hears, heard_first};
 ghost use Rattle.cell_join_lines.specs.LineReading.{is_as_wide, in_order, line_after, next_entry, reading_of, stopped};
-ghost use Rattle.cell_join_lines.specs.SourceLines.{lines_coming};
+ghost use Rattle.cell_join_lines.specs.SourceLines.{lines_coming, says_read};
 ghost use Rattle.cell_join_lines.specs.LineFields.{spelled_entry};
 ghost use Rattle.cell_join_lines.specs.LineLabels.{before_count, labelled_behind, labelled_from, labelled_from_head, labelled_in};
-ghost use Rattle.cell_join_lines.specs.TextReading.{IsSpelled, bytes_behind, bytes_from, bytes_from_head, combination_of, reading_behind, reading_from};
+ghost use Rattle.cell_join_lines.specs.TextReading.{IsSpelled, says_read_fault, bytes_behind, bytes_from, bytes_from_head, combination_of, reading_behind, reading_from};
 ghost use Rattle.cell_join_lines.specs.parts.FirstLine.{IsRead, IsRefused};
 
 use crate::line_fields::read_line;
@@ -33,9 +34,10 @@ fn is_as_wide(width: usize, cells: &[Cell]) -> bool
 
 // Whether cells may stand after a combination, if there is one.
 fn check_order(width: usize, last: Option<&Combo>, cells: &[Cell]) -> Result<(), TableKind>
-    ensures { MatchResult result
+    ensures order { MatchResult result
         (λ done. (n : ℕ) → in_order width (option_map (λ k. k.now) last.entry) (cells.now, n) ≡ Ok (cells.now, n))
         (λ kind. (n : ℕ) → in_order width (option_map (λ k. k.now) last.entry) (cells.now, n) ≡ Err kind) }
+    ensures unread { says_read result ≡ false }
 {
     let Some(last) = last else {
         if is_as_wide(width, cells) {
@@ -66,6 +68,7 @@ fn entry_of(
         last.entry) line.now ≡ Ok (entry.0, entry.1)) }
     ensures err { IfErr result (λ kind. kind ≢ TableKind.Memory → next_entry format.now width
         (option_map (λ k. k.now) last.entry) line.now ≡ Err kind) }
+    ensures unread { says_read result ≡ false }
 {
     let count = read_line(format, line, cells)?;
     check_order(width, last, cells)?;
@@ -91,6 +94,7 @@ fn read_entry<R: Source>(
           line = lines.new.line;
           number = line_after number;
           coming = lines_coming lines.new;
+          heard = lines.new.heard;
         })) }
     ensures bytes { IfOk result (λ head. option_map (λ coming. coming.bytes)
         (lines_coming lines.old) ≡ option_map (bytes_from_head head lines.new.line)
@@ -104,6 +108,7 @@ fn read_entry<R: Source>(
     ensures fault { IfErr result (λ kind. kind ≢ TableKind.Memory → (number : ℕ) → IsRefused
         format.now width number (option_map (λ k. k.now) last.entry) (lines_coming lines.old)
         kind) }
+    ensures heard { lines.new.heard ≡ hears (says_read result) lines.old.heard }
 {
     match lines.next_line() {
         Ok(true) => {}
@@ -138,6 +143,7 @@ impl<R: Source> Model for TableText<R> {
       line = text.lines.line;
       number = text.number;
       coming = lines_coming text.lines;
+      heard = text.lines.heard;
     } };
 }
 
@@ -174,6 +180,8 @@ impl<R: Source> TableText<R> {
             (λ coming. labelled_in format.now coming.bytes) (R.coming source)
             ≡ labelled_from format.now text) }
         ensures width { IfOk result (λ text. text.width ≡ width) }
+        // The source is asked only while it goes on, and an `Err` of it is told as Read: so far none was.
+        ensures heard { IfOk result (λ text. text.heard ≡ heard_first (R.asked source)) }
         ensures fault { IfErr result (λ fault. fault.kind ≢ TableKind.Memory → IfSome (R.coming
             source) (λ coming. reading_of format.now width coming ≡ stopped fault.line
             fault.kind)) }
@@ -233,6 +241,8 @@ impl<R: Source> TableText<R> {
         ensures labelled { OnOk result
             (labelled_behind format.now self.old ≡ labelled_from format.now self.new) }
         ensures width { self.new.width ≡ self.old.width }
+        // The source is asked only while it goes on, and an `Err` of it is told as Read.
+        ensures heard { self.new.heard ≡ hears (says_read_fault result) self.old.heard }
         ensures fault { IfErr result (λ fault. fault.kind ≢ TableKind.Memory → IfSome
             (reading_behind format.now self.old) (λ reading. reading ≡ stopped fault.line
             fault.kind)) }

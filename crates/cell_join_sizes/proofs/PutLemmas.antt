@@ -113,3 +113,9 @@ pub put-fault : (areas : AreasReading) (tables : List TableReading) (P : SizesFa
     → IfSome fault (IsSizesFault areas tables)
 put-fault areas tables P None is = tt
 put-fault areas tables P (Some f) is = subst (IsSizesFault areas tables) (sym is.0) tt
+
+-- no other fault comes after the first write
+pub only-write : (X : Type 0) (P : SizesFault → Type 0) (fault : Option SizesFault) → IfSome fault (λ f. (f ≡ Write) × P f)
+    → IfSome fault (λ f. f ≢ Write → X)
+only-write X P None is = tt
+only-write X P (Some f) is = λ not. absurd (not is.0)

@@ -35,7 +35,7 @@ pub areas-on : (text : AreasTextValue) (a : AreasReading) → areas_from text �
 areas-on text a is = by text.head text.rest is
   where
     by : (head : Option Stretch) (rest : Option TableReading)
-        → areas_from_head (record { head = head; line = text.line; rest = rest }) head ≡ Some a
+        → areas_from_head (record { head = head; line = text.line; rest = rest; heard = text.heard }) head ≡ Some a
         → IsReadOn a.stretches a.fault
     by None None is = cc
     by (Some s) None is = cc
@@ -49,7 +49,7 @@ pub over-of : (band : ℕ) (text : AreasTextValue) (a : AreasReading) → areas_
 over-of band text a is not = by text.head text.rest is not
   where
     by : (head : Option Stretch) (rest : Option TableReading)
-        → areas_from_head (record { head = head; line = text.line; rest = rest }) head ≡ Some a
+        → areas_from_head (record { head = head; line = text.line; rest = rest; heard = text.heard }) head ≡ Some a
         → IfSome head (λ s. s.band ≢ band) → IsBandOver band a.stretches a.fault
     by None None is not = cc
     by (Some s) None is not = cc
@@ -69,6 +69,7 @@ table-on format text r is = by text.head text.coming is
           line = text.line;
           number = text.number;
           coming = coming;
+          heard = text.heard;
         }) head ≡ Some r
         → IsReadOn r.entries r.fault
     by None None is = cc
@@ -90,6 +91,7 @@ other-entry format text area r is not = by text.head text.coming is not
           line = text.line;
           number = text.number;
           coming = coming;
+          heard = text.heard;
         }) head ≡ Some r
         → IsHeadOfOther area head → IsOtherEntry area r.entries r.fault
     by None None is not = cc

@@ -1,7 +1,7 @@
 //! Why sizes are not added up.
 
-use cell_join_lines::table_fault::TableFault;
 use cell_join_lines::areas_fault::AreasFault;
+use cell_join_lines::table_fault::TableFault;
 
 /// Why sizes are not added up. Tables are told by their places, from 0, and lines are counted from 1.
 #[derive(Clone, Copy, Debug, PartialEq, Eq)]

@@ -19,13 +19,13 @@ use crate::tally::{TallyFault, add_size, first_without_size};
 use cell_core::block::OutputBlock;
 use cell_core::sink::Sink;
 use cell_core::source::Source;
-use cell_stats::format::Format;
-use cell_stats_combinations::combination::Combo;
-use cell_join_lines::table_fault::{TableFault, TableKind};
-use cell_join_lines::text::TableText;
 use cell_join_lines::areas_fault::{AreasFault, AreasKind};
 use cell_join_lines::reading::AreasText;
 use cell_join_lines::stretch::Stretch;
+use cell_join_lines::table_fault::{TableFault, TableKind};
+use cell_join_lines::text::TableText;
+use cell_stats::format::Format;
+use cell_stats_combinations::combination::Combo;
 use std::alloc::Global;
 
 /// What adding sizes did.
@@ -353,6 +353,9 @@ pub fn join_table_sizes<R: Source + Drop, W: Sink>(
     ensures fault { (text : Coming) (texts : List Coming) → R.coming areas ≡ Some text
         → Give R.coming tables.items texts → IfSome result.fault
         (IsSizesFault (areas_reading_of text) (map (reading_of format.now 1) texts)) }
+    // With any fault but that of a write the sink is not called, whatever the sources are.
+    ensures untouched { IfSome result.fault (λ fault. fault ≢ SizesFault.Write
+        → (out.new ≡ out.old) × (result.written ≡ 0)) }
     // No fault comes only where no call of the sink failed and it was flushed once.
     ensures sound { result.fault ≡ None
         → W.faults out.new ≡ after_flush (W.faults out.old) false }

@@ -49,18 +49,6 @@ kept k (e ∷ x ∷ es) f on = by (is_of k e)
     by true = refl
     by false = refl
 
-pub places-kept : {X : Type 0} (read : X → Option TableReading) → ((x : X) (r : TableReading) → read x ≡ Some r
-    → GoesOn r)
-    → (k : Combination) (new : List X) (readings : List TableReading) → map read new ≡ map Some (map (past k) readings)
-    → map fault_place (map (past k) readings) ≡ map fault_place readings
-places-kept read on k [] [] known = refl
-places-kept read on k [] (r ∷ rs) known = cc
-places-kept read on k (x ∷ xs) [] known = cc
-places-kept read on k (x ∷ xs) (r ∷ rs) known =
-    let one : read x ≡ Some (past k r) = cc in
-    let rest : map read xs ≡ map Some (map (past k) rs) = cc in
-    λ i. kept k r.entries r.fault (on x (past k r) one) i ∷ places-kept read on k xs rs rest i
-
 -- ---- the last entry is not before the first
 
 last-from : (e : Combination × ℕ) (es : Pairs) → IsStrictlySortedBy combination_cmp (keys_of (e ∷ es))
@@ -201,27 +189,6 @@ module _ {X : Type 0} (read : X → Option TableReading) (on : (x : X) (r : Tabl
       let one : read x ≡ Some r = cc in
       let rest : map read xs ≡ map Some rs = cc in
       (on x r one, all-on xs rs rest)
-
-  pub went-on : (k : Combination) (old now : List X) (readings : List TableReading) (i : ℕ)
-      → map read (take i now) ≡ map (λ x. option_map (past k) (read x)) (take i old) → map read old ≡ map Some readings
-      → (other : ℕ) (reading : TableReading) → other < i → slice_get readings other ≡ Some reading
-      → past_first k reading.entries ≡ [] → reading.fault ≡ None
-  went-on k old now readings zero same known other reading below at left = absurd (omega (arith, below))
-  went-on k [] now [] (suc i) same known other reading below at left = cc
-  went-on k [] now (r ∷ rs) (suc i) same known other reading below at left = cc
-  went-on k (y ∷ ys) now [] (suc i) same known other reading below at left = cc
-  went-on k (y ∷ ys) [] (r ∷ rs) (suc i) same known other reading below at left = cc
-  went-on k (y ∷ ys) (x ∷ xs) (r ∷ rs) (suc i) same known zero reading below at left =
-      let own : r ≡ reading = cc in
-      let there : read y ≡ Some r = cc in
-      let one : read x ≡ option_map (past k) (read y) = cc in
-      let is : read x ≡ Some (past k r) = one ∙ ap (option_map (past k)) there in
-      let none : r.fault ≡ None = on x (past k r) is (ap (λ (z : TableReading). past_first k z.entries) own ∙ left) in
-      subst (λ (z : TableReading). z.fault ≡ None) own none
-  went-on k (y ∷ ys) (x ∷ xs) (r ∷ rs) (suc i) same known (suc other) reading below at left =
-      let rest : map read ys ≡ map Some rs = cc in
-      let others : map read (take i xs) ≡ map (λ z. option_map (past k) (read z)) (take i ys) = cc in
-      went-on k ys xs rs i others rest other reading (omega (arith, below)) at left
 
 -- ---- a text that stops before its first entry
 

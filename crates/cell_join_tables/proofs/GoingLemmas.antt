@@ -2,7 +2,7 @@
 use Rattle.std.proofs.Common.{◌≡◌, ◌≢◌, ℕ, zero, suc, ◌+◌, ◌<◌, ◌≤◌, ◌^◌, nat_lt, List, [], ◌∷◌, length, map, get_or, slice_get, Bool, true, false, Option, Some, None, unwrap_or, option_map, ⊎_elim, refl, ap, sym, ◌∙◌, arith, cond, subst}
 use Rattle.std.proofs.Math.ListN.{set, length-set}
 use Rattle.std.proofs.lemmas.Bool.{ltb-true}
-use Rattle.std.proofs.lemmas.List.Elements.{All-head, All-tail}
+use Rattle.std.proofs.lemmas.List.Elements.{All-cons, All-head, All-nil, All-tail}
 use Rattle.std.proofs.Math.Seq.{map-set_same}
 use Rattle.std.proofs.lemmas.List.{get_or_default, get_or-map, length-map, map-set}
 use Rattle.std.specs.List.{AllByRecursion}
@@ -16,6 +16,7 @@ use Rattle.cell_stats_combinations.proofs.OrderLemmas.{combination_cmp-exact, is
 use Rattle.cell_stats.specs.CategoryTables.{Pairs}
 use Rattle.cell_stats.specs.TableText.{FormatValue}
 use Rattle.cell_parts.specs.TableParts.{count_in}
+use Rattle.cell_join_lines.specs.LineLabels.{Labelled, labelled_from}
 use Rattle.cell_join_lines.specs.LineReading.{TableReading, ended, stopped}
 use Rattle.cell_join_lines.specs.TextReading.{TextValue, combination_of, reading_behind, reading_from}
 use Rattle.cell_join_lines.specs.declared.table_fault.TableFault.{TableFault}
@@ -23,13 +24,13 @@ use Rattle.cell_parts.specs.Merging.{IsListing}
 use Rattle.cell_join_tables.specs.JoinAnswers.{IsFaultOfText}
 use Rattle.cell_join_tables.specs.JoinedTexts.{AreNoneBefore, IsFirstFault, IsFirstPlace, fault_place, first_entry, tables_of}
 use Rattle.cell_join_tables.specs.MergedTables.{BeginsAbove, BeginsAt, first_count, merge_of, put_first, total_in}
-use Rattle.cell_join_tables.specs.TextHeads.{head_count, is_of, past, past_first, sum_if_any}
+use Rattle.cell_join_tables.specs.TextHeads.{head_count, is_of, past, past_first, past_labelled, sum_if_any}
 use Rattle.cell_join_tables.specs.parts.Taking.{HasTaken, IsStepFault, StepFails}
 use Rattle.cell_join_tables.specs.declared.join_fault.JoinFault.{JoinFault}
 use Rattle.cell_join_tables.specs.declared.join_fault.JoinFault.TheVariants.{Text, TooMany, TooLong, Memory, Write}
 use Rattle.cell_join_tables.proofs.FaultLemmas.{known-at}
 use Rattle.cell_join_tables.proofs.FaultOrderLemmas.{GoesOn, all-on, kept, none-before, stops-first}
-use Rattle.cell_join_tables.proofs.HeadLemmas.{taken-fault, taken-some}
+use Rattle.cell_join_tables.proofs.HeadLemmas.{labelled-none, labelled-some, taken-fault, taken-some}
 use Rattle.cell_join_tables.proofs.StepLemmas.{least-first}
 use Rattle.cell_join_tables.proofs.TakingLemmas.{above-next, begins, beyond, first-counted, head-read, no-entry, past-listing, past-tables, sum-regrouped}
 use Rattle.cell_join_tables.specs.parts.HeadOrder.{BeginsWith, GoesFirst, IsFaultBehind, ReadsOn, goes_before, heads_of}
@@ -169,8 +170,12 @@ got [] i d x is = cc
 got (y ∷ ys) zero d x is = cc
 got (y ∷ ys) (suc i) d x is = got ys i d x is
 
-abbrev nothing : TextValue
-nothing = record { width = 0; head = None; line = []; number = 0; coming = None }
+abbrev pub nothing : TextValue
+nothing = record { width = 0; head = None; line = []; number = 0; coming = None; heard = record { sure = false; failed = false } }
+
+-- what the lines of a text have behind the head, where that is of the combination, and else from it on
+abbrev pub lines_past : FormatValue → Combination → TextValue → Option (List Labelled)
+lines_past format k text = option_map (past_labelled k) (labelled_from format text)
 
 module _ (format : FormatValue) (k : Combination) where
   abbrev read : TextValue → Option TableReading
@@ -208,8 +213,30 @@ module _ (format : FormatValue) (k : Combination) where
       (sym (count-there x r one) ∙ All-head P x xs none) in
       omega (arith, no, none-count xs rs rest (All-tail P x xs none))
 
+  -- none of them begins with it: no text goes on with it
+  none-heads : (texts : List TextValue) (rs : List TableReading) → map read texts ≡ map Some rs
+      → begin_count k (tables_of rs) ≡ 0 → All (λ (text : TextValue). head_count k text.head ≡ None) texts
+  none-heads [] [] known none = All-nil (λ (text : TextValue). head_count k text.head ≡ None)
+  none-heads [] (r ∷ rs) known none = cc
+  none-heads (x ∷ xs) [] known none = cc
+  none-heads (x ∷ xs) (r ∷ rs) known none =
+      let P : TextValue → Type 0 = λ text. head_count k text.head ≡ None in
+      let one : read x ≡ Some r = cc in
+      let rest : map read xs ≡ map Some rs = cc in
+      let here : one_if_any (first_count k r.entries) ≡ 0 = omega (arith, none) in
+      let others : begin_count k (tables_of rs) ≡ 0 = omega (arith, none) in
+      All-cons P x xs (count-there x r one ∙ no-one k (first_count k r.entries) here) (none-heads xs rs rest others)
+
+  -- what the lines that are left have
+  none-lines : (texts : List TextValue) → All (λ (text : TextValue). head_count k text.head ≡ None) texts
+      → map (labelled_from format) texts ≡ map (lines_past format k) texts
+  none-lines [] none = refl
+  none-lines (x ∷ xs) none =
+      let P : TextValue → Type 0 = λ text. head_count k text.head ≡ None in
+      λ i. sym (labelled-none format x k (All-head P x xs none)) i ∷ none-lines xs (All-tail P x xs none) i
+
   -- the head of a text at a place
-  head-at : (texts : List TextValue) (i : ℕ) (x : TextValue) → i < length texts
+  pub head-at : (texts : List TextValue) (i : ℕ) (x : TextValue) → i < length texts
       → get_or (heads_of texts) i None ≡ combination_of (get_or texts i x).head
   head-at texts i x within = get_or-map (λ (text : TextValue). combination_of text.head) texts i x None within
 
@@ -261,7 +288,7 @@ module _ (format : FormatValue) (k : Combination) where
       subst (λ (y : Combination × ℕ). combination_cmp y.0 k ≢ Less) same at.0
 
   -- what the first text goes on with is the least of all
-  starts-least : (texts : List TextValue) (n : ℕ) → BeginsWith texts (k, n)
+  pub starts-least : (texts : List TextValue) (n : ℕ) → BeginsWith texts (k, n)
       → All (λ (text : TextValue). IfSome text.head (λ entry. combination_cmp entry.0 k ≢ Less)) texts
   starts-least texts n starts i d within = of-head (get_or texts i d).head
       (subst (λ (h : Option Combination). IfSome h (λ c. combination_cmp c k ≢ Less)) (head-at texts i d within)
@@ -367,6 +394,26 @@ module _ (format : FormatValue) (k : Combination) where
           few = omega (arith, less, few, long);
         }
 
+    -- and its lines are those that were left
+    pub lines-more : (new : List TextValue) (first n : ℕ) → GoesFirst (heads_of now) first
+        → ((text : TextValue) → head_count k (get_or now first text).head ≡ Some n) → ReadsOn format now first new
+        → map (lines_past format k) new ≡ map (lines_past format k) now
+    lines-more new first n goes counted reads =
+        let y = reads.text in
+        let x = get_or now first y in
+        let r = get_or gone.after first ended in
+        let within : first < length now = inside-texts first goes in
+        let inside : first < length gone.after = omega (arith, within, same-length now gone.after gone.known) in
+        let at : read x ≡ Some r = read-there now gone.after first y ended gone.known within in
+        let is : read y ≡ Some (past k r) = sym reads.read ∙ sym (taken-some format x k n (counted y))
+        ∙ ap (option_map (past k)) at in
+        let listing = all-there IsListing gone.after first ended gone.listings inside in
+        let count : first_count k r.entries ≡ Some n = sym (count-there x r at) ∙ counted y in
+        let none : head_count k y.head ≡ None = count-there y (past k r) is ∙ (one-taken k r.entries n listing count).0 in
+        let same : lines_past format k y ≡ lines_past format k x = labelled-none format y k none ∙ sym reads.labelled
+        ∙ sym (labelled-some format x k n (counted y)) in
+        ap (map (lines_past format k)) reads.others ∙ map-set_same (lines_past format k) now first y y same
+
     on-after : AllByRecursion GoesOn gone.after
     on-after = all-on read (no-entry format) now gone.after gone.known
 
@@ -459,24 +506,31 @@ module _ (format : FormatValue) (k : Combination) where
           places = gone.places;
         }
 
+    abbrev NoneGoesOn : Type 0
+    NoneGoesOn = All (λ (text : TextValue). head_count k text.head ≡ None) now
+
+    -- no text goes on with it: the entry was taken, and the lines that are left are those behind
+    gone-none-left : (sum : ℕ) → total ≡ Some sum → NoneGoesOn
+        → HasTaken read readings now ((k, sum) ∷ []) × (map (labelled_from format) now ≡ map (lines_past format k) now)
+    gone-none-left sum is none = (gone-all sum is (none-count now gone.after gone.known none), none-lines now none)
+
     -- each text had its turn
     pub gone-turns : (sum : ℕ) → total ≡ Some sum → length readings ≤ taken
-        → HasTaken read readings now ((k, sum) ∷ [])
-    gone-turns sum is turns = (let few = gone.few in gone-all sum is (omega (arith, few, turns, gone-length)))
+        → HasTaken read readings now ((k, sum) ∷ []) × (map (labelled_from format) now ≡ map (lines_past format k) now)
+    gone-turns sum is turns =
+        let few = gone.few in
+        let none : begin_count k (tables_of gone.after) ≡ 0 = omega (arith, few, turns, gone-length) in
+        (gone-all sum is none, none-lines now (none-heads now gone.after gone.known none))
 
     -- each text is at its end
-    gone-ended : (sum : ℕ) → total ≡ Some sum → All (λ (text : TextValue). text.head ≡ None) now
-        → HasTaken read readings now ((k, sum) ∷ [])
-    gone-ended sum is done = gone-all sum is (none-count now gone.after gone.known
-        (λ i d within. ap (head_count k) (done i d within)))
+    gone-ended : All (λ (text : TextValue). text.head ≡ None) now → NoneGoesOn
+    gone-ended done i d within = ap (head_count k) (done i d within)
 
     -- the first text goes on with another combination
-    gone-other : (sum : ℕ) → total ≡ Some sum → (entry : Combination × ℕ) → BeginsWith now entry
-        → is_of k entry ≡ false → HasTaken read readings now ((k, sum) ∷ [])
-    gone-other sum is entry starts other = gone-all sum is (none-count now gone.after gone.known
-        (λ i d within. no-count (get_or now i d).head
+    gone-other : (entry : Combination × ℕ) → BeginsWith now entry → is_of k entry ≡ false → NoneGoesOn
+    gone-other entry starts other = (λ i d within. no-count (get_or now i d).head
         (λ e. none-goes-on (heads_of now) starts.first i starts.goes not least (inside-heads i within)
-        (head-at now i d within ∙ e))))
+        (head-at now i d within ∙ e)))
       where
         within : starts.first < length now
         within = inside-texts starts.first starts.goes
@@ -502,9 +556,10 @@ module _ (format : FormatValue) (k : Combination) where
     -- the first text goes on with no entry of the combination, by whatever is seen as an entry
     pub gone-last : {B : Type 0} (see : B → Combination × ℕ) (entry : Option B) (sum : ℕ) → total ≡ Some sum
         → MatchOption entry (All (λ (text : TextValue). text.head ≡ None) now) (λ b. BeginsWith now (see b))
-        → head_count k (option_map see entry) ≡ None → HasTaken read readings now ((k, sum) ∷ [])
-    gone-last see None sum is first none = gone-ended sum is first
-    gone-last see (Some b) sum is first none = gone-other sum is (see b) first (other-is (is_of k (see b)) none)
+        → head_count k (option_map see entry) ≡ None
+        → HasTaken read readings now ((k, sum) ∷ []) × (map (labelled_from format) now ≡ map (lines_past format k) now)
+    gone-last see None sum is first none = gone-none-left sum is (gone-ended first)
+    gone-last see (Some b) sum is first none = gone-none-left sum is (gone-other (see b) first (other-is (is_of k (see b)) none))
       where
         other-is : (t : Bool) → cond t (Some (see b).1) None ≡ None → t ≡ false
         other-is true e = cc
@@ -523,6 +578,15 @@ module _ (format : FormatValue) (k : Combination) where
       → AllByRecursion IsListing (tables_of readings) → HasGone read k readings new (Some n) 1
   gone-first texts new n starts reads readings known all =
       gone-more readings texts None 0 (gone-none texts readings known all
+      (begins format k texts readings known (starts-least texts n starts) all)) new starts.first n starts.goes
+      (first-has texts n starts) reads
+
+  -- and its lines are those that were left
+  pub lines-first : (texts new : List TextValue) (n : ℕ) (starts : BeginsWith texts (k, n))
+      → ReadsOn format texts starts.first new → (readings : List TableReading) → map read texts ≡ map Some readings
+      → AllByRecursion IsListing (tables_of readings) → map (lines_past format k) new ≡ map (lines_past format k) texts
+  lines-first texts new n starts reads readings known all =
+      lines-more readings texts None 0 (gone-none texts readings known all
       (begins format k texts readings known (starts-least texts n starts) all)) new starts.first n starts.goes
       (first-has texts n starts) reads
 

@@ -36,18 +36,6 @@ module _ (format : FormatValue) (text : TextValue) (k : Combination) where
       (record { entries = cond t r.entries (entry ∷ r.entries); fault = r.fault }) in o)
       (is-some (is_of k entry) entry.1 n e)
 
-  none-head : (head : Option (Combination × ℕ)) (o : Option Coming) → head_count k head ≡ None
-      → option_map (past k) (reading_from_head format (record text { coming = o }) head) ≡ reading_from_head format
-      (record text { coming = o }) head
-  none-head None None e = refl
-  none-head None (Some coming) e = refl
-  none-head (Some entry) None e = refl
-  none-head (Some entry) (Some coming) e =
-      let r : TableReading = behind (Some entry) coming in
-      ap (λ t. let o : Option TableReading = Some
-      (record { entries = cond t r.entries (entry ∷ r.entries); fault = r.fault }) in o)
-      (is-none (is_of k entry) entry.1 e)
-
   fault-head : (head : Option (Combination × ℕ)) (n : ℕ) (o : Option Coming) (fault : TableFault)
       → head_count k head ≡ Some n
       → IfSome (option_map (behind head) o) (λ reading. reading ≡ stopped fault.line fault.kind)
@@ -65,11 +53,6 @@ module _ (format : FormatValue) (text : TextValue) (k : Combination) where
   pub taken-some : (n : ℕ) → head_count k text.head ≡ Some n
       → option_map (past k) (reading_from format text) ≡ reading_behind format text
   taken-some n e = some-head text.head n text.coming e
-
-  -- it was left
-  pub taken-none : head_count k text.head ≡ None
-      → option_map (past k) (reading_from format text) ≡ reading_from format text
-  taken-none e = none-head text.head text.coming e
 
   -- there is a fault behind it
   pub taken-fault : (n : ℕ) (fault : TableFault) → head_count k text.head ≡ Some n

@@ -51,7 +51,7 @@ module _ (format : FormatValue) where
   read text = reading_from format text
 
   passes-none : (texts : List TextValue) → PassesLines format texts texts []
-  passes-none texts wholes known = record { left = wholes; known = known; passed = none-passed wholes; own = tt }
+  passes-none texts readings seen all wholes known = record { left = wholes; known = known; passed = none-passed wholes; own = tt }
 
   module _ {S : Type 0} (texts mid : List TextValue) (taken : S → Option (List ℕ)) (faults : S → Faults) (out : S)
       (block : BlockValue) where
@@ -83,13 +83,14 @@ module _ (format : FormatValue) where
             counted = length-append done (e ∷ []) ∙ ap (λ n. n + 1) merged.counted;
             takes = subst (λ es. TakesEntries read texts new es) entries
                 (takes-more read texts mid new (plain_entries done) (plain_entry e) merged.takes step.takes);
-            passes = λ wholes known.
-                let so = merged.passes wholes known in
+            passes = λ readings seen all wholes known.
+                let so = merged.passes readings seen all wholes known in
+                let here = merged.takes readings seen all in
                 let own = own-whole (labelled_of done) wholes so.left e.0 so.passed
                 (own-step format mid so.left e.0 so.known step.own) in
                 record {
                   left = map (past_labelled (e.0).0) so.left;
-                  known = step.left ∙ left-known format (e.0).0 (e.0).1 mid so.left so.known;
+                  known = step.left here.after here.known here.listings ∙ left-known format (e.0).0 (e.0).1 mid so.left so.known;
                   passed = subst (λ ls. ArePassed ls wholes (map (past_labelled (e.0).0) so.left)) labelled
                       (passed-step format (e.0).0 (e.0).1 (labelled_of done) wholes so.left mid so.known so.passed
                       step.agree);
@@ -106,7 +107,7 @@ module _ (format : FormatValue) where
         appends = merged.appends;
         ends = λ readings wholes known all lines.
             let so = merged.takes readings known all in
-            let passed = merged.passes wholes lines in
+            let passed = merged.passes readings known all wholes lines in
             let end = ends-ok read readings all mid (plain_entries merged.done) so (ended so.after so.known) in (
               (
                 end.0,
@@ -128,7 +129,7 @@ module _ (format : FormatValue) where
         appends = merged.appends;
         ends = λ readings wholes known all lines.
             let so = merged.takes readings known all in
-            let passed = merged.passes wholes lines in (
+            let passed = merged.passes readings known all wholes lines in (
               (
                 other-whole readings so.after (labelled_of merged.done) wholes passed.left told passed.passed so.places
                     (stops so.after passed.left so.known so.listings passed.known),
@@ -146,7 +147,7 @@ module _ (format : FormatValue) where
         appends = merged.appends;
         ends = λ readings wholes known all lines.
             let so = merged.takes readings known all in
-            let passed = merged.passes wholes lines in (
+            let passed = merged.passes readings known all wholes lines in (
               (
                 fault-of-all read readings all mid (plain_entries merged.done) so fault
                     (fails so.after so.known so.listings),
@@ -162,7 +163,7 @@ module _ (format : FormatValue) where
         appends = merged.appends;
         ends = λ readings wholes known all lines.
             let so = merged.takes readings known all in
-            let passed = merged.passes wholes lines in
+            let passed = merged.passes readings known all wholes lines in
             ((tt, (merge_of (tables_of so.after), so.merged)), passed.own);
       }
 
@@ -173,7 +174,7 @@ module _ (format : FormatValue) where
         appends = merged.appends;
         ends = λ readings wholes known all lines.
             let so = merged.takes readings known all in
-            let passed = merged.passes wholes lines in (
+            let passed = merged.passes readings known all wholes lines in (
               (
                 too-long read readings all mid (plain_entries merged.done) so count
                     (length-map merged.done plain_entry ∙ merged.counted) high,

@@ -20,13 +20,13 @@ use Rattle.cell_join_tables.specs.JoinedTexts.{readings_of, tables_of}
 use Rattle.cell_join_tables.specs.MergedTables.{merge_of}
 use Rattle.cell_join_tables.specs.declared.join_fault.JoinFault.{JoinFault}
 use Rattle.cell_join_tables.specs.declared.join_fault.JoinFault.TheVariants.{Text, TooMany, TooLong, Memory, Write}
-use Rattle.cell_join_tables.proofs.JoinLemmas.{refuted}
+use Rattle.cell_join_tables.proofs.JoinLemmas.{opening-join, refuted}
 use Rattle.cell_join_tables.proofs.MergeLemmas.{one-merge}
 use Rattle.cell_join_tables.proofs.StepLemmas.{merges-all}
 use Rattle.cell_join_tables.specs.JoinedLabels.{AreFirst, AreJoinedLabels, AreLabelledSo, AreOfTexts, HasJoinWritten}
 use Rattle.cell_join_tables.specs.JoinedLabels.{HasLabelledLines, HasLabelledPrefix, HasLabelledWritten, HasLine}
 use Rattle.cell_join_tables.specs.JoinedLabels.{HasOtherLabel}
-use Rattle.cell_join_tables.specs.JoinedLabels.{IsLabelFault, IsLabelledMerge, IsOfTexts, LabelledEntry}
+use Rattle.cell_join_tables.specs.JoinedLabels.{IsLabelFault, IsLabelledMerge, IsOfTexts, IsTold, LabelledEntry}
 use Rattle.cell_join_tables.specs.JoinedLabels.{counted_text, plain_entries}
 use Rattle.cell_join_tables.specs.JoinedLabels.{plain_entry, labelled_of, labels_of_texts}
 use Rattle.cell_join_tables.specs.parts.LabelEnds.{EndsLabelled, HasOthers, answer_of, label_fault_of, other_of}
@@ -132,20 +132,16 @@ module _ (entries : List LabelledEntry) where
 -- ---- what holds by the fault that is told
 
 module _ (format : FormatValue) (texts : List Coming) (before now : Option (List ℕ)) (written : ℕ) where
-  abbrev pub IsTold : Option LabelFault → Type 0
-  IsTold None = AreJoinedLabels format texts before now written
-  IsTold (Some fault) = IsLabelFault format texts fault × HasLabelledWritten format texts before now written fault
-
-  pub fault-told : (fault : Option LabelFault) → IsTold fault → IfSome fault (IsLabelFault format texts)
+  pub fault-told : (fault : Option LabelFault) → IsTold format texts before now written fault → IfSome fault (IsLabelFault format texts)
   fault-told None so = tt
   fault-told (Some fault) so = so.0
 
-  pub written-told : (fault : Option LabelFault) → IsTold fault
+  pub written-told : (fault : Option LabelFault) → IsTold format texts before now written fault
       → IfSome fault (HasLabelledWritten format texts before now written)
   written-told None so = tt
   written-told (Some fault) so = so.1
 
-  pub joined-told : (fault : Option LabelFault) → IsTold fault → fault ≡ None
+  pub joined-told : (fault : Option LabelFault) → IsTold format texts before now written fault → fault ≡ None
       → AreJoinedLabels format texts before now written
   joined-told None so none = so
   joined-told (Some fault) so none = cc
@@ -334,3 +330,7 @@ module _ (format : FormatValue) (texts : List Coming)
   opening-labelled TooLong is = absurd is
   opening-labelled Memory is = nothing-written
   opening-labelled Write is = absurd is
+
+  pub opening-told : (fault : JoinFault) → IsOpeningFault (readings_of format texts) fault
+      → IsTold format texts before before 0 (Some (faults.Join fault))
+  opening-told fault is = (opening-join (readings_of format texts) fault is, opening-labelled fault is)

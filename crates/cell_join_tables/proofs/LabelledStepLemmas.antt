@@ -15,7 +15,7 @@ use Rattle.cell_join_lines.specs.LineLabels.{Labelled, before_count, labelled_fr
 use Rattle.cell_join_lines.specs.TextReading.{TextValue}
 use Rattle.cell_join_tables.specs.TextHeads.{past_labelled}
 use Rattle.cell_join_tables.specs.JoinedLabels.{AreLabelledSo, HasLine, IsOfTexts, LabelledEntry, labelled_of}
-use Rattle.cell_join_tables.specs.parts.LabelSteps.{AgreesOn, ArePassed, IsReadPast, heads_of, labelled_head}
+use Rattle.cell_join_tables.specs.parts.LabelSteps.{AgreesOn, ArePassed, IsReadPast, labelled_heads, labelled_head}
 
 -- ---- lists
 
@@ -77,7 +77,7 @@ module _ (format : FormatValue) where
 
   -- what a text goes on with is one of its lines
   pub head-at : (texts : List TextValue) (lefts : List (List Labelled)) (y : Labelled)
-      → map lines_of texts ≡ map Some lefts → (i : ℕ) → slice_get (heads_of format texts) i ≡ Some (Some y)
+      → map lines_of texts ≡ map Some lefts → (i : ℕ) → slice_get (labelled_heads format texts) i ≡ Some (Some y)
       → HasLine lefts i y
   head-at [] [] y known i is = cc
   head-at [] (l ∷ ls) y known i is = cc
@@ -91,8 +91,8 @@ module _ (format : FormatValue) where
       head-at xs ls y rest i is
 
   own-head : (texts : List TextValue) (lefts : List (List Labelled)) (y : Labelled)
-      → map lines_of texts ≡ map Some lefts → (i : ℕ) → i < length (heads_of format texts)
-      → get_or (heads_of format texts) i (Some y) ≡ Some y → IsOfTexts lefts y
+      → map lines_of texts ≡ map Some lefts → (i : ℕ) → i < length (labelled_heads format texts)
+      → get_or (labelled_heads format texts) i (Some y) ≡ Some y → IsOfTexts lefts y
   own-head [] lefts y known i within is = absurd (omega (arith, within))
   own-head (x ∷ xs) [] y known i within is = cc
   own-head (x ∷ xs) (l ∷ ls) y known zero within is =
@@ -133,7 +133,7 @@ module _ (format : FormatValue) where
 
     pub passed-step : (done : List Labelled) (wholes lefts : List (List Labelled)) (texts : List TextValue)
         → map lines_of texts ≡ map Some lefts → ArePassed done wholes lefts
-        → AllByRecursion (AgreesOn k labelled) (heads_of format texts)
+        → AllByRecursion (AgreesOn k labelled) (labelled_heads format texts)
         → ArePassed (done ++ line ∷ []) wholes (map (past_labelled k) lefts)
     passed-step done [] [] texts known so agree = tt
     passed-step done [] (l ∷ ls) texts known so agree = absurd so
@@ -157,7 +157,7 @@ module _ (format : FormatValue) where
         λ i. option_map (past_labelled k) (one i) ∷ left-known xs ls rest i
 
   pub own-step : (texts : List TextValue) (lefts : List (List Labelled)) (y : Labelled)
-      → map lines_of texts ≡ map Some lefts → Contains (heads_of format texts) (Some y) → IsOfTexts lefts y
+      → map lines_of texts ≡ map Some lefts → Contains (labelled_heads format texts) (Some y) → IsOfTexts lefts y
   own-step texts lefts y known own = own-head texts lefts y known own.0 own.1 own.2
 
 -- ---- of the whole

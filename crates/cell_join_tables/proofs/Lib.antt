@@ -1,4 +1,3 @@
-pub mod EntryLemmas
 pub mod FaultLemmas
 pub mod FaultOrderLemmas
 pub mod GoingLemmas
@@ -8,12 +7,13 @@ pub mod LabelPlaceLemmas
 pub mod LabelledEndLemmas
 pub mod LabelledJoinLemmas
 pub mod LabelledStepLemmas
-pub mod ListLemmas
 pub mod MergeLemmas
 pub mod MergingLemmas
 pub mod OpeningLemmas
 pub mod OrderLemmas
+pub mod OrderedLabelLemmas
 pub mod PairLemmas
+pub mod PlainLemmas
 pub mod PlaceLemmas
 pub mod ReadingLemmas
 pub mod StepLemmas

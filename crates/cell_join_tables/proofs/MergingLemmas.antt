@@ -15,19 +15,13 @@ use Rattle.cell_join_lines.specs.TableLines.{entries_text, entry_line}
 use Rattle.cell_parts.specs.Merging.{IsListing}
 use Rattle.cell_join_tables.specs.JoinedTexts.{AreNoneBefore, AreTables, IsFirstPlace, IsJoinFault, tables_of}
 use Rattle.cell_join_tables.specs.MergedTables.{merge_of}
-use Rattle.cell_join_tables.specs.parts.MergeEnds.{AreEnded, EndsSo, HasMerged, HasStepped, IsMergeEnd}
+use Rattle.cell_join_tables.specs.parts.MergeEnds.{AreEnded, EndsSo}
 use Rattle.cell_join_tables.specs.parts.Taking.{HasTaken, IsStepFault, StepFails, TakesEntries}
 use Rattle.cell_join_tables.specs.declared.join_fault.JoinFault.{JoinFault}
 use Rattle.cell_join_tables.specs.declared.join_fault.JoinFault.TheVariants.{Text, TooMany, TooLong, Memory, Write}
 use Rattle.cell_join_tables.proofs.StepLemmas.{merges-all}
 
 -- ---- entries taken after others
-
-entries-more : (format : FormatValue) (done : Pairs) (e : Combination × ℕ)
-    → entries_text format done ++ entry_line format e ≡ entries_text format (done ++ e ∷ [])
-entries-more format [] e = sym (append-nil (entry_line format e))
-entries-more format (x ∷ done) e = append_assoc (entry_line format x) (entries_text format done) (entry_line format e)
-    ∙ ap (λ text. entry_line format x ++ text) (entries-more format done e)
 
 module _ {X : Type 0} (read : X → Option TableReading) where
   pub takes-none : (texts : List X) → TakesEntries read texts texts []
@@ -101,9 +95,6 @@ module _ {X : Type 0} (read : X → Option TableReading) (readings : List TableR
   fault-of-all Memory is = tt
   fault-of-all Write is = absurd is
 
-  ends-err : (fault : JoinFault) → IsJoinFault readings fault → EndsSo readings done (Err fault)
-  ends-err fault is = (is, (merge_of (tables_of taken.after), taken.merged))
-
   pub ends-ok : taken.after ≡ map (λ r. ended) taken.after → EndsSo readings done (Ok tt)
   ends-ok is =
       let none : merge_of (tables_of taken.after) ≡ [] = ap (λ rs. merge_of (tables_of rs)) is
@@ -116,63 +107,3 @@ module _ {X : Type 0} (read : X → Option TableReading) (readings : List TableR
   pub too-long : (count : ℕ) → length done ≡ count → 2 ^ 64 - 1 ≤ count → IsJoinFault readings TooLong
   too-long count counted high = omega
       (arith, counted, high, ap length taken.merged, length-append done (merge_of (tables_of taken.after)))
-
-module _ {X S : Type 0} (read : X → Option TableReading) (format : FormatValue) (texts mid : List X)
-    (taken : S → Option (List ℕ)) (faults : S → Faults) (out : S) (block : BlockValue) where
-  -- at the start
-  pub merged-none : HasMerged read format texts texts taken faults out block out block 0
-  merged-none = record { done = []; counted = refl; takes = takes-none read texts; appends = appends_none }
-
-  module _ (now : S) (after : BlockValue) (count : ℕ)
-      (merged : HasMerged read format texts mid taken faults out block now after count) where
-    -- one more
-    pub merged-more : (new : List X) (next : S) (then : BlockValue)
-        → HasStepped read format mid new taken faults now after next then
-        → HasMerged read format texts new taken faults out block next then (count + 1)
-    merged-more new next then step = record {
-      done = merged.done ++ step.entry ∷ [];
-      counted = length-append merged.done (step.entry ∷ []) ∙ ap (λ n. n + 1) merged.counted;
-      takes = takes-more read texts mid new merged.done step.entry merged.takes step.takes;
-      appends = rw (← entries-more format merged.done step.entry) (appends_then merged.appends step.appends);
-    }
-
-    -- each is at its end
-    pub merged-all : AreEnded read mid → IsMergeEnd read format texts taken faults out block now after (Ok tt)
-    merged-all done = record {
-      done = merged.done;
-      appends = merged.appends;
-      ends = λ readings known all.
-          let so = merged.takes readings known all in
-          ends-ok read readings all mid merged.done so (done so.after so.known);
-    }
-
-    -- no more is taken
-    pub merged-fault : (fault : JoinFault) → StepFails read mid fault
-        → IsMergeEnd read format texts taken faults out block now after (Err fault)
-    merged-fault fault fails = record {
-      done = merged.done;
-      appends = merged.appends;
-      ends = λ readings known all.
-          let so = merged.takes readings known all in
-          ends-err read readings all mid merged.done so fault
-          (fault-of-all read readings all mid merged.done so fault (fails so.after so.known so.listings));
-    }
-
-    pub merged-write : IsMergeEnd read format texts taken faults out block now after (Err Write)
-    merged-write = record {
-      done = merged.done;
-      appends = merged.appends;
-      ends = λ readings known all.
-          let so = merged.takes readings known all in
-          ends-err read readings all mid merged.done so Write tt;
-    }
-
-    pub merged-long : 2 ^ 64 - 1 ≤ count → IsMergeEnd read format texts taken faults out block now after (Err TooLong)
-    merged-long high = record {
-      done = merged.done;
-      appends = merged.appends;
-      ends = λ readings known all.
-          let so = merged.takes readings known all in
-          ends-err read readings all mid merged.done so TooLong
-          (too-long read readings all mid merged.done so count merged.counted high);
-    }

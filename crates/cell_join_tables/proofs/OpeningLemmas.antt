@@ -22,16 +22,6 @@ slice-behind [] ys y = refl
 slice-behind (x ∷ xs) ys y = slice-behind xs ys y
 
 module _ {R X : Type 0} (coming : R → Option Coming) (read : X → Option TableReading) (format : FormatValue) where
-  pub opened-none : (sources : List R) (comings : List Coming) → Give coming sources comings
-      → HasOpened coming read format sources [] 0 comings
-  opened-none sources comings give = record {
-    others = comings;
-    give = give;
-    first = [];
-    known = refl;
-    whole = refl;
-  }
-
   known-one : (o : Option Coming) (c : Coming) (P : Coming → Type 0) → o ≡ Some c → IfSome o P → P c
   known-one o c P is so = rw is at so
 
@@ -132,10 +122,6 @@ module _ {R X : Type 0} (coming : R → Option Coming) (read : X → Option Tabl
 module _ {R X Y : Type 0} (coming : R → Option Coming) (see : X → Option Y) (of : Coming → Y) where
   abbrev seen_of : Coming → Option Y
   seen_of c = Some (of c)
-
-  pub seen-none : (sources : List R) (comings : List Coming) → Give coming sources comings
-      → HasSeen coming see of sources [] comings
-  seen-none sources comings give = record { others = comings; give = give; known = refl }
 
   more-seen : (source : R) (left : List R) (texts : List X) (text : X) (others comings : List Coming)
       → Give coming (source ∷ left) others → map see texts ++ map seen_of others ≡ map seen_of comings

@@ -19,19 +19,15 @@ use Rattle.cell_parts.specs.Merging.{IsListing}
 use Rattle.cell_parts.proofs.ListingLemmas.{beside-merge}
 use Rattle.cell_join_tables.specs.JoinedTexts.{IsFaultyAtOnce, first_entry, tables_of}
 use Rattle.cell_join_tables.specs.MergedTables.{BeginsAbove, BeginsAt, first_count, merge_of, put_first, total_in}
-use Rattle.cell_join_tables.specs.TextHeads.{sum_if_any, head_count, is_of, past, past_first, sum_of_counts}
+use Rattle.cell_join_tables.specs.TextHeads.{sum_if_any, head_count, is_of, past, past_first}
 use Rattle.cell_join_tables.specs.JoinAnswers.{IsFaultOfText}
 use Rattle.cell_join_tables.specs.parts.Taking.{HasTaken, IsStepFault}
 use Rattle.cell_join_tables.specs.declared.join_fault.JoinFault.{JoinFault}
 use Rattle.cell_join_tables.specs.declared.join_fault.JoinFault.TheVariants.{Text, TooMany, TooLong, Memory, Write}
-use Rattle.cell_join_tables.proofs.FaultOrderLemmas.{all-on, none-before, places-kept, stops-first}
+use Rattle.cell_join_tables.proofs.FaultOrderLemmas.{all-on, none-before, stops-first}
 use Rattle.cell_join_tables.proofs.StepLemmas.{least-first, merges-all}
 
 -- ---- counts that may be, from either end
-
-pub sum-none : (a : Option ℕ) → sum_if_any a None ≡ a
-sum-none None = refl
-sum-none (Some n) = refl
 
 pub sum-regrouped : (a b c : Option ℕ) → sum_if_any (sum_if_any a b) c ≡ sum_if_any a (sum_if_any b c)
 sum-regrouped None b c = refl
@@ -39,17 +35,7 @@ sum-regrouped (Some n) None c = refl
 sum-regrouped (Some n) (Some m) None = refl
 sum-regrouped (Some n) (Some m) (Some l) = let e : (n + m) + l ≡ n + (m + l) = omega arith in ap Some e
 
-sum-some : (a : Option ℕ) (n : ℕ) → sum_if_any a (Some n) ≢ None
-sum-some None n e = cc
-sum-some (Some m) n e = cc
-
 module _ (k : Combination) where
-  totals : (tables : List Pairs) (a : Option ℕ)
-      → fold sum_if_any a (map (first_count k) tables) ≡ sum_if_any a (total_in k tables)
-  totals [] a = sym (sum-none a)
-  totals (table ∷ tables) a = totals tables (sum_if_any a (first_count k table))
-      ∙ sum-regrouped a (first_count k table) (total_in k tables)
-
   pub first-counted : (es : Pairs) → head_count k (first_entry es) ≡ first_count k es
   first-counted [] = refl
   first-counted (e ∷ es) = refl
@@ -71,20 +57,10 @@ module _ (k : Combination) where
       by true = behind
       by false = listing
 
-  past-listings : (readings : List TableReading) → AllByRecursion IsListing (tables_of readings)
-      → AllByRecursion IsListing (tables_of (map (past k) readings))
-  past-listings [] all = tt
-  past-listings (r ∷ rs) all = (past-listing r.entries all.0, past-listings rs all.1)
-
   pub past-tables : (readings : List TableReading)
       → map (past_first k) (tables_of readings) ≡ tables_of (map (past k) readings)
   past-tables [] = refl
   past-tables (r ∷ rs) = ap (λ ts. past_first k r.entries ∷ ts) (past-tables rs)
-
-  past-faults : (readings : List TableReading)
-      → map (λ (r : TableReading). r.fault) (map (past k) readings) ≡ map (λ (r : TableReading). r.fault) readings
-  past-faults [] = refl
-  past-faults (r ∷ rs) = ap (λ fs. r.fault ∷ fs) (past-faults rs)
 
   pub above-next : (e : Combination × ℕ) (es : Pairs) → IsListing (e ∷ es) → BeginsAbove e.0 es
   unfolding IsStrictlySortedBy
@@ -170,60 +146,6 @@ module _ (format : FormatValue) (k : Combination) where
         begins xs rs rest (All-tail IsNotBefore x xs least) all.1,
       )
 
-  counts-known : (texts : List TextValue) (readings : List TableReading) → map read texts ≡ map Some readings
-      → map (λ (text : TextValue). head_count k text.head) texts ≡ map (first_count k) (tables_of readings)
-  counts-known [] [] known = refl
-  counts-known [] (r ∷ rs) known = cc
-  counts-known (x ∷ xs) [] known = cc
-  counts-known (x ∷ xs) (r ∷ rs) known =
-      let one : read x ≡ Some r = cc in
-      let rest : map read xs ≡ map Some rs = cc in
-      let here : head_count k x.head ≡ first_count k r.entries = ap (head_count k) (sym (head-read format x r one))
-      ∙ first-counted k r.entries in
-      λ i. here i ∷ counts-known xs rs rest i
-
-  -- the counts of heads are those of the tables
-  total-known : (texts : List TextValue) (readings : List TableReading) → map read texts ≡ map Some readings
-      → sum_of_counts (map (λ (text : TextValue). head_count k text.head) texts) ≡ total_in k (tables_of readings)
-  total-known texts readings known = ap sum_of_counts (counts-known texts readings known)
-      ∙ totals k (tables_of readings) None
-
-  past-known : (texts : List TextValue) (readings : List TableReading) → map read texts ≡ map Some readings
-      → map (λ text. option_map (past k) (read text)) texts ≡ map Some (map (past k) readings)
-  past-known [] [] known = refl
-  past-known [] (r ∷ rs) known = cc
-  past-known (x ∷ xs) [] known = cc
-  past-known (x ∷ xs) (r ∷ rs) known =
-      let one : read x ≡ Some r = cc in
-      let rest : map read xs ≡ map Some rs = cc in
-      λ i. option_map (past k) (one i) ∷ past-known xs rs rest i
-
-  merged-known : (texts : List TextValue) (readings : List TableReading) → map read texts ≡ map Some readings
-      → All IsNotBefore texts → AllByRecursion IsListing (tables_of readings)
-      → merge_of (tables_of readings) ≡ put_first k
-      (sum_of_counts (map (λ (text : TextValue). head_count k text.head) texts))
-      (merge_of (tables_of (map (past k) readings)))
-  merged-known texts readings known least all =
-      let total = sym (total-known texts readings known) in
-      least-first k (tables_of readings) (begins texts readings known least all)
-      ∙ (λ i. put_first k (total i) (merge_of (past-tables k readings i)))
-
-  -- the heads of the least combination were taken
-  pub takes-least : (old new : List TextValue) (n : ℕ) → All IsNotBefore old
-      → Some n ≡ sum_of_counts (map (λ (text : TextValue). head_count k text.head) old)
-      → map read new ≡ map (λ text. option_map (past k) (read text)) old
-      → (readings : List TableReading) → map read old ≡ map Some readings
-      → AllByRecursion IsListing (tables_of readings) → HasTaken read readings new ((k, n) ∷ [])
-  takes-least old new n least total taken readings known all = record {
-    after = map (past k) readings;
-    known = taken ∙ past-known old readings known;
-    listings = past-listings k readings all;
-    merged = merged-known old readings known least all
-        ∙ ap (λ o. put_first k o (merge_of (tables_of (map (past k) readings)))) (sym total);
-    faults = past-faults k readings;
-    places = places-kept read (no-entry format) k new readings (taken ∙ past-known old readings known);
-  }
-
   -- what is beyond 64 bits at the heads is so in all
   pub beyond : (tables : List Pairs) (total : Option ℕ) (rest : Pairs) → AllByRecursion IsListing tables
       → merge_of tables ≡ put_first k total rest → 2 ^ 64 ≤ unwrap_or total 0 → 2 ^ 64 ≤ sum_by (count_in k) tables
@@ -235,14 +157,6 @@ module _ (format : FormatValue) (k : Combination) where
       let sum : n ≡ sum_by (count_in k) tables = sym here ∙ ap (count_in k) (sym is)
       ∙ beside-merge tables (merge_of tables) (merges-all tables all) k in
       subst (λ m. 2 ^ 64 ≤ m) sum high
-
-  pub beyond-all : (texts : List TextValue) (readings : List TableReading) → map read texts ≡ map Some readings
-      → All IsNotBefore texts → AllByRecursion IsListing (tables_of readings)
-      → 2 ^ 64 ≤ unwrap_or (sum_of_counts (map (λ (text : TextValue). head_count k text.head) texts)) 0
-      → 2 ^ 64 ≤ sum_by (count_in k) (tables_of readings)
-  beyond-all texts readings known least all high =
-      beyond (tables_of readings) (sum_of_counts (map (λ (text : TextValue). head_count k text.head) texts))
-      (merge_of (tables_of (map (past k) readings))) all (merged-known texts readings known least all) high
 
 -- each text is at its end
 pub all-ended : (format : FormatValue) (texts : List TextValue) → All (λ text. text.head ≡ None) texts
@@ -259,60 +173,3 @@ all-ended format (x ∷ xs) done (r ∷ rs) known =
     λ i. here i ∷ all-ended format xs (All-tail P x xs done) rs rest i
 
 -- ---- a combination that a text begins with has a count
-
-abbrev own_of : TextValue → Option Combination
-own_of text = option_map (λ (entry : Combination × ℕ). entry.0) text.head
-
-fold-some : (k : Combination) (texts : List TextValue) (a : Option ℕ) → a ≢ None
-    → fold sum_if_any a (map (λ (text : TextValue). head_count k text.head) texts) ≢ None
-fold-some k [] a some none = some none
-fold-some k (x ∷ xs) a some none = fold-some k xs (sum_if_any a (head_count k x.head))
-    (kept a (head_count k x.head) some) none
-  where
-    kept : (a b : Option ℕ) → a ≢ None → sum_if_any a b ≢ None
-    kept None b some e = some refl
-    kept (Some n) None some e = cc
-    kept (Some n) (Some m) some e = cc
-
-own-head : (k : Combination) (head : Option (Combination × ℕ)) (a : Option ℕ)
-    → option_map (λ (entry : Combination × ℕ). entry.0) head ≡ Some k → sum_if_any a (head_count k head) ≢ None
-own-head k None a is none = cc
-own-head k (Some entry) a is none =
-    let same : entry.0 ≡ k = cc in
-    let own : is_of k entry ≡ true = ap (λ c. eq_by_cmp combination_cmp c k) same
-    ∙ ap is_eq (tied_itself combination_cmp_total k) in
-    sum-some a entry.1 (ap (λ t. sum_if_any a (cond t (Some entry.1) None)) (sym own) ∙ none)
-
-at-place : (k : Combination) (texts : List TextValue) (i : ℕ) (a : Option ℕ) → i < length (map own_of texts)
-    → get_or (map own_of texts) i (Some k) ≡ Some k
-    → fold sum_if_any a (map (λ (text : TextValue). head_count k text.head) texts) ≢ None
-at-place k [] i a within is none = absurd (omega (arith, within))
-at-place k (x ∷ xs) zero a within is none = fold-some k xs (sum_if_any a (head_count k x.head))
-    (own-head k x.head a is) none
-at-place k (x ∷ xs) (suc i) a within is none = at-place k xs i (sum_if_any a (head_count k x.head))
-    (omega (arith, within)) is none
-
-pub own-counted : (k : Combination) (texts : List TextValue) → Contains (map own_of texts) (Some k)
-    → sum_of_counts (map (λ (text : TextValue). head_count k text.head) texts) ≢ None
-own-counted k texts own none = at-place k texts own.0 None own.1 own.2 none
-
--- a fault of taking, with what is beyond 64 bits
-pub step-fault : (format : FormatValue) (k : Combination) (texts : List TextValue) (fault : JoinFault)
-    (readings : List TableReading) → map (λ text. reading_from format text) texts ≡ map Some readings
-    → All (λ text. IfSome text.head (λ entry. combination_cmp entry.0 k ≢ Less)) texts
-    → AllByRecursion IsListing (tables_of readings) → IsFaultOfText k readings fault
-    → ((j : Combination) → fault ≡ TooMany j → (j ≡ k) × (2 ^ 64 ≤ unwrap_or
-    (sum_of_counts (map (λ (text : TextValue). head_count k text.head) texts)) 0)) → IsStepFault readings fault
-step-fault format k texts (Text text fault) readings known least all is high =
-    stops-first k readings (all-on (λ text. reading_from format text) (no-entry format) texts readings known)
-    (begins format k texts readings known least all) all text fault is
-step-fault format k texts (TooMany j) readings known least all is high =
-    let so = high j refl in
-    subst (λ (c : Combination). IsStepFault readings (TooMany c)) (sym so.0) (
-      beyond-all format k texts readings known least all so.1,
-      none-before k readings (all-on (λ text. reading_from format text) (no-entry format) texts readings known)
-          (begins format k texts readings known least all) all,
-    )
-step-fault format k texts TooLong readings known least all is high = is
-step-fault format k texts Memory readings known least all is high = tt
-step-fault format k texts Write readings known least all is high = is

@@ -1,5 +1,5 @@
 -- Texts of tables with labels joined to one: which labels an entry of the merge has, and what is written of it.
-use Rattle.std.specs.Prelude.{ℕ, ◌≡◌, ◌≢◌, ◌<◌, List, ◌++◌, length, map, flat_map, codes, decimal, slice_get, Option, Some}
+use Rattle.std.specs.Prelude.{ℕ, ◌≡◌, ◌≢◌, ◌<◌, List, ◌++◌, length, map, flat_map, codes, decimal, slice_get, Option, Some, None}
 use Rattle.std.specs.List.{AllByRecursion, Contains}
 use Rattle.cell_core_devices.specs.Blocks.{capped_count}
 use Rattle.cell_core_devices.specs.Device.{Coming, append_known}
@@ -9,7 +9,7 @@ use Rattle.cell_stats.specs.TableText.{FormatValue}
 use Rattle.cell_parts.specs.TableParts.{IsMerge}
 use Rattle.cell_join_lines.specs.LineLabels.{Labelled, labelled_in}
 use Rattle.cell_join_lines.specs.LineReading.{TableReading}
-use Rattle.cell_join_tables.specs.JoinedTexts.{AreNoneBefore, AreTables, IsJoinFault, IsMergeOf, fault_place, readings_of, tables_of}
+use Rattle.cell_join_tables.specs.JoinedTexts.{AreJoinedTexts, AreNoneBefore, AreTables, HasWritten, IsJoinFault, IsMergeOf, fault_place, readings_of, tables_of}
 use Rattle.cell_join_tables.specs.declared.join_fault.JoinFault.{JoinFault}
 use Rattle.cell_join_tables.specs.declared.join_fault.JoinFault.TheVariants.{Text, TooMany, TooLong, Memory, Write}
 use Rattle.cell_join_tables.specs.declared.label_fault.OtherLabel.{OtherLabel}
@@ -122,3 +122,14 @@ HasJoinWritten format texts before now written Write = HasLabelledPrefix format 
 abbrev pub HasLabelledWritten : FormatValue → List Coming → Option (List ℕ) → Option (List ℕ) → ℕ → LabelFault → Type 0
 HasLabelledWritten format texts before now written (faults.Join fault) = HasJoinWritten format texts before now written fault
 HasLabelledWritten format texts before now written (faults.OtherLabel told) = HasLabelledLines format texts before now written
+
+-- what is told of texts with labels, and what the sink took
+abbrev pub IsTold : FormatValue → List Coming → (before now : Option (List ℕ)) → (written : ℕ) → Option LabelFault → Type 0
+IsTold format texts before now written None = AreJoinedLabels format texts before now written
+IsTold format texts before now written (Some fault) = IsLabelFault format texts fault × HasLabelledWritten format texts before now written fault
+
+-- the same of texts without labels, which are never told to have others
+abbrev pub IsPlainly : FormatValue → List Coming → (before now : Option (List ℕ)) → (written : ℕ) → Option LabelFault → Type 0
+IsPlainly format texts before now written None = AreJoinedTexts format (readings_of format texts) before now written
+IsPlainly format texts before now written (Some (faults.Join fault)) = IsJoinFault (readings_of format texts) fault × HasWritten format (readings_of format texts) before now written fault
+IsPlainly format texts before now written (Some (faults.OtherLabel told)) = ⊥

@@ -30,10 +30,6 @@ sum_if_any None count = count
 sum_if_any (Some total) None = Some total
 sum_if_any (Some total) (Some count) = Some (total + count)
 
--- counts that may be, together
-abbrev pub sum_of_counts : List (Option ℕ) → Option ℕ
-sum_of_counts counts = fold sum_if_any None counts
-
 -- what lines have, without that of the first where it is of the combination
 abbrev pub past_labelled : Combination → List Labelled → List Labelled
 past_labelled k [] = []

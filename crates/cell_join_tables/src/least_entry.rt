@@ -1,19 +1,22 @@
 //! The least entry that texts go on with.
 
-ghost use Rattle.std.specs.Prelude.{◌≡◌, ◌≢◌, List, [], ◌∷◌, IfErr, IfOk, IfSome, None, Ok, Some, option_map};
+ghost use Rattle.std.specs.Prelude.{◌≡◌, ◌≢◌, ℕ, List, [], ◌∷◌, All, IfErr, IfOk, IfSome, None, Ok, OnOk, Some, map, option_map};
+ghost use Rattle.cell_join_lines.specs.LineLabels.{labelled_from};
 ghost use Rattle.cell_join_lines.specs.LineReading.{TableReading};
 ghost use Rattle.cell_join_lines.specs.TextReading.{reading_from};
-ghost use Rattle.cell_join_tables.specs.TextHeads.{head_count};
+ghost use Rattle.cell_join_tables.specs.TextHeads.{head_count, past_labelled};
 ghost use Rattle.cell_join_tables.specs.parts.MergeEnds.{AreEnded};
 ghost use Rattle.cell_join_tables.specs.parts.Taking.{HasTaken, IsStepFault, StepFails, TakesEntries};
+ghost use Rattle.cell_join_tables.specs.parts.HeadOrder.{BeginsWith};
+ghost use Rattle.cell_join_tables.specs.parts.LabelSteps.{LeavesLines};
 ghost use Rattle.cell_join_tables.specs.parts.LeastEntries.{HasGone};
 
+use crate::join_fault::JoinFault;
 use crate::ordered_texts::OrderedTexts;
+use crate::text_heads::too_many;
 use cell_core::source::Source;
 use cell_stats::format::Format;
 use cell_stats_combinations::combination::Combo;
-use crate::join_fault::JoinFault;
-use crate::text_heads::too_many;
 use std::alloc::Global;
 
 // The count of an entry, where there is one and it is of the combination.
@@ -38,6 +41,10 @@ fn take_others<R: Source>(
         → HasGone (λ text. reading_from format.now text) combo.now readings texts.old (Some count) 1
         → IfOk result (λ total. HasTaken (λ text. reading_from format.now text) readings texts.new
         ((combo.now, total) ∷ [])) }
+    ensures labelled { (readings : List TableReading)
+        → HasGone (λ text. reading_from format.now text) combo.now readings texts.old (Some count) 1
+        → OnOk result (map (λ text. labelled_from format.now text) texts.new
+        ≡ map (λ text. option_map (past_labelled combo.now) (labelled_from format.now text)) texts.old) }
     ensures fault { (readings : List TableReading)
         → HasGone (λ text. reading_from format.now text) combo.now readings texts.old (Some count) 1
         → IfErr result (IsStepFault readings) }
@@ -74,7 +81,12 @@ pub(crate) fn take_least<R: Source>(
 ) -> Result<Option<(Combo, u64)>, JoinFault>
     ensures some { IfOk result (λ taken. IfSome taken (λ entry. TakesEntries
         (λ text. reading_from format.now text) texts.old texts.new (entry ∷ []))) }
+    ensures labelled { IfOk result (λ taken. IfSome taken
+        (λ entry. LeavesLines format.now entry.0 texts.old texts.new)) }
+    ensures begins { IfOk result (λ taken. IfSome taken
+        (λ entry. (n : ℕ) × BeginsWith texts.old (entry.0, n))) }
     ensures none { result ≡ Ok None → AreEnded (λ text. reading_from format.now text) texts.old }
+    ensures ended { result ≡ Ok None → All (λ text. text.head ≡ None) texts.old }
     ensures fault { IfErr result (StepFails (λ text. reading_from format.now text) texts.old) }
     ensures unwritten { IfErr result (λ fault. fault ≢ JoinFault.Write) }
 {

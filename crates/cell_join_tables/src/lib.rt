@@ -2,10 +2,8 @@
 //! labels are printed, with the labels that all texts have.
 #![tactic(auto)]
 
-mod entry_lines;
 pub mod join_fault;
 pub mod label_fault;
-pub mod label_joining;
 mod labels_at;
 pub mod law;
 mod least_entry;

@@ -1,17 +1,22 @@
 //! Texts in the order in which a merge goes on with them.
 
-ghost use Rattle.std.specs.Prelude.{◌≡◌, ◌≢◌, ◌<◌, ◌≤◌, ℕ, List, All, drop, length, slice_index, IfErr, IfOk, MatchOption, OnOk};
-ghost use Rattle.std.specs.List.{insert};
+ghost use Rattle.std.specs.Prelude.{◌≡◌, ◌≢◌, ◌<◌, ◌≤◌, ℕ, List, All, drop, length, slice_index, IfErr, IfOk, IfSome, MatchOption, None, Ok, OnOk, Some};
+ghost use Rattle.std.specs.List.{Contains, insert};
+ghost use Rattle.cell_stats_combinations.specs.Combinations.{Combination};
 ghost use Rattle.cell_join_lines.specs.TextReading.{combination_of};
+ghost use Rattle.cell_join_tables.specs.parts.LabelEnds.{StopsAtLabels};
+ghost use Rattle.cell_join_tables.specs.parts.LabelSteps.{AllAgree, labelled_heads};
 ghost use Rattle.cell_join_tables.specs.parts.HeadOrder.{Ascends, AreBefore, BeginsWith, GoesFirst, IsFaultBehind, ReadsOn, goes_before, heads_of};
 
+use crate::join_fault::JoinFault;
+use crate::label_fault::OtherLabel;
+use crate::labels_at::{other_at, other_label};
+use crate::text_heads::of_text;
 use cell_core::memory::Memory;
 use cell_core::source::Source;
+use cell_join_lines::text::TableText;
 use cell_stats::format::Format;
 use cell_stats_combinations::combination::Combo;
-use cell_join_lines::text::TableText;
-use crate::join_fault::JoinFault;
-use crate::text_heads::of_text;
 use std::alloc::Global;
 use std::cmp::Ordering;
 use std::marker::Model;
@@ -143,6 +148,49 @@ impl<R: Source> OrderedTexts<R> {
         match self.texts[*first].head() {
             Some(entry) => Some(entry),
             None => None,
+        }
+    }
+
+    /// Puts what the line of the first text has before its count in the place of what is given, and tells the first text that goes on
+    /// with the same combination and has something else there, if there is one.
+    ///
+    /// # Errors
+    ///
+    /// [`JoinFault::Memory`].
+    pub(crate) fn compare_labels(
+        &self,
+        alloc: Global,
+        format: &Format,
+        labelled: &mut Vec<u8>,
+    ) -> Result<Option<OtherLabel>, JoinFault>
+        ensures agree { result ≡ Ok None → (entry : Combination × ℕ) → BeginsWith self.now entry
+            → AllAgree format.now entry.0 labelled.new.items self.now }
+        ensures own { result ≡ Ok None → (entry : Combination × ℕ) → BeginsWith self.now entry
+            → Contains (labelled_heads format.now self.now)
+            (Some (entry.0, labelled.new.items)) }
+        ensures other { IfOk result (λ told. IfSome told (StopsAtLabels format.now self.now)) }
+        ensures memory { IfErr result (λ fault. fault ≡ JoinFault.Memory) }
+    {
+        let Some(first) = self.order.as_slice().first() else {
+            return Ok(None);
+        };
+        let first = *first;
+        let texts = self.texts.as_slice();
+        let at = &texts[first];
+        let Some((combo, _)) = at.head() else {
+            return Ok(None);
+        };
+        labelled.clear();
+        match labelled.extend_from_slice(at.before_count(format.separator())) {
+            Ok(()) => {}
+            Err(_) => return Err(JoinFault::Memory),
+        }
+        let Some(other) = other_at(format, texts, self.order.as_slice(), combo, labelled) else {
+            return Ok(None);
+        };
+        match other_label(alloc, format, texts, combo, labelled, first, other) {
+            Ok(told) => Ok(Some(told)),
+            Err(fault) => Err(fault),
         }
     }
 

@@ -1,26 +1,33 @@
 //! Texts of tables joined to one text.
 
-ghost use Rattle.std.specs.Prelude.{◌≡◌, ◌≢◌, List, Ok, Err, None, Some, IfErr, IfSome, OnErr, false, true};
+ghost use Rattle.std.specs.Prelude.{◌≡◌, ◌≢◌, List, All, Ok, Err, None, Some, IfErr, IfSome, OnErr, map, false, true};
 ghost use Rattle.std.specs.List.{Contains};
+ghost use Rattle.cell_core_devices.specs.Blocks.{Appends};
+ghost use Rattle.cell_core_devices.specs.Device.{Coming, after_flush, append_known, has_failed};
+ghost use Rattle.cell_stats_combinations.specs.Combinations.{Combination};
 ghost use Rattle.cell_stats.specs.CategoryTables.{Pairs};
-ghost use Rattle.cell_core_devices.specs.Device.{Coming, append_known, has_failed, after_flush};
+ghost use Rattle.cell_join_lines.specs.LineLabels.{labelled_from, labelled_in};
 ghost use Rattle.cell_join_lines.specs.LineReading.{TableReading};
 ghost use Rattle.cell_join_lines.specs.TableLines.{entries_text};
 ghost use Rattle.cell_join_lines.specs.TextReading.{reading_from};
-ghost use Rattle.cell_join_tables.specs.JoinedTexts.{Give, HasWritten, AreJoinedTexts, IsFaultyAtOnce, IsJoinFault, IsMergeOf, readings_of};
-ghost use Rattle.cell_join_tables.specs.parts.MergeEnds.{AreEnded, HasStepped, IsMergeEnd};
+ghost use Rattle.cell_join_tables.specs.JoinedLabels.{AreJoinedLabels, HasLabelledWritten, IsLabelFault, IsLabelledMerge, IsPlainly, IsTold, LabelledEntry, counted_line, counted_text};
+ghost use Rattle.cell_join_tables.specs.JoinedTexts.{Give, IsFaultyAtOnce, IsMergeOf, readings_of};
+ghost use Rattle.cell_join_tables.specs.parts.LabelEnds.{IsLabelledEnd, StopsAtLabels, answer_of, label_fault_of, other_of};
+ghost use Rattle.cell_join_tables.specs.parts.LabelSteps.{HasLabelledStep};
+ghost use Rattle.cell_join_tables.specs.parts.MergeEnds.{AreEnded};
 ghost use Rattle.cell_join_tables.specs.parts.Taking.{StepFails};
 
-use crate::entry_lines::write_entry;
+use crate::join_fault::JoinFault;
+use crate::label_fault::{LabelFault, OtherLabel};
 use crate::least_entry::take_least;
 use crate::ordered_texts::OrderedTexts;
+use crate::text_joining::{finish, open_texts, settle};
 use cell_core::block::OutputBlock;
 use cell_core::sink::Sink;
 use cell_core::source::Source;
-use cell_stats::format::Format;
 use cell_join_lines::text::TableText;
-use crate::join_fault::JoinFault;
-use crate::text_joining::{finish, open_texts, settle};
+use cell_stats::format::Format;
+use itoa::Buffer;
 use std::alloc::Global;
 
 /// What joining texts did.
@@ -29,52 +36,82 @@ pub struct JoinOutcome {
     /// The number of bytes that the sink took, or the greatest `u64` where it took more.
     pub written: u64,
     /// Why the texts are not joined.
-    pub fault: Option<JoinFault>,
+    pub fault: Option<LabelFault>,
 }
 
-// Takes the least entry of all, writes its line, and tells whether there was one.
+// What a step of the merge did.
+#[derive(Debug, Drop)]
+enum JoinStep {
+    Line,
+    End,
+    Other(OtherLabel),
+}
+
+// Writes a line: what stands before its count, and the count.
+fn write_counted<W: Sink>(out: &mut W, block: &mut OutputBlock, labelled: &[u8], count: u64)
+    ensures { (k : Combination) → Appends W.taken W.faults out.old block.old
+        (counted_line ((k, labelled.now), count)) out.new block.new }
+{
+    block.push(out, labelled);
+    block.push(out, Buffer::new().format(count).as_bytes());
+    block.push(out, b"\n");
+}
+
+// Takes the least entry of all, writes its line with the labels that all texts have, and tells whether there was one.
 fn write_least<R: Source, W: Sink>(
     alloc: Global,
     format: &Format,
     texts: &mut OrderedTexts<R>,
+    labelled: &mut Vec<u8>,
     block: &mut OutputBlock,
     out: &mut W,
-) -> Result<bool, JoinFault>
-    ensures some { result ≡ Ok true → HasStepped (λ text. reading_from format.now text)
-        format.now texts.old texts.new W.taken W.faults out.old block.old out.new block.new }
-    ensures none { result ≡ Ok false
+) -> Result<JoinStep, JoinFault>
+    ensures line { result ≡ Ok JoinStep.Line → HasLabelledStep format.now texts.old texts.new
+        W.taken W.faults out.old block.old out.new block.new }
+    ensures end { result ≡ Ok JoinStep.End
         → AreEnded (λ text. reading_from format.now text) texts.old
+        × All (λ text. text.head ≡ None) texts.old
+        × (out.new ≡ out.old) × (block.new ≡ block.old) }
+    ensures other { (told : OtherLabel) → result ≡ Ok (JoinStep.Other told)
+        → StopsAtLabels format.now texts.old told
         × (out.new ≡ out.old) × (block.new ≡ block.old) }
     ensures fault { IfErr result (StepFails (λ text. reading_from format.now text) texts.old) }
     ensures unwritten { IfErr result (λ fault. fault ≢ JoinFault.Write) }
     ensures err { OnErr result ((out.new ≡ out.old) × (block.new ≡ block.old)) }
 {
+    match texts.compare_labels(alloc, format, labelled) {
+        Ok(None) => {}
+        Ok(Some(told)) => return Ok(JoinStep::Other(told)),
+        Err(fault) => return Err(fault),
+    }
     match take_least(alloc, format, texts) {
-        Ok(Some((combo, count))) => {
-            write_entry(out, block, format, &combo, count);
-            Ok(true)
+        Ok(Some((_, count))) => {
+            write_counted(out, block, labelled, count);
+            Ok(JoinStep::Line)
         }
-        Ok(None) => Ok(false),
+        Ok(None) => Ok(JoinStep::End),
         Err(fault) => Err(fault),
     }
 }
 
-// Writes the lines of the merge, from the least entry on.
+// Writes the lines of the merge, from the least entry on, up to the first whose labels differ between texts, and tells these.
 fn merge_texts<R: Source, W: Sink>(
     alloc: Global,
     format: &Format,
     texts: &mut OrderedTexts<R>,
     block: &mut OutputBlock,
     out: &mut W,
-) -> Result<(), JoinFault>
-    ensures end { IsMergeEnd (λ text. reading_from format.now text) format.now texts.old
+) -> Result<Option<OtherLabel>, JoinFault>
+    ensures end { IsLabelledEnd format.now texts.old
         W.taken W.faults out.old block.old out.new block.new result }
     ensures write { result ≡ Err JoinFault.Write → block.new.failed ≡ true }
 {
+    let mut labelled = Vec::new(alloc);
     'lines: for line in 0..u64::MAX {
-        match write_least(alloc, format, texts, block, out) {
-            Ok(true) => {}
-            Ok(false) => return Ok(()),
+        match write_least(alloc, format, texts, &mut labelled, block, out) {
+            Ok(JoinStep::Line) => {}
+            Ok(JoinStep::End) => return Ok(None),
+            Ok(JoinStep::Other(told)) => return Ok(Some(told)),
             Err(fault) => return Err(fault),
         }
         if block.has_failed() {
@@ -84,15 +121,15 @@ fn merge_texts<R: Source, W: Sink>(
     Err(JoinFault::TooLong)
 }
 
-// Writes the lines of the merge of texts.
-fn merge_ordered<R: Source + Drop, W: Sink>(
+// The same of texts that are not in order yet.
+fn merge_opened<R: Source + Drop, W: Sink>(
     alloc: Global,
     format: &Format,
     texts: Vec<TableText<R>>,
     block: &mut OutputBlock,
     out: &mut W,
-) -> Result<(), JoinFault>
-    ensures end { IsMergeEnd (λ text. reading_from format.now text) format.now texts.items
+) -> Result<Option<OtherLabel>, JoinFault>
+    ensures end { IsLabelledEnd format.now texts.items
         W.taken W.faults out.old block.old out.new block.new result }
     ensures write { result ≡ Err JoinFault.Write → block.new.failed ≡ true }
 {
@@ -102,31 +139,91 @@ fn merge_ordered<R: Source + Drop, W: Sink>(
     }
 }
 
-/// Joins the texts of tables to the text of their merge: each combination that some text lists, once, in order, with the
-/// sum of its counts. It holds a block of each source and the entry that each text goes on with, and no table.
+// The answer of a merge, and the other labels that it met.
+fn parted(
+    merged: Result<Option<OtherLabel>, JoinFault>,
+) -> (Result<(), JoinFault>, Option<OtherLabel>)
+    ensures answer { result.0 ≡ answer_of merged }
+    ensures other { result.1 ≡ other_of merged }
+{
+    match merged {
+        Ok(other) => (Ok(()), other),
+        Err(fault) => (Err(fault), None),
+    }
+}
+
+// The fault that is told: other labels where there is no fault else.
+fn label_fault(fault: Option<JoinFault>, other: Option<OtherLabel>) -> Option<LabelFault>
+    ensures { result ≡ label_fault_of fault other }
+{
+    match (fault, other) {
+        (Some(fault), _) => Some(LabelFault::Join(fault)),
+        (None, Some(told)) => Some(LabelFault::OtherLabel(told)),
+        (None, None) => None,
+    }
+}
+
+// Joins texts of which the first entries were read.
+fn join_opened<R: Source + Drop, W: Sink>(
+    alloc: Global,
+    format: &Format,
+    texts: Vec<TableText<R>>,
+    out: &mut W,
+) -> JoinOutcome
+    ensures told { (comings : List Coming)
+        → map (λ text. reading_from format.now text) texts.items
+        ≡ map Some (readings_of format.now comings)
+        → map (λ text. labelled_from format.now text) texts.items
+        ≡ map (λ coming. Some (labelled_in format.now coming.bytes)) comings
+        → IsTold format.now comings (W.taken out.old) (W.taken out.new) result.written
+        result.fault }
+    ensures sound { result.fault ≡ None
+        → W.faults out.new ≡ after_flush (W.faults out.old) false }
+    ensures write { result.fault ≡ Some (LabelFault.Join JoinFault.Write)
+        → has_failed (W.faults out.new) ≡ true }
+{
+    let mut block = OutputBlock::new();
+    let merged = merge_opened(alloc, format, texts, &mut block, out);
+    let (answer, other) = parted(merged);
+    let settled = settle(answer, &mut block, out);
+    let fault = finish(settled, out);
+    JoinOutcome {
+        written: block.written(),
+        fault: label_fault(fault, other),
+    }
+}
+
+/// Joins the texts of tables to the text of their merge: each combination that some text lists, once, in order, with the sum of
+/// its counts and, where labels are printed, with the labels that it has in all texts that list it. It holds a block of each
+/// source, the line and the entry that each text goes on with, and no table.
 ///
 /// The first entry of each text is read before the first byte is written. The sink is flushed once at the end, unless it
-/// refused a put.
+/// refused a put. Texts that have one combination with other labels are told where no fault stands behind a lesser one.
 pub fn join_texts<R: Source + Drop, W: Sink>(
     alloc: Global,
     format: &Format,
     sources: Vec<R>,
     out: &mut W,
 ) -> JoinOutcome
-    // Without a fault each text is a table to its end, and the sink has taken exactly the text of their merge.
+    // Without a fault each text is a table to its end, and the sink has taken exactly the lines of their merge, each with what
+    // every text that lists its combination has before the count.
     ensures joined { (texts : List Coming) → Give R.coming sources.items texts
         → result.fault ≡ None
-        → AreJoinedTexts format.now (readings_of format.now texts) (W.taken out.old) (W.taken out.new)
-        result.written }
+        → AreJoinedLabels format.now texts (W.taken out.old) (W.taken out.new) result.written }
     // A fault of a text is its first one, and of all texts' faults it stands behind the least combination, or behind none, and
     // of those in the first text; counts or entries that are too many are those of the merge, and no fault stands behind a
-    // lesser combination than one whose counts are.
+    // lesser combination than one whose counts are; or two texts have other labels for a combination.
     ensures fault { (texts : List Coming) → Give R.coming sources.items texts
-        → IfSome result.fault (IsJoinFault (readings_of format.now texts)) }
-    // With a fault the sink has taken the lines of the first entries, or a prefix of the text where a write failed.
+        → IfSome result.fault (IsLabelFault format.now texts) }
+    // With a fault the sink has taken the lines of the first entries, or a prefix of them where a write failed.
     ensures written { (texts : List Coming) → Give R.coming sources.items texts
-        → IfSome result.fault (HasWritten format.now (readings_of format.now texts)
-        (W.taken out.old) (W.taken out.new) result.written) }
+        → IfSome result.fault (HasLabelledWritten format.now texts (W.taken out.old)
+        (W.taken out.new) result.written) }
+    // Without labels the same in plain words: exactly the text of the merge, or a fault of tables and what it says.
+    ensures plain { (texts : List Coming) → Give R.coming sources.items texts
+        → format.now.labels ≡ false
+        → IsPlainly format.now texts (W.taken out.old) (W.taken out.new) result.written
+        result.fault }
     // Where the first line of a text is faulty, the sink is not called.
     ensures untouched { (texts : List Coming) (reading : TableReading)
         → Give R.coming sources.items texts
@@ -136,32 +233,29 @@ pub fn join_texts<R: Source + Drop, W: Sink>(
     // Write only where it failed.
     ensures sound { result.fault ≡ None
         → W.faults out.new ≡ after_flush (W.faults out.old) false }
-    ensures write { result.fault ≡ Some JoinFault.Write
+    ensures write { result.fault ≡ Some (LabelFault.Join JoinFault.Write)
         → has_failed (W.faults out.new) ≡ true }
-    // Where each text is a table to its end, the sums fit in 64 bits, memory lasts and the sink takes everything, exactly
-    // the text of the merge is written.
-    ensures headline { (texts : List Coming) (merged : Pairs)
-        → Give R.coming sources.items texts
+    // Where each text is a table to its end, all have the same labels, the sums fit in 64 bits, memory lasts and the sink takes
+    // everything, exactly the text of the merge is written.
+    ensures headline { (texts : List Coming) (merged : List LabelledEntry)
+        → Give R.coming sources.items texts → IsLabelledMerge format.now texts merged
+        → result.fault ≢ Some (LabelFault.Join JoinFault.Memory)
+        → has_failed (W.faults out.new) ≡ false
+        → (result.fault ≡ None) × (W.taken out.new
+        ≡ append_known (W.taken out.old) (counted_text merged)) }
+    ensures plain_headline { (texts : List Coming) (merged : Pairs)
+        → Give R.coming sources.items texts → format.now.labels ≡ false
         → IsMergeOf (readings_of format.now texts) merged
-        → result.fault ≢ Some JoinFault.Memory → has_failed (W.faults out.new) ≡ false
+        → result.fault ≢ Some (LabelFault.Join JoinFault.Memory)
+        → has_failed (W.faults out.new) ≡ false
         → (result.fault ≡ None) × (W.taken out.new
         ≡ append_known (W.taken out.old) (entries_text format.now merged)) }
 {
-    let texts = match open_texts(alloc, format, sources) {
-        Ok(texts) => texts,
-        Err(fault) => {
-            return JoinOutcome {
-                written: 0,
-                fault: Some(fault),
-            };
-        }
-    };
-    let mut block = OutputBlock::new();
-    let merged = merge_ordered(alloc, format, texts, &mut block, out);
-    let settled = settle(merged, &mut block, out);
-    let fault = finish(settled, out);
-    JoinOutcome {
-        written: block.written(),
-        fault,
+    match open_texts(alloc, format, sources) {
+        Ok(texts) => join_opened(alloc, format, texts, out),
+        Err(fault) => JoinOutcome {
+            written: 0,
+            fault: Some(LabelFault::Join(fault)),
+        },
     }
 }

@@ -12,13 +12,13 @@ ghost use Rattle.cell_join_tables.specs.JoinedTexts.{Give, readings_of, width_be
 ghost use Rattle.cell_join_tables.specs.JoinAnswers.{IsAnswered, IsOpeningFault, settled};
 
 use crate::join_fault::JoinFault;
-use crate::text_heads::{least_of, of_text};
+use crate::text_heads::of_text;
 use cell_core::block::OutputBlock;
 use cell_core::sink::Sink;
 use cell_core::source::Source;
+use cell_join_lines::text::TableText;
 use cell_stats::format::Format;
 use cell_stats_combinations::combination::Combo;
-use cell_join_lines::text::TableText;
 use std::alloc::Global;
 
 // How many cells are wanted behind a text that begins so.
@@ -70,31 +70,6 @@ pub fn open_texts<R: Source + Drop>(
         }
     }
     Ok(texts)
-}
-
-/// A copy of the least combination that a text begins with; None where each is at its end.
-///
-/// # Errors
-///
-/// [`JoinFault::Memory`].
-pub fn least_copy<R: Source>(
-    alloc: Global,
-    texts: &[TableText<R>],
-) -> Result<Option<Combo>, JoinFault>
-    ensures least { IfOk result (λ least. MatchOption least
-        (All (λ text. text.head ≡ None) texts.now)
-        (λ combo. All (λ text. IfSome text.head (λ entry. combination_cmp entry.0 combo ≢ Less)) texts.now)) }
-    ensures own { IfOk result (λ least. IfSome least
-        (λ combo. Contains (map (λ text. combination_of text.head) texts.now) (Some combo))) }
-    ensures memory { IfErr result (λ fault. fault ≡ JoinFault.Memory) }
-{
-    match least_of(texts) {
-        Some(combo) => match Combo::from_cells(alloc, combo.cells()) {
-            Ok(copy) => Ok(Some(copy)),
-            Err(_) => Err(JoinFault::Memory),
-        },
-        None => Ok(None),
-    }
 }
 
 /// Puts what the block holds, unless a put was refused, and changes the answer where one is.

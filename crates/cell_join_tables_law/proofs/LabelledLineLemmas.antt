@@ -27,58 +27,7 @@ use Rattle.cell_join_tables_law.proofs.PrintedFieldLemmas.{count-free}
 use Rattle.cell_join_tables_law.proofs.PrintedTableLemmas.{digit-apart, minus-apart}
 use Rattle.cell_join_tables_law.proofs.LineLengthLemmas.{cell-length, joined-more}
 use Rattle.cell_join_tables.specs.JoinedLabels.{LabelledEntry, counted_line, counted_text}
-
--- ---- up to the last separator
-
-module _ (separator : ℕ) where
-  abbrev with_separator : List ℕ → List ℕ
-  with_separator field = field ++ separator ∷ []
-
-  -- fields, each with a separator behind it
-  abbrev pub front_of : List (List ℕ) → List ℕ
-  front_of fields = flat_map with_separator fields
-
-  first : (field last : List ℕ) (fields : List (List ℕ)) → join_with_byte separator (field ∷ (fields ++ last ∷ []))
-      ≡ field ++ (separator ∷ join_with_byte separator (fields ++ last ∷ []))
-  first field last [] = refl
-  first field last (next ∷ fields) = refl
-
-  pub joined-front : (fields : List (List ℕ)) (last : List ℕ)
-      → join_with_byte separator (fields ++ last ∷ []) ≡ front_of fields ++ last
-  joined-front [] last = refl
-  joined-front (field ∷ fields) last = first field last fields
-      ∙ ap (λ (rest : List ℕ). field ++ (separator ∷ rest)) (joined-front fields last)
-      ∙ sym (append_assoc (with_separator field) (front_of fields) last
-      ∙ append_assoc field (separator ∷ []) (front_of fields ++ last))
-
-  none-before : (last : List ℕ) → All (λ b. (b == separator) ≡ false) last → before_count separator last ≡ []
-  none-before [] free = refl
-  none-before (b ∷ last) free =
-      let P : ℕ → Type 0 = λ x. (x == separator) ≡ false in
-      ap (up_to_separator separator b) (none-before last (All-tail P b last free))
-      ∙ ap (λ t. cond t (b ∷ []) []) (All-head P b last free)
-
-  field-before : (field rest : List ℕ) → before_count separator (with_separator field ++ rest)
-      ≡ with_separator field ++ before_count separator rest
-  field-before [] rest = by (before_count separator rest)
-    where
-      by : (bytes : List ℕ) → up_to_separator separator separator bytes ≡ separator ∷ bytes
-      by [] = ap (λ t. cond t (separator ∷ []) []) ((Decides-eqb separator separator).1 refl)
-      by (x ∷ bytes) = refl
-  field-before (b ∷ field) rest = ap (up_to_separator separator b) (field-before field rest) ∙ by field
-    where
-      by : (xs : List ℕ) → up_to_separator separator b (with_separator xs ++ before_count separator rest)
-          ≡ b ∷ (with_separator xs ++ before_count separator rest)
-      by [] = refl
-      by (x ∷ xs) = refl
-
-  pub front-before : (fields : List (List ℕ)) (last : List ℕ) → All (λ b. (b == separator) ≡ false) last
-      → before_count separator (front_of fields ++ last) ≡ front_of fields
-  front-before [] last free = none-before last free
-  front-before (field ∷ fields) last free =
-      ap (before_count separator) (append_assoc (with_separator field) (front_of fields) last)
-      ∙ field-before field (front_of fields ++ last)
-      ∙ ap (λ rest. with_separator field ++ rest) (front-before fields last free)
+use Rattle.cell_join_tables.proofs.PlainLemmas.{front-before, front_of, joined-front}
 
 -- ---- the lines of entries
 

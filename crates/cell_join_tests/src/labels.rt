@@ -2,10 +2,10 @@
 
 use cell_core::sink::MemorySink;
 use cell_core::source::MemorySource;
-use cell_stats::format::Format;
-use cell_join_tables::label_fault::LabelFault;
-use cell_join_tables::label_joining::{LabelOutcome, join_labelled_texts};
 use cell_join_tables::join_fault::JoinFault;
+use cell_join_tables::label_fault::LabelFault;
+use cell_join_tables::table_joining::{JoinOutcome, join_texts};
+use cell_stats::format::Format;
 use std::alloc::{AllocError, AllocGlobal, Global};
 use std::process::Abort;
 use std::test::Fail;
@@ -33,14 +33,25 @@ fn join(
     texts: &[&[u8]],
     piece: usize,
     out: &mut MemorySink,
-) -> Result<LabelOutcome, AllocError> {
+) -> Result<JoinOutcome, AllocError> {
     let format = Format::new(b';', b"*", true, true);
     let sources = sources_of(alloc, texts, piece)?;
-    Ok(join_labelled_texts(alloc, &format, sources, out))
+    Ok(join_texts(alloc, &format, sources, out))
+}
+
+// Joins texts without labels, whose fields are parted by spaces.
+fn join_plain(
+    alloc: Global,
+    texts: &[&[u8]],
+    out: &mut MemorySink,
+) -> Result<JoinOutcome, AllocError> {
+    let format = Format::new(b' ', b"*", false, true);
+    let sources = sources_of(alloc, texts, 3)?;
+    Ok(join_texts(alloc, &format, sources, out))
 }
 
 // What other labels were told.
-fn other_labels(outcome: &LabelOutcome) -> Option<(usize, usize, u64, &[u8], &[u8])> {
+fn other_labels(outcome: &JoinOutcome) -> Option<(usize, usize, u64, &[u8], &[u8])> {
     match &outcome.fault {
         Some(LabelFault::OtherLabel(told)) => Some((
             told.first,
@@ -125,6 +136,19 @@ fn a_full_sink_is_told(rt: HostRuntime) -> Result<(), Fail> {
         (failed, out.bytes()),
         (true, b"1;forest".as_slice()),
         "{outcome:?}"
+    );
+    Ok(())
+}
+
+#[test]
+fn texts_without_labels_are_joined(rt: HostRuntime) -> Result<(), Fail> {
+    let north = b"1 5\n3 2\n* 4\n".as_slice();
+    let south = b"1 7\n2 1\n".as_slice();
+    let mut out = MemorySink::new(vec![in rt.alloc(); 0u8; ROOM]?, 4096, false);
+    let outcome = join_plain(rt.alloc(), &[north, south, b""], &mut out)?;
+    assert_eq!(rt;
+        (outcome.fault.is_none(), out.bytes()),
+        (true, b"1 12\n2 1\n3 2\n* 4\n".as_slice())
     );
     Ok(())
 }

@@ -1,10 +1,14 @@
 //! Texts and what they are read as.
 
-use cell_core::source::MemorySource;
-use cell_stats::format::Format;
+ghost use Rattle.std.specs.Prelude.{◌≡◌, ◌<◌, ◌≤◌, length, IfOk};
+
+use cell_core::device::DeviceFault;
+use cell_core::source::{Asked, MemorySource, Source};
 use cell_join_lines::table_fault::{TableFault, TableKind};
 use cell_join_lines::text::TableText;
+use cell_stats::format::Format;
 use std::alloc::Global;
+use std::cell;
 use std::test::Fail;
 
 // A text, and the sum of its counts, or its first fault.
@@ -86,5 +90,96 @@ fn a_line_has_a_greatest_length(rt: HostRuntime) -> Result<(), Fail> {
     assert!(rt; sum_of(rt.alloc(), &text, 100, false) == Err((1, TableKind::BadCount)));
     text.insert(0, b'1')?;
     assert!(rt; sum_of(rt.alloc(), &text, 100, false) == Err((1, TableKind::LongLine)));
+    Ok(())
+}
+
+// A source of one byte a call, of which one call fails, or tells the end, before it goes on. It counts its calls.
+#[derive(Drop)]
+struct OddSource<'a> {
+    text: &'a [u8],
+    odd_call: usize,
+    fails: bool,
+    calls: &'a cell::Cell<usize>,
+    asked: Asked,
+}
+
+impl<'a> OddSource<'a> {
+    // What a call gives.
+    fn give(&mut self, buf: &mut [u8]) -> Result<usize, DeviceFault>
+        requires { 0 < length buf.old }
+        ensures count { IfOk result (λ n. n ≤ length buf.new) }
+        ensures asked { self.new.asked ≡ self.old.asked }
+    {
+        let call = self.calls.get();
+        self.calls.set(call.saturating_add(1));
+        if call == self.odd_call {
+            return if self.fails { Err(DeviceFault) } else { Ok(0) };
+        }
+        buf[0] = self.text.get(call).copied().unwrap_or(b'1');
+        Ok(1)
+    }
+}
+
+impl<'a> Source for OddSource<'a> {
+    ghost use Rattle.std.specs.Prelude.{None};
+
+    ghost coming = { λ _. None };
+
+    ghost asked = { λ s. s.asked };
+
+    fn take(&mut self, buf: &mut [u8]) -> Result<usize, DeviceFault> {
+        let answer = self.give(buf);
+        self.asked = self.asked.after_answer(answer);
+        answer
+    }
+}
+
+// What the second line is read as where a call for it fails or tells the end, how often the source was asked until then, and how
+// often when the text was asked twice more.
+fn asked_oddly(
+    alloc: Global,
+    odd_call: usize,
+    fails: bool,
+) -> Result<(Result<(), TableFault>, usize, usize), TableFault> {
+    let format = Format::new(b' ', b"*", false, true);
+    let calls = cell::Cell::new(0);
+    let source = OddSource {
+        text: b"1 5\n2 4\n3 2\n",
+        odd_call,
+        fails,
+        calls: &calls,
+        asked: Asked::Going,
+    };
+    let mut text = TableText::from_source(alloc, &format, 0, source)?;
+    let answer = text.next(alloc, &format);
+    let asked = calls.get();
+    let _ = text.next(alloc, &format);
+    let _ = text.next(alloc, &format);
+    Ok((answer, asked, calls.get()))
+}
+
+#[test]
+fn a_source_is_not_asked_after_it_failed_or_ended(rt: HostRuntime) -> Result<(), Fail> {
+    let cut_off = Err(TableFault {
+        line: 2,
+        kind: TableKind::CutOff,
+    });
+    let read = Err(TableFault {
+        line: 2,
+        kind: TableKind::Read,
+    });
+    for (odd_call, fails, wanted) in [
+        (4, true, read),
+        (5, true, read),
+        (4, false, Ok(())),
+        (5, false, cut_off),
+    ] {
+        let told = asked_oddly(rt.alloc(), odd_call, fails);
+        let calls = odd_call + 1;
+        assert!(rt;
+            told == Ok((wanted, calls, calls)),
+            "{odd_call} {fails}: {told:?}"
+        );
+    }
     Ok(())
 }

@@ -2,8 +2,8 @@
 
 use crate::sizes::{ROOM, join_to};
 use crate::worked_sizes::{AREAS, FIRST, SECOND};
-use cell_join_lines::table_fault::{TableFault, TableKind};
 use cell_join_lines::areas_fault::{AreasFault, AreasKind};
+use cell_join_lines::table_fault::{TableFault, TableKind};
 use cell_join_sizes::size_fault::SizesFault;
 use std::test::Fail;
 

@@ -3,8 +3,8 @@
 use cell_core::memory::Memory;
 use cell_core::sink::MemorySink;
 use cell_core::source::MemorySource;
-use cell_stats::format::Format;
 use cell_join_sizes::table_sizes::{SizesOutcome, join_table_sizes};
+use cell_stats::format::Format;
 use std::alloc::Global;
 
 // The most bytes that one call of a source gives, and of a sink takes.

@@ -1,5 +1,5 @@
 -- Where a fault of joining tables is told, by what text, and with which status (profile).
-use Rattle.std.specs.Prelude.{ℕ, List, Option, Some, None, codes}
+use Rattle.std.specs.Prelude.{ℕ, List, codes}
 use Rattle.cell_join_tables.specs.declared.join_fault.JoinFault.{JoinFault}
 use Rattle.cell_join_tables.specs.declared.join_fault.JoinFault.TheVariants.{Text, TooMany, TooLong, Memory, Write}
 use Rattle.rcell_join_lines.specs.FaultLines.{path_at_place}
@@ -35,8 +35,3 @@ tables_fault_status (TooMany k) = 1
 tables_fault_status TooLong = 1
 tables_fault_status Memory = 3
 tables_fault_status Write = 4
-
--- the exit status of joining tables
-abbrev pub tables_status : Option JoinFault → ℕ
-tables_status None = 0
-tables_status (Some fault) = tables_fault_status fault

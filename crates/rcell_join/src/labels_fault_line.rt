@@ -1,4 +1,4 @@
-//! The line that tells why tables with labels were not joined, and the exit status.
+//! The line that tells why tables were not joined, and the exit status.
 
 ghost use Rattle.std.specs.Prelude.{◌≡◌, is_some, IfSome, map};
 ghost use Rattle.rcell_join.specs.LabelsFaultLine.{labels_fault_line_number, labels_fault_source, labels_fault_text, labels_status};
@@ -9,10 +9,31 @@ use crate::tables_fault_line::{
 };
 use bstr::ByteSlice;
 use cell_join_tables::label_fault::{LabelFault, OtherLabel};
-use cell_join_tables::label_joining::LabelOutcome;
+use cell_join_tables::table_joining::JoinOutcome;
 use rcell_join_lines::fault_line::{FaultLine, path_at};
 use std::fmt;
 use thiserror::Error;
+
+// A text without the bytes that a terminal would obey: its control characters are escaped.
+#[derive(Drop)]
+struct Shown<'a> {
+    text: &'a [u8],
+}
+
+impl<'a> fmt::Display for Shown<'a> {
+    fn fmt<W: fmt::Write>(&self, f: &mut fmt::Formatter<W>) -> fmt::Result {
+        for ch in self.text.chars() {
+            if ch.is_control() {
+                for escaped in ch.escape_default() {
+                    f.write_char(escaped)?;
+                }
+            } else {
+                f.write_char(ch)?;
+            }
+        }
+        Ok(())
+    }
+}
 
 /// The first category that has other labels on two lines, and its label on each.
 #[derive(Debug, Drop)]
@@ -32,9 +53,9 @@ impl fmt::Display for TwoLabels {
         let others = other.split(|b| Some(*b) == separator);
         for (own, label) in fields.zip(others) {
             if own != label {
-                let category = category.as_bstr();
-                let own = own.as_bstr();
-                let label = label.as_bstr();
+                let category = Shown { text: category };
+                let own = Shown { text: own };
+                let label = Shown { text: label };
                 return write!(f, "{category}: {own} and {label}");
             }
             category = own;
@@ -43,7 +64,7 @@ impl fmt::Display for TwoLabels {
     }
 }
 
-/// What a fault of joining tables with labels says.
+/// What a fault of joining tables says.
 #[derive(Debug, Drop, Error)]
 pub enum LabelsFaultText {
     #[error(transparent)]
@@ -79,9 +100,9 @@ fn labels_fault_text(written: u64, fault: LabelFault) -> LabelsFaultText
     }
 }
 
-/// The line that tells why tables with labels were not joined, by the paths of their texts; None where there is no fault.
+/// The line that tells why tables were not joined, by the paths of their texts; None where there is no fault.
 pub fn labels_fault_line<'a>(
-    outcome: LabelOutcome,
+    outcome: JoinOutcome,
     paths: &[&'a str],
 ) -> Option<FaultLine<'a, LabelsFaultText>>
     ensures told { is_some result ≡ is_some outcome.fault }
@@ -92,7 +113,7 @@ pub fn labels_fault_line<'a>(
     ensures text { IfSome result (λ told. IfSome outcome.fault (λ fault. told.text
         ≡ labels_fault_text outcome.written fault)) }
 {
-    let LabelOutcome { written, fault } = outcome;
+    let JoinOutcome { written, fault } = outcome;
     let fault = fault?;
     let source = labels_fault_source(paths, &fault);
     let line = labels_fault_line_number(&fault);

@@ -8,17 +8,15 @@ mod tables_fault_line;
 
 use crate::labels_fault_line::{labels_fault_line, labels_status};
 use crate::sizes_fault_line::{sizes_fault_line, sizes_status};
-use crate::tables_fault_line::{tables_fault_line, tables_status};
 use cell_cats_areas::clump::Joining;
 use cell_core::sink::WriteSink;
 use cell_core::source::ReadSource;
+use cell_join_sizes::table_sizes::join_table_sizes;
+use cell_join_tables::table_joining::join_texts;
 use cell_tiles_areas::areas_joining::join_edges_texts;
 use cell_tiles_edges::band_edges::write_edges;
 use cell_tiles_grid_areas::tiles_joining::join_sides_texts;
-use cell_join_tables::label_joining::join_labelled_texts;
 use cell_tiles_sides::tile_sides::write_sides;
-use cell_join_sizes::table_sizes::join_table_sizes;
-use cell_join_tables::table_joining::join_texts;
 use rcell_join_lines::areas_fault_line::{areas_fault_line, areas_status};
 use rcell_join_lines::edges_fault_line::{edges_fault_line, edges_status};
 use rcell_join_lines::fault_line::{report, tell};
@@ -53,15 +51,9 @@ fn join_tables<R: Files + Print + Eprint + AllocGlobal>(
         Err(refusal) => return tell(rt, refusal, paths),
     };
     let mut output = WriteSink::new(io::writer(rt));
-    if format.has_labels() {
-        let outcome = join_labelled_texts(rt.alloc(), &format.lent(), sources, &mut output);
-        let status = labels_status(&outcome.fault);
-        report(rt, labels_fault_line(outcome, paths));
-        return status;
-    }
     let outcome = join_texts(rt.alloc(), &format.lent(), sources, &mut output);
-    let status = tables_status(&outcome.fault);
-    report(rt, tables_fault_line(outcome, paths));
+    let status = labels_status(&outcome.fault);
+    report(rt, labels_fault_line(outcome, paths));
     status
 }
 

@@ -3,8 +3,8 @@
 ghost use Rattle.std.specs.Prelude.{◌≡◌, is_some, IfSome, map};
 ghost use Rattle.rcell_join.specs.SizesFaultLine.{sizes_fault_line_number, sizes_fault_source, sizes_fault_status, sizes_fault_text, sizes_status};
 
-use cell_join_lines::table_fault::TableKind;
 use cell_join_lines::areas_fault::AreasKind;
+use cell_join_lines::table_fault::TableKind;
 use cell_join_sizes::size_fault::SizesFault;
 use cell_join_sizes::table_sizes::SizesOutcome;
 use rcell_join_lines::fault_line::{FaultLine, path_at};

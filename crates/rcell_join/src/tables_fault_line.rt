@@ -1,13 +1,12 @@
-//! The line that tells why tables were not joined, and the exit status.
+//! What is told of tables that are not joined, but for other labels.
 
-ghost use Rattle.std.specs.Prelude.{◌≡◌, is_some, IfSome, map};
-ghost use Rattle.rcell_join.specs.TablesFaultLine.{tables_fault_line_number, tables_fault_source, tables_fault_status, tables_fault_text, tables_status};
+ghost use Rattle.std.specs.Prelude.{◌≡◌, map};
+ghost use Rattle.rcell_join.specs.TablesFaultLine.{tables_fault_line_number, tables_fault_source, tables_fault_status, tables_fault_text};
 
-use cell_stats_combinations::combination::Combo;
 use cell_join_lines::table_fault::TableKind;
-use cell_join_tables::table_joining::JoinOutcome;
 use cell_join_tables::join_fault::JoinFault;
-use rcell_join_lines::fault_line::{FaultLine, path_at};
+use cell_stats_combinations::combination::Combo;
+use rcell_join_lines::fault_line::path_at;
 use rcell_join_lines::kind_status::table_kind_status;
 use std::fmt;
 use thiserror::Error;
@@ -82,30 +81,6 @@ pub(crate) fn tables_fault_text(written: u64, fault: JoinFault) -> TablesFaultTe
     }
 }
 
-/// The line that tells why tables were not joined, by the paths of their texts; None where there is no fault.
-pub fn tables_fault_line<'a>(
-    outcome: JoinOutcome,
-    paths: &[&'a str],
-) -> Option<FaultLine<'a, TablesFaultText>>
-    ensures told { is_some result ≡ is_some outcome.fault }
-    ensures source { IfSome result (λ told. IfSome outcome.fault (λ fault. told.source.now
-        ≡ tables_fault_source (map (λ path. path.now) paths.now) fault)) }
-    ensures line { IfSome result (λ told. IfSome outcome.fault
-        (λ fault. told.line ≡ tables_fault_line_number fault)) }
-    ensures text { IfSome result (λ told. IfSome outcome.fault (λ fault. told.text
-        ≡ tables_fault_text outcome.written fault)) }
-{
-    let JoinOutcome { written, fault } = outcome;
-    let fault = fault?;
-    let source = tables_fault_source(paths, &fault);
-    let line = tables_fault_line_number(&fault);
-    Some(FaultLine {
-        source,
-        line,
-        text: tables_fault_text(written, fault),
-    })
-}
-
 // The exit status of a fault.
 pub(crate) fn tables_fault_status(fault: &JoinFault) -> u8
     ensures { result ≡ tables_fault_status fault.now }
@@ -116,15 +91,5 @@ pub(crate) fn tables_fault_status(fault: &JoinFault) -> u8
         JoinFault::TooLong => 1,
         JoinFault::Memory => 3,
         JoinFault::Write => 4,
-    }
-}
-
-/// The exit status: 0 without a fault, 1 where a text was refused, 3 when out of memory, 4 where a read or a write failed.
-pub fn tables_status(fault: &Option<JoinFault>) -> u8
-    ensures { result ≡ tables_status fault.now }
-{
-    match fault {
-        Some(fault) => tables_fault_status(fault),
-        None => 0,
     }
 }

@@ -5,6 +5,7 @@ use Rattle.std.specs.declared.cmp.Ordering.{Ordering}
 use Rattle.std.specs.declared.cmp.Ordering.TheVariants.{Less, Equal, Greater}
 use Rattle.cell_stats_combinations.specs.Combinations.{Combination, combination_cmp}
 use Rattle.cell_stats.specs.TableText.{FormatValue}
+use Rattle.cell_join_lines.specs.LineLabels.{labelled_behind, labelled_from}
 use Rattle.cell_join_lines.specs.LineReading.{stopped}
 use Rattle.cell_join_lines.specs.TextReading.{TextValue, combination_of, reading_behind, reading_from}
 use Rattle.cell_join_tables.specs.declared.join_fault.JoinFault.{JoinFault}
@@ -60,6 +61,7 @@ pub record BeginsWith (texts : List TextValue) (entry : Combination × ℕ) : Ty
 pub record ReadsOn (format : FormatValue) (old : List TextValue) (place : ℕ) (new : List TextValue) : Type 0 where
   pub text : TextValue
   pub read : reading_behind format (slice_index_or old place text) ≡ reading_from format text
+  pub labelled : labelled_behind format (slice_index_or old place text) ≡ labelled_from format text
   pub others : new ≡ slice_set old place text
 
 -- why a text at a place could not read its next entry; of being out of memory nothing is said

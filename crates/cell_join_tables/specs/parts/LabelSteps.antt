@@ -1,14 +1,17 @@
 -- What a merge with labels takes from each text in one step, and what it has taken.
-use Rattle.std.specs.Prelude.{ℕ, ◌≡◌, ◌≢◌, ◌<◌, ◌&&◌, not, bytes_eq, Bool, false, List, [], ◌∷◌, ◌++◌, map, length, slice_get, Option, Some, None, option_map}
+use Rattle.std.specs.Prelude.{ℕ, ◌≡◌, ◌≢◌, ◌<◌, ◌&&◌, not, bytes_eq, Bool, false, List, [], ◌∷◌, ◌++◌, map, length, slice_get, Option, Some, None, option_map, slice_index_or}
 use Rattle.std.specs.List.{AllByRecursion, Contains}
 use Rattle.std.specs.Ordering.{eq_by_cmp}
 use Rattle.cell_core_devices.specs.Blocks.{BlockValue, Appends}
 use Rattle.cell_core_devices.specs.Device.{Faults}
 use Rattle.cell_stats_combinations.specs.Combinations.{Combination, combination_cmp}
 use Rattle.cell_stats.specs.TableText.{FormatValue}
+use Rattle.cell_parts.specs.Merging.{IsListing}
+use Rattle.cell_join_lines.specs.LineReading.{TableReading}
 use Rattle.cell_join_lines.specs.LineLabels.{Labelled, before_count, labelled_from}
 use Rattle.cell_join_lines.specs.TextReading.{TextValue, combination_of, reading_from}
 use Rattle.cell_join_tables.specs.TextHeads.{past_labelled}
+use Rattle.cell_join_tables.specs.JoinedTexts.{tables_of}
 use Rattle.cell_join_tables.specs.parts.Taking.{TakesEntries}
 use Rattle.cell_join_tables.specs.JoinedLabels.{AreOfTexts, LabelledEntry, counted_line, counted_text, plain_entries, plain_entry, labelled_of}
 
@@ -34,27 +37,38 @@ AgreesOn k labelled (Some line) = line.0 ≡ k → line.1 ≡ labelled
 abbrev pub labelled_head : FormatValue → TextValue → Option Labelled
 labelled_head format text = option_map (λ entry. (entry.0, before_count format.separator text.line)) text.head
 
-abbrev pub heads_of : FormatValue → List TextValue → List (Option Labelled)
-heads_of format texts = map (labelled_head format) texts
+abbrev pub labelled_heads : FormatValue → List TextValue → List (Option Labelled)
+labelled_heads format texts = map (labelled_head format) texts
 
 abbrev pub AllAgree : FormatValue → Combination → List ℕ → List TextValue → Type 0
-AllAgree format k labelled texts = AllByRecursion (AgreesOn k labelled) (heads_of format texts)
+AllAgree format k labelled texts = AllByRecursion (AgreesOn k labelled) (labelled_heads format texts)
 
 -- two texts go on with the combination and other labels
 pub record DifferAt (format : FormatValue) (k : Combination) (labelled : List ℕ) (texts : List TextValue) (first text : ℕ) : Type 0 where
   pub other : List ℕ
   pub before : first < text
-  pub one : slice_get (heads_of format texts) first ≡ Some (Some (k, labelled))
-  pub two : slice_get (heads_of format texts) text ≡ Some (Some (k, other))
+  pub one : slice_get (labelled_heads format texts) first ≡ Some (Some (k, labelled))
+  pub two : slice_get (labelled_heads format texts) text ≡ Some (Some (k, other))
   pub differ : other ≢ labelled
+
+-- of texts at places in order the first so many agree on the labels of the combination, and the next one does not go on with it
+pub record AgreeInFront (format : FormatValue) (k : Combination) (labelled : List ℕ) (texts : List TextValue) (places : List ℕ) : Type 0 where
+  pub count : ℕ
+  pub agree : (i : ℕ) (text : TextValue) → i < count → is_other format k labelled (slice_index_or texts (slice_index_or places i 0) text) ≡ false
+  pub next : count < length places → (text : TextValue) → goes_on_with k (slice_index_or texts (slice_index_or places count 0) text) ≡ false
+
+-- the lines that texts go on with were passed where they are of the combination, and no others, of whatever texts are read as, in order
+abbrev pub LeavesLines : FormatValue → Combination → List TextValue → List TextValue → Type 0
+LeavesLines format k old new = (readings : List TableReading) → map (λ text. reading_from format text) old ≡ map Some readings → AllByRecursion IsListing (tables_of readings)
+    → map (λ text. labelled_from format text) new ≡ map (λ text. option_map (past_labelled k) (labelled_from format text)) old
 
 -- an entry was taken from all texts, which agree on its labels
 pub record HasLabelledStep {S : Type 0} (format : FormatValue) (old new : List TextValue) (taken : S → Option (List ℕ)) (faults : S → Faults) (out : S) (block : BlockValue) (now : S) (after : BlockValue) : Type 0 where
   pub entry : LabelledEntry
   pub takes : TakesEntries (λ text. reading_from format text) old new (plain_entry entry ∷ [])
-  pub left : map (λ text. labelled_from format text) new ≡ map (λ text. option_map (past_labelled (entry.0).0) (labelled_from format text)) old
+  pub left : LeavesLines format (entry.0).0 old new
   pub agree : AllAgree format (entry.0).0 (entry.0).1 old
-  pub own : Contains (heads_of format old) (Some entry.0)
+  pub own : Contains (labelled_heads format old) (Some entry.0)
   pub appends : Appends taken faults out block (counted_line entry) now after
 
 -- the lines before those that are left stand among these
@@ -74,9 +88,10 @@ pub record HasPassed (format : FormatValue) (wholes : List (List Labelled)) (tex
   pub passed : ArePassed (labelled_of done) wholes left
   pub own : AreOfTexts wholes done
 
--- the same of whatever the lines of texts have
+-- the same of whatever the lines of texts have, in order
 abbrev pub PassesLines : FormatValue → List TextValue → List TextValue → List LabelledEntry → Type 0
-PassesLines format old new done = (wholes : List (List Labelled)) → map (λ text. labelled_from format text) old ≡ map Some wholes → HasPassed format wholes new done
+PassesLines format old new done = (readings : List TableReading) → map (λ text. reading_from format text) old ≡ map Some readings → AllByRecursion IsListing (tables_of readings)
+    → (wholes : List (List Labelled)) → map (λ text. labelled_from format text) old ≡ map Some wholes → HasPassed format wholes new done
 
 -- so many entries were taken, and their lines were appended
 pub record HasLabelledMerge {S : Type 0} (format : FormatValue) (old new : List TextValue) (taken : S → Option (List ℕ)) (faults : S → Faults) (out : S) (block : BlockValue) (now : S) (after : BlockValue) (count : ℕ) : Type 0 where

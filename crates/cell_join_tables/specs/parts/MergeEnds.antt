@@ -32,26 +32,7 @@ pub record HasSeen {R X Y : Type 0} (coming : R → Option Coming) (see : X → 
 abbrev pub AreEnded : {X : Type 0} → (X → Option TableReading) → List X → Type 0
 AreEnded read texts = (readings : List TableReading) → map read texts ≡ map Some readings → readings ≡ map (λ reading. ended) readings
 
--- an entry was taken, and its line was appended
-pub record HasStepped {X S : Type 0} (read : X → Option TableReading) (format : FormatValue) (old new : List X) (taken : S → Option (List ℕ)) (faults : S → Faults) (out : S) (block : BlockValue) (now : S) (after : BlockValue) : Type 0 where
-  pub entry : Combination × ℕ
-  pub takes : TakesEntries read old new (entry ∷ [])
-  pub appends : Appends taken faults out block (entry_line format entry) now after
-
--- so many entries were taken, and their lines were appended
-pub record HasMerged {X S : Type 0} (read : X → Option TableReading) (format : FormatValue) (old new : List X) (taken : S → Option (List ℕ)) (faults : S → Faults) (out : S) (block : BlockValue) (now : S) (after : BlockValue) (count : ℕ) : Type 0 where
-  pub done : Pairs
-  pub counted : length done ≡ count
-  pub takes : TakesEntries read old new done
-  pub appends : Appends taken faults out block (entries_text format done) now after
-
 -- what the lines that were appended are of the merge, by the answer: all of it, or the first of it before a fault
 abbrev pub EndsSo : List TableReading → Pairs → Result Unit JoinFault → Type 0
 EndsSo readings done (Ok unit) = AreTables readings × (merge_of (tables_of readings) ≡ done)
 EndsSo readings done (Err fault) = IsJoinFault readings fault × ((others : Pairs) × (merge_of (tables_of readings) ≡ done ++ others))
-
--- the merge of texts came to its end or to a fault
-pub record IsMergeEnd {X S : Type 0} (read : X → Option TableReading) (format : FormatValue) (texts : List X) (taken : S → Option (List ℕ)) (faults : S → Faults) (out : S) (block : BlockValue) (now : S) (after : BlockValue) (answer : Result Unit JoinFault) : Type 0 where
-  pub done : Pairs
-  pub appends : Appends taken faults out block (entries_text format done) now after
-  pub ends : (readings : List TableReading) → map read texts ≡ map Some readings → AllByRecursion IsListing (tables_of readings) → EndsSo readings done answer

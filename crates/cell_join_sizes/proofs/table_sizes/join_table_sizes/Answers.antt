@@ -4,7 +4,7 @@ use Rattle.cell_join_lines.specs.LineReading.{reading_of}
 use Rattle.cell_join_lines.specs.AreasReading.{areas_reading_of}
 use Rattle.cell_join_sizes.specs.declared.size_fault.SizesFault.{SizesFault}
 use Rattle.cell_join_sizes.specs.declared.size_fault.SizesFault.TheVariants.{Write}
-use Rattle.cell_join_sizes.proofs.PutLemmas.{put-all, put-fault, put-none, put-some}
+use Rattle.cell_join_sizes.proofs.PutLemmas.{only-write, put-all, put-fault, put-none, put-some}
 use Rattle.cell_join_sizes.proofs.table_sizes.join_table_sizes.Goals as goal
 
 pub returns-in-Ok-clause-joined : goal.returns-in-Ok-clause-joined
@@ -45,3 +45,7 @@ returns-in-Ok-clause-fault g c = λ text texts gives give.
 
 pub returns-in-Err-clause-fault : goal.returns-in-Err-clause-fault
 returns-in-Err-clause-fault g c = λ text texts gives give. c.in-Err.ensures.fault text texts gives give
+
+pub returns-in-Ok-clause-untouched : goal.returns-in-Ok-clause-untouched
+returns-in-Ok-clause-untouched g c = only-write _ (λ (f : SizesFault). has_failed (g.W.Sink.faults c.put_sizes.new.out) ≡ true)
+    c.put_sizes.result.fault c.put_sizes.ensures.write

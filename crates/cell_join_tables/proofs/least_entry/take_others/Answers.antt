@@ -2,7 +2,7 @@ use Rattle.std.proofs.Common.{◌+◌, ◌≤◌, ◌^◌, ℕ, Some, ⊎_elim, 
 use Rattle.std.proofs.lemmas.Bool.{cases_lt}
 use Rattle.cell_join_lines.specs.TextReading.{TextValue, reading_from}
 use Rattle.cell_join_tables.specs.parts.LeastEntries.{HasGone}
-use Rattle.cell_join_tables.proofs.GoingLemmas.{counted-first, gone-beyond, gone-last, gone-length, gone-more, gone-stops, gone-turns}
+use Rattle.cell_join_tables.proofs.GoingLemmas.{counted-first, gone-beyond, gone-last, gone-length, gone-more, gone-stops, gone-turns, lines-more}
 use Rattle.cell_join_tables.proofs.least_entry.take_others.Goals as goal
 
 pub texts-preserved : goal.texts-preserved
@@ -10,24 +10,34 @@ texts-preserved g c = λ readings start.
     let k = c.args.combo.now in
     let next = counted-first k c.texts.texts (λ e. e.now) c.first.result c.in-Some.more c.first.ensures
     (sym c.count_of.ensures ∙ c.in-Some.is) in
-    subst (λ (sum : ℕ). HasGone (λ (text : TextValue). reading_from c.args.format.now text) k readings
-    c.advance.new.self (Some sum) (c.texts.taken + 1)) (sym c.in-Some-checked_add.ensures.1)
-    (gone-more c.args.format.now k readings c.texts.texts (Some c.texts.total) c.texts.taken
-    (c.texts.invariant readings start) c.advance.new.self next.first c.in-Some.more next.goes next.has
-    (c.in-Ok.ensures.reads next.first next.goes))
+    let so = c.texts.invariant readings start in (
+      subst (λ (sum : ℕ). HasGone (λ (text : TextValue). reading_from c.args.format.now text) k readings
+          c.advance.new.self (Some sum) (c.texts.taken + 1)) (sym c.in-Some-checked_add.ensures.1)
+          (gone-more c.args.format.now k readings c.texts.texts (Some c.texts.total) c.texts.taken
+          (c.texts.invariant readings start).0 c.advance.new.self next.first c.in-Some.more next.goes next.has
+          (c.in-Ok.ensures.reads next.first next.goes)),
+      lines-more c.args.format.now k readings c.texts.texts (Some c.texts.total) c.texts.taken so.0 c.advance.new.self
+          next.first c.in-Some.more next.goes next.has (c.in-Ok.ensures.reads next.first next.goes) ∙ so.1,
+    )
 
 pub returns-in_default-clause-taken : goal.returns-in_default-clause-taken
 returns-in_default-clause-taken g c = λ readings start.
-    gone-last c.args.format.now c.args.combo.now readings c.texts.texts (Some c.texts.total) c.texts.taken
-    (c.texts.invariant readings start) (λ e. e.now) c.first.result c.texts.total refl c.first.ensures
-    (sym c.count_of.ensures ∙ c.in_default.is)
+    (gone-last c.args.format.now c.args.combo.now readings c.texts.texts (Some c.texts.total) c.texts.taken
+    (c.texts.invariant readings start).0 (λ e. e.now) c.first.result c.texts.total refl c.first.ensures
+    (sym c.count_of.ensures ∙ c.in_default.is)).0
+
+pub returns-in_default-clause-labelled : goal.returns-in_default-clause-labelled
+returns-in_default-clause-labelled g c = λ readings start.
+    let so = c.texts.invariant readings start in
+    (gone-last c.args.format.now c.args.combo.now readings c.texts.texts (Some c.texts.total) c.texts.taken so.0
+    (λ e. e.now) c.first.result c.texts.total refl c.first.ensures (sym c.count_of.ensures ∙ c.in_default.is)).1 ∙ so.1
 
 pub returns-in-Err-clause-fault : goal.returns-in-Err-clause-fault
 returns-in-Err-clause-fault g c = λ readings start.
     let next = counted-first c.args.combo.now c.texts.texts (λ e. e.now) c.first.result c.in-Some.more
     c.first.ensures (sym c.count_of.ensures ∙ c.in-Some.is) in
     gone-stops c.args.format.now c.args.combo.now readings c.texts.texts (Some c.texts.total) c.texts.taken
-    (c.texts.invariant readings start) next.first c.in-Some.more c.in-Err.fault next.goes next.has
+    (c.texts.invariant readings start).0 next.first c.in-Some.more c.in-Err.fault next.goes next.has
     (c.in-Err.ensures.fault next.first next.goes)
 
 pub returns-in-None-clause-fault : goal.returns-in-None-clause-fault
@@ -36,7 +46,7 @@ returns-in-None-clause-fault g c = λ readings start.
     let next = counted-first k c.texts.texts (λ e. e.now) c.first.result c.in-Some.more c.first.ensures
     (sym c.count_of.ensures ∙ c.in-Some.is) in
     let gone = gone-more c.args.format.now k readings c.texts.texts (Some c.texts.total) c.texts.taken
-    (c.texts.invariant readings start) c.advance.new.self next.first c.in-Some.more next.goes next.has
+    (c.texts.invariant readings start).0 c.advance.new.self next.first c.in-Some.more next.goes next.has
     (c.in-Ok.ensures.reads next.first next.goes) in
     let high : 2 ^ 64 ≤ c.texts.total + c.in-Some.more = ⊎_elim (λ less. absurd (c.in-None.ensures less))
     (λ more. more) (cases_lt (c.texts.total + c.in-Some.more) (2 ^ 64)) in
@@ -49,5 +59,17 @@ returns-clause-taken g c = λ readings start.
     let format = c.args.format.now in
     let k = c.args.combo.now in
     let long = gone-length format k readings c.args.texts.now (Some c.args.count) 1 start in
-    gone-turns format k readings c.texts.texts (Some c.texts.total) c.texts.taken (c.texts.invariant readings start)
-    c.texts.total refl (omega (arith, c.texts-test.false, c.len-taken-end.ensures, long))
+    (gone-turns format k readings c.texts.texts (Some c.texts.total) c.texts.taken (c.texts.invariant readings start).0
+    c.texts.total refl (omega (arith, c.texts-test.false, c.len-taken-end.ensures, long))).0
+
+pub returns-clause-labelled : goal.returns-clause-labelled
+returns-clause-labelled g c = λ readings start.
+    let format = c.args.format.now in
+    let k = c.args.combo.now in
+    let long = gone-length format k readings c.args.texts.now (Some c.args.count) 1 start in
+    let so = c.texts.invariant readings start in
+    (gone-turns format k readings c.texts.texts (Some c.texts.total) c.texts.taken so.0 c.texts.total refl
+    (omega (arith, c.texts-test.false, c.len-taken-end.ensures, long))).1 ∙ so.1
+
+pub texts-init : goal.texts-init
+texts-init g c = λ readings start. (start, refl)

@@ -1,4 +1,4 @@
-use Rattle.std.proofs.Common.{◌≡◌, ◌-◌, ◌<◌, ℕ, suc, Bool, true, false, length, take, drop, get_or, add-one, arith, subst, sym, ◌∙◌}
+use Rattle.std.proofs.Common.{◌≡◌, ◌-◌, ◌<◌, ◌≤◌, ℕ, suc, Bool, true, false, length, take, drop, get_or, add-one, arith, subst, sym, ◌∙◌}
 use Rattle.std.specs.List.{AllByRecursion}
 use Rattle.cell_join_tables.specs.parts.HeadOrder.{before, heads_of}
 use Rattle.cell_join_tables.proofs.PlaceLemmas.{from-on, seen-before, up-to}
@@ -14,6 +14,16 @@ halves-smaller g c =
       | else-goes_before w ↦ (let low = w.low-is in let high = w.high-is in omega (arith, test, near.0, near.1, low, high))
     ] in
     less
+
+pub overflow_sub-tried : goal.overflow_sub-tried
+overflow_sub-tried g c =
+    let test = c.halves-test.true in
+    let near = c.halves.invariant.2 test in
+    let ordered : c.if-goes_before.low ≤ c.if-goes_before.high = elim c.if-goes_before.branch [
+      | then-goes_before w ↦ (let low = w.low-is in let high = w.high-is in omega (arith, near.1, low, high))
+      | else-goes_before w ↦ (let low = w.low-is in let high = w.high-is in omega (arith, near.0, low, high))
+    ] in
+    ordered
 
 pub halves-preserved : goal.halves-preserved
 halves-preserved g c =
