@@ -18,24 +18,24 @@ A map is given by its name. It is one of:
 \item a path of a grid of the program's own form, which goes to the program as it is;
 \item a matrix of numbers: cells of side 1, the bottom left corner at 0, 0, no reference system.
 }
-Cells are whole numbers to 2147483647 either way; \code{NA} and \code{NaN} are null. Floats are taken where they are whole
+Cells are whole numbers from -2147483647 to 2147483647; \code{NA} and \code{NaN} are null. Floats are accepted if they are whole
 numbers; a transparent cell (an alpha band of 0) is null. Files that terra reads otherwise than they are cause an error: rotated rasters,
 complex cells, a mask next to the cells, signed bytes, and 64-bit cells with a nodata value beyond 2^53. All maps of
 a call have one coordinate reference system, and the region of the first: the same four edges to 8 decimals, and the same rows and
 columns. Nothing is reprojected or resampled. A map without a reference system next to maps that have one is an error unless
-\code{crs=} states it. Labels are those that \code{levels()} gives for a raster, or those of the r.reclass that made the map; they are joined
+\code{crs=} states it. Labels are those that \code{levels()} gives for a raster, or the rules of the r.reclass that made the map; they are joined
 by category.
 }
 \section{Conditions}{
 All errors are of the class \code{rcell_error}, and of one of these:
 \tabular{ll}{
-\code{rcell_refused} \tab the program or the package refuses a script, a map or a request; fields \code{source} (the name of a map,
+\code{rcell_refused} \tab a script, a map or a request is invalid; fields \code{source} (the name of a map,
 \code{"script"}, \code{"arguments"} or \code{"output"}), \code{line} (0 for none), \code{column} (in bytes, or \code{NA}),
 \code{text}, \code{status}, \code{content} (the line of the script). If an option is bad, the message names the word \cr
 \code{rcell_bad_map} \tab a map is not one of whole numbers, is rotated, has several layers; fields \code{name}, \code{row},
 \code{column}, \code{value}; also \code{rcell_refused} \cr
 \code{rcell_other_crs} \tab a map has another coordinate reference system than the first, or none; also \code{rcell_bad_map} \cr
-\code{rcell_other_region} \tab a map has not the region of the first; also \code{rcell_bad_map} \cr
+\code{rcell_other_region} \tab a map has another extent or size than the first; also \code{rcell_bad_map} \cr
 \code{rcell_read_failed} \tab a file cannot be opened, or a part of it is broken; also \code{rcell_bad_map} \cr
 \code{rcell_out_of_memory} \tab the program had no memory; also \code{rcell_refused} \cr
 \code{rcell_killed} \tab the program was ended by a signal (field \code{signal}) \cr
@@ -43,7 +43,7 @@ All errors are of the class \code{rcell_error}, and of one of these:
 \code{rcell_write_failed} \tab a file could not be written (field \code{path}); nothing of it is left. Where the program could not
 write its output, the disk of the temporary folder is full: also \code{rcell_refused}, source \code{"output"} \cr
 }
-An interrupt ends the program and is passed on. No call leaves a process or a temporary file behind, whatever happens: a file that was
+An interrupt ends the program and is passed on. No call leaves a process or a temporary file, whatever happens: a file that was
 being written is removed also if R itself is killed, and only R's own temporary folder stays then; the program ends with it where the system has \command{setpriv} (util-linux), and else runs to
 its end.
 }

@@ -15,7 +15,7 @@ rcell_areas(x, connectivity = 4, least = NULL, classes = NULL, filename = "",
 \item{crs, program}{as in \code{\link{rcell_run}}.}
 }
 \details{
-For one class the numbers are those of \code{terra::patches(x == class, directions = connectivity, zeroAsNA = TRUE, allowGaps = FALSE)}.
+For one class the numbers equal \code{terra::patches(x == class, directions = connectivity, zeroAsNA = TRUE, allowGaps = FALSE)}.
 }
 \value{A \code{SpatRaster} of the numbers.}
 \seealso{\code{\link{rcell_patches}} for their sizes.}

@@ -12,7 +12,7 @@ rcell_crosstab(x, y, useNA = FALSE, crs = NULL, program = NULL)
 }
 \value{
 A data frame with the columns \code{x}, \code{y} and \code{cells}, and \code{x_label} and \code{y_label} where one of the maps has
-labels, a row for each pair that occurs. \code{\link{rcell_table}} with \code{wide = TRUE} answers a matrix.
+labels, a row for each pair that occurs. \code{\link{rcell_table}} with \code{wide = TRUE} returns a matrix.
 }
 \examples{
 lc <- matrix(c(1, 1, 2, 3, 2, 2), 2, byrow = TRUE)

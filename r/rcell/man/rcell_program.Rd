@@ -10,12 +10,12 @@ rcell_program(program = NULL)
 }
 \details{
 It is the first of: what the option \code{rcell.program} names, what the environment variable \code{RCELL} names, the program that
-this package brings along, the one on the path. Before its first use it is run on three cells, to see that it answers as this package
+this package includes, the one on the path. Before its first use it is run on three cells, to see that it works as this package
 needs it.
 }
 \value{
-A list of \code{path} and \code{version}. The program does not tell its version, so that this is known of the one of this
-package alone, and else \code{NA}. An error of class \code{rcell_missing} where there is none, \code{rcell_wrong_program} where it is
+A list of \code{path} and \code{version}. The program does not print its version. So the version is known only of the program in this
+package; otherwise it is \code{NA}. An error of class \code{rcell_missing} if there is none, \code{rcell_wrong_program} if it is
 another.
 }
 \examples{

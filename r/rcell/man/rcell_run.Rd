@@ -14,9 +14,9 @@ a call have one and others have none, as a matrix or a grid of the program's own
 \item{program}{the path of the program; see \code{\link{rcell_program}}.}
 }
 \details{
-The lines are those of the program: \code{r.mapcalc}, \code{r.reclass}, \code{r.clump}, \code{r.stats} and \code{r.out.ascii}, after
+The lines are commands of the program: \code{r.mapcalc}, \code{r.reclass}, \code{r.clump}, \code{r.stats} and \code{r.out.ascii}, after
 the modules of GRASS of these names. The script goes to the program as it is, except that a line of r.stats or r.out.ascii is asked
-for plain numbers, and that a line which ends an output is added after each; a refusal names the line of your script.
+for plain numbers, and that a line which ends an output is added after each; an error names the line of your script.
 }
 \value{
 A list of the outputs in order, named by their maps: a data frame for each r.stats and a \code{SpatRaster} for each r.out.ascii. A data

@@ -10,15 +10,15 @@ rcell_table(.script, ..., area = NULL, percent = FALSE, wide = FALSE,
 \item{.script}{a line \code{r.stats ..}, or a script that has one or more of them.}
 \item{...}{maps by name, as \code{lc = "landcover.tif"}; see \code{\link{rcell-package}}.}
 \item{area}{\code{"m2"}, \code{"ha"} or \code{"km2"}: adds a column of areas with this name, the number of cells times the size of a
-cell in the unit of the reference system. A map in degrees is refused: there the area of a cell differs from row to row. One without
+cell in the unit of the reference system. A map in degrees is an error: there the area of a cell differs from row to row. One without
 a reference system is taken to be in metres.}
 \item{percent}{adds a column of percentages of all cells of the table.}
-\item{wide}{answers a table of two maps as a matrix: of percentages or areas where these are asked for, else of cells.}
+\item{wide}{returns a table of two maps as a matrix: of percentages or areas if you ask for them, else of cells.}
 \item{crs, maps, program}{as in \code{\link{rcell_run}}.}
 }
 \value{
 A data frame as in \code{\link{rcell_run}}, with the columns asked for; where the script has several r.stats, a list of them. With
-\code{wide = TRUE} a matrix whose rows are the categories of the first map and whose columns are those of the second: labels with
+\code{wide = TRUE} a matrix whose rows are the categories of the first map and whose columns are the categories of the second: labels with
 \code{-l}, \code{NA} for null.
 }
 \examples{
