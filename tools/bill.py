@@ -66,7 +66,7 @@ def packages(version):
 
 
 def files(folder):
-    for path in sorted(it for it in folder.iterdir() if it.name != "SHA256SUMS" and not it.name.endswith(".spdx.json")):
+    for path in sorted(it for it in folder.iterdir() if it.is_file() and it.name != "SHA256SUMS" and not it.name.endswith(".spdx.json")):
         sums = [{"algorithm": kind.upper(), "checksumValue": sum_of(path, kind)} for kind in ("sha1", "sha256")]
         yield {"SPDXID": identifier("file", path.name), "fileName": f"./{path.name}", "checksums": sums, "licenseConcluded": linked.OWN,
                "licenseInfoInFiles": [linked.NO_LICENCE], "copyrightText": HOLDER}

@@ -7,7 +7,7 @@ set -eu
 cd "$(dirname "$0")/.."
 dist=${1:-dist}
 . packaging/same.sh
-rm -f "$dist"/*
+find "$dist" -maxdepth 1 -type f -delete
 name=rcell-$version-linux-x86_64
 
 # What the tarball and the package have, below the folder $1 as below a prefix; further words are for tools/linked.py.
@@ -58,6 +58,6 @@ sh python/wheel.sh "$dist" > /dev/null
 sh r/build.sh "$dist" > /dev/null
 python3 qgis/build.py "$dist" > /dev/null
 python3 tools/bill.py "$dist"
-(cd "$dist" && sha256sum -- * > "$room/sums" && install -m 644 "$room/sums" SHA256SUMS)
+(cd "$dist" && find . -maxdepth 1 -type f -printf '%f\n' | sort | xargs sha256sum -- > "$room/sums" && install -m 644 "$room/sums" SHA256SUMS)
 echo "made in $dist:"
 ls "$dist"
