@@ -84,7 +84,7 @@ def refusal(message: str) -> list[str]:
     kind = next(name for name, form in KINDS if re.match(form, text))
     cell = re.search(r"the cell at row (\d+), column (\d+)", text)
     # The mark stands beneath its column, two blanks farther to the right.
-    column = len(rest[-1]) - 2 if rest and rest[-1].endswith("^") else None
+    column = next((len(line) - 2 for line in rest if line.endswith("^")), None)
     found = [("kind", kind), ("source", source), ("line", line), ("row", cell and cell[1])]
     found += [("column", cell[2] if cell else column), ("text", text)]
     return [f"{name}: {value}" for name, value in found if value]

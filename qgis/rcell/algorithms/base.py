@@ -236,9 +236,9 @@ def told(error: RcellError, feedback: QgsProcessingFeedback) -> str:
     text = str(error)
     if qgis.utils.iface is None or not isinstance(error, Refused) or error.content is None or error.column is None:
         return as_log(text)
-    first, content, mark = text.rsplit("\n", 2)
+    first, content, mark, *advice = text.split("\n")
     feedback.pushConsoleInfo(as_log(f"{content}\n{mark}"))
-    return f"{first}\n{as_log(content)}"
+    return as_log("\n".join([first, content, *advice]))
 
 
 def program_setting() -> str:

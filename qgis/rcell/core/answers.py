@@ -241,7 +241,7 @@ def reclass(program: str, raster: Raster, rules: str, watch: Watch | None = None
     except Refused as refusal:
         if refusal.source != "script" or not 2 <= refusal.line <= len(lines) + 1:
             raise
-        raise type(refusal)(refusal.text, "rules", refusal.line - 1, refusal.status, refusal.content) from None
+        raise type(refusal)(refusal.text, "rules", refusal.line - 1, refusal.status, refusal.content, advice=refusal.advice) from None
     return replace(made, labels=labels_of_rules(lines))
 
 

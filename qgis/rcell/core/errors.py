@@ -29,31 +29,34 @@ class Refused(RcellError):
         The exit status of the program.
     content : str or None
         The line of the script itself.
-    word : str
-        The word of the line that is wrong, if the program names no place; else empty.
     column : int or None
         The place in the line, in bytes from 1.
+    advice : str or None
+        What to write instead.
     """
 
     def __init__(self, text: str, source: str = "arguments", line: int = 0, status: int = 1, content: str | None = None,
-                 word: str = "", column: int | None = None) -> None:
-        super().__init__(text, source, line, status, content, word, column)
+                 column: int | None = None, advice: str | None = None) -> None:
+        super().__init__(text, source, line, status, content, column, advice)
         self.text = text
         self.source = source
         self.line = line
         self.status = status
         self.content = content
         found = _COLUMN.search(text)
-        self.word = word
+        self.advice = advice
         self.column = int(found[1]) if found else column
 
     def __str__(self) -> str:
         place = f"{self.source}, line {self.line}" if self.line else self.source
-        message = f"{place}: {self.text}" + (f": {self.word}" if self.word else "")
-        if self.content is None:
-            return message
-        message += f"\n  {self.content}"
-        return message if self.column is None else f"{message}\n  {_mark_under(self.content, self.column)}"
+        lines = [f"{place}: {self.text}"]
+        if self.content is not None:
+            lines.append(f"  {self.content}")
+            if self.column is not None:
+                lines.append(f"  {_mark_under(self.content, self.column)}")
+        if self.advice:
+            lines.append("  try: " + self.advice.replace("\n", "\n       "))
+        return "\n".join(lines)
 
 
 def _mark_under(content: str, column: int) -> str:

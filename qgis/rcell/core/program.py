@@ -8,6 +8,8 @@ a pipe looks ten times a second whether the user has cancelled.
 
 from __future__ import annotations
 
+import contextlib
+import importlib
 import os
 import re
 import select
@@ -26,11 +28,12 @@ from .errors import Cancelled, Killed, MissingProgram, OutOfMemory, RcellError, 
 from .front.programs import close, found_on_path, pipe
 from .rasters import Raster, Warn
 from .region import Region
-from .script import SCRIPT_LIMIT, Plan, Statement, bad_option, plan_of
+from .script import SCRIPT_LIMIT, Plan, Statement, plan_of
 
 PIPE_BYTES = 1 << 20
 # The program tells one line; of what another program may tell no more is kept.
 _MESSAGE_LIMIT = 1 << 16
+_AT_COLUMN = re.compile(r" at column \d+$")
 _MESSAGE = re.compile(r"rcell: ([^:]*):(\d+): (.*)")
 _WAIT = 0.1
 
@@ -267,7 +270,7 @@ def judge(program: str, script: str, names: Sequence[str]) -> None:
             pass
         status, message = run.end()
     if status:
-        _raise_fault(status, message, Plan(b"", list(range(1, len(lines) + 1)), []), script)
+        _raise_fault(status, message, Plan(b"", list(range(1, len(lines) + 1)), [], names=tuple(names)), script)
 
 
 def execute(program: str, script: str, maps: Mapping[str, Raster], wanted: Sequence[str] = (), watch: Watch | None = None) -> list[Output]:
@@ -367,8 +370,17 @@ def _raise_fault(status: int, message: str, plan: Plan, script: str) -> NoReturn
         line = plan.lines[line - 1]
         content = script.split("\n")[line - 1].rstrip("\r") if line else None
     kind: type[RcellError] = OutOfMemory if status == 3 or text == "no memory" else Refused
-    word, column = (bad_option(content) if text == "bad option" and content else None) or ("", None)
-    raise kind(text, source, line, status, content, word, column)
+    column, advice = _advice(script, plan.names, line, text) if content else (None, None)
+    raise kind(text, source, line, status, content, column, advice)
+
+
+def _advice(script: str, names: Sequence[str], line: int, text: str) -> tuple[int | None, str | None]:
+    """The column of a word that is no option, and what to write instead, as rcell-explain has it."""
+    with contextlib.suppress(Exception):  # a fault of the advice must not hide the message
+        mending: Any = importlib.import_module(".front.mending", __package__)
+        column, advice = mending.advice(script.encode("utf-8", "surrogateescape"), list(names), line, _AT_COLUMN.sub("", text))
+        return (column if text == "bad option" else None), advice
+    return None, None
 
 
 class _Short(Exception):

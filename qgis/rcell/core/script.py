@@ -9,7 +9,7 @@ from __future__ import annotations
 
 import re
 from dataclasses import dataclass, field
-from typing import Iterable, Mapping
+from typing import Collection, Iterable, Mapping
 
 from .cells import NULL
 
@@ -96,12 +96,15 @@ class Plan:
         What writes, in order.
     marks : list of bytes or None
         For each output the line that ends it; None where it ends by itself, or the run does.
+    names : tuple of str
+        The names of the maps given.
     """
 
     text: bytes
     lines: list[int]
     outputs: list[Statement]
     marks: list[bytes | None] = field(default_factory=list)
+    names: tuple[str, ...] = ()
 
 
 def _words(line: str) -> list[str]:
@@ -153,24 +156,6 @@ def _value_is_good(command: str, key: str, value: str) -> bool:
     if key == "separator":
         return value in _SEPARATORS or re.fullmatch(r"[!-~]", value) is not None
     return command != "r.stats" or key != "input" or value.count(",") < MOST_MAPS
-
-
-def bad_option(line: str) -> tuple[str, int] | None:
-    """The first word of a statement that is no option of its command, and its column in bytes from 1; None if none is found."""
-    words = list(re.finditer(r"[^ \t\r]+", line))
-    command = words[0][0]
-    flags, keys = "", []
-    for word in words[1:]:
-        key, equals, value = word[0].partition("=")
-        if key.startswith("-"):
-            is_bad = word[0] == "-" or not set(word[0][1:]) <= set(_FLAGS.get(command, ""))
-            flags += word[0][1:]
-        else:
-            is_bad = not equals or key in keys or key not in _KEYS.get(command, ()) or not _value_is_good(command, key, value)
-            keys.append(key)
-        if is_bad or ("1" in flags and ("c" in flags or "after" in keys)):
-            return word[0], len(line[: word.start()].encode("utf-8", "surrogateescape")) + 1
-    return None
 
 
 def statements_of(script: str) -> list[Statement]:
@@ -231,13 +216,13 @@ class _Sent:
         self.marks[place] = MARK.encode()
 
 
-def plan_of(script: str, names: Iterable[str], wanted: Iterable[str] = ()) -> Plan:
+def plan_of(script: str, names: Collection[str], wanted: Iterable[str] = ()) -> Plan:
     """What is sent for a script, so that its outputs can be parted and read as numbers.
 
     Parameters
     ----------
     script : str
-    names : iterable of str
+    names : collection of str
         The names of the maps given.
     wanted : iterable of str
         Maps whose cells are asked for after all that the script writes.
@@ -254,7 +239,7 @@ def plan_of(script: str, names: Iterable[str], wanted: Iterable[str] = ()) -> Pl
             sent.add_mark(place, number)
     for statement in extra:
         sent.add(statement.sent(), 0)
-    return Plan("\n".join(sent.text).encode("utf-8", "surrogateescape"), sent.lines, outputs, sent.marks)
+    return Plan("\n".join(sent.text).encode("utf-8", "surrogateescape"), sent.lines, outputs, sent.marks, tuple(names))
 
 
 def labels_of_rules(rules: Iterable[str]) -> dict[int, str]:

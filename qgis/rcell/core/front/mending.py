@@ -1,0 +1,1 @@
+../../../../python/src/rcell_front/mending.py
