@@ -29,6 +29,7 @@ from page import load, put
 from rcell._maps import ArrayMap
 from rcell._region import CELL_LIMIT, Region
 from rcell.tiles import Mosaic
+from rcell._rasters import Layer
 from rcell.tiles._sheet import MapFile, Sheet
 from rcell.tiles.joining import Rectangle
 from watching import MILLION, measured
@@ -122,7 +123,7 @@ def main() -> None:
     warnings.simplefilter("ignore", rcell.tiles.NeedlessTiles)
     known = Known(sides(given.rows, HEIGHT), sides(given.cols, WIDTH))
     sheet = Sheet(given.rows, given.cols, (25.0, 0.0, 0.0, 0.0, -25.0, 25.0 * given.rows))
-    made = MadeMap("made", "", 1, "uint8", 0, False, False)
+    made = MadeMap("made", "", Layer(1, "uint8", 0, False, None), False)
     cells = given.rows * given.cols
     rows = [f"{given.rows:,} x {given.cols:,} cells, {cells / (CELL_LIMIT + 1):.2f} times what one run takes, {given.workers} workers, tiles of "
             f"{given.size:,}. {load()}.", "", "| Task | Answer | Seconds | a cell | A worker at its peak |", "|---|---|---|---|---|"]

@@ -22,7 +22,7 @@ NEEDS = {
     "matplotlib": (".plot(", ".picture(", "matplotlib"),
     "affine": ("profile_of(",),
     "dask": ("tiles",),
-    "rasterio": ("rasterio", "tiles"),
+    "rasterio": ("rasterio", "tiles", "EPSG:"),
 }
 
 

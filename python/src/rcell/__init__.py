@@ -38,9 +38,6 @@ from ._region import Region
 from ._table import Pivot, Table
 from ._version import __version__
 
-if TYPE_CHECKING:
-    from . import tiles
-
 __all__ = [
     "Areas",
     "BadMap",
@@ -69,6 +66,11 @@ __all__ = [
     "run",
     "table",
 ]
+
+if TYPE_CHECKING:
+    from . import tiles
+
+    __all__ += ["tiles"]
 
 
 def program(path: str | os.PathLike[str] | None = None) -> str:

@@ -7,7 +7,6 @@ import contextlib
 import errno
 import os
 import shutil
-import tempfile
 from typing import Iterator
 
 from rcell_front.files import Output, write_all
@@ -59,6 +58,7 @@ def replacing(path: str) -> Iterator[str]:
 
     Examples
     --------
+    >>> import tempfile
     >>> with tempfile.TemporaryDirectory() as folder:
     ...     with replacing(os.path.join(folder, "a.txt")) as beside:
     ...         _ = open(beside, "w").write("whole")
@@ -83,6 +83,7 @@ def write_beside(path: str, data: bytes | memoryview) -> None:
 
     Examples
     --------
+    >>> import tempfile
     >>> with tempfile.TemporaryDirectory() as folder:
     ...     write_beside(os.path.join(folder, "a.txt"), b"whole")
     ...     print(os.listdir(folder))
