@@ -133,7 +133,7 @@ patchy_calls <- function(path) {
   show("areas of one class (`patches`)", pair(function() patches(rast(path) == 3, directions = 8, zeroAsNA = TRUE),
     function() rcell_areas(path, 8, classes = 3), cells))
   show("sizes of one class (`freq` of `patches`); of all, with perimeters", pair(function() freq(patches(rast(path) == 3, directions = 8, zeroAsNA = TRUE)),
-    function() rcell_patches(path), cells))
+    function() rcell_patches(path, 8), cells))
 }
 
 small_calls <- function(path) {

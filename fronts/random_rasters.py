@@ -1,6 +1,6 @@
 """Random rasters through the fronts, against numpy: types, nodata, alpha, masks, blocks, transforms, reference systems.
 
-    /usr/bin/python3 fronts/random_rasters.py [--count N] [--seed N] [FRONT...]
+    /usr/bin/python3 fronts/random_rasters.py [--count N] [--seconds N] [--seed N] [FRONT...]
 
 Sixteen rasters of one place are counted in one call of a front; one in twenty is no map, and must be refused by row and column. Of
 r.rcell its own part is tried, from the numbers that GRASS hands out to the text of a grid. The last line is 'N passed, M failed,
@@ -16,6 +16,7 @@ import shutil
 import subprocess
 import sys
 import tempfile
+import time
 from dataclasses import dataclass, field
 from typing import Any
 
@@ -285,6 +286,7 @@ def try_group(random: Any, room: str, number: int, fronts: list[Front]) -> None:
 def main() -> int:
     options = argparse.ArgumentParser()
     options.add_argument("--count", type=int, default=SHORT)
+    options.add_argument("--seconds", type=float, default=float("inf"))
     options.add_argument("--seed", type=int, default=1)
     options.add_argument("--work", choices=("python", "qgis", "grass"))
     options.add_argument("fronts", nargs="*")
@@ -299,7 +301,10 @@ def main() -> int:
         print(f"skipped  fronts/{name}: {missing[name]}; install: apt-get install {PACKAGES[name]}")
     fronts = [Front(name) for name in named if not missing[name]]
     room = tempfile.mkdtemp(prefix="rasters-")
+    until = time.monotonic() + asked.seconds
     for number in range(-(-asked.count // GROUP)):
+        if time.monotonic() > until:
+            break
         try_group(np.random.default_rng([asked.seed, number]), room, number, fronts)
     for front in fronts:
         front.end()

@@ -103,7 +103,7 @@ class AnswersTest(InSession):
         for name, path in self.maps().items():
             with self.subTest(map=name):
                 session.run("grass7:r.neighbors", input=path, method=2, size=3, output=self.path("mode.tif"))
-                found = self.run_("mode", INPUT=path, SIZE=0, OUTPUT=self.path("m.tif"))
+                found = self.run_("mode", INPUT=path, SIZE=0, FILL=True, OUTPUT=self.path("m.tif"))
                 mine, dataset = gdal.Open(found["OUTPUT"]).ReadAsArray(), gdal.Open(self.path("mode.tif"))
                 theirs = dataset.ReadAsArray().astype(np.int64)
                 theirs[theirs == dataset.GetRasterBand(1).GetNoDataValue()] = -(2**31)

@@ -100,7 +100,7 @@ class ProcessTest(unittest.TestCase):
         self.assertTrue((gdal.Open(found["OUTPUT"]).ReadAsArray() == wanted).all())
         with open(self.path("r.qml"), encoding="utf-8") as file:
             self.assertIn(f'label="low ({int((wanted == 1).sum())} cells, ', file.read())
-        found = self.results("rcell:mode", f"INPUT={self.cover}", "SIZE=1", f"OUTPUT={self.path('m.tif')}")
+        found = self.results("rcell:mode", f"INPUT={self.cover}", "SIZE=1", "FILL=true", f"OUTPUT={self.path('m.tif')}")
         theirs = gdal.Open(found["OUTPUT"]).ReadAsArray()
         self.assertTrue((np.where(theirs == -(2**31), 0, theirs) == made.commonest(cells, 5)).all())
 
