@@ -12,9 +12,9 @@ use crate::edge_areas::{edge_areas, rank_band};
 use crate::walks::{Walk, walk_band};
 use cell_cats_areas::clump::Joining;
 use cell_core::memory::Memory;
+use cell_join_lines::stretch::Stretch;
 use cell_tiles_joining::edges::BandEdges;
 use cell_tiles_joining::joiner::BandJoiner;
-use cell_join_lines::stretch::Stretch;
 use std::alloc::Global;
 use std::marker::Model;
 

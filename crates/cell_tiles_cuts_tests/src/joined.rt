@@ -2,11 +2,11 @@
 
 use cell_cats_areas::clump::Joining;
 use cell_core_test_maps::maps::{NULL, map_of};
+use cell_join_lines::stretch::Stretch;
 use cell_tiles_cuts::cut_joiner::{CutJoiner, JoinedStretches};
 use cell_tiles_joining::clumped::clump_band;
 use cell_tiles_joining::edges::BandEdges;
 use cell_tiles_joining::joining::join_bands;
-use cell_join_lines::stretch::Stretch;
 use std::alloc::{AllocGlobal, Global};
 use std::process::Abort;
 use std::test::Fail;

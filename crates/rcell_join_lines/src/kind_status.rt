@@ -4,8 +4,8 @@ ghost use Rattle.std.specs.Prelude.{◌≡◌};
 ghost use Rattle.rcell_join_lines.specs.KindStatuses.{areas_kind_status, grid_kind_status, table_kind_status};
 
 use cell_ascii::grid_fault::GridKind;
-use cell_join_lines::table_fault::TableKind;
 use cell_join_lines::areas_fault::AreasKind;
+use cell_join_lines::table_fault::TableKind;
 
 /// The status of a table's fault.
 pub fn table_kind_status(kind: TableKind) -> u8
