@@ -16,6 +16,7 @@ check_filename <- function(filename, overwrite) {
   if (!dir.exists(folder)) write_failed(filename, "No such file or directory")
   if (file.access(folder, 2L) != 0L) write_failed(filename, "Permission denied")
   if (file.exists(target) && !overwrite) write_failed(filename, "it exists, and overwrite is FALSE")
+  if (file.exists(target) && file.access(target, 2L) != 0L) write_failed(filename, "Permission denied")
 }
 
 # Refuses an output that is one of the inputs.
