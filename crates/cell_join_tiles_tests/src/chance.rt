@@ -1,0 +1,27 @@
+//! Maps that look like chance.
+
+use cell_core::memory::Memory;
+use cell_core_test_maps::maps::NULL;
+use std::alloc::Global;
+
+/// The next number of a sequence that looks like chance (Knuth's multiplier).
+pub(crate) fn next_random(seed: u64) -> u64 {
+    seed.wrapping_mul(6364136223846793005)
+        .wrapping_add(1442695040888963407)
+}
+
+/// So many categories below a number; one number of four stands for null.
+pub(crate) fn categories_by(
+    alloc: Global,
+    seed: &mut u64,
+    count: usize,
+    kinds: u64,
+) -> Result<Vec<i32>, Memory> {
+    let mut categories = Vec::new(alloc);
+    for _ in 0..count {
+        *seed = next_random(*seed);
+        let kind = (*seed >> 33) % kinds.max(1);
+        categories.push(if kind == 3 { NULL } else { kind as i32 })?;
+    }
+    Ok(categories)
+}

@@ -1,0 +1,31 @@
+//! Every way to cut a length into pieces.
+
+use cell_core::memory::Memory;
+use std::alloc::Global;
+
+/// How many ways there are to cut so much into pieces.
+pub(crate) fn ways(length: u32) -> u64 {
+    match length.checked_sub(1) {
+        Some(places) => 1u64.checked_shl(places).unwrap_or(1),
+        None => 1,
+    }
+}
+
+/// The pieces of one of the ways: each place between two is cut where the way has a bit.
+pub(crate) fn pieces(alloc: Global, length: u32, way: u64) -> Result<Vec<u32>, Memory> {
+    let mut lengths = Vec::new(alloc);
+    let mut piece: u32 = 0;
+    let mut bits = way;
+    for _ in 0..length {
+        piece = piece.saturating_add(1);
+        if bits % 2 == 1 {
+            lengths.push(piece)?;
+            piece = 0;
+        }
+        bits /= 2;
+    }
+    if piece > 0 {
+        lengths.push(piece)?;
+    }
+    Ok(lengths)
+}

@@ -1,0 +1,236 @@
+//! Maps in grids of tiles, and their clumps.
+
+ghost use Rattle.std.specs.Prelude.{◌<◌, ◌≡◌};
+
+use crate::assertions::assert_same;
+use cell_cats_areas::clump::{Joining, clump_with};
+use cell_core::map::CellMap;
+use cell_core_test_maps::maps::{NULL, categories_of, map_of};
+use cell_join_lines::stretch::Stretch;
+use cell_join_tiles::begun::begun_by_row;
+use cell_join_tiles::border::{Border, Side};
+use cell_join_tiles::joiner::{JoinFault, TileJoiner};
+use std::alloc::{AllocGlobal, Global};
+use std::process::Abort;
+use std::test::Fail;
+
+// A map by its categories, row by row.
+#[derive(Clone, Copy)]
+pub(crate) struct Whole<'a> {
+    pub(crate) categories: &'a [i32],
+    pub(crate) cols: u32,
+}
+
+// A tile by the numbers of its cells, row by row, with its place in the full map and its part of the numbering.
+#[derive(Drop)]
+struct Numbered {
+    numbers: Vec<i32>,
+    top: u32,
+    left: u32,
+    cols: u32,
+    part: u64,
+}
+
+// The categories of a rectangle of a map.
+fn cut_out(
+    alloc: Global,
+    whole: Whole<'_>,
+    top: u32,
+    left: u32,
+    rows: u32,
+    cols: u32,
+) -> Result<Vec<i32>, Fail> {
+    let mut cells = Vec::new(alloc);
+    for row in 0..rows {
+        for col in 0..cols {
+            let place = (top.saturating_add(row) as usize)
+                .saturating_mul(whole.cols as usize)
+                .saturating_add(left.saturating_add(col) as usize);
+            cells.push(whole.categories.get(place).copied().unwrap_or(NULL))?;
+        }
+    }
+    Ok(cells)
+}
+
+// The cells of a row or a column of a map and of its numbers, from one of both on.
+fn side_of(
+    alloc: Global,
+    map: &CellMap,
+    numbers: &CellMap,
+    row: Option<u32>,
+    col: Option<u32>,
+) -> Result<Side, Fail>
+    requires { numbers.now.region ≡ map.now.region }
+{
+    let mut side = Side {
+        cells: Vec::new(alloc),
+        numbers: Vec::new(alloc),
+    };
+    for at_row in 0..map.region().rows() {
+        for at_col in 0..map.region().cols() {
+            if row.unwrap_or(at_row) == at_row && col.unwrap_or(at_col) == at_col {
+                side.cells.push(map.cell(at_row, at_col))?;
+                side.numbers.push(numbers.cell(at_row, at_col))?;
+            }
+        }
+    }
+    Ok(side)
+}
+
+// The border of the tile of these categories, and the numbers of its cells.
+fn tile_of(
+    alloc: Global,
+    categories: &[i32],
+    cols: u32,
+    joining: Joining,
+) -> Result<(Border, Vec<i32>), Fail>
+    requires { 0 < cols }
+{
+    let map = map_of(alloc, categories, cols)?.ok_or("no map")?;
+    let clumps = clump_with(alloc, &map, joining)?;
+    let last_row = map.region().rows().saturating_sub(1);
+    let last_col = map.region().cols().saturating_sub(1);
+    let border = Border {
+        first: side_of(alloc, &map, &clumps, Some(0), None)?,
+        last: side_of(alloc, &map, &clumps, Some(last_row), None)?,
+        left: side_of(alloc, &map, &clumps, None, Some(0))?,
+        right: side_of(alloc, &map, &clumps, None, Some(last_col))?,
+        begun: begun_by_row(alloc, &clumps)?,
+    };
+    Ok((border, categories_of(alloc, &clumps)?))
+}
+
+// The borders of the tiles of a row of tiles, whose numbers go after those of the others.
+fn row_of_tiles(
+    alloc: Global,
+    whole: Whole<'_>,
+    top: u32,
+    rows: u32,
+    widths: &[u32],
+    joining: Joining,
+    numbered: &mut Vec<Numbered>,
+) -> Result<Vec<Border>, Fail> {
+    let mut tiles = Vec::new(alloc);
+    let mut left: u32 = 0;
+    for width in widths {
+        if *width > 0 {
+            let cells = cut_out(alloc, whole, top, left, rows, *width)?;
+            let (border, numbers) = tile_of(alloc, &cells, *width, joining)?;
+            tiles.push(border)?;
+            numbered.push(Numbered {
+                numbers,
+                top,
+                left,
+                cols: *width,
+                part: (numbered.len() as u64).saturating_add(1),
+            })?;
+        }
+        left = left.saturating_add(*width);
+    }
+    Ok(tiles)
+}
+
+// The number in the full map of a clump of a part, by the runs of a numbering.
+fn number_in(runs: &[Stretch], part: u64, clump: u64) -> u64 {
+    for run in runs {
+        if run.band == part && run.first <= clump && clump <= run.last {
+            return run.number.saturating_add(clump.saturating_sub(run.first));
+        }
+    }
+    u64::MAX
+}
+
+// Puts the numbers of a tile's cells in their places in the full map.
+fn put_numbers(found: &mut [u64], cols: u32, tile: &Numbered, runs: &[Stretch]) {
+    let mut at: u32 = 0;
+    for number in tile.numbers.as_slice() {
+        let row = tile.top.saturating_add(at / tile.cols.max(1));
+        let col = tile.left.saturating_add(at % tile.cols.max(1));
+        let place = (row as usize)
+            .saturating_mul(cols as usize)
+            .saturating_add(col as usize);
+        let whole = match u64::try_from(*number) {
+            Ok(clump) => number_in(runs, tile.part, clump),
+            Err(_) => 0,
+        };
+        if let Some(cell) = found.get_mut(place) {
+            *cell = whole;
+        }
+        at = at.saturating_add(1);
+    }
+}
+
+// What a joiner refuses, as a test does.
+fn joined(answer: Result<TileJoiner, JoinFault>) -> Result<TileJoiner, Fail> {
+    match answer {
+        Ok(joiner) => Ok(joiner),
+        Err(_) => Err(Fail::from("a row of tiles is refused")),
+    }
+}
+
+/// The numbers of all cells of a map in a grid of tiles of these heights and widths, 0 for null, as they are joined, and how
+/// many clumps there are.
+pub(crate) fn joined_numbers(
+    alloc: Global,
+    whole: Whole<'_>,
+    heights: &[u32],
+    widths: &[u32],
+    joining: Joining,
+) -> Result<(Vec<u64>, u64), Fail> {
+    let mut numbered = Vec::new(alloc);
+    let mut joiner = TileJoiner::new(alloc, joining);
+    let mut top: u32 = 0;
+    for height in heights {
+        let row = row_of_tiles(alloc, whole, top, *height, widths, joining, &mut numbered)?;
+        joiner = joined(joiner.add(alloc, row))?;
+        top = top.saturating_add(*height);
+    }
+    let all = joiner.finish(alloc)?;
+    let mut found = vec![in alloc; 0; whole.categories.len()]?;
+    for tile in &numbered {
+        put_numbers(found.as_mut_slice(), whole.cols, tile, &all.runs);
+    }
+    Ok((found, all.clumps))
+}
+
+/// The numbers of all cells of the full map, 0 for null, and how many clumps there are.
+pub(crate) fn whole_numbers(
+    alloc: Global,
+    whole: Whole<'_>,
+    joining: Joining,
+) -> Result<(Vec<u64>, u64), Fail> {
+    let cols = whole.cols;
+    if cols == 0 {
+        return Err(Fail::from("no columns"));
+    }
+    let map = map_of(alloc, whole.categories, cols)?.ok_or("no map")?;
+    let clumps = clump_with(alloc, &map, joining)?;
+    let mut found = Vec::new(alloc);
+    let mut most = 0;
+    for number in &categories_of(alloc, &clumps)? {
+        let number = u64::try_from(*number).unwrap_or(0);
+        most = most.max(number);
+        found.push(number)?;
+    }
+    Ok((found, most))
+}
+
+/// Joined from a grid of tiles of these heights and widths, clumps have the numbers of the full map.
+pub(crate) fn expect_numbers<R: Abort + AllocGlobal>(
+    rt: &R,
+    whole: Whole<'_>,
+    heights: &[u32],
+    widths: &[u32],
+    joining: Joining,
+    wanted: &(Vec<u64>, u64),
+) -> Result<(), Fail> {
+    let joined = joined_numbers(rt.alloc(), whole, heights, widths, joining)?;
+    let categories = whole.categories;
+    let cols = whole.cols;
+    assert_same!(rt;
+        joined,
+        *wanted,
+        "the clumps of {categories:?}, {cols} columns, tiles of {heights:?} by {widths:?}, {joining:?}"
+    );
+    Ok(())
+}
