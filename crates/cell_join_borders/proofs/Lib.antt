@@ -5,3 +5,4 @@ pub mod SideLemmas
 pub mod TextLemmas
 pub mod GridLemmas
 pub mod BegunLemmas
+pub mod FitLemmas

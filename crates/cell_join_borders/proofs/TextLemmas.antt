@@ -83,7 +83,7 @@ pub made-so : (j : Joining) (m made : Grid) (text : Coming) → IsMapOfBorder j 
 made-so j m made text h denotes = record {
   m = m;
   border = h.border;
-  of_text = record { denoted = denotes; numbers = h.numbers; has = h.has };
+  of_text = record { denoted = denotes; numbers = h.numbers; has = h.has; fit = h.fit };
   is = h.is;
 }
 

@@ -8,15 +8,17 @@ use Rattle.cell_cats_areas.specs.declared.clump.Joining.{Joining}
 use Rattle.cell_join_tiles.specs.Joined.{HasBorder}
 use Rattle.cell_join_tiles.specs.Values.{border_value}
 use Rattle.cell_join_tiles.specs.declared.border.Border.{Border}
+use Rattle.cell_join_borders.specs.BorderFaults.{IsBorderFit}
 use Rattle.cell_join_borders.specs.BorderText.{border_text}
 use Rattle.cell_join_borders.specs.declared.map_fault.MapFault.{MapFault}
 use Rattle.cell_join_borders.specs.declared.map_fault.MapFault.TheVariants.{Text, Memory, Write}
 
--- a text denotes a map, and this is the border of it and of the numbers of its clumps
+-- a text denotes a map, and this is the border of it and of the numbers of its clumps, of which each cell and its number go together
 pub record IsBorderOfText (j : Joining) (text : Coming) (m : Grid) (border : Border) : Type 0 where
   pub denoted : Denotes text m
   pub numbers : Grid
   pub has : HasBorder j m.region.rows m.region.cols m numbers (border_value border)
+  pub fit : IsBorderFit m.region border
 
 -- the sink took exactly the text of the border of a map, and its length is told
 pub record HasWrittenBorder (j : Joining) (text : Coming) (before now : Option (List ℕ)) (written : ℕ) : Type 0 where

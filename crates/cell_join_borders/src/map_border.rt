@@ -10,7 +10,7 @@ ghost use Rattle.cell_join_tiles.specs.SeamLines.{HasSide};
 ghost use Rattle.cell_join_tiles.specs.Values.{border_value};
 ghost use Rattle.cell_join_borders.specs.BorderFaults.{most_clumps};
 ghost use Rattle.cell_join_borders.specs.WrittenBorder.{HasBorderPrefix, HasWrittenBorder, IsMapFault};
-ghost use Rattle.cell_join_borders.specs.parts.MadeBorder.{IsMapOfBorder, IsMadeOfText, of_map_text};
+ghost use Rattle.cell_join_borders.specs.parts.MadeBorder.{HasEachNumber, IsMapOfBorder, IsMadeOfText, of_map_text};
 
 use crate::drawn::border_map;
 use crate::map_fault::MapFault;
@@ -56,10 +56,13 @@ fn column_of(alloc: Global, map: &CellMap, col: u32) -> Result<Vec<Cell>, Memory
 fn row_side(alloc: Global, map: &CellMap, numbers: &CellMap, row: u32) -> Result<Side, Memory>
     requires row { row < map.now.region.rows }
     requires region { numbers.now.region ≡ map.now.region }
-    ensures { IfOk result (λ side. HasSide map.now numbers.now map.now.region.cols (position row)
-        side.cells.items side.numbers.items) }
+    ensures side { IfOk result (λ side. HasSide map.now numbers.now map.now.region.cols
+        (position row) side.cells.items side.numbers.items) }
+    ensures paired { IfOk result
+        (λ side. length side.numbers.items ≡ map.now.region.cols) }
 {
     map_is_filled(map);
+    map_is_filled(numbers);
     let cells = row_of(alloc, map, row)?;
     let ids = row_of(alloc, numbers, row)?;
     Ok(Side {
@@ -72,8 +75,10 @@ fn row_side(alloc: Global, map: &CellMap, numbers: &CellMap, row: u32) -> Result
 fn column_side(alloc: Global, map: &CellMap, numbers: &CellMap, col: u32) -> Result<Side, Memory>
     requires col { col < map.now.region.cols }
     requires region { numbers.now.region ≡ map.now.region }
-    ensures { IfOk result (λ side. HasSide map.now numbers.now map.now.region.rows
+    ensures side { IfOk result (λ side. HasSide map.now numbers.now map.now.region.rows
         (λ k. position k col) side.cells.items side.numbers.items) }
+    ensures paired { IfOk result
+        (λ side. length side.numbers.items ≡ map.now.region.rows) }
 {
     let cells = column_of(alloc, map, col)?;
     let ids = column_of(alloc, numbers, col)?;
@@ -93,6 +98,7 @@ fn border_of(
     requires { IsClumping joining map.now numbers.now }
     ensures border { IfOk result (λ border. HasBorder joining map.now.region.rows
         map.now.region.cols map.now numbers.now (border_value border)) }
+    ensures paired { IfOk result (HasEachNumber map.now.region) }
     ensures clumps { IfOk result (λ border. sum border.begun.items ≤ most_clumps) }
 {
     map_is_filled(numbers);
@@ -117,6 +123,7 @@ fn border_of(
 fn border_drawn(alloc: Global, joining: Joining, map: &CellMap) -> Result<CellMap, Memory>
     ensures { IfOk result (IsMapOfBorder joining map.now) }
 {
+    map_is_filled(map);
     let numbers = clump_with(alloc, map, joining)?;
     let border = border_of(alloc, joining, map, &numbers)?;
     border_map(alloc, joining, map.region(), &border)

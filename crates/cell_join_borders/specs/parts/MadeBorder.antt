@@ -1,6 +1,7 @@
 -- The map of the border of a map, and the faults of its text.
-use Rattle.std.specs.Prelude.{◌≡◌}
+use Rattle.std.specs.Prelude.{◌≡◌, length}
 use Rattle.cell_core_devices.specs.Device.{Coming}
+use Rattle.cell_core_values.specs.Region.{RegionValue}
 use Rattle.cell_core.specs.Grid.{Grid}
 use Rattle.cell_ascii_meaning.specs.declared.grid_fault.GridFault.{GridFault}
 use Rattle.cell_ascii_meaning.specs.declared.grid_fault.GridKind.{GridKind}
@@ -9,16 +10,25 @@ use Rattle.cell_cats_areas.specs.declared.clump.Joining.{Joining}
 use Rattle.cell_join_tiles.specs.Joined.{HasBorder}
 use Rattle.cell_join_tiles.specs.Values.{border_value}
 use Rattle.cell_join_tiles.specs.declared.border.Border.{Border}
+use Rattle.cell_join_borders.specs.BorderFaults.{IsBorderFit}
 use Rattle.cell_join_borders.specs.BorderText.{border_grid}
 use Rattle.cell_join_borders.specs.WrittenBorder.{IsBorderOfText}
 use Rattle.cell_join_borders.specs.declared.map_fault.MapFault.{MapFault}
 use Rattle.cell_join_borders.specs.declared.map_fault.MapFault.TheVariants as faults
+
+-- each side of a tile of this region has as many numbers as cells
+pub record HasEachNumber (tile : RegionValue) (border : Border) : Type 0 where
+  pub first : length border.first.numbers.items ≡ tile.cols
+  pub last : length border.last.numbers.items ≡ tile.cols
+  pub left : length border.left.numbers.items ≡ tile.rows
+  pub right : length border.right.numbers.items ≡ tile.rows
 
 -- a map is that of the border of a map and of the numbers of its clumps
 pub record IsMapOfBorder (j : Joining) (m made : Grid) : Type 0 where
   pub numbers : Grid
   pub border : Border
   pub has : HasBorder j m.region.rows m.region.cols m numbers (border_value border)
+  pub fit : IsBorderFit m.region border
   pub is : made ≡ border_grid j m.region border
 
 -- and a text denotes that map
