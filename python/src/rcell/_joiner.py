@@ -11,6 +11,7 @@ from __future__ import annotations
 
 import os
 import re
+import tempfile
 from contextlib import ExitStack
 from typing import Sequence
 
@@ -192,10 +193,18 @@ def _run(path: str, words: list[str], texts: Sequence[bytes], seconds: float | N
     return status, output, message.decode("utf-8", "replace").rstrip("\n")
 
 
+def _unnamed() -> int:
+    """Return the descriptor of a file without a name: in memory, if this Python knows such files."""
+    if hasattr(os, "memfd_create"):
+        return os.memfd_create("table")
+    with tempfile.TemporaryFile() as file:
+        return os.dup(file.fileno())
+
+
 def _held(text: bytes) -> int:
-    """Return the descriptor of a file in memory that has a text."""
+    """Return the descriptor of a file that has a text and no name."""
     try:
-        file = above_standard(os.memfd_create("table"))
+        file = above_standard(_unnamed())
     except OSError as error:
         raise WriteFailed(f"a text for rcell-join cannot be written: {error.strerror}") from None
     try:
