@@ -39,7 +39,7 @@ list() {
 # The helpers go to bin, their pages to the others, and their modules below share/rcell, with what they share with the Python package.
 helpers() {
     files python/src/rcell_front | while read -r file; do echo "644 $file $shared/rcell_front/${file##*/}"; done
-    files helpers | grep -v '^helpers/rcell_front$' | while read -r file; do
+    files helpers | while read -r file; do
         name=${file#helpers/}
         case $name in
             *.1) echo "644 $file $pages/$name" ;;

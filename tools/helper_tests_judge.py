@@ -103,7 +103,7 @@ def test_grids(tally):
 
 
 def test(room, tally):
-    folder = next(path for path in (f"{room.programs}/../share/rcell", room.programs) if os.path.exists(f"{path}/rcell_front"))
+    folder = next(path for path in (f"{room.programs}/../share/rcell", f"{ROOT}/python/src") if os.path.exists(f"{path}/rcell_front"))
     sys.path[:0] = [folder, f"{ROOT}/tools"]
     import model
     from rcell_front import mending, script

@@ -264,7 +264,7 @@ def main() -> int:
     return 1 if failed else 0
 
 
-sys.path.insert(0, str(ROOT / "helpers"))
+sys.path[:0] = [str(ROOT / "helpers"), str(ROOT / "python/src")]
 helper: Any = importlib.import_module("rcell_tif")
 
 if __name__ == "__main__":

@@ -1,6 +1,7 @@
 """The rules of the lint. Each is a function that returns its findings, one a line; the first line of its doc says what they are."""
 import pathlib
 import re
+import subprocess
 from collections import Counter, defaultdict
 
 import licences as licences_of_files
@@ -201,6 +202,12 @@ def unused_edges():
     return found
 
 
+def symbolic_links():
+    """Symbolic links, which rt ci refuses wherever they are."""
+    listed = subprocess.run(["git", "ls-files", "-s"], cwd=sources.CRATES.parent, capture_output=True, text=True, check=True).stdout
+    return [line.split("\t")[1] for line in listed.splitlines() if line.startswith("120000 ")]
+
+
 ALL = {it.__name__: it for it in (wide_clauses, widest_clauses, wide_proofs, crate_limits, undocumented, names, uncited, dead_lemmas, parts, steps,
-                                  unused_edges, licences_of_files.licences)}
+                                  unused_edges, symbolic_links, licences_of_files.licences)}
 COUNTED = {"wide_clauses", "widest_clauses", "wide_proofs"}

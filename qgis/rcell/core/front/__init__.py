@@ -1,2 +1,8 @@
 # SPDX-License-Identifier: Apache-2.0 OR GPL-2.0-or-later
-"""What writes files and starts programs, shared with the package for Python."""
+"""Modules shared with the package for Python: copies of them in the zip, and those of python/src/rcell_front in the repository."""
+
+import os
+
+_SOURCES = os.path.join(os.path.dirname(os.path.abspath(__file__)), *[os.pardir] * 4, "python", "src", "rcell_front")
+if os.path.isdir(_SOURCES):
+    __path__.append(_SOURCES)
