@@ -1,1 +1,0 @@
-../../../../python/src/rcell_front/advice.py
