@@ -14,7 +14,7 @@ python=/usr/bin/python3
 session() {
     mkdir "$room/path" "$room/session" && cp "$program" "$room/path/rcell" && ln -s "$PWD/grass/r.rcell/r.rcell.py" "$room/path/r.rcell"
     grass -e -c XY "$room/here" > /dev/null 2>&1
-    PATH=$room/path:/usr/bin:/bin timeout 240 grass "$room/here/PERMANENT" --exec sh "$PWD/grass/tests/session.sh" "$PWD" "$room/session"
+    PATH=$room/path:/usr/bin:/bin timeout 1200 grass "$room/here/PERMANENT" --exec sh "$PWD/grass/tests/session.sh" "$PWD" "$room/session"
 }
 
 add 'r.rcell without GRASS' env RCELL="$program" PYTHONDONTWRITEBYTECODE=1 "$python" grass/tests/test_without_grass.py

@@ -27,10 +27,10 @@ grep -q 'rcell: script:1: bad byte at column 11' told
 printf 'r.stats -c input=lc\n' > tally
 for closed in '<&-' '>&-' '2>&-' '> /dev/full' '<&- >&- 2>&-'; do
     status=0
-    timeout 60 sh -c "r.rcell script=tally maps=lc table=counted --overwrite --quiet $closed" 2> told || status=$?
+    timeout 600 sh -c "r.rcell script=tally maps=lc table=counted --overwrite --quiet $closed" 2> told || status=$?
     [ $status = 0 ]
     status=0
-    timeout 60 sh -c "r.rcell script=tally maps=lc --quiet $closed" > printed 2> told || status=$?
+    timeout 600 sh -c "r.rcell script=tally maps=lc --quiet $closed" > printed 2> told || status=$?
     if grep -q Traceback told; then exit 1; fi
     case $closed in
         *'>&-'*'2>&-' | '>&-' | '> /dev/full') [ $status = 1 ] ;;

@@ -199,7 +199,7 @@ class FilesTest(Room):
         with open(self.path("read.tif"), "wb") as file:
             reader = subprocess.Popen(["cat", self.path("pipe.tif")], stdout=file)
             self.write(self.path("pipe.tif"))
-            self.assertEqual(reader.wait(60), 0)
+            self.assertEqual(reader.wait(600), 0)
         self.assertTrue(stat.S_ISFIFO(os.stat(self.path("pipe.tif")).st_mode))
         self.assertEqual(self.counts(Raster.open("r", self.path("read.tif"))), [(7, 2), (8, 3), (9, 1)])
         with self.assertRaises(WriteFailed):
@@ -225,7 +225,7 @@ class FilesTest(Room):
                 assert ran.stdout is not None
                 ran.stdout.readline()
                 ran.send_signal(number)
-                self.assertEqual(ran.wait(60), -number)
+                self.assertEqual(ran.wait(600), -number)
             self.assertEqual(sorted(os.listdir(self.room)), ["like.tif", "old.tif"])
             self.assertEqual(pathlib.Path(self.path("old.tif")).read_bytes(), before)
 
@@ -239,7 +239,7 @@ class StreamsTest(Room):
         for closed in ("<&-", ">&-", "2>&-", "<&- >&-", "<&- >&- 2>&-"):
             told = self.path("told")
             words = ["sh", "-c", f'exec "$@" {closed}', "sh", sys.executable, "-c", text, path, told, *sys.path]
-            subprocess.run(words, timeout=60, check=True)
+            subprocess.run(words, timeout=600, check=True)
             with open(told, encoding="utf-8") as file:
                 self.assertEqual(file.read(), "[2, 3, 1]", closed)
             os.unlink(told)
@@ -248,14 +248,14 @@ class StreamsTest(Room):
         raster = Raster.open("lc", made.write(self.path("lc.tif"), CELLS))
         with program._Run(PROGRAM, ["lc"], {}, program.Watch()) as run:
             if not (child := os.fork()):
-                time.sleep(20)
+                time.sleep(300)
                 os._exit(0)
             begun = time.monotonic()
             run.write(0, raster.region.header().encode() + b"1 2 3 2 2 1\n")
             run.close(0)
             run.write_script(b"r.stats -c input=lc\n")
             self.assertEqual(b"".join(run.pieces()), b"1 2\n2 3\n3 1\n")
-            self.assertLess(time.monotonic() - begun, 10)
+            self.assertLess(time.monotonic() - begun, 200)
             os.kill(child, signal.SIGKILL)
             os.waitpid(child, 0)
 

@@ -43,7 +43,7 @@ if (nzchar(Sys.which("mkfifo"))) {
   system2("mkfifo", shQuote(file("pipe")))
   reader <- processx::process$new("cat", file("pipe"), stdout = file("read.tif"))
   found <- write("pipe")
-  reader$wait(60000)
+  reader$wait(600000)
   expect_true(is_kind("-p", "pipe"))
   expect_identical(as_rows(found), as_rows(lc) + 1)
   expect_equal(as_rows(rast(file("read.tif"))), as_rows(lc) + 1)
@@ -75,11 +75,12 @@ for (signal in c(1L, 2L, 9L, 15L)) {
   unlink(file("begun"))
   asked <- run_apart(room, slow)
   begun <- Sys.time()
-  while (!file.exists(file("begun")) && asked$is_alive() && Sys.time() < begun + 120) Sys.sleep(0.05)
+  while (!file.exists(file("begun")) && asked$is_alive() && Sys.time() < begun + 600) Sys.sleep(0.05)
   expect_true(any(grepl("^[.]rcell-", files())), info = signal)
   asked$signal(signal)
   said_by(asked)
-  Sys.sleep(0.5)
+  # The process that removes what is left hears of the end a moment later.
+  for (turn in 1:600) if (any(grepl("^[.]rcell-", files()))) Sys.sleep(0.1)
   expect_false(any(grepl("^[.]rcell-", files())), info = signal)
   expect_identical(tools::md5sum(file("in.tif")), before, info = signal)
 }
@@ -89,7 +90,7 @@ lines <- c("found <- rcell_table('r.stats -c input=x', x = matrix(c(1, 1, 2), 1)
   sprintf("saveRDS(found, '%s')", file("found.rds")))
 for (closed in c("<&-", ">&-", "2>&-", "<&- >&- 2>&-")) {
   unlink(file("found.rds"))
-  ran <- run_apart(room, lines, command = c("timeout", "60", "sh", "-c", sprintf("exec \"$@\" %s", closed), "sh"))
+  ran <- run_apart(room, lines, command = c("timeout", "600", "sh", "-c", sprintf("exec \"$@\" %s", closed), "sh"))
   said_by(ran)
   expect_identical(readRDS(file("found.rds"))$cells, c(2L, 1L), info = closed)
 }
