@@ -15,6 +15,7 @@ import numpy as np
 
 import rcell
 from rcell._grid import Grid
+from rcell._libraries import has
 from rcell._program import execute
 from rcell._script import labels_in, plan_of, statements_of
 
@@ -232,9 +233,14 @@ class Refusals(unittest.TestCase):
         self.assertEqual(rcell.grid("", "lc", lc=(LAND, (1, 0, 0, 0, 1, 0))).array.tolist(), LAND[::-1].tolist())
 
     def test_tables_and_areas(self) -> None:
-        lc = rcell.Map(LAND, crs='GEOGCRS["WGS 84"]')
+        lc = rcell.Map(LAND, crs="EPSG:4326")
+        if not has("rasterio"):
+            with self.assertRaises(rcell.MissingLibrary):
+                rcell.table("r.stats -c input=lc", lc=lc, area="ha")
+            lc = rcell.Map(LAND)
+        degrees = [(("r.stats -c input=lc", {"area": "ha"}), "area= needs a map in metres or feet: in degrees")] * has("rasterio")
         for words, told in (
-            (("r.stats -c input=lc", {"area": "ha"}), "area= needs a map in metres or feet: in degrees"),
+            *degrees,
             (("r.stats -c input=lc", {"area": "acre"}), "area= is one of m2, ha, km2, and not 'acre'"),
             (("r.stats input=lc", {"percent": True}), "percent= needs a table with cells: r.stats -c"),
             (("r.stats -c input=lc", {"pivot": True}), "pivot= needs a table of two maps, and this one has 1"),
