@@ -18,6 +18,7 @@ from cases import Case, cases
 HERE = pathlib.Path(__file__).resolve().parent
 REFUSED = re.compile(r"rcell: ([^:]*):(\d+): (.*)")
 NO_MAP = re.compile(r"Raster map <([^>]*)> (.*)")
+ADDED = " separator=pipe"
 TABLE = re.compile(r"^\s*r\.stats\b", re.MULTILINE)
 
 
@@ -73,7 +74,7 @@ def asked(case: Case) -> tuple[str, list[str]]:
     if kind == "areas":
         flag = " -d" if words == ["8"] else ""
         return f"r.clump{flag} input={next(iter(case.maps))} output=areas", ["output=areas=found"]
-    return TABLE.sub(lambda found: f"{found[0]} separator=pipe", case.script), [f"output={words[0]}=found"] if kind == "grid" else []
+    return TABLE.sub(lambda found: found[0] + ADDED, case.script), [f"output={words[0]}=found"] if kind == "grid" else []
 
 
 def refusal(case: Case, told: str) -> list[str]:
@@ -81,8 +82,9 @@ def refusal(case: Case, told: str) -> list[str]:
     text = " ".join(line.removeprefix("ERROR: ").strip() for line in told.splitlines() if not line.startswith(("    ", "WARNING")))
     found = REFUSED.search(text)
     if found:
-        # The mark stands beneath its column, four blanks farther to the right.
-        marks = [len(line) - 4 for line in told.splitlines() if line.startswith("    ") and line.endswith("^")]
+        # The mark stands beneath its column, four blanks farther to the right, and what was added to the line comes before it.
+        shown = [line[4:] for line in told.splitlines() if line.startswith("    ")]
+        marks = [len(mark) - len(ADDED) * (ADDED in line[: len(mark)]) for line, mark in zip(shown, shown[1:]) if mark.endswith("^")]
         lines = [("kind", "refused"), ("source", found[1]), ("line", int(found[2]) or None), ("column", marks[0] if marks else None)]
         return [f"{key}: {value}" for key, value in [*lines, ("text", found[3].strip())] if value is not None]
     missing = NO_MAP.search(text)
