@@ -96,7 +96,7 @@ class AnswersTest(unittest.TestCase):
     def test_a_rule_that_is_refused_is_told_by_its_own_line(self) -> None:
         with self.assertRaises(Refused) as caught:
             answers.reclass(self.program, self.raster("lc", [[1]]), "1 = 1\n2 = x two")
-        self.assertEqual(str(caught.exception), "rules, line 2: bad number in rule\n  2 = x two")
+        self.assertEqual(str(caught.exception).split("\n")[:2], ["rules, line 2: bad number in rule", "  2 = x two"])
         with self.assertRaises(Refused):
             answers.reclass(self.program, self.raster("lc", [[1]]), "1 = 1\n2 = ")
 
@@ -115,7 +115,7 @@ class AnswersTest(unittest.TestCase):
     def test_a_refusal_after_a_mark_names_the_line_of_the_script(self) -> None:
         with self.assertRaises(Refused) as caught:
             answers.run(self.program, "r.stats input=lc\nr.stats -c input=lc\n\nr.stats input=other", {"lc": self.raster("lc", [[1]])})
-        self.assertEqual(str(caught.exception), "script, line 4: unknown map\n  r.stats input=other")
+        self.assertEqual(str(caught.exception), "script, line 4: unknown map\n  r.stats input=other\n  try: defined here: lc")
 
     def test_a_map_that_is_not_there(self) -> None:
         with self.assertRaisesRegex(Refused, "no map y: there are lc, x"):
@@ -124,7 +124,7 @@ class AnswersTest(unittest.TestCase):
     def test_a_mark_under_the_column_counts_bytes(self) -> None:
         with self.assertRaises(Refused) as caught:
             answers.run(self.program, "# \u00fc\nr.mapcalc\tx =\tlc + 1.5", {"lc": self.raster("lc", [[1]])})
-        self.assertEqual(str(caught.exception).split("\n")[1:], ["  r.mapcalc\tx =\tlc + 1.5", "           \t   \t     ^"])
+        self.assertEqual(str(caught.exception).split("\n")[1:3], ["  r.mapcalc\tx =\tlc + 1.5", "           \t   \t     ^"])
 
 
 if __name__ == "__main__":
