@@ -13,6 +13,7 @@ import argparse
 import os
 import re
 import resource
+import signal
 import subprocess
 import sys
 import time
@@ -162,7 +163,15 @@ def table(results, wall):
     return "\n".join([*lines, *notes, *filter(None, [others]), f"{wall / 60:.0f} minutes on {len(os.sched_getaffinity(0))} processors"])
 
 
+def hear_signals():
+    """Gives ignored signals their default again: a shell ignores them for what it starts in the background, and tests send them."""
+    for number in (signal.SIGHUP, signal.SIGINT, signal.SIGQUIT, signal.SIGTERM):
+        if signal.getsignal(number) == signal.SIG_IGN:
+            signal.signal(number, signal.SIG_DFL)
+
+
 def main():
+    hear_signals()
     words = argparse.ArgumentParser(description=__doc__, formatter_class=argparse.RawDescriptionHelpFormatter)
     words.add_argument("--complete", action="store_true", help="what is skipped counts as a failure of the run")
     words.add_argument("parts", nargs="*", metavar="PART")
