@@ -6,6 +6,7 @@
 - An edit is cited as CRATE/must-fail/NAME or CRATE/edits/NAME; further names after a comma are of the same folder.
 - In a table with a column of clauses, each name there is a label of a function that its row names.
 - On the pages about proofs each name in backticks that looks like one of the crates' is a name of the sources.
+- docs/architecture.md has one row for each crate of the product, and for no other.
 
 The last line is 'N passed, M failed'.
 """
@@ -13,16 +14,19 @@ import functools
 import pathlib
 import re
 import sys
+from collections import Counter
 
+import crate_graph
 import sources
 
 ROOT = sources.CRATES.parent
-PAGES_ABOUT_PROOFS = ("MAP.md", "REFUSALS.md", "proofs.md", "architecture.md")
+PAGES_ABOUT_PROOFS = ("proofs.md", "architecture.md")
 EDITS = re.compile(r"(\w+/(?:must-fail|edits))/([\w-]+(?:, [\w-]+-[\w-]+)*)")
 CODE = re.compile(r"`([^`]+)`")
 IN_PARENTHESES = re.compile(r"\(`([a-z_]+)`\)")
 NAME = re.compile(r"[A-Za-z]\w*(?:::\w+)*")
 ROW = re.compile(r"^\|(.*)\|$")
+ROW_OF_CRATE = re.compile(r"^\| `(r?cell\w*)` \|", re.MULTILINE)
 # Names of Rust and of the kit, of commands and options, and words of the language of expressions.
 OTHERS = set("""if and or run new row col nrows ncols isnull null eval abs min max mode nmin nmax nmode x g a b f
 Err Ok None Some Drop Copy Clone bstr itoa clap thiserror circular_buffer std lines_of without_terminator rcell""".split())
@@ -106,6 +110,13 @@ def lost_names(text):
     return sorted({f"`{code}` is no name of the sources" for code in codes if not names_in(code) <= known_names()})
 
 
+def lost_crates(text):
+    """The crates of the product without one row in the tables of crates, and rows of what is no crate."""
+    rows, crates = Counter(ROW_OF_CRATE.findall(text)), set(crate_graph.crates())
+    found = [f"the crate {name} has {rows[name]} rows, not 1" for name in sorted(crates) if rows[name] != 1]
+    return found + [f"`{name}` is no crate of the product" for name in sorted(set(rows) - crates)]
+
+
 def check(names=()):
     """How many documents cite only what exists, and what the others cite besides."""
     passed, faults = 0, []
@@ -114,6 +125,8 @@ def check(names=()):
         found = [f"there is no edit {edit}" for edit in lost_edits(text)]
         if name.rpartition("/")[2] in PAGES_ABOUT_PROOFS:
             found += lost_labels(text) + lost_names(text)
+        if name.endswith("architecture.md"):
+            found += lost_crates(text)
         passed += not found
         faults += [f"{name}: {fault}" for fault in found]
     return passed, faults

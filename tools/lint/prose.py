@@ -15,7 +15,7 @@ from collections import Counter
 ROOT = pathlib.Path(__file__).resolve().parent.parent.parent
 MEAN_WORDS, LONG, MOST_LONG, VERY_LONG, MOST_VERY_LONG = 18, 25, 0.10, 45, 0.01
 # For those who change the program, not for those who use it.
-FOR_DEVELOPERS = {"docs/MAP.md", "docs/REFUSALS.md", "docs/DECISIONS.md", "docs/architecture.md", "bench/RESULTS.md", "bench/hostile.md",
+FOR_DEVELOPERS = {"docs/DECISIONS.md", "docs/architecture.md", "bench/RESULTS.md", "bench/hostile.md",
                   "packaging/object.md", "fronts/README.md",
                   "qgis/README.md", "grass/README.md"}
 # Pages that have not been written anew yet. None is added.

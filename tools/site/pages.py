@@ -20,7 +20,7 @@ MENU = {
     "Packages": {"Python": "docs/python.md", "R": "docs/r.md", "QGIS": "docs/qgis.md"},
     "About": {"What is proved": "docs/proofs.md", "Speed": "docs/speed.md", "Changes": "CHANGELOG.md", "Licence": "LICENSE.md",
               "Contributing": "CONTRIBUTING.md", "Security": "SECURITY.md", "Code of conduct": "CODE_OF_CONDUCT.md", "Example rasters": "examples/rasters/README.md", "Benchmarks": "bench/RESULTS.md", "Hostile use": "bench/hostile.md"},
-    "Sources": {"Map of the sources": "docs/MAP.md", "Refusals": "docs/REFUSALS.md", "Decisions": "docs/DECISIONS.md"},
+    "Sources": {"Architecture": "docs/architecture.md", "Decisions": "docs/DECISIONS.md"},
 }
 PICTURES = {"study.png": ("A land-cover study", "tutorial.html"), "landcover.png": ("A map drawn with GDAL", "howto.html"),
             "islands-islands.png": ("Islands of South-East Asia", "islands.html"), "change-picture.png": ("Change between two years", "change.html"),
