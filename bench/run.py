@@ -393,12 +393,17 @@ def commit():
     return subprocess.run(words, capture_output=True, text=True, cwd=ROOT).stdout.strip()
 
 
+def mark():
+    """What says in the document at which commit the table below it was measured (tools/figures.py)."""
+    return f"<!-- figures: {commit()} -->\n\n"
+
+
 def machine():
     """A sentence on what was measured, where."""
     with open("/proc/cpuinfo", encoding="utf-8") as file:
         model = next((line.split(":")[1].strip() for line in file if line.startswith("model name")), "an unknown processor")
     day, load = time.strftime("%Y-%m-%d"), os.getloadavg()[0]
-    return (f"Measured on {day} with the program of commit {commit()}: {len(os.sched_getaffinity(0))} processors ({model}), "
+    return (f"{mark()}Measured on {day} with the program of commit {commit()}: {len(os.sched_getaffinity(0))} processors ({model}), "
             f"Linux {os.uname().release.split('-')[0]}, {compiler()}, load {load:.0f} at the start.\n")
 
 

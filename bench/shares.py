@@ -10,7 +10,7 @@ import os
 import re
 import subprocess
 
-from run import (CLUMP, CLUMP_CORNERS, LONG_IF, OUT, READ, RECLASS, ROOT, STATS, SUM, WRITE, Contest, build, commit, grid_file,
+from run import (CLUMP, CLUMP_CORNERS, LONG_IF, OUT, READ, RECLASS, ROOT, STATS, SUM, WRITE, Contest, build, commit, grid_file, mark,
                  put_between)
 
 SIDE = 2000
@@ -64,7 +64,7 @@ def rows(program):
 
 def print_table(rows, marks, is_written):
     """Prints the lines of a table as they come, and puts them into the document if that is asked for."""
-    lines = [f"Of the program of commit {commit()}:\n", "\n"]
+    lines = [mark(), f"Of the program of commit {commit()}:\n", "\n"]
     for line in rows:
         print(line, flush=True)
         lines.append(line + "\n")

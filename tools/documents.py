@@ -17,7 +17,7 @@ Of docs/grass.md the program's side of each table is run, too (tools/differences
 docs/commands.md, docs/rcell-join.md and the manual pages name are tried (tools/command_options.py). What needs no program is tried
 first, and with --texts alone: docs/errors.md has the table of python/src/rcell_front/messages.json (tools/messages.py), docs/crates.svg the
 crates of crates.txt (tools/crate_graph.py), docs/proofs.md and README.md the numbers of lines that have to be believed
-(tools/reading.py), README.md the figures of bench/RESULTS.md, each link and anchor leads somewhere (tools/links.py), the edits, clauses and laws that the documents cite exist (tools/citations.py), and the
+(tools/reading.py), README.md and docs/speed.md the figures of bench/RESULTS.md (tools/figures.py), each link and anchor leads somewhere (tools/links.py), the edits, clauses and laws that the documents cite exist (tools/citations.py), and the
 manual pages pass the warnings of man where it is installed.
 The last line is 'N passed, M failed'.
 """
@@ -36,6 +36,7 @@ import citations
 import command_options
 import crate_graph
 import differences
+import figures
 import links
 import messages
 
@@ -47,9 +48,6 @@ FENCE = re.compile(r"```(\S*)(?: file=(\S+))?(?: needs=(\S+))?\n(.*?)^```$", re.
 # What is said of the lines that have to be believed: numbers, and what stands around them.
 READING_ROW = re.compile(r"(`make reading(?: COMMAND=(?P<command>\S+))?` \| )(\d+)( \| )(\d+)( \| )(\d+)( \|)")
 READING_SENTENCE = re.compile(r"(for a table of (?P<command>r\.\w+) )(\d+)( lines, )(\d+)( with comments)")
-FIGURE = re.compile(r"\d+(?:\.\d+)?")
-NO_FIGURES = {"2", "3", "4", "25"}  # sizes of grids, in millions of cells, and of windows
-SPEED_ROW = re.compile(r"^\| ([^|]+) \| ([^|]+ cells) \| (.*?) \|$", re.MULTILINE)
 LANGUAGES = {"console", "pycon", "text", "python", "sh"}
 PACKAGES = {"gdal_retile.py": "python3-gdal", "gdalinfo": "gdal-bin", "Rscript": "r-base-core",
             "/usr/share/gmt-gshhg/binned_GSHHS_f.nc": "gmt-gshhg-full", "/usr/share/qgis/resources/data/world_map.gpkg": "qgis-common"}
@@ -262,58 +260,6 @@ def names_not_read():
     return subprocess.run(words, stdout=subprocess.PIPE, text=True).stdout.splitlines()[:-1]
 
 
-def tables_of_speed():
-    """The rows of bench/RESULTS.md by their task and the title of their table, each as its cells; the first of a name counts."""
-    found, title = {}, ""
-    with open(f"{ROOT}/bench/RESULTS.md", encoding="utf-8") as file:
-        for line in file.read().splitlines():
-            cells = [cell.strip() for cell in line.strip("|").split("|")]
-            if len(cells) == 1 and line:
-                title = line
-            elif len(cells) > 1:
-                found.setdefault((cells[0], title), cells)
-    return found
-
-
-def check_speed(write):
-    """Whether the README has the figures of bench/RESULTS.md, where that is; `write` mends them."""
-    if not os.path.exists(f"{ROOT}/bench/RESULTS.md"):
-        return 0, []
-    with open(f"{ROOT}/README.md", encoding="utf-8") as file:
-        document = file.read()
-    tables, faults = tables_of_speed(), []
-
-    def with_figures(found):
-        cells = tables.get((found[1], found[2]))
-        figures = " | ".join([cells[1], cells[2], cells[-2], cells[-1]]) if cells else ""
-        if figures != found[3]:
-            faults.append(f"README.md: {found[1]}, {found[2]}: {figures} in bench/RESULTS.md, and not {found[3]} (--write mends it)")
-        return f"| {found[1]} | {found[2]} | {figures} |"
-
-    right = SPEED_ROW.sub(with_figures, document)
-    counted = len(SPEED_ROW.findall(document)) - len(faults)
-    if write:
-        with open(f"{ROOT}/README.md", "w", encoding="utf-8") as file:
-            file.write(right)
-    rows, lost = figures_of_the_page()
-    return counted + rows, faults + lost
-
-
-def figures_of_the_page():
-    """The rows of docs/speed.md whose figures stand together on a line of bench/RESULTS.md, and what is wrong with the others."""
-    with open(f"{ROOT}/bench/RESULTS.md", encoding="utf-8") as file:
-        lines = [set(FIGURE.findall(line)) for line in file if line.startswith("|")]
-    found, faults = 0, []
-    with open(f"{ROOT}/docs/speed.md", encoding="utf-8") as file:
-        for number, line in enumerate(file, 1):
-            figures = set(FIGURE.findall("|".join(line.split("|")[2:]))) if line.startswith("|") else set()
-            if figures - NO_FIGURES:
-                is_there = any(figures - NO_FIGURES <= known for known in lines)
-                found += is_there
-                faults += [] if is_there else [f"docs/speed.md:{number}: no line of bench/RESULTS.md has {', '.join(sorted(figures))}"]
-    return found, faults
-
-
 def warnings_of_man(page):
     """What man warns of on a manual page of the sources, or on that of a path."""
     environment = {**os.environ, "LC_ALL": "C.UTF-8", "MANROFFSEQ": "", "MANWIDTH": "80"}
@@ -348,7 +294,7 @@ def main():
     programs = {"rcell": program, "rcell-join": joiner}
     texts = [("the messages", messages.check), ("the links", links.check),
              ("the citations", citations.check), ("the picture of the crates", crate_graph.check), ("the manual pages", check_pages),
-             ("the numbers of lines", lambda: check_reading(settings.write)), ("the figures", lambda: check_speed(settings.write))]
+             ("the numbers of lines", lambda: check_reading(settings.write)), ("the figures", lambda: figures.check(settings.write))]
     runs = [(name, lambda name=name: run_document(name, programs, settings.write)) for name in settings.documents or DOCUMENTS]
     if not settings.documents:
         runs += [("the tables of differences", lambda: check_differences(program)),

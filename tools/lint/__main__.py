@@ -4,7 +4,8 @@
 
 Each rule has its findings, one a line, and a file of exceptions, lint/exceptions/RULE.txt. A finding that the file does not
 list is an error, and so is a line of the file that is no finding any more: the list may only shrink. Rules that
-count list a number a file, which may only fall. The English of the documents for users has no retired word (prose.py). With --write the files are written as the findings are, which is for the
+count list a number a file, which may only fall. The English of the documents for users has no retired word (prose.py), and
+pages keep to their lengths and have no sentence in common (pages.py). With --write the files are written as the findings are, which is for the
 commit that takes findings away; a file that would grow is left as it is. The last line is 'N passed, M failed'.
 """
 import argparse
@@ -15,6 +16,7 @@ import sys
 
 sys.path[:0] = [str(pathlib.Path(__file__).resolve().parent), str(pathlib.Path(__file__).resolve().parent.parent)]
 
+import pages  # noqa: E402
 import prose  # noqa: E402
 import rules  # noqa: E402  (the path above has to be set first)
 
@@ -79,7 +81,7 @@ def python_faults():
 
 def prose_faults():
     """What is wrong with the English of the documents; the retired words elsewhere are printed, and are no fault."""
-    faults = prose.faults()
+    faults = prose.faults() + pages.faults()
     for fault in faults:
         print(f"prose: {fault}")
     counts = ", ".join(f"{folder} {count}" for folder, count in prose.counts_by_folder().most_common())
