@@ -85,8 +85,6 @@ def random_nodata(chance: random.Random, cells: NDArray[Any]) -> float | None:
     kind = cells.dtype.kind
     some = cells.reshape(-1)[chance.randrange(cells.size)].item() if kind != "c" else 0
     choices: list[float | None] = [None, some, some, -9999, 255, 2**31, -(2**31), 0.5, float("nan"), -3.4028234663852886e38]
-    if kind in "iu" and not cells.any(axis=1).all():
-        choices.remove(0.5)  # GDAL reads a block of zeros that it has not stored as this nodata, rounded
     found = chance.choice(choices)
     if found is not None and cells.dtype.itemsize == 8 and kind in "iu":
         limits = np.iinfo(cells.dtype)
@@ -140,6 +138,10 @@ def make(chance: random.Random, path: str) -> Raster:
     if crs:
         made.SetProjection(rasterio.crs.CRS.from_user_input(crs).to_wkt())
     band = made.GetRasterBand(1)
+    if has_alpha:
+        made.GetRasterBand(2).SetColorInterpretation(gdal.GCI_AlphaBand)
+    band.Fill(1)
+    made.FlushCache()  # all blocks are stored now: GDAL writes nodata, rounded, in place of zeros in a block that is not
     if nodata is not None and dtype != "complex64":
         {"uint64": band.SetNoDataValueAsUInt64, "int64": band.SetNoDataValueAsInt64}.get(dtype, band.SetNoDataValue)(nodata)
     band.WriteArray(cells)
@@ -147,7 +149,6 @@ def make(chance: random.Random, path: str) -> Raster:
     if has_alpha:
         alpha = np.array([[chance.choice([0, 1, 100]) for _ in range(shape[1])] for _ in range(shape[0])], dtype)
         made.GetRasterBand(2).WriteArray(alpha)
-        made.GetRasterBand(2).SetColorInterpretation(gdal.GCI_AlphaBand)
         null = null | (alpha == 0)
     if scale:
         band.SetScale(0.5)
