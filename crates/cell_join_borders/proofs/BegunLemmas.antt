@@ -6,7 +6,7 @@ use Rattle.std.proofs.lemmas.List.Elements.{All-head, All-tail}
 use Rattle.std.proofs.lemmas.Int.{ints}
 use Rattle.cell_core_values.specs.Cell.{IsCell, is_category}
 use Rattle.cell_core.specs.Grid.{CellValue, Grid, IsFilled, AreCells}
-use Rattle.cell_tiles_joining.specs.parts.Greatest.{greater_of, greatest_in, greatest_of}
+use Rattle.cell_join_tiles.specs.parts.Greatest.{greater_of, greatest_in, greatest_of}
 use Rattle.cell_join_tiles.specs.Borders.{Rises}
 
 category-most : (n : ℕ) → is_category (pos n) ≡ true → n ≤ 2147483647

@@ -11,9 +11,9 @@ use Rattle.cell_core.specs.Grid.{CellValue, Grid}
 use Rattle.cell_cats_areas.specs.declared.clump.Joining.{Joining}
 use Rattle.cell_cats_areas.specs.Areas.{IsClumping, Position, cell_at_spot}
 use Rattle.cell_cats_areas.specs.parts.CellPlaces.{position}
-use Rattle.cell_tiles_joining.specs.parts.Greatest.{greater_of, greatest_in, greatest_of}
-use Rattle.cell_tiles_joining.proofs.AreaLemmas.{spot-of}
-use Rattle.cell_tiles_joining.proofs.GreatestLemmas.{has-areas}
+use Rattle.cell_join_tiles.specs.parts.Greatest.{greater_of, greatest_in, greatest_of}
+use Rattle.cell_join_tiles.proofs.SpotLemmas.{spot-of}
+use Rattle.cell_join_tiles.proofs.GreatestLemmas.{has-areas}
 use Rattle.cell_join_tiles.specs.Borders.{Rises}
 use Rattle.cell_join_tiles.specs.Joined.{HasBorder}
 use Rattle.cell_join_tiles.specs.SeamLines.{HasSide}

@@ -14,7 +14,6 @@ ghost use Rattle.cell_join_borders.specs.parts.MadeBorder.{HasEachNumber, IsMapO
 
 use crate::drawn::border_map;
 use crate::map_fault::MapFault;
-use crate::sides::row_of;
 use crate::size::map_is_filled;
 use cell_ascii::grid_reader::read_map;
 use cell_ascii::writer::write_map;
@@ -25,7 +24,7 @@ use cell_core::map::CellMap;
 use cell_core::memory::Memory;
 use cell_core::sink::Sink;
 use cell_core::source::Source;
-use cell_join_tiles::begun::begun_by_row;
+use cell_join_tiles::begun::{begun_by_row, row_of};
 use cell_join_tiles::border::{Border, Side};
 use std::alloc::Global;
 

@@ -13,18 +13,9 @@ use cell_core::cell::Cell;
 use cell_core::map::CellMap;
 use cell_core::memory::Memory;
 use cell_core::region::Region;
+use cell_join_tiles::begun::row_of;
 use cell_join_tiles::border::Side;
 use std::alloc::Global;
-
-/// The cells of a row.
-pub(crate) fn row_of(alloc: Global, map: &CellMap, row: u32) -> Result<Vec<Cell>, Memory>
-    requires { row < map.now.region.rows }
-    ensures { IfOk result (λ cells. cells.items ≡ row_at map.now row) }
-{
-    let mut cells = vec![in alloc; Cell::null(); map.region().cols() as usize]?;
-    map.copy_row(row, cells.as_mut_slice());
-    Ok(cells)
-}
 
 /// For each cell of the sides of a tile the greatest number that it may have: of the clumps that begin in its row or above it.
 #[derive(Debug, Drop)]

@@ -10,10 +10,9 @@ use Rattle.cell_cats_areas.specs.parts.CellPlaces.{position}
 use Rattle.cell_parts.specs.Parts.{Rectangle}
 use Rattle.cell_parts.specs.AreaParts.{moved_position}
 use Rattle.cell_join_numbers.specs.Labelled.{AreLabelled}
-use Rattle.cell_tiles_joining.proofs.AreaLemmas.{Spot, spot-of, spot-own, first-some}
-use Rattle.cell_tiles_grid.specs.Grids.{tile_place}
-use Rattle.cell_tiles_grid.proofs.TileLemmas.{before-moved, joined-moved}
-use Rattle.cell_join_tiles.specs.Beginnings.{Begun, stretch_of, clumps_in_grid, clump_label, IsCutIntoTiles, HasBegun, HaveBegun, BearLabels, ArePaired, LabelsFollowFirstCells, ClumpLabelsAreLabels}
+use Rattle.cell_join_tiles.proofs.SpotLemmas.{Spot, spot-of, spot-own, first-some}
+use Rattle.cell_join_tiles.proofs.MovedLemmas.{before-moved, joined-moved}
+use Rattle.cell_join_tiles.specs.Beginnings.{Begun, stretch_of, clumps_in_grid, clump_label, IsCutIntoTiles, HasBegun, HaveBegun, BearLabels, ArePaired, LabelsFollowFirstCells, ClumpLabelsAreLabels, tile_place}
 use Rattle.cell_join_tiles.proofs.StretchLemmas.{Lies, lies, stretch-is, ends-before}
 use Rattle.cell_join_tiles.proofs.LabelSums.{begun-next}
 use Rattle.cell_join_tiles.proofs.LabelLemmas.{IsBefore, IsClump, line_of, label-within, one-clump, before-of, labels}

@@ -13,13 +13,12 @@ use Rattle.cell_core.specs.Grid.{Grid}
 use Rattle.cell_cats_areas.specs.declared.clump.Joining.{Joining}
 use Rattle.cell_cats_areas.specs.Areas.{Position, cell_at_spot, HasNumber}
 use Rattle.cell_parts.specs.AreaParts.{moved_position}
-use Rattle.cell_tiles_grid.specs.Grids.{tile_place}
 use Rattle.cell_join_lines.specs.AreasText.{stretches_from, stretches_in, stretches_of}
 use Rattle.cell_join_lines.specs.declared.stretch.Stretch.{Stretch}
 use Rattle.cell_join_numbers.specs.Labelled.{HasAreas}
 use Rattle.cell_join_numbers.proofs.NumberLemmas.{is-some}
 use Rattle.cell_join_numbers.specs.SparseNumbers.{AreBelow, NumberPairs}
-use Rattle.cell_join_tiles.specs.Beginnings.{Begun, IsCutIntoTiles, clumps_in_grid, clump_label}
+use Rattle.cell_join_tiles.specs.Beginnings.{Begun, IsCutIntoTiles, clumps_in_grid, clump_label, tile_place}
 use Rattle.cell_join_tiles.specs.Borders.{cell_label, ArePairedAtSeams}
 use Rattle.cell_join_tiles.specs.Values.{BorderValue, no_border}
 use Rattle.cell_join_tiles.specs.Joined.{HaveBorders, begun_in, left_line, right_line, first_line, last_line}

@@ -10,8 +10,7 @@ use Rattle.cell_cats_areas.specs.declared.clump.Joining.{Joining}
 use Rattle.cell_cats_areas.specs.Areas.{Position}
 use Rattle.cell_cats_areas.specs.parts.CellPlaces.{position}
 use Rattle.cell_parts.specs.AreaParts.{moved_position}
-use Rattle.cell_tiles_grid.specs.Grids.{tile_place}
-use Rattle.cell_join_tiles.specs.Beginnings.{Begun, IsCutIntoTiles}
+use Rattle.cell_join_tiles.specs.Beginnings.{Begun, IsCutIntoTiles, tile_place}
 use Rattle.cell_join_tiles.specs.Borders.{Rises, AreBorders, cell_label, ArePairedAtSeams}
 use Rattle.cell_join_tiles.specs.SeamLines.{line_meetings, IsLineOf, AreSeamLines, IsAtSide, IsAtRow, HasSide, side_marks, row_line}
 use Rattle.cell_join_tiles.specs.Values.{SideValue, BorderValue, no_border}

@@ -23,3 +23,7 @@ pub mod RunLemmas
 pub mod RowStepLemmas
 pub mod SpanLemmas
 pub mod JoinRowLemmas
+pub mod GreatestLemmas
+pub mod LengthLemmas
+pub mod MovedLemmas
+pub mod SpotLemmas

@@ -9,8 +9,7 @@ use Rattle.cell_core.specs.Grid.{Grid, CellValue}
 use Rattle.cell_cats_areas.specs.Areas.{Position, cell_at_spot}
 use Rattle.cell_cats_areas.specs.parts.CellPlaces.{position}
 use Rattle.cell_parts.specs.AreaParts.{moved_position}
-use Rattle.cell_tiles_grid.specs.Grids.{tile_place}
-use Rattle.cell_join_tiles.specs.Beginnings.{clump_label}
+use Rattle.cell_join_tiles.specs.Beginnings.{clump_label, tile_place}
 use Rattle.cell_join_tiles.specs.Borders.{number_of, cell_label}
 use Rattle.cell_join_tiles.specs.declared.marks.Mark.{Mark}
 use Rattle.cell_join_tiles.specs.SeamLines.{Line, mark_of, IsLineOf, side_mark, row_line, SidesAreLines, RowsAreLines}

@@ -13,9 +13,13 @@ use Rattle.std.proofs.lemmas.Grind.{flat_map-append}
 use Rattle.cell_cats_areas.specs.declared.clump.Joining.{Joining}
 use Rattle.cell_cats_areas.specs.declared.clump.Joining.TheVariants.{Edges, EdgesAndCorners}
 use Rattle.cell_cats_areas.specs.Areas.{AreNeighbours}
-use Rattle.cell_tiles_joining.proofs.MeetingLemmas.{Touch}
 use Rattle.cell_join_tiles.specs.declared.marks.Mark.{Mark}
 use Rattle.cell_join_tiles.specs.SeamLines.{Line, line_meeting, line_meetings, line_meetings_at}
+
+-- places of two lines that lie side by side whose cells touch
+abbrev pub Touch : Joining → ℕ → ℕ → Type 0
+Touch Edges c d = c ≡ d
+Touch EdgesAndCorners c d = (c ≡ d) ⊎ AreNeighbours c d
 
 -- ---- two marks
 

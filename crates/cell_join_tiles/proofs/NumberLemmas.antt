@@ -9,12 +9,11 @@ use Rattle.cell_cats_areas.specs.parts.CellPlaces.{position}
 use Rattle.cell_cats_areas.proofs.PathLemmas.{AreJoined-adjacent}
 use Rattle.cell_parts.specs.AreaParts.{moved_position}
 use Rattle.cell_parts.proofs.AreaLemmas.{is-some}
-use Rattle.cell_tiles_joining.proofs.GreatestLemmas.{has-areas}
+use Rattle.cell_join_tiles.proofs.GreatestLemmas.{has-areas}
 use Rattle.cell_join_numbers.specs.Labelled.{HasAreas}
-use Rattle.cell_tiles_joining.specs.parts.Greatest.{greatest_of}
-use Rattle.cell_tiles_grid.specs.Grids.{tile_place}
-use Rattle.cell_tiles_grid.proofs.TileLemmas.{adjacent-back}
-use Rattle.cell_join_tiles.specs.Beginnings.{Begun, stretch_of, clump_label, IsCutIntoTiles, HasBegun, HaveBegun, ArePaired}
+use Rattle.cell_join_tiles.specs.parts.Greatest.{greatest_of}
+use Rattle.cell_join_tiles.proofs.MovedLemmas.{adjacent-back}
+use Rattle.cell_join_tiles.specs.Beginnings.{Begun, stretch_of, clump_label, IsCutIntoTiles, HasBegun, HaveBegun, ArePaired, tile_place}
 use Rattle.cell_join_tiles.specs.Borders.{AreBorders, number_of, cell_label, CellsBearLabels, AreInOneTile, ArePairedAtSeams, BordersAreLabelled, BordersNumberTheWhole, BordersCountTheWhole}
 use Rattle.cell_join_tiles.proofs.StretchLemmas.{Lies, lies, stretch-is}
 use Rattle.cell_join_tiles.proofs.RiseLemmas.{rises-tell-begun, some-numbered}

@@ -8,8 +8,8 @@ use Rattle.cell_cats_areas.specs.declared.clump.Joining.{Joining}
 use Rattle.cell_cats_areas.specs.Areas.{Position, cell_at_spot, IsClumping}
 use Rattle.cell_cats_areas.specs.ClumpLaw.{AreFirsts}
 use Rattle.cell_cats_areas.specs.parts.CellPlaces.{position}
-use Rattle.cell_tiles_joining.specs.parts.Greatest.{greater_of, greatest_in, greatest_of}
-use Rattle.cell_tiles_joining.proofs.AreaLemmas.{spot-of, spot-own, first-some}
+use Rattle.cell_join_tiles.specs.parts.Greatest.{greater_of, greatest_in, greatest_of}
+use Rattle.cell_join_tiles.proofs.SpotLemmas.{spot-of, spot-own, first-some}
 use Rattle.cell_join_tiles.specs.Beginnings.{begun_before}
 use Rattle.cell_join_tiles.specs.Borders.{Rises, RisesCountBegun}
 use Rattle.cell_join_tiles.proofs.StretchLemmas.{sum-cons}

@@ -13,11 +13,9 @@ use Rattle.cell_parts.specs.AreaParts.{moved_position}
 use Rattle.cell_parts.proofs.AreaLemmas.{is-some}
 use Rattle.cell_parts.proofs.CutAreaLemmas.{rows-near}
 use Rattle.cell_join_numbers.specs.Labelled.{IsMeeting}
-use Rattle.cell_tiles_joining.proofs.MeetingLemmas.{Touch}
-use Rattle.cell_tiles_grid.specs.Grids.{tile_place}
-use Rattle.cell_tiles_grid.proofs.StretchLemmas.{before-next, index_in, Crosses, next-to}
-use Rattle.cell_join_tiles.proofs.MeetingLemmas.{mark-inside, line_meetings-have, line_meetings-only}
-use Rattle.cell_join_tiles.specs.Beginnings.{stretch_of}
+use Rattle.cell_join_tiles.proofs.LengthLemmas.{before-next, index_in, Crosses, next-to}
+use Rattle.cell_join_tiles.proofs.MeetingLemmas.{Touch, mark-inside, line_meetings-have, line_meetings-only}
+use Rattle.cell_join_tiles.specs.Beginnings.{stretch_of, tile_place}
 use Rattle.cell_join_tiles.specs.Borders.{AreInOneTile}
 use Rattle.cell_join_tiles.specs.declared.marks.Mark.{Mark}
 use Rattle.cell_join_tiles.specs.SeamLines.{Line, line_meetings, mark_of, IsLineOf, AreSeamLines, IsAtSide, IsAtRow, SeamLinesPair}

@@ -9,7 +9,7 @@ use Rattle.cell_core.specs.Grid.{Grid, CellValue}
 use Rattle.cell_cats_areas.specs.declared.clump.Joining.{Joining}
 use Rattle.cell_cats_areas.specs.Areas.{Position, cell_at_spot}
 use Rattle.cell_cats_areas.specs.parts.CellPlaces.{position}
-use Rattle.cell_tiles_joining.proofs.AreaLemmas.{spot-of}
+use Rattle.cell_join_tiles.proofs.SpotLemmas.{spot-of}
 use Rattle.cell_join_tiles.specs.Beginnings.{Begun, IsCutIntoTiles, clump_label}
 use Rattle.cell_join_tiles.specs.Borders.{number_of, AreBorders}
 use Rattle.cell_join_tiles.specs.SeamLines.{Line, line_meetings, HasSide, side_mark, side_marks, row_line, IsAtSide, IsAtRow}

@@ -5,9 +5,9 @@ use Rattle.cell_cats_areas.specs.declared.clump.Joining.{Joining}
 use Rattle.cell_cats_areas.specs.Areas.{Position, cell_at_spot, IsEarlierCell, AreAdjacent, IsClumping}
 use Rattle.cell_cats_areas.specs.ClumpLaw.{AreFirsts}
 use Rattle.cell_cats_areas.specs.parts.CellPlaces.{position}
+use Rattle.cell_parts.specs.Parts.{Rectangle}
 use Rattle.cell_parts.specs.AreaParts.{IsTile, moved_position}
 use Rattle.cell_join_numbers.specs.Labelled.{IsMeeting, AreLabelled}
-use Rattle.cell_tiles_grid.specs.Grids.{tile_place}
 
 -- ---- the arithmetic of labels
 
@@ -56,6 +56,10 @@ abbrev pub clump_label : List (List Begun) → (r c k : ℕ) → ℕ
 clump_label grid r c k = sum_by clumps_in_row (take r grid) + label_in_row (slice_index_or grid r []) c k
 
 -- ---- maps
+
+-- the rectangle of the tile in a row and a column of tiles, between rows of such heights and columns of such widths
+abbrev pub tile_place : (heights widths : List ℕ) → (r c : ℕ) → Rectangle
+tile_place heights widths r c = record { top = sum (take r heights); left = sum (take c widths); rows = slice_index heights r; cols = slice_index widths c }
 
 -- a map cut between rows of tiles of such heights and columns of such widths
 pub record IsCutIntoTiles (whole : Grid) (heights widths : List ℕ) (map_of : ℕ → ℕ → Grid) : Type 0 where

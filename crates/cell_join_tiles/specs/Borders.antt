@@ -7,9 +7,8 @@ use Rattle.cell_cats_areas.specs.ClumpLaw.{AreFirsts}
 use Rattle.cell_cats_areas.specs.parts.CellPlaces.{position}
 use Rattle.cell_parts.specs.AreaParts.{moved_position}
 use Rattle.cell_join_numbers.specs.Labelled.{HasAreas, IsMeeting, AreLabelled, NumberLabels, CountLabels}
-use Rattle.cell_tiles_joining.specs.parts.Greatest.{greatest_of}
-use Rattle.cell_tiles_grid.specs.Grids.{tile_place}
-use Rattle.cell_join_tiles.specs.Beginnings.{Begun, begun_before, stretch_of, clumps_in_grid, clump_label, IsCutIntoTiles, HasBegun, BearLabels}
+use Rattle.cell_join_tiles.specs.parts.Greatest.{greatest_of}
+use Rattle.cell_join_tiles.specs.Beginnings.{Begun, begun_before, stretch_of, clumps_in_grid, clump_label, IsCutIntoTiles, HasBegun, BearLabels, tile_place}
 
 -- in each row as many clumps begin as the greatest of the numbers so far rises in it
 pub record Rises (rows : ℕ) (numbers : Grid) (begun : Begun) : Type 0 where

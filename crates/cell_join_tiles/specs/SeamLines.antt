@@ -9,9 +9,8 @@ use Rattle.cell_cats_areas.specs.declared.clump.Joining.TheVariants.{Edges, Edge
 use Rattle.cell_cats_areas.specs.Areas.{Position, cell_at_spot}
 use Rattle.cell_cats_areas.specs.parts.CellPlaces.{position}
 use Rattle.cell_parts.specs.AreaParts.{moved_position}
-use Rattle.cell_tiles_grid.specs.Grids.{tile_place}
 use Rattle.cell_join_tiles.specs.declared.marks.Mark.{Mark}
-use Rattle.cell_join_tiles.specs.Beginnings.{Begun, clump_label, IsCutIntoTiles}
+use Rattle.cell_join_tiles.specs.Beginnings.{Begun, clump_label, IsCutIntoTiles, tile_place}
 use Rattle.cell_join_tiles.specs.Borders.{ArePairedAtSeams, number_of, cell_label}
 
 -- a line of cells

@@ -4,3 +4,4 @@ pub mod RowMarks
 pub mod Spans
 pub mod RunLines
 pub mod Runs
+pub mod Greatest

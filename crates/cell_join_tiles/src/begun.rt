@@ -1,14 +1,28 @@
 //! How many clumps begin in each row of a tile.
 
-ghost use Rattle.std.specs.Prelude.{◌≡◌, IfOk};
-ghost use Rattle.cell_tiles_joining.specs.parts.Greatest.{greater_of, greatest_in};
+ghost use Rattle.std.specs.Prelude.{◌≡◌, ◌<◌, IfOk};
+ghost use Rattle.cell_core.specs.Grid.{row_at};
+ghost use Rattle.cell_join_tiles.specs.parts.Greatest.{greater_of, greatest_in};
 ghost use Rattle.cell_join_tiles.specs.Borders.{Rises};
 
 use cell_core::cell::Cell;
 use cell_core::map::CellMap;
 use cell_core::memory::Memory;
-use cell_tiles_joining::clumped::row_of;
 use std::alloc::Global;
+
+/// The cells of a row.
+///
+/// # Errors
+///
+/// [`Memory`] when out of memory.
+pub fn row_of(alloc: Global, map: &CellMap, row: u32) -> Result<Vec<Cell>, Memory>
+    requires { row < map.now.region.rows }
+    ensures { IfOk result (λ cells. cells.items ≡ row_at map.now row) }
+{
+    let mut cells = vec![in alloc; Cell::null(); map.region().cols() as usize]?;
+    map.copy_row(row, cells.as_mut_slice());
+    Ok(cells)
+}
 
 // The greater of a number and that of a cell.
 fn greater_of(most: u64, cell: Cell) -> u64

@@ -1,6 +1,6 @@
 use Rattle.std.proofs.Common.{◌≡◌, ◌+◌, ◌<◌, [], length, get_or, ap, sym, ◌∙◌, subst, arith}
 use Rattle.cell_core_values.specs.Region.{RegionValue}
-use Rattle.cell_tiles_joining.specs.parts.Greatest.{greatest_in}
+use Rattle.cell_join_tiles.specs.parts.Greatest.{greatest_in}
 use Rattle.cell_join_tiles.proofs.RiseLemmas.{RisesSoFar, greatest-least, rises-more}
 use Rattle.cell_join_tiles.proofs.begun.begun_by_row.Goals as goal
 

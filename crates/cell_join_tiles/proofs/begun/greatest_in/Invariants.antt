@@ -1,5 +1,5 @@
 use Rattle.std.proofs.Common.{◌≡◌, drop}
-use Rattle.cell_tiles_joining.specs.parts.Greatest.{greatest_in}
+use Rattle.cell_join_tiles.specs.parts.Greatest.{greatest_in}
 use Rattle.cell_join_tiles.proofs.begun.greatest_in.Given as goal
 
 abbrev pub invariant-loop-cell : goal.invariant-loop-cell
