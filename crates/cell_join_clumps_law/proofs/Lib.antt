@@ -1,2 +1,4 @@
 -- Lemmas on texts of borders.
 pub mod BorderLemmas
+pub mod RangeLemmas
+pub mod WrittenLemmas
