@@ -12,7 +12,7 @@ use Rattle.cell_join_lines.specs.declared.stretch.Stretch.{Stretch}
 use Rattle.cell_join_lines.specs.AreasReading.{AreasReading, areas_ended, areas_reading_of}
 use Rattle.cell_join_lines.specs.AreasText.{numbers_told, stretch_numbers}
 use Rattle.cell_join_lines.specs.TextOfAreas.{AreasTextValue, areas_from, areas_from_head}
-use Rattle.cell_tiles_joining.specs.Sizes.{size_of_area}
+use Rattle.cell_join_sizes.specs.Sizes.{size_of_area}
 use Rattle.cell_join_tables.specs.JoinedTexts.{Give}
 use Rattle.cell_join_sizes.specs.SizeTexts.{AreTablesOfBands, BandSizes, HasSums, HaveSizes, IsTableOfBand, sizes_of_parts, stretches_of_parts}
 use Rattle.cell_join_sizes.specs.SizeFaults.{HasNumberLeftOut}

@@ -6,7 +6,7 @@ use Rattle.std.proofs.lemmas.Bool.{cases_eq, cases_lt}
 use Rattle.std.proofs.lemmas.Bool.Decides.{Decides-eqb, nat_tests}
 use Rattle.std.proofs.lemmas.List.{get_or-append-add, get_or-append_right, get_or-replicate, get_or-set_other, get_or-set_same, get_or_append_left, length-replicate, length-set, length_push}
 use Rattle.std.proofs.lemmas.List.Elements.{All-head, All-nil, All-push, All-tail, All-weaker, Contains-append_left, Contains-push}
-use Rattle.cell_tiles_joining.specs.Sizes.{size_for, size_of_area}
+use Rattle.cell_join_sizes.specs.Sizes.{size_for, size_of_area}
 use Rattle.cell_join_sizes.specs.SizeTexts.{HasSums}
 use Rattle.cell_join_sizes.specs.parts.Tally.{Tallies}
 

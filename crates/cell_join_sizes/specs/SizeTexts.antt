@@ -7,7 +7,7 @@ use Rattle.cell_core_devices.specs.Device.{append_known}
 use Rattle.cell_stats.specs.TableText.{FormatValue}
 use Rattle.cell_join_lines.specs.LineReading.{TableReading}
 use Rattle.cell_join_lines.specs.TableLines.{entries_text}
-use Rattle.cell_tiles_joining.specs.Sizes.{AddUp}
+use Rattle.cell_join_sizes.specs.Sizes.{AddUp}
 use Rattle.cell_join_lines.specs.declared.stretch.Stretch.{Stretch}
 use Rattle.cell_join_sizes.specs.declared.size_fault.SizesFault.{SizesFault}
 use Rattle.cell_join_sizes.specs.declared.size_fault.SizesFault.TheVariants.{Areas, NumberLeftOut, NoTable, Table, OtherArea, TooGreat, TooLong, Memory, Write}

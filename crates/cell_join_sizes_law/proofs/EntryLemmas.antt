@@ -11,7 +11,7 @@ use Rattle.std.proofs.lemmas.List.Sums.{sum_by-cons}
 use Rattle.cell_stats_combinations.specs.declared.skip.Skip.{Skip}
 use Rattle.cell_stats_combinations.specs.LeftOut.{is_left_out}
 use Rattle.cell_stats.specs.CategoryTables.{Pairs}
-use Rattle.cell_tiles_joining_law.specs.NumberTables.{entry_of_null, number_table}
+use Rattle.cell_join_sizes_law.specs.NumberTables.{entry_of_null, number_table}
 use Rattle.cell_join_lines.specs.declared.stretch.Stretch.{Stretch}
 use Rattle.cell_join_lines.specs.AreasText.{numbers_told, stretch_numbers, stretches_behind, stretches_from}
 use Rattle.cell_join_lines.specs.AreasText.{stretches_in}

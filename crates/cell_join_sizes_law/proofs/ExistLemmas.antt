@@ -23,13 +23,13 @@ use Rattle.cell_stats.proofs.TableLemmas.{table_is}
 use Rattle.cell_cats_law.specs.AreaLaw.{cells_of}
 use Rattle.cell_tiles_joining.specs.declared.edges.BandEdges.{BandEdges}
 use Rattle.cell_tiles_joining.specs.Bands.{Band, HasAreas, HaveEdges}
-use Rattle.cell_tiles_joining.specs.parts.Greatest.{greatest_of}
-use Rattle.cell_tiles_joining.specs.Sizes.{size_of_area}
-use Rattle.cell_tiles_joining.proofs.GreatestLemmas.{has-areas}
-use Rattle.cell_tiles_joining_law.specs.SizeLaw.{size_of_number, sizes_of_areas}
-use Rattle.cell_tiles_joining_law.specs.NumberTables.{IsBandTable, entries_from, entry_of_null, listed_sizes}
-use Rattle.cell_tiles_joining_law.specs.NumberTables.{number_table}
-use Rattle.cell_tiles_joining_law.proofs.NumberTableLemmas.{numbers-are-listed}
+use Rattle.cell_join_tiles.specs.parts.Greatest.{greatest_of}
+use Rattle.cell_join_sizes.specs.Sizes.{size_of_area}
+use Rattle.cell_join_tiles.proofs.GreatestLemmas.{has-areas}
+use Rattle.cell_join_sizes_law.specs.SizeLaw.{size_of_number, sizes_of_areas}
+use Rattle.cell_tiles_joining_law.specs.NumberTables.{IsBandTable}
+use Rattle.cell_join_sizes_law.specs.NumberTables.{entries_from, entry_of_null, listed_sizes, number_table}
+use Rattle.cell_join_sizes_law.proofs.NumberTableLemmas.{numbers-are-listed}
 use Rattle.cell_join_lines.specs.AreasText.{stretches_of}
 use Rattle.cell_join_lines.proofs.ToldLemmas.{numbers-are-told}
 use Rattle.cell_join_sizes.specs.SizeTexts.{HasTally, sizes_of_parts}

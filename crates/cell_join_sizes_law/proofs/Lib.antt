@@ -3,3 +3,8 @@ pub mod ExistLemmas
 pub mod NumberLemmas
 pub mod RightLemmas
 pub mod WholeLemmas
+pub mod NumberedTiles
+pub mod NumberTableLemmas
+pub mod SizeLemmas
+pub mod TableLemmas
+pub mod TileSizeLemmas

@@ -18,13 +18,15 @@ use Rattle.cell_stats.specs.CategoryTables.{Pairs, IsTable}
 use Rattle.cell_cats_law.specs.AreaLaw.{cells_of}
 use Rattle.cell_tiles_joining.specs.Bands.{Band, HasAreas, IsCutInto, TellNumbers}
 use Rattle.cell_tiles_joining.specs.declared.edges.BandEdges.{BandEdges}
-use Rattle.cell_tiles_joining.specs.parts.Greatest.{greatest_of}
-use Rattle.cell_tiles_joining.proofs.GreatestLemmas.{has-areas}
-use Rattle.cell_tiles_joining.specs.Sizes.{size_of_area}
-use Rattle.cell_tiles_joining_law.specs.SizeLaw.{size_of_number, sizes_of_areas, sizes_of_bands}
-use Rattle.cell_tiles_joining_law.specs.NumberTables.{IsBandTable, entries_from, entry_of_null, listed_sizes, number_table}
+use Rattle.cell_join_tiles.specs.parts.Greatest.{greatest_of}
+use Rattle.cell_join_tiles.proofs.GreatestLemmas.{has-areas}
+use Rattle.cell_join_sizes.specs.Sizes.{size_of_area}
+use Rattle.cell_tiles_joining_law.specs.SizeLaw.{sizes_of_bands}
+use Rattle.cell_join_sizes_law.specs.SizeLaw.{size_of_number, sizes_of_areas}
+use Rattle.cell_tiles_joining_law.specs.NumberTables.{IsBandTable}
+use Rattle.cell_join_sizes_law.specs.NumberTables.{entries_from, entry_of_null, listed_sizes, number_table}
 use Rattle.cell_tiles_joining_law.proofs.BandTableLemmas.{tables-list}
-use Rattle.cell_tiles_joining_law.proofs.NumberTableLemmas.{entry-only, entry-there, numbers-are-listed}
+use Rattle.cell_join_sizes_law.proofs.NumberTableLemmas.{entry-only, entry-there, numbers-are-listed}
 use Rattle.cell_tiles_joining_law.proofs.SizeLemmas.{size-of-whole}
 use Rattle.cell_join_lines.specs.declared.stretch.Stretch.{Stretch}
 use Rattle.cell_join_lines.specs.AreasText.{numbers_told, stretch_numbers, stretches_of}

@@ -3,3 +3,6 @@ pub mod AllNumbers
 pub mod ExistingSizes
 pub mod RightTexts
 pub mod WholeSizes
+pub mod NumberTables
+pub mod SizeLaw
+pub mod TileSizes

@@ -3,7 +3,9 @@
 ghost use Rattle.cell_join_sizes_law.specs.AllNumbers.{NoNumberOfBandsIsLeftOut};
 ghost use Rattle.cell_join_sizes_law.specs.ExistingSizes.{SizesExist};
 ghost use Rattle.cell_join_sizes_law.specs.WholeSizes.{SizesOfTheWhole};
+ghost use Rattle.cell_join_sizes_law.specs.NumberTables.{NumbersAreListed};
 ghost use Rattle.cell_join_sizes_law.specs.RightTexts.{RightTextsAreAddedUp};
+ghost use Rattle.cell_join_sizes_law.specs.TileSizes.{TileSizesCountCells, TileTablesGiveTheWhole};
 
 use cell_cats_areas_law::law::clumping_exists;
 
@@ -33,4 +35,20 @@ pub fn sizes_exist()
 /// they are added up, are refused for no text.
 pub fn right_texts_are_added_up()
     ensures { RightTextsAreAddedUp }
+{}
+
+/// The table of a clump map lists the sizes of its clumps in the order of their numbers, and then the cells that are null.
+pub fn numbers_are_listed()
+    ensures { NumbersAreListed }
+{}
+
+/// Tiles of any shape that have each cell once: the sizes of their clumps, added up by their numbers in the full map, are the
+/// sizes of the clumps of the full map.
+pub fn tile_sizes_count_cells()
+    ensures { TileSizesCountCells }
+{}
+
+/// And the sizes that their tables list, added up, are the table of the clump map of the full map.
+pub fn tile_tables_give_the_whole()
+    ensures { TileTablesGiveTheWhole }
 {}
