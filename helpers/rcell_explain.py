@@ -167,7 +167,7 @@ class Explanation:
                 self.say("  " + it)
         self.say_known("grid", text, cause, values)
         if cause in ("fraction", "no number", "beyond") and grid.is_as_converted():
-            self.say("  (if the file was made by rcell-aaigrid, this is line %d of the .asc file, or line %d if that has dx and dy)" % (line - 1, line))
+            self.say("  (if rcell-aaigrid made the file, this is line %d of the .asc file, or line %d if that has dx and dy)" % (line - 1, line))
 
     def counted(self, grid, given):
         """How many cells there are, and the first line that has more or fewer than the others."""
@@ -261,7 +261,7 @@ class Explanation:
         if not others:
             return
         self.say()
-        self.lines.append("rcell-explain: %s" % ("further faults of the script:" if line else "the script has faults, too:"))
+        self.lines.append("rcell-explain: %s" % ("further errors in the script:" if line else "the script also has errors:"))
         for number in others[:MOST_FAULTS]:
             here = [fault for fault in faults if fault.line == number]
             self.lines.append("script:%d: %s" % (number, first_of(here).text))
@@ -373,7 +373,7 @@ def explained(run, words):
     try:
         explanation.explain(found[1], int(found[2]), found[3])
     except Exception as fault:  # the message stands in any case, and the status is rcell's
-        return explanation.lines + ["rcell-explain: nothing more can be said, because of a fault of its own: %r" % fault]
+        return explanation.lines + ["rcell-explain: internal error, please report it: %r" % fault]
     return explanation.lines
 
 

@@ -34,7 +34,7 @@ def found_program(folder):
             return path
     found = found_on_path("rcell")
     if found is None:
-        raise Missing("rcell is neither beside this program nor on the path; set RCELL to its path")
+        raise Missing("rcell is neither next to this program nor on the path; set RCELL to its path")
     return found
 
 

@@ -99,7 +99,7 @@ def nearest(name, known):
     near = near_name(name, known, 0.5)
     names = [shown(it) for it in list(known)[:MOST_NAMES] if it not in near]
     if near:
-        return "did you mean `%s`?" % shown(near[0]) + (" Known are here, too: %s" % ", ".join(names[:12]) if names else "")
+        return "did you mean `%s`?" % shown(near[0]) + (" Also defined here: %s" % ", ".join(names[:12]) if names else "")
     return "defined here: %s" % (", ".join(names[:12]) if names else "no maps")
 
 

@@ -483,7 +483,7 @@ class Assignment:
         elif near:
             fix, values = near[0], {"near": "did you mean `%s`?" % near[0]}
         else:
-            values = {"near": "functions are %s; a map has no parenthesis behind it" % ", ".join(FUNCTIONS)}
+            values = {"near": "functions are %s; no parenthesis can follow the name of a map" % ", ".join(FUNCTIONS)}
         self.tell(token.start, token.end, "unknown function", cause, fix, word=shown(token.text), **values)
         # eval takes any arguments but none.
         self.tokens[at] = Token("name", fix if fix in FUNCTIONS else "eval", token.start, token.end)

@@ -44,9 +44,9 @@ ALIASES = {"in": "input", "map": "input", "maps": "input", "raster": "input", "i
            "sep": "separator", "null": "null_value", "nv": "null_value", "nodata": "null_value"}
 ABSENT = {
     "title": "delete it: a map has no title",
-    "minsize": "count the areas by r.stats -c, and drop the small ones by an r.reclass in a second run",
-    "threshold": "delete it: areas are of one category",
-    "sort": "behind the run: `rcell .. | sort -k2,2nr`",
+    "minsize": "count the patches with r.stats -c, and drop the small ones with an r.reclass in a second run",
+    "threshold": "delete it: a patch is of one category",
+    "sort": "after the run: `rcell .. | sort -k2,2nr`",
     "nsteps": "delete it: cells are whole numbers",
     "precision": "delete it: cells are whole numbers",
     "width": "delete it: a row of the map is a line",
@@ -68,15 +68,15 @@ MODULES = {
     "r.neighbors": "`r.mapcalc m = nmode(map[-1,-1],map[-1,0],..,map[1,1])`; nmin, nmax and sums the same way",
     "r.grow": "`r.mapcalc` over the neighbours `map[-1,0]`, `map[1,0]`, `map[0,-1]`, `map[0,1]`",
     "r.buffer": "`r.mapcalc` over the neighbours `map[-1,0]`, `map[1,0]`, `map[0,-1]`, `map[0,1]`",
-    "r.reclass.area": "count the areas by r.clump and r.stats, and keep the large ones by an r.reclass in a second run",
+    "r.reclass.area": "count the patches with r.clump and r.stats, and keep the large ones with an r.reclass in a second run",
     "r.in.ascii": "delete it: the grids are on the command line, `NAME=PATH`",
     "r.in.gdal": "delete it: `rcell-tif MAP.tif GRID` before the run, and `NAME=GRID` on the command line",
-    "r.out.gdal": "`r.out.ascii`, and behind the run `rcell-tif --from GRID MAP.tif`",
+    "r.out.gdal": "`r.out.ascii`, and after the run `rcell-tif --from GRID MAP.tif`",
     "r.colors": "delete it: a map has no colours",
     "g.remove": "delete it: maps end with the run",
-    "g.rename": "delete it: a map is named where it is made",
+    "g.rename": "delete it: the command that makes a map names it",
     "g.copy": "`r.mapcalc new = old`",
-    "g.list": "delete it: the maps are those of the command line and of the lines before",
+    "g.list": "delete it: maps come from the command line and from earlier lines",
 }
 SHELL = ("export", "cd", "echo", "set", "for", "do", "done", "if", "then", "fi", "while", "rm", "cp", "mv", "cat", "exit", "eval",
          "grass", "rcell", "sh", "bash")
