@@ -1,12 +1,14 @@
 """Lints the crates: `make lint`, in seconds and without a proof.
 
-    python3 tools/lint [--write] [RULE..]
+    python3 tools/lint [--write | --words] [RULE..]
 
 Each rule has its findings, one a line, and a file of exceptions, lint/exceptions/RULE.txt. A finding that the file does not
-list is an error, and so is a line of the file that is no finding any more: the list may only shrink. Rules that
-count list a number a file, which may only fall. The English of the documents for users has no retired word (prose.py), and
-pages keep to their lengths and have no sentence in common (pages.py). With --write the files are written as the findings are, which is for the
-commit that takes findings away; a file that would grow is left as it is. The last line is 'N passed, M failed'.
+list is an error, and so is a line of the file that is no finding any more: the list may only shrink. Rules that count list a
+number a file, which may only fall. The documents and messages for users have no retired word (prose.py); pages keep to their
+lengths and have no sentence in common (pages.py).
+
+With --write the files are written as the findings are, which is for the commit that takes findings away; a file that would grow
+is left as it is. --words prints how many retired words the docstrings and comments of each file have. The last line is 'N passed, M failed'.
 """
 import argparse
 import pathlib
@@ -95,7 +97,11 @@ def main():
     parser = argparse.ArgumentParser(prog="lint", description=__doc__.splitlines()[0])
     parser.add_argument("--write", action="store_true", help="write the findings as the exceptions, where there are no more")
     parser.add_argument("rules", nargs="*", metavar="RULE", help=", ".join(rules.ALL))
+    parser.add_argument("--words", action="store_true", help="print how many retired words docstrings and comments have, by file")
     words = parser.parse_args()
+    if words.words:
+        print("".join(f"{count:>6} {name}\n" for name, count in prose.counts_by_file().most_common() if count), end="")
+        return 0
     failed = 0
     for rule in words.rules or rules.ALL:
         findings = rules.ALL[rule]()

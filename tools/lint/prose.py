@@ -1,11 +1,13 @@
 """The English of the documents: retired words (retired.txt), and the lengths of sentences.
 
-A document for users has no retired word. In a page for users a sentence has at most 18 words on average, at most 10 % of the
-sentences have more than 25, and at most 1 % more than 45. In docstrings and comments retired words are only counted, by folder.
+A document for users has no retired word, nor has a message of the helpers and of rcell_front. In a page for users a sentence has at most 18 words on average, at most 10 % of the
+sentences have more than 25, and at most 1 % more than 45. In docstrings and comments retired words are only counted, by folder
+and by file.
 """
 import ast
 import functools
 import io
+import json
 import pathlib
 import re
 import subprocess
@@ -20,6 +22,8 @@ FOR_DEVELOPERS = {"docs/DECISIONS.md", "docs/architecture.md", "bench/RESULTS.md
                   "qgis/README.md", "grass/README.md"}
 # Pages that have not been written anew yet. None is added.
 PENDING = set((pathlib.Path(__file__).parent / "pending.txt").read_text(encoding="utf-8").split())
+# Folders whose messages are checked, and the table of causes that rcell-explain and the packages print.
+MESSAGES_OF, CAUSES = re.compile(r"(helpers|python/src/rcell_front)/.*\.py"), "python/src/rcell_front/messages.json"
 FENCED = re.compile(r"^```.*?^```$", re.MULTILINE | re.DOTALL)
 COMMENT_OF = {".rt": "//", ".antt": "--", ".sh": "#", ".mk": "#", ".R": "#", ".c": "//", ".cpp": "//", ".h": "//"}
 
@@ -85,6 +89,24 @@ def long_winded(name):
     return f"{mean:.1f} words a sentence, {100 * long:.0f} % over {LONG}, {100 * very_long:.1f} % over {VERY_LONG}"
 
 
+def strings_of(name):
+    """The strings of several words of a Python file, each with its line; a string that is a statement documents something."""
+    tree = ast.parse((ROOT / name).read_text(encoding="utf-8"))
+    documenting = {id(node.value) for node in ast.walk(tree) if isinstance(node, ast.Expr)}
+    for node in ast.walk(tree):
+        if isinstance(node, ast.Constant) and isinstance(node.value, str) and " " in node.value.strip() and id(node) not in documenting:
+            yield node.lineno, node.value
+
+
+def messages():
+    """The messages that are checked, each with its file and line."""
+    for name in filter(MESSAGES_OF.fullmatch, tracked()):
+        yield from ((name, number, text) for number, text in strings_of(name))
+    for part in json.loads((ROOT / CAUSES).read_text(encoding="utf-8"))["parts"]:
+        for message in part["messages"]:
+            yield from ((CAUSES, message["text"], cause[key]) for cause in message["causes"] for key in ("cause", "instead"))
+
+
 def faults():
     """What is wrong with the documents for users, one a line."""
     found = []
@@ -94,6 +116,8 @@ def faults():
         found += [f"{name}:{number}: '{word}' is retired: {instead}" for number, word, instead in retired_in(plain(name))]
         if name.endswith(".md") and (winded := long_winded(name)):
             found.append(f"{name}: {winded}")
+    for name, place, text in messages():
+        found += [f"{name}:{place}: '{word}' is retired: {instead}" for _, word, instead in retired_in(re.sub(r"`[^`]*`", "CODE", text))]
     return found
 
 
@@ -112,12 +136,17 @@ def comments_of(name):
     return "\n".join(line for line in text.split("\n") if line.strip().startswith(mark))
 
 
+def counts_by_file():
+    """How many retired words the docstrings and comments of each file have."""
+    return Counter({name: sum(1 for _ in retired_in(comments_of(name))) for name in tracked()
+                    if name.endswith(".py") or pathlib.Path(name).suffix in COMMENT_OF})
+
+
 def counts_by_folder():
     """How many retired words the docstrings and comments of each folder have."""
     counts = Counter()
-    for name in tracked():
-        if name.endswith(".py") or pathlib.Path(name).suffix in COMMENT_OF:
-            counts[name.partition("/")[0]] += sum(1 for _ in retired_in(comments_of(name)))
+    for name, count in counts_by_file().items():
+        counts[name.partition("/")[0]] += count
     return counts
 
 

@@ -265,7 +265,7 @@ def bad_region(grid, line, _):
         if values[high] is not None and values[low] is not None and values[high] <= values[low]:
             high_value, low_value = grid.values[high], grid.values[low]
             fixed = "%s: %s, %s: %s" % (high, low_value, low, high_value) if values[high] < values[low] else "mend one of the two"
-            return "edges exchanged", {"high": high, "low": low, "high_value": shown(high_value), "low_value": shown(low_value),
+            return "sides swapped", {"high": high, "low": low, "high_value": shown(high_value), "low_value": shown(low_value),
                                        "fixed": fixed}, []
     return "too large", {"rows": shown(grid.values.get("rows", "?")), "cols": shown(grid.values.get("cols", "?"))}, []
 
