@@ -1,7 +1,13 @@
-//! Tests of what joins tables and adds up sizes: worked texts, each fault with its line, texts that come in small pieces, and random
-//! sizes beside a plain count.
+//! Tests of what joins tables, clumps and sizes: worked texts, each fault with its place, texts that come in small pieces, texts that are
+//! cut short, sinks that fail, and random sizes beside a plain count.
 #![tactic(auto)]
 
+#[cfg(test)]
+mod border_faults;
+#[cfg(test)]
+mod border_texts;
+#[cfg(test)]
+mod clump_faults;
 #[cfg(test)]
 mod labels;
 #[cfg(test)]
@@ -12,5 +18,11 @@ mod random_sizes;
 mod size_faults;
 #[cfg(test)]
 mod sizes;
+#[cfg(test)]
+mod tile_texts;
+#[cfg(test)]
+mod worked_borders;
+#[cfg(test)]
+mod worked_clumps;
 #[cfg(test)]
 mod worked_sizes;

@@ -1,6 +1,6 @@
 //! Worked borders, and all that a border may be cut to.
 
-use crate::texts::{ROOM, SMALL, read, written_to};
+use crate::border_texts::{ROOM, SMALL, read, written_to};
 use cell_cats_areas::clump::Joining;
 use cell_join_borders::map_fault::MapFault;
 use std::test::Fail;

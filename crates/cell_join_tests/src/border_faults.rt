@@ -1,6 +1,6 @@
 //! Texts of borders with one fault each.
 
-use crate::texts::{SMALL, read};
+use crate::border_texts::{SMALL, read};
 use cell_core::memory::Memory;
 use cell_join_borders::border_fault::BorderFault;
 use cell_join_borders::cell_place::CellPlace;

@@ -1,0 +1,7 @@
+-- Lemmas on texts of borders that are joined.
+pub mod SideLemmas
+pub mod RowLemmas
+pub mod KeptLemmas
+pub mod SpotLemmas
+pub mod ReadLemmas
+pub mod PutLemmas

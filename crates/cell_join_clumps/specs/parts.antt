@@ -1,0 +1,4 @@
+-- What only private functions and proofs cite.
+pub mod Spots
+pub mod ReadTiles
+pub mod PutRuns

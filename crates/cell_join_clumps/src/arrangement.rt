@@ -1,0 +1,135 @@
+//! Where a tile goes in a grid that has begun.
+
+ghost use Rattle.std.specs.Prelude.{◌≡◌, ◌↔◌, [], IfNone, IfSome, IsTrue};
+ghost use Rattle.cell_join_clumps.specs.Misfits.{IsBelowMisfit, IsBesideMisfit};
+ghost use Rattle.cell_join_clumps.specs.TileTexts.{IsBelow, IsBeside};
+ghost use Rattle.cell_join_clumps.specs.parts.Spots.{IsFirstRowSpot, IsNextRowSpot, IsSpotBelow, IsTileSpot};
+
+use crate::clumps_fault::Misfit;
+use cell_core::region::Region;
+
+/// Where a tile goes after those of a row that has begun, or why it goes nowhere.
+#[derive(Clone, Copy, Debug, PartialEq, Eq)]
+pub(crate) enum TileSpot {
+    /// It is the next in the row.
+    InRow,
+    /// It is the first of the next row.
+    NextRow,
+    /// It is neither right of the last tile of the first row nor below the first.
+    Apart { beside: Misfit, below: Misfit },
+    /// It is not right of the last tile.
+    NotBeside { misfit: Misfit },
+    /// It is not below a tile that came so many tiles before it.
+    NotBelow { misfit: Misfit, back: usize },
+}
+
+// Whether two edges are one.
+fn is_same_edge(one: i64, other: i64) -> bool
+    ensures { IsTrue result ↔ one ≡ other }
+{
+    one == other
+}
+
+// Why a tile does not lie right of another.
+fn beside_misfit(left: Region, right: Region) -> Option<Misfit>
+    ensures beside { IfNone result (IsBeside left right) }
+    ensures misfit { IfSome result (IsBesideMisfit left right) }
+{
+    let (west, east) = (right.west(), left.east());
+    if !is_same_edge(west, east) {
+        return Some(Misfit::WestEast { west, east });
+    }
+    let (rows, other) = (right.rows(), left.rows());
+    if rows != other {
+        return Some(Misfit::Rows { rows, other });
+    }
+    let (north, other) = (right.north(), left.north());
+    if !is_same_edge(north, other) {
+        return Some(Misfit::North { north, other });
+    }
+    let (south, other) = (right.south(), left.south());
+    if !is_same_edge(south, other) {
+        return Some(Misfit::South { south, other });
+    }
+    None
+}
+
+// Why a tile does not lie below another.
+fn below_misfit(above: Region, below: Region) -> Option<Misfit>
+    ensures below { IfNone result (IsBelow above below) }
+    ensures misfit { IfSome result (IsBelowMisfit above below) }
+{
+    let (north, south) = (below.north(), above.south());
+    if !is_same_edge(north, south) {
+        return Some(Misfit::NorthSouth { north, south });
+    }
+    let (cols, other) = (below.cols(), above.cols());
+    if cols != other {
+        return Some(Misfit::Cols { cols, other });
+    }
+    let (west, other) = (below.west(), above.west());
+    if !is_same_edge(west, other) {
+        return Some(Misfit::West { west, other });
+    }
+    let (east, other) = (below.east(), above.east());
+    if !is_same_edge(east, other) {
+        return Some(Misfit::East { east, other });
+    }
+    None
+}
+
+// After tiles of the first row, from the first to the last.
+fn spot_in_first_row(first: Region, last: Region, tile: Region) -> TileSpot
+    ensures { IsFirstRowSpot first last tile result }
+{
+    let Some(beside) = beside_misfit(last, tile) else {
+        return TileSpot::InRow;
+    };
+    match below_misfit(first, tile) {
+        Some(below) => TileSpot::Apart { beside, below },
+        None => TileSpot::NextRow,
+    }
+}
+
+// After the last tile of a row, where a tile is above, which came so many tiles before.
+fn spot_below(upper: Region, last: Region, tile: Region, back: usize) -> TileSpot
+    ensures { IsSpotBelow upper last tile back result }
+{
+    if let Some(misfit) = beside_misfit(last, tile) {
+        return TileSpot::NotBeside { misfit };
+    }
+    match below_misfit(upper, tile) {
+        Some(misfit) => TileSpot::NotBelow { misfit, back },
+        None => TileSpot::InRow,
+    }
+}
+
+// After a whole row that begins with this tile, which came so many tiles before.
+fn spot_in_next_row(first: Region, tile: Region, back: usize) -> TileSpot
+    ensures { IsNextRowSpot first tile back result }
+{
+    match below_misfit(first, tile) {
+        Some(misfit) => TileSpot::NotBelow { misfit, back },
+        None => TileSpot::NextRow,
+    }
+}
+
+/// After the tiles of a row that has begun, below this one; above the first row is none.
+pub(crate) fn spot_of(above: &[Region], row: &[Region], tile: Region) -> TileSpot
+    requires { row.now ≡ [] → above.now ≡ [] }
+    ensures { IsTileSpot above.now row.now tile result }
+{
+    let Some(first) = row.first() else {
+        return TileSpot::InRow;
+    };
+    let Some(last) = row.last() else {
+        return TileSpot::InRow;
+    };
+    if above.is_empty() {
+        return spot_in_first_row(*first, *last, tile);
+    }
+    match above.get(row.len()) {
+        Some(upper) => spot_below(*upper, *last, tile, above.len()),
+        None => spot_in_next_row(*first, tile, row.len()),
+    }
+}

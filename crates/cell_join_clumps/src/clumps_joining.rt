@@ -1,0 +1,152 @@
+//! The numbering of texts of the borders of tiles.
+
+ghost use Rattle.std.specs.Prelude.{◌≡◌, ◌≢◌, List, None, Some, IfErr, IfOk, IfSome, true, false};
+ghost use Rattle.cell_core_devices.specs.Device.{Coming, has_failed, after_flush};
+ghost use Rattle.cell_join_lines.specs.AreasText.{areas_text};
+ghost use Rattle.cell_join_tables.specs.JoinedTexts.{Give};
+ghost use Rattle.cell_join_clumps.specs.ClumpsOfTiles.{AreRunsOfTexts, HasClumpsPrefix, HasWrittenClumps, IsClumpsFault};
+ghost use Rattle.cell_join_clumps.specs.parts.PutRuns.{HasPut};
+ghost use Rattle.cell_join_clumps.specs.parts.ReadTiles.{AreTilesKept, HaveBeenRead};
+
+use crate::clumps_fault::ClumpsFault;
+use crate::tile_grid::TileGrid;
+use cell_cats_areas::clump::Joining;
+use cell_core::block::OutputBlock;
+use cell_core::sink::Sink;
+use cell_core::source::Source;
+use cell_join_lines::stretch::Stretch;
+use cell_join_lines::writing::write_stretches;
+use std::alloc::Global;
+
+/// What the joining did.
+#[derive(Clone, Copy, Debug, PartialEq, Eq)]
+pub struct ClumpsOutcome {
+    /// The number of bytes that the sink took, or the greatest `u64` where it took more.
+    pub written: u64,
+    /// Why not all was written.
+    pub fault: Option<ClumpsFault>,
+}
+
+// Reads the tiles of all texts, one after the other.
+fn read_tiles<R: Source + Drop>(
+    alloc: Global,
+    joining: Joining,
+    texts: Vec<R>,
+) -> Result<TileGrid, ClumpsFault>
+    ensures kept { IfOk result AreTilesKept }
+    ensures tiles { IfOk result (λ tiles. (all : List Coming) → Give R.coming texts.items all
+        → HaveBeenRead joining all tiles) }
+    ensures fault { IfErr result (λ fault. (all : List Coming) → Give R.coming texts.items all
+        → IsClumpsFault joining all fault) }
+    ensures unwritten { IfErr result (λ fault. fault ≢ ClumpsFault.Write) }
+{
+    let mut tiles = TileGrid::new(alloc, joining);
+    let mut place = 0;
+    for text in texts {
+        tiles = match tiles.with_text(alloc, joining, place, text) {
+            Ok(more) => more,
+            Err(fault) => return Err(fault),
+        };
+        place += 1;
+    }
+    Ok(tiles)
+}
+
+// The numbers in the full map of the clumps of the tiles of all texts.
+fn number_clumps<R: Source + Drop>(
+    alloc: Global,
+    joining: Joining,
+    texts: Vec<R>,
+) -> Result<Vec<Stretch>, ClumpsFault>
+    ensures runs { IfOk result (λ runs. (all : List Coming) → Give R.coming texts.items all
+        → AreRunsOfTexts joining all runs.items) }
+    ensures fault { IfErr result (λ fault. (all : List Coming) → Give R.coming texts.items all
+        → IsClumpsFault joining all fault) }
+    ensures unwritten { IfErr result (λ fault. fault ≢ ClumpsFault.Write) }
+{
+    let count = texts.len();
+    let tiles = read_tiles(alloc, joining, texts)?;
+    let joiner = match tiles.finish(alloc, count) {
+        Ok(joiner) => joiner,
+        Err(fault) => return Err(fault),
+    };
+    let joined = joiner.finish(alloc)?;
+    Ok(joined.runs)
+}
+
+// Flushes the sink unless it refused a put, and answers.
+fn finish<W: Sink>(failed: bool, out: &mut W) -> Option<ClumpsFault>
+    ensures taken { W.taken out.new ≡ W.taken out.old }
+    ensures flushed { result ≡ None
+        → (failed ≡ false) × (W.faults out.new ≡ after_flush (W.faults out.old) false) }
+    ensures write { IfSome result (λ fault. fault ≡ ClumpsFault.Write) }
+    ensures fails { IfSome result (λ fault. failed ≡ false → has_failed (W.faults out.new) ≡ true) }
+    ensures kept { failed ≡ true → out.new ≡ out.old }
+{
+    if failed {
+        return Some(ClumpsFault::Write);
+    }
+    match out.flush() {
+        Ok(()) => None,
+        Err(_) => Some(ClumpsFault::Write),
+    }
+}
+
+// Writes the text of runs, and flushes the sink unless it refused a put.
+fn put_runs<W: Sink>(out: &mut W, runs: &[Stretch]) -> ClumpsOutcome
+    ensures { HasPut (areas_text runs.now) (W.taken out.old) (W.taken out.new) (W.faults out.old)
+        (W.faults out.new) result.written result.fault }
+{
+    let mut block = OutputBlock::new();
+    write_stretches(out, &mut block, runs);
+    block.empty(out);
+    let fault = finish(block.has_failed(), out);
+    ClumpsOutcome {
+        written: block.written(),
+        fault,
+    }
+}
+
+/// Joins tiles, of the texts of their borders, row by row of tiles from the top and in each row from the left, and writes the
+/// numbering: which number each clump of each tile has in the full map, of whatever size that is. The tiles are numbered in the order
+/// of the texts.
+///
+/// The texts are read one after the other. A tile is the next in its row where it lies right of the one before it, and begins the
+/// next row where it lies below the first tile of a whole row. One row of tiles is held at a time; besides it, memory grows with the
+/// seams alone. Nothing is written before all texts are read. The sink is flushed once at the end, unless it refused a put.
+pub fn join_border_texts<R: Source + Drop, W: Sink>(
+    alloc: Global,
+    joining: Joining,
+    texts: Vec<R>,
+    out: &mut W,
+) -> ClumpsOutcome
+    // Without a fault the texts are the borders of the tiles of a grid, and the sink has taken exactly the text of the numbers that
+    // their clumps have in each map that is cut into such tiles.
+    ensures joined { (all : List Coming) → Give R.coming texts.items all → result.fault ≡ None
+        → HasWrittenClumps joining all (W.taken out.old) (W.taken out.new) result.written }
+    // A fault of a text is its own, and the texts before it are the borders of the tiles of a grid as far as it goes; or all
+    // texts are, and the last row has fewer tiles than that above, or there are too many clumps.
+    ensures fault { (all : List Coming) → Give R.coming texts.items all
+        → IfSome result.fault (IsClumpsFault joining all) }
+    // With any other fault than a failed write the sink is as it was.
+    ensures untouched { IfSome result.fault (λ fault. fault ≢ ClumpsFault.Write
+        → (out.new ≡ out.old) × (result.written ≡ 0)) }
+    // After a failed write it has taken a prefix of the numbering.
+    ensures cut { (all : List Coming) → Give R.coming texts.items all
+        → result.fault ≡ Some ClumpsFault.Write
+        → HasClumpsPrefix joining all (W.taken out.old) (W.taken out.new) result.written }
+    // No fault comes only where no call of the sink failed and it was flushed once, and, of a sink that had not failed before,
+    // Write only where it failed.
+    ensures sound { result.fault ≡ None
+        → W.faults out.new ≡ after_flush (W.faults out.old) false }
+    ensures write { result.fault ≡ Some ClumpsFault.Write
+        → has_failed (W.faults out.new) ≡ true }
+{
+    match number_clumps(alloc, joining, texts) {
+        Ok(runs) => put_runs(out, runs.as_slice()),
+        Err(fault) => ClumpsOutcome {
+            written: 0,
+            fault: Some(fault),
+        },
+    }
+}

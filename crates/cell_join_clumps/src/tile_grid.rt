@@ -1,0 +1,215 @@
+//! Rows of tiles that are read from the texts of their borders, of which one row is held.
+
+ghost use Rattle.std.specs.Prelude.{◌≡◌, ◌≢◌, ◌↔◌, ◌++◌, ◌∷◌, [], List, IfErr, IfOk, IfSome, IsTrue};
+ghost use Rattle.cell_join_borders.specs.BorderFaults.{IsBorderFit};
+ghost use Rattle.cell_join_clumps.specs.TileTexts.{SpellsJoined};
+ghost use Rattle.cell_join_clumps.specs.parts.ReadTiles.{AreFinished, AreTilesKept, AreNoTiles, HasAddedTile, IsAddedBelow, IsAddedInRow, IsBegun, IsEvenRow, IsFaultAtTile, IsNoTile, IsTooMany, IsTooShort, of_border};
+ghost use Rattle.cell_join_tiles.specs.JoinedTiles.{AreJoinedTiles};
+ghost use Rattle.cell_join_tiles.specs.Values.{BorderValue, border_values};
+
+use crate::arrangement::{TileSpot, spot_of};
+use crate::clumps_fault::ClumpsFault;
+use cell_cats_areas::clump::Joining;
+use cell_core::memory::Memory;
+use cell_core::region::Region;
+use cell_core::source::Source;
+use cell_join_borders::border_fault::BorderFault;
+use cell_join_borders::border_text::{BorderText, read_border};
+use cell_join_tiles::border::Border;
+use cell_join_tiles::joiner::{JoinFault, TileJoiner};
+use std::alloc::Global;
+
+// Why a text is no border, or memory.
+fn of_border(place: usize, fault: BorderFault) -> ClumpsFault
+    ensures { result ≡ of_border place fault }
+{
+    match fault {
+        BorderFault::Memory => ClumpsFault::Memory,
+        _ => ClumpsFault::Border { text: place, fault },
+    }
+}
+
+// Whether clumps are joined as was asked.
+fn is_as_asked(found: Joining, joining: Joining) -> bool
+    ensures { IsTrue result ↔ found ≡ joining }
+{
+    found == joining
+}
+
+// The tile whose border the text in a place is, if its clumps are joined so.
+fn read_tile<R: Source + Drop>(
+    alloc: Global,
+    joining: Joining,
+    place: usize,
+    source: R,
+) -> Result<BorderText, ClumpsFault>
+    ensures tile { IfOk result (λ tile. IfSome (R.coming source)
+        (λ text. SpellsJoined joining text tile)) }
+    ensures fit { IfOk result (λ tile. IsBorderFit tile.region tile.border) }
+    ensures fault { IfErr result
+        (λ fault. IfSome (R.coming source) (λ text. IsNoTile joining place text fault)) }
+    ensures unwritten { IfErr result (λ fault. fault ≢ ClumpsFault.Write) }
+{
+    let tile = match read_border(alloc, source) {
+        Ok(tile) => tile,
+        Err(fault) => return Err(of_border(place, fault)),
+    };
+    if is_as_asked(tile.joining, joining) {
+        return Ok(tile);
+    }
+    Err(ClumpsFault::Connectivity {
+        text: place,
+        found: tile.joining,
+    })
+}
+
+// Tiles that were joined and one more row of them.
+fn add_row(alloc: Global, joiner: TileJoiner, row: Vec<Border>) -> Result<TileJoiner, ClumpsFault>
+    requires { IsEvenRow row.items }
+    ensures joining { IfOk result (λ more. more.joining ≡ joiner.joining) }
+    ensures joined { IfOk result (λ more. (grid : List (List BorderValue))
+        → AreJoinedTiles grid joiner
+        → AreJoinedTiles (grid ++ border_values row.items ∷ []) more) }
+    ensures fault { IfErr result (IsTooMany joiner row.items) }
+{
+    match joiner.add(alloc, row) {
+        Ok(more) => Ok(more),
+        Err(JoinFault::Memory) => Err(ClumpsFault::Memory),
+        Err(_) => Err(ClumpsFault::TooManyClumps),
+    }
+}
+
+/// Rows of tiles from the top: whole rows, which are joined, and one that has begun below them.
+#[derive(Drop)]
+pub(crate) struct TileGrid {
+    // What was joined of the whole rows.
+    pub(crate) joiner: TileJoiner,
+    // The regions of the last whole row, from the left.
+    above: Vec<Region>,
+    // The regions of the row below it as far as it goes, and the borders of its tiles. Only before the first tile it is empty.
+    row: Vec<Region>,
+    borders: Vec<Border>,
+}
+
+impl TileGrid {
+    /// No tile yet. Takes no memory.
+    pub(crate) fn new(alloc: Global, joining: Joining) -> TileGrid
+        ensures { AreNoTiles joining result }
+    {
+        TileGrid {
+            joiner: TileJoiner::new(alloc, joining),
+            above: Vec::new(alloc),
+            row: Vec::new(alloc),
+            borders: Vec::new(alloc),
+        }
+    }
+
+    // These tiles and one more after the last, in its row.
+    fn with_tile_in_row(self, tile: BorderText) -> Result<TileGrid, Memory>
+        ensures { IfOk result (IsAddedInRow tile self) }
+    {
+        let TileGrid {
+            joiner,
+            above,
+            mut row,
+            mut borders,
+        } = self;
+        row.push(tile.region)?;
+        borders.push(tile.border)?;
+        Ok(TileGrid {
+            joiner,
+            above,
+            row,
+            borders,
+        })
+    }
+
+    // One tile below a row of whole rows that were joined.
+    fn begun_below(
+        alloc: Global,
+        joiner: TileJoiner,
+        above: Vec<Region>,
+        tile: BorderText,
+    ) -> Result<TileGrid, Memory>
+        ensures { IfOk result (IsBegun tile joiner above.items) }
+    {
+        let mut row = Vec::new(alloc);
+        row.push(tile.region)?;
+        let mut borders = Vec::new(alloc);
+        borders.push(tile.border)?;
+        Ok(TileGrid {
+            joiner,
+            above,
+            row,
+            borders,
+        })
+    }
+
+    // These tiles and one more that begins the next row.
+    fn with_tile_below(self, alloc: Global, tile: BorderText) -> Result<TileGrid, ClumpsFault>
+        requires { IsEvenRow self.borders.items }
+        ensures added { IfOk result (IsAddedBelow tile self) }
+        ensures fault { IfErr result (IsTooMany self.joiner self.borders.items) }
+    {
+        let TileGrid {
+            joiner,
+            above: _,
+            row,
+            borders,
+        } = self;
+        let joiner = add_row(alloc, joiner, borders)?;
+        Ok(TileGrid::begun_below(alloc, joiner, row, tile)?)
+    }
+
+    /// These tiles and that of the text in a place after them.
+    pub(crate) fn with_text<R: Source + Drop>(
+        self,
+        alloc: Global,
+        joining: Joining,
+        place: usize,
+        source: R,
+    ) -> Result<TileGrid, ClumpsFault>
+        requires { AreTilesKept self }
+        ensures added { IfOk result (HasAddedTile joining (R.coming source) self) }
+        ensures fault { IfErr result (λ fault. IfSome (R.coming source)
+            (λ text. IsFaultAtTile joining place self text fault)) }
+        ensures unwritten { IfErr result (λ fault. fault ≢ ClumpsFault.Write) }
+    {
+        let tile = read_tile(alloc, joining, place, source)?;
+        match spot_of(&self.above, &self.row, tile.region) {
+            TileSpot::InRow => Ok(self.with_tile_in_row(tile)?),
+            TileSpot::NextRow => self.with_tile_below(alloc, tile),
+            TileSpot::Apart { beside, below } => Err(ClumpsFault::Apart {
+                text: place,
+                beside,
+                below,
+            }),
+            TileSpot::NotBeside { misfit } => Err(ClumpsFault::NotBeside {
+                text: place,
+                misfit,
+            }),
+            TileSpot::NotBelow { misfit, back } => Err(ClumpsFault::NotBelow {
+                text: place,
+                other: place.saturating_sub(back),
+                misfit,
+            }),
+        }
+    }
+
+    /// The whole rows joined, of so many texts, if the last is whole.
+    pub(crate) fn finish(self, alloc: Global, texts: usize) -> Result<TileJoiner, ClumpsFault>
+        requires { AreTilesKept self }
+        ensures whole { IfOk result (AreFinished self) }
+        ensures fault { IfErr result (IsTooShort texts self) }
+    {
+        if self.row.is_empty() {
+            return Ok(self.joiner);
+        }
+        if self.above.get(self.row.len()).is_some() {
+            return Err(ClumpsFault::FewTiles {
+                other: texts.saturating_sub(self.above.len()),
+            });
+        }
+        add_row(alloc, self.joiner, self.borders)
+    }
+}

@@ -1,0 +1,84 @@
+//! A map of three rows in four tiles, and tiles that do not fit them:
+//!
+//!     1 1 | 2 2
+//!     1 * | 2 1
+//!     ---------
+//!     2 1 | 1 1
+
+use crate::border_texts::{ROOM, written_to};
+use cell_cats_areas::clump::Joining;
+use cell_core::memory::Memory;
+use cell_core::sink::MemorySink;
+use cell_core::source::MemorySource;
+use cell_join_clumps::clumps_joining::{ClumpsOutcome, join_border_texts};
+use std::alloc::Global;
+
+/// The four tiles.
+pub(crate) const A: &[u8] = b"north: 3\nsouth: 1\neast: 2\nwest: 0\nrows: 2\ncols: 2\n1 1\n1 *\n";
+
+pub(crate) const B: &[u8] = b"north: 3\nsouth: 1\neast: 4\nwest: 2\nrows: 2\ncols: 2\n2 2\n2 1\n";
+
+pub(crate) const C: &[u8] = b"north: 1\nsouth: 0\neast: 2\nwest: 0\nrows: 1\ncols: 2\n2 1\n";
+
+pub(crate) const D: &[u8] = b"north: 1\nsouth: 0\neast: 4\nwest: 2\nrows: 1\ncols: 2\n1 1\n";
+
+/// The last one with a column less, and at another east edge.
+pub(crate) const NARROW: &[u8] = b"north: 1\nsouth: 0\neast: 3\nwest: 2\nrows: 1\ncols: 1\n1\n";
+
+pub(crate) const WIDE: &[u8] = b"north: 1\nsouth: 0\neast: 5\nwest: 2\nrows: 1\ncols: 2\n1 1\n";
+
+/// The second one at another north edge, and at another south edge.
+pub(crate) const TALL: &[u8] =
+    b"north: 4\nsouth: 1\neast: 4\nwest: 2\nrows: 2\ncols: 2\n2 2\n2 1\n";
+
+pub(crate) const DEEP: &[u8] =
+    b"north: 3\nsouth: 0\neast: 4\nwest: 2\nrows: 2\ncols: 2\n2 2\n2 1\n";
+
+// The most bytes that one call of a source gives, and of a sink takes.
+const PIECE: usize = 7;
+
+/// What joining did, and the bytes that the sink took.
+#[derive(Drop)]
+pub(crate) struct Joined {
+    pub(crate) outcome: ClumpsOutcome,
+    pub(crate) bytes: Vec<u8>,
+}
+
+/// Joins texts, to a sink of so much room, whose flush fails or not. Reading the last text fails or not.
+pub(crate) fn joined_to(
+    alloc: Global,
+    joining: Joining,
+    texts: Vec<Vec<u8>>,
+    sink: (usize, bool),
+    last_fails: bool,
+) -> Result<Joined, Memory> {
+    let count = texts.len();
+    let mut sources = Vec::new(alloc);
+    for (place, text) in texts.into_iter().enumerate() {
+        let fails = last_fails && place == count.saturating_sub(1);
+        sources.push(MemorySource::new(text, PIECE, fails))?;
+    }
+    let mut out = MemorySink::new(vec![in alloc; 0; sink.0]?, PIECE, sink.1);
+    let outcome = join_border_texts(alloc, joining, sources, &mut out);
+    let bytes = Vec::from_slice(alloc, out.bytes())?;
+    Ok(Joined { outcome, bytes })
+}
+
+/// The text of the border of the text of a map.
+pub(crate) fn border(alloc: Global, joining: Joining, map: &[u8]) -> Result<Vec<u8>, Memory> {
+    let written = written_to(alloc, joining, map, ROOM, false)?;
+    Ok(written.bytes)
+}
+
+/// The texts of the borders of maps.
+pub(crate) fn borders(
+    alloc: Global,
+    joining: Joining,
+    maps: &[&[u8]],
+) -> Result<Vec<Vec<u8>>, Memory> {
+    let mut texts = Vec::new(alloc);
+    for map in maps {
+        texts.push(border(alloc, joining, *map)?)?;
+    }
+    Ok(texts)
+}
