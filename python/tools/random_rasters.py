@@ -140,6 +140,8 @@ def make(chance: random.Random, path: str) -> Raster:
     band = made.GetRasterBand(1)
     if has_alpha:
         made.GetRasterBand(2).SetColorInterpretation(gdal.GCI_AlphaBand)
+    if scale:
+        band.SetScale(0.5)
     band.Fill(1)
     made.FlushCache()  # all blocks are stored now: GDAL writes nodata, rounded, in place of zeros in a block that is not
     if nodata is not None and dtype != "complex64":
@@ -150,8 +152,6 @@ def make(chance: random.Random, path: str) -> Raster:
         alpha = np.array([[chance.choice([0, 1, 100]) for _ in range(shape[1])] for _ in range(shape[0])], dtype)
         made.GetRasterBand(2).WriteArray(alpha)
         null = null | (alpha == 0)
-    if scale:
-        band.SetScale(0.5)
     if has_mask:
         mask = np.array([[chance.choice([0, 255]) for _ in range(shape[1])] for _ in range(shape[0])], np.uint8)
         made.CreateMaskBand(gdal.GMF_PER_DATASET)
