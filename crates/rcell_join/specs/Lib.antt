@@ -1,4 +1,8 @@
--- What the program tells where tables or sizes were not joined, or not all.
-pub mod TablesFaultLine
-pub mod LabelsFaultLine
-pub mod SizesFaultLine
+-- What the program reports if tables are not merged, or borders or sizes not written, or not all.
+pub mod PlaceValues
+pub mod ReportPlaces
+pub mod KindStatuses
+pub mod TablesReports
+pub mod BorderReports
+pub mod ClumpsReports
+pub mod SizesReports

@@ -1,4 +1,4 @@
--- What the words of a command line ask for: rcell-join tables, edges, areas, sides, tiles or sizes, and what stands behind it (profile).
+-- What the words of a command line ask for: rcell-join tables, border, clumps or sizes, and what follows it (profile).
 use Rattle.std.specs.Prelude.{ℕ, Bool, not, List, [], ◌∷◌, ◌==◌, ◌||◌, false, true, map, Result, Ok, Err, is_some, unwrap_or, if◌then◌else◌, bytes_eq, codes}
 use Rattle.std.specs.List.{filter, list_any}
 use Rattle.cell_ascii_meaning.specs.Header.{usual_null}
@@ -22,20 +22,16 @@ use Rattle.rcell_join_request.specs.declared.request.Request.TheVariants as requ
 -- what is asked for, with the paths of the texts that are read
 pub data RequestValue : Type 0 where
   Tables : (format : FormatValue) → (tables : List (List ℕ)) → RequestValue
-  Edges : (map numbers : List ℕ) → RequestValue
-  Areas : (joining : Joining) → (bands : List (List ℕ)) → RequestValue
-  Sides : (map numbers : List ℕ) → RequestValue
-  Tiles : (joining : Joining) → (tiles : List (List ℕ)) → RequestValue
-  Sizes : (format : FormatValue) → (joined : List ℕ) → (tables : List (List ℕ)) → RequestValue
+  Border : (joining : Joining) → (map : List ℕ) → RequestValue
+  Clumps : (joining : Joining) → (borders : List (List ℕ)) → RequestValue
+  Sizes : (format : FormatValue) → (numbering : List ℕ) → (tables : List (List ℕ)) → RequestValue
 
 -- what a request asks for
 abbrev pub request_value : Request → RequestValue
 request_value (requests.Tables format tables) = Tables format (map (λ path. path.now) tables.items)
-request_value (requests.Edges cells numbers) = Edges cells.now numbers.now
-request_value (requests.Areas joining bands) = Areas joining (map (λ path. path.now) bands.items)
-request_value (requests.Sides cells numbers) = Sides cells.now numbers.now
-request_value (requests.Tiles joining tiles) = Tiles joining (map (λ path. path.now) tiles.items)
-request_value (requests.Sizes format joined tables) = Sizes format joined.now (map (λ path. path.now) tables.items)
+request_value (requests.Border joining cells) = Border joining cells.now
+request_value (requests.Clumps joining borders) = Clumps joining (map (λ path. path.now) borders.items)
+request_value (requests.Sizes format numbering tables) = Sizes format numbering.now (map (λ path. path.now) tables.items)
 
 -- a word that begins with a hyphen
 abbrev pub begins_with_hyphen : List ℕ → Bool
@@ -102,22 +98,7 @@ asked_labelled labels words = if has_hyphen_word words then Err (refusals.Usage 
 abbrev pub asked_tables : List (List ℕ) → Result RequestValue Refusal
 asked_tables words = asked_labelled (contains_flag labels_flag words) (without_flag labels_flag words)
 
--- the paths of a map and of its numbers
-abbrev pub two_of : Usage → List (List ℕ) → Result (List ℕ × List ℕ) Refusal
-two_of usage (cells ∷ numbers ∷ []) = Ok (cells, numbers)
-two_of usage words = Err (refusals.Usage usage)
-
-abbrev pub map_and_numbers : Usage → List (List ℕ) → Result (List ℕ × List ℕ) Refusal
-map_and_numbers usage words = if has_hyphen_word words then Err (refusals.Usage usage) else two_of usage words
-
--- what words behind `edges` ask for, and behind `sides`
-abbrev pub asked_edges : List (List ℕ) → Result RequestValue Refusal
-asked_edges words = map_and_numbers usages.Edges words >>= λ paths. Ok (Edges paths.0 paths.1)
-
-abbrev pub asked_sides : List (List ℕ) → Result RequestValue Refusal
-asked_sides words = map_and_numbers usages.Sides words >>= λ paths. Ok (Sides paths.0 paths.1)
-
--- the flag by which areas join at corners too
+-- the flag by which clumps join at corners too
 abbrev pub corners_flag : List ℕ
 corners_flag = codes "-d"
 
@@ -125,28 +106,32 @@ corners_flag = codes "-d"
 abbrev pub joining_in : List (List ℕ) → Joining
 joining_in words = if contains_flag corners_flag words then joinings.EdgesAndCorners else joinings.Edges
 
--- the other words, which are the paths of parts
-abbrev pub parts_in : List (List ℕ) → List (List ℕ)
-parts_in words = without_flag corners_flag words
+-- the other words, which are the paths of tiles
+abbrev pub tile_paths : List (List ℕ) → List (List ℕ)
+tile_paths words = without_flag corners_flag words
 
--- one part or more, joined so
+-- one tile or more, joined so
 abbrev pub some_of : Usage → Joining → List (List ℕ) → Result (Joining × List (List ℕ)) Refusal
 some_of usage joining [] = Err (refusals.Usage usage)
-some_of usage joining (part ∷ parts) = Ok (joining, part ∷ parts)
+some_of usage joining (tile ∷ tiles) = Ok (joining, tile ∷ tiles)
 
-abbrev pub joined_parts : Usage → List (List ℕ) → Result (Joining × List (List ℕ)) Refusal
-joined_parts usage words = if has_hyphen_word (parts_in words) then Err (refusals.Usage usage) else some_of usage (joining_in words) (parts_in words)
+abbrev pub joined_tiles : Usage → List (List ℕ) → Result (Joining × List (List ℕ)) Refusal
+joined_tiles usage words = if has_hyphen_word (tile_paths words) then Err (refusals.Usage usage) else some_of usage (joining_in words) (tile_paths words)
 
--- what words behind `areas` ask for: the edges of one band or more; and behind `tiles`: the sides of one tile or more
-abbrev pub asked_areas : List (List ℕ) → Result RequestValue Refusal
-asked_areas words = joined_parts usages.Areas words >>= λ parts. Ok (Areas parts.0 parts.1)
+-- what words behind `border` ask for: the map of one tile; and behind `clumps`: the borders of one tile or more
+abbrev pub border_of : Joining → List (List ℕ) → Result RequestValue Refusal
+border_of joining (cells ∷ []) = Ok (Border joining cells)
+border_of joining cells = Err (refusals.Usage usages.Border)
 
-abbrev pub asked_tiles : List (List ℕ) → Result RequestValue Refusal
-asked_tiles words = joined_parts usages.Tiles words >>= λ parts. Ok (Tiles parts.0 parts.1)
+abbrev pub asked_border : List (List ℕ) → Result RequestValue Refusal
+asked_border words = joined_tiles usages.Border words >>= λ tiles. border_of tiles.0 tiles.1
 
--- an areas text, and one table or more
+abbrev pub asked_clumps : List (List ℕ) → Result RequestValue Refusal
+asked_clumps words = joined_tiles usages.Clumps words >>= λ tiles. Ok (Clumps tiles.0 tiles.1)
+
+-- a numbering, and one table or more
 abbrev pub asked_of_sizes : List (List ℕ) → Result FormatValue Refusal → Result RequestValue Refusal
-asked_of_sizes (joined ∷ table ∷ tables) reading = reading >>= λ format. Ok (Sizes format joined (table ∷ tables))
+asked_of_sizes (numbering ∷ table ∷ tables) reading = reading >>= λ format. Ok (Sizes format numbering (table ∷ tables))
 asked_of_sizes words reading = Err (refusals.Usage usages.Sizes)
 
 -- what words behind `sizes` ask for
@@ -157,12 +142,10 @@ asked_sizes words = if has_hyphen_word words then Err (refusals.Usage usages.Siz
 abbrev pub command_of : List ℕ → List (List ℕ) → Result RequestValue Refusal
 command_of command words =
     if bytes_eq command (codes "tables") then asked_tables words
-    else (if bytes_eq command (codes "edges") then asked_edges words
-    else (if bytes_eq command (codes "areas") then asked_areas words
-    else (if bytes_eq command (codes "sides") then asked_sides words
-    else (if bytes_eq command (codes "tiles") then asked_tiles words
+    else (if bytes_eq command (codes "border") then asked_border words
+    else (if bytes_eq command (codes "clumps") then asked_clumps words
     else (if bytes_eq command (codes "sizes") then asked_sizes words
-    else Err (refusals.Usage usages.AnyCommand))))))
+    else Err (refusals.Usage usages.AnyCommand))))
 
 -- what the words that follow the program's own name ask for
 abbrev pub asked_of : List (List ℕ) → Result RequestValue Refusal

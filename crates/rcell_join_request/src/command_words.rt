@@ -6,7 +6,7 @@ ghost use Rattle.std.specs.String.{string_bytes};
 ghost use Rattle.clap.specs.Words.{app_of};
 ghost use Rattle.clap.specs.Walk.{texts};
 ghost use Rattle.cell_core_text.specs.Answers.{Answers};
-ghost use Rattle.rcell_join_request.specs.CommandLine.{asked_areas, asked_labelled, request_value, asked_edges, asked_of, asked_sides, asked_sizes, asked_tables, asked_tiles, begins_with_hyphen, command_of, format_in, is_flag, is_option, joined_parts, joining_in, map_and_numbers, options_in, paths_in, without_flag};
+ghost use Rattle.rcell_join_request.specs.CommandLine.{asked_border, asked_clumps, asked_labelled, asked_of, asked_sizes, asked_tables, begins_with_hyphen, command_of, format_in, is_flag, is_option, joined_tiles, joining_in, options_in, paths_in, request_value, without_flag};
 ghost use Rattle.rcell_join_request.specs.parts.ClapWords.{FindsAll, command_line, has_no_command};
 
 use crate::refusal::{Refusal, Usage};
@@ -20,7 +20,7 @@ use rcell_script_options::option_fault::OptionFault;
 use rcell_script_options::options::{Form, options_of};
 use std::alloc::{AllocError, Global};
 
-// The flag by which areas join at corners too.
+// The flag by which clumps join at corners too.
 const CORNERS_FLAG: &str = "-d";
 
 // The flag by which categories have labels.
@@ -247,41 +247,6 @@ fn asked_tables<'a>(alloc: Global, words: &[&'a str]) -> Result<Request<'a>, Ref
     asked_labelled(alloc, labels, others.as_slice())
 }
 
-// The paths of a map and of its numbers, where these are the words behind a command.
-#[tactic(auto, using(crate::proofs::WordLemmas::hyphens_of_texts))]
-fn map_and_numbers<'a>(usage: Usage, words: &[&'a str]) -> Result<(&'a str, &'a str), Refusal>
-    ensures { Answers Refusal.Memory (λ paths. (paths.0.now, paths.1.now)) result
-        (map_and_numbers usage (texts words.now)) }
-{
-    if has_hyphen_word(words) {
-        return Err(Refusal::Usage(usage));
-    }
-    match words {
-        [map, numbers] => Ok((*map, *numbers)),
-        _ => Err(Refusal::Usage(usage)),
-    }
-}
-
-// What the words behind `edges` ask for.
-fn asked_edges<'a>(words: &[&'a str]) -> Result<Request<'a>, Refusal>
-    ensures { Answers Refusal.Memory request_value result (asked_edges (texts words.now)) }
-{
-    match map_and_numbers(Usage::Edges, words) {
-        Ok((map, numbers)) => Ok(Request::Edges { map, numbers }),
-        Err(refusal) => Err(refusal),
-    }
-}
-
-// What the words behind `sides` ask for.
-fn asked_sides<'a>(words: &[&'a str]) -> Result<Request<'a>, Refusal>
-    ensures { Answers Refusal.Memory request_value result (asked_sides (texts words.now)) }
-{
-    match map_and_numbers(Usage::Sides, words) {
-        Ok((map, numbers)) => Ok(Request::Sides { map, numbers }),
-        Err(refusal) => Err(refusal),
-    }
-}
-
 // Which cells are adjacent.
 fn joining_in(words: &[&str]) -> Joining
     ensures { result ≡ joining_in (texts words.now) }
@@ -293,46 +258,50 @@ fn joining_in(words: &[&str]) -> Joining
     }
 }
 
-// The paths of one part or more behind a command, and which cells are adjacent.
+// The paths of one tile or more behind a command, and which cells are adjacent.
 #[tactic(auto, using(crate::proofs::WordLemmas::hyphens_of_texts))]
-fn joined_parts<'a>(
+fn joined_tiles<'a>(
     alloc: Global,
     usage: Usage,
     words: &[&'a str],
 ) -> Result<(Joining, Vec<&'a str>), Refusal>
-    ensures { Answers Refusal.Memory (λ parts. (parts.0, texts parts.1.items)) result
-        (joined_parts usage (texts words.now)) }
+    ensures { Answers Refusal.Memory (λ tiles. (tiles.0, texts tiles.1.items)) result
+        (joined_tiles usage (texts words.now)) }
 {
-    let parts = match without_flag(alloc, CORNERS_FLAG, words) {
-        Ok(parts) => parts,
+    let tiles = match without_flag(alloc, CORNERS_FLAG, words) {
+        Ok(tiles) => tiles,
         Err(refusal) => return Err(refusal),
     };
-    if has_hyphen_word(parts.as_slice()) {
+    if has_hyphen_word(tiles.as_slice()) {
         return Err(Refusal::Usage(usage));
     }
-    if parts.is_empty() {
+    if tiles.is_empty() {
         return Err(Refusal::Usage(usage));
     }
     let joining = joining_in(words);
-    Ok((joining, parts))
+    Ok((joining, tiles))
 }
 
-// What the words behind `areas` ask for.
-fn asked_areas<'a>(alloc: Global, words: &[&'a str]) -> Result<Request<'a>, Refusal>
-    ensures { Answers Refusal.Memory request_value result (asked_areas (texts words.now)) }
+// What the words behind `border` ask for.
+fn asked_border<'a>(alloc: Global, words: &[&'a str]) -> Result<Request<'a>, Refusal>
+    ensures { Answers Refusal.Memory request_value result (asked_border (texts words.now)) }
 {
-    match joined_parts(alloc, Usage::Areas, words) {
-        Ok((joining, bands)) => Ok(Request::Areas { joining, bands }),
-        Err(refusal) => Err(refusal),
+    let (joining, maps) = match joined_tiles(alloc, Usage::Border, words) {
+        Ok(tiles) => tiles,
+        Err(refusal) => return Err(refusal),
+    };
+    match maps.as_slice() {
+        [map] => Ok(Request::Border { joining, map: *map }),
+        _ => Err(Refusal::Usage(Usage::Border)),
     }
 }
 
-// What the words behind `tiles` ask for.
-fn asked_tiles<'a>(alloc: Global, words: &[&'a str]) -> Result<Request<'a>, Refusal>
-    ensures { Answers Refusal.Memory request_value result (asked_tiles (texts words.now)) }
+// What the words behind `clumps` ask for.
+fn asked_clumps<'a>(alloc: Global, words: &[&'a str]) -> Result<Request<'a>, Refusal>
+    ensures { Answers Refusal.Memory request_value result (asked_clumps (texts words.now)) }
 {
-    match joined_parts(alloc, Usage::Tiles, words) {
-        Ok((joining, tiles)) => Ok(Request::Tiles { joining, tiles }),
+    match joined_tiles(alloc, Usage::Clumps, words) {
+        Ok((joining, borders)) => Ok(Request::Clumps { joining, borders }),
         Err(refusal) => Err(refusal),
     }
 }
@@ -352,11 +321,11 @@ fn asked_sizes<'a>(alloc: Global, words: &[&'a str]) -> Result<Request<'a>, Refu
     if tables.len() < 2 {
         return Err(Refusal::Usage(Usage::Sizes));
     }
-    let joined = tables.remove(0);
+    let numbering = tables.remove(0);
     match format_in(alloc, false, words) {
         Ok(format) => Ok(Request::Sizes {
             format,
-            joined,
+            numbering,
             tables,
         }),
         Err(refusal) => Err(refusal),
@@ -370,14 +339,10 @@ fn command_of<'a>(alloc: Global, command: &str, words: &[&'a str]) -> Result<Req
 {
     if command == "tables" {
         asked_tables(alloc, words)
-    } else if command == "edges" {
-        asked_edges(words)
-    } else if command == "areas" {
-        asked_areas(alloc, words)
-    } else if command == "sides" {
-        asked_sides(words)
-    } else if command == "tiles" {
-        asked_tiles(alloc, words)
+    } else if command == "border" {
+        asked_border(alloc, words)
+    } else if command == "clumps" {
+        asked_clumps(alloc, words)
     } else if command == "sizes" {
         asked_sizes(alloc, words)
     } else {
@@ -389,8 +354,8 @@ fn command_of<'a>(alloc: Global, command: &str, words: &[&'a str]) -> Result<Req
 ///
 /// # Errors
 ///
-/// [`Refusal::Usage`] where no word follows it, the next one is no command, a word behind that begins with `-` and is not
-/// the flag `-l` of `tables` or `-d` of `areas` or `tiles`, or there are fewer or more paths than the command takes;
+/// [`Refusal::Usage`] if no word follows it, the next one is no command, a word behind that begins with `-` and is not
+/// the flag `-l` of `tables` or `-d` of `border` or `clumps`, or there are fewer or more paths than the command takes;
 /// [`Refusal::BadOption`]; [`Refusal::Memory`].
 pub fn read_words<'a>(alloc: Global, words: &'a [String]) -> Result<Request<'a>, Refusal>
     ensures { Answers Refusal.Memory request_value result

@@ -8,26 +8,20 @@ use thiserror::Error;
 /// The words that a command line should have had: those of a command, or any command.
 #[derive(Clone, Copy, Debug, PartialEq, Eq, Error)]
 pub enum Usage {
-    /// No command, or another one than these six.
-    #[error("usage: rcell-join (tables|edges|areas|sides|tiles|sizes) ...")]
+    /// No command, or another one than these four.
+    #[error("usage: rcell-join (tables|border|clumps|sizes) ...")]
     AnyCommand,
     /// The words of `tables`.
     #[error("usage: rcell-join tables [-l] [separator=S] [null_value=N] FILE...")]
     Tables,
-    /// The words of `edges`.
-    #[error("usage: rcell-join edges MAP NUMBERS")]
-    Edges,
-    /// The words of `areas`.
-    #[error("usage: rcell-join areas [-d] EDGES...")]
-    Areas,
-    /// The words of `sides`.
-    #[error("usage: rcell-join sides MAP NUMBERS")]
-    Sides,
-    /// The words of `tiles`.
-    #[error("usage: rcell-join tiles [-d] SIDES...")]
-    Tiles,
+    /// The words of `border`.
+    #[error("usage: rcell-join border [-d] MAP")]
+    Border,
+    /// The words of `clumps`.
+    #[error("usage: rcell-join clumps [-d] BORDER...")]
+    Clumps,
     /// The words of `sizes`.
-    #[error("usage: rcell-join sizes [separator=S] [null_value=N] JOINED TABLE...")]
+    #[error("usage: rcell-join sizes [separator=S] [null_value=N] NUMBERING TABLE...")]
     Sizes,
 }
 

@@ -59,48 +59,34 @@ impl TableFormat {
 /// What the words ask for, with the paths of the texts that are read.
 #[derive(Drop)]
 pub enum Request<'a> {
-    /// The tables of parts, joined to the table of the whole.
+    /// The tables of tiles, merged to the table of the full map.
     Tables {
         /// How they are printed, with labels or without.
         format: TableFormat,
         /// One or more, in order.
         tables: Vec<&'a str>,
     },
-    /// The edges of a band.
-    Edges {
-        /// The band's map.
-        map: &'a str,
-        /// The numbers of its areas, as r.clump gives them.
-        numbers: &'a str,
-    },
-    /// The areas of bands, joined to those of the whole.
-    Areas {
+    /// The border of a tile.
+    Border {
         /// Which cells are adjacent.
         joining: Joining,
-        /// The edges of one band or more, from the top.
-        bands: Vec<&'a str>,
-    },
-    /// The sides of a tile.
-    Sides {
         /// The tile's map.
         map: &'a str,
-        /// The numbers of its areas, as r.clump gives them.
-        numbers: &'a str,
     },
-    /// The areas of the tiles of a grid, joined to those of the whole.
-    Tiles {
+    /// The numbering of the clumps of the full map.
+    Clumps {
         /// Which cells are adjacent.
         joining: Joining,
-        /// The sides of one tile or more, row by row of tiles from the top, in each from the left.
-        tiles: Vec<&'a str>,
+        /// The borders of one tile or more, row by row of tiles from the top, in each from the left.
+        borders: Vec<&'a str>,
     },
-    /// The sizes of the areas of the whole.
+    /// The sizes of the clumps of the full map.
     Sizes {
         /// How the tables are printed: without labels.
         format: TableFormat,
-        /// The areas text.
-        joined: &'a str,
-        /// The table of each part's numbers, in the order of the areas text.
+        /// The numbering.
+        numbering: &'a str,
+        /// The table of each tile's clump numbers, in the order of the numbering.
         tables: Vec<&'a str>,
     },
 }

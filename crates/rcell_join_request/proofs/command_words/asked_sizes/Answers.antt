@@ -10,25 +10,25 @@ pub returns-in-Ok-format_in : goal.returns-in-Ok-format_in
 returns-in-Ok-format_in c =
     let words = texts c.args.words.now in
     let found = c.in-Ok.tables.items in
-    let joined = c.remove-joined.result in
-    let tables = c.remove-joined.new.self.items in
+    let numbering = c.remove-numbering.result in
+    let tables = c.remove-numbering.new.self.items in
     let plain : has_hyphen_word words ≡ false =
     sym (hyphens_of_texts c.args.words.now) ∙ sym c.has_hyphen_word.ensures ∙ c.if-has_hyphen_word.false in
     let some : 2 ≤ length found = subst (λ n. 2 ≤ n) (c.len.ensures ∙ c.in-Ok.tables.ok.0) c.if-len-lt2.false in
-    sizes_read words found joined tables plain c.in-Ok.ensures.paths some c.remove-joined.ensures.value
-    c.remove-joined.ensures.items
-    ∙ ap (λ reading. reading >>= λ format. Ok (Sizes format joined.now (texts tables))) c.in-Ok-format_in.ensures
+    sizes_read words found numbering tables plain c.in-Ok.ensures.paths some c.remove-numbering.ensures.value
+    c.remove-numbering.ensures.items
+    ∙ ap (λ reading. reading >>= λ format. Ok (Sizes format numbering.now (texts tables))) c.in-Ok-format_in.ensures
 
 pub returns : goal.returns
 returns c = λ other.
     let words = texts c.args.words.now in
     let found = c.in-Ok.tables.items in
-    let joined = c.remove-joined.result in
-    let tables = c.remove-joined.new.self.items in
+    let numbering = c.remove-numbering.result in
+    let tables = c.remove-numbering.new.self.items in
     let plain : has_hyphen_word words ≡ false =
     sym (hyphens_of_texts c.args.words.now) ∙ sym c.has_hyphen_word.ensures ∙ c.if-has_hyphen_word.false in
     let some : 2 ≤ length found = subst (λ n. 2 ≤ n) (c.len.ensures ∙ c.in-Ok.tables.ok.0) c.if-len-lt2.false in
-    sizes_read words found joined tables plain c.in-Ok.ensures.paths some c.remove-joined.ensures.value
-    c.remove-joined.ensures.items
-    ∙ ap (λ reading. reading >>= λ format. Ok (Sizes format joined.now (texts tables)))
+    sizes_read words found numbering tables plain c.in-Ok.ensures.paths some c.remove-numbering.ensures.value
+    c.remove-numbering.ensures.items
+    ∙ ap (λ reading. reading >>= λ format. Ok (Sizes format numbering.now (texts tables)))
     (c.in-Err-format_in.ensures other)

@@ -1,0 +1,26 @@
+//! Words and paths as messages print them.
+
+use bstr::ByteSlice;
+use std::fmt;
+
+/// A text without the bytes that a terminal would obey: its control characters are escaped.
+#[derive(Clone, Copy, Debug)]
+pub struct Shown<'a> {
+    /// The text.
+    pub text: &'a [u8],
+}
+
+impl<'a> fmt::Display for Shown<'a> {
+    fn fmt<W: fmt::Write>(&self, f: &mut fmt::Formatter<W>) -> fmt::Result {
+        for ch in self.text.chars() {
+            if ch.is_control() {
+                for escaped in ch.escape_default() {
+                    f.write_char(escaped)?;
+                }
+            } else {
+                f.write_char(ch)?;
+            }
+        }
+        Ok(())
+    }
+}
