@@ -97,6 +97,13 @@ accepted-region e accepted = by (parts (is_rectangle e) (is_side e.rows) (is_sid
           accepted = accepted;
         }
 
+pub denoted-region : (c : Coming) (m : Grid) → Denotes c m → IsRegion m.region
+denoted-region c m h = subst IsRegion (sym h.region) (accepted-region h.said.region h.header.good)
+
+pub denoted-filled : (text : Coming) (m : Grid) → Denotes text m → IsFilled m.region m.rows
+denoted-filled text m denotes =
+    subst (λ (r : RegionValue). IsFilled r m.rows) (sym denotes.region) denotes.cells.shape
+
 pub number-in : (n : ℕ) → n ≤ 2147483647 → InRange (Some (pos n))
 number-in n few = le-leb n 2147483647 few
 

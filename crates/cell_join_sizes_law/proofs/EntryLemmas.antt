@@ -18,7 +18,7 @@ use Rattle.cell_join_lines.specs.AreasText.{stretches_in}
 use Rattle.cell_join_sizes.specs.SizeTexts.{AreTablesOfBands, BandSizes, IsNullEntry, IsTableOfBand, entries_of_areas}
 use Rattle.cell_join_sizes.specs.SizeTexts.{number_entries, sizes_of_parts, stretch_areas, stretches_of_parts}
 use Rattle.cell_join_sizes_law.proofs.WholeLemmas.{same-entries}
-use Rattle.cell_join_sizes_law.specs.WholeSizes.{table_read}
+use Rattle.cell_join_sizes_law.specs.ExistingSizes.{table_read}
 
 -- ---- entries of numbers in two parts
 

@@ -1,4 +1,4 @@
--- The areas text of bands and the tables of their numbers have sizes: those of the areas of the undivided map.
+-- A numbering and the tables of its tiles have sizes: those of the clumps of the full map.
 use Rattle.std.proofs.Common.{◌≡◌, ℕ, ◌+◌, ◌<◌, ◌≤◌, ◌*◌, List, [], ◌∷◌, length, map, flat_map, get_or, None}
 use Rattle.std.proofs.Common.{pos, suc, Some}
 use Rattle.std.proofs.Common.{refl, ap, sym, ◌∙◌, subst, arith, length-append}
@@ -7,11 +7,10 @@ use Rattle.std.specs.List.{AllZip, Contains}
 use Rattle.std.specs.Ordering.{eq_by_cmp}
 use Rattle.std.proofs.lemmas.List.Elements.{All-contains_itself, All-from_get_or, All-head, All-tail, All-weaker}
 use Rattle.std.proofs.lemmas.List.FromFn.{get_or-map-range_with_len, length-map-range_with_len}
-use Rattle.std.proofs.lemmas.List.Sums.{count_by-le-length, sum-map, sum_by-cons}
+use Rattle.std.proofs.lemmas.List.Sums.{count_by-le-length, sum_by-cons}
 use Rattle.cell_core.specs.Grid.{Grid, IsFilled}
 use Rattle.cell_cats_areas.specs.declared.clump.Joining.{Joining}
 use Rattle.cell_cats_areas.specs.Areas.{IsClumping}
-use Rattle.cell_cats_areas_law.specs.ExistsLaw.{ClumpingExists}
 use Rattle.cell_stats_combinations.specs.declared.skip.Skip.{Skip}
 use Rattle.cell_stats_combinations.specs.declared.skip.Skip.TheVariants.{Nothing}
 use Rattle.cell_stats_combinations.specs.Combinations.{Combination, combination_cmp}
@@ -21,23 +20,19 @@ use Rattle.cell_stats.specs.CategoryTables.{IsTable, Pairs}
 use Rattle.cell_stats.proofs.LawLemmas.{counts-add-up}
 use Rattle.cell_stats.proofs.TableLemmas.{table_is}
 use Rattle.cell_cats_law.specs.AreaLaw.{cells_of}
-use Rattle.cell_tiles_joining.specs.declared.edges.BandEdges.{BandEdges}
-use Rattle.cell_tiles_joining.specs.Bands.{Band, HasAreas, HaveEdges}
+use Rattle.cell_join_numbers.specs.Labelled.{HasAreas}
 use Rattle.cell_join_tiles.specs.parts.Greatest.{greatest_of}
 use Rattle.cell_join_sizes.specs.Sizes.{size_of_area}
 use Rattle.cell_join_tiles.proofs.GreatestLemmas.{has-areas}
 use Rattle.cell_join_sizes_law.specs.SizeLaw.{size_of_number, sizes_of_areas}
-use Rattle.cell_tiles_joining_law.specs.NumberTables.{IsBandTable}
 use Rattle.cell_join_sizes_law.specs.NumberTables.{entries_from, entry_of_null, listed_sizes, number_table}
 use Rattle.cell_join_sizes_law.proofs.NumberTableLemmas.{numbers-are-listed}
 use Rattle.cell_join_lines.specs.AreasText.{stretches_of}
 use Rattle.cell_join_lines.proofs.ToldLemmas.{numbers-are-told}
 use Rattle.cell_join_sizes.specs.SizeTexts.{HasTally, sizes_of_parts}
-use Rattle.cell_join_sizes_law.specs.ExistingSizes.{HaveSizesUpTo, SizesExist}
-use Rattle.cell_join_sizes_law.specs.WholeSizes.{band_areas, table_read}
+use Rattle.cell_join_sizes_law.specs.ExistingSizes.{HaveSizesUpTo, table_read}
 use Rattle.cell_join_sizes_law.proofs.EntryLemmas.{Lists, have-parts}
-use Rattle.cell_join_sizes_law.proofs.NumberLemmas.{numbers-good}
-use Rattle.cell_join_sizes_law.proofs.WholeLemmas.{has-size, parts-list, size-listed}
+use Rattle.cell_join_sizes_law.proofs.WholeLemmas.{has-size, parts-list}
 
 -- ---- the table of a part
 
@@ -51,19 +46,6 @@ lists j m numbered is filled areas has skip table own = record {
   many = length-map-range_with_len (size_of_number numbered m.region.rows m.region.cols) 1 areas;
   is = (numbers-are-listed j m numbered is filled areas has skip table).0 own;
 }
-
-bands-list : (j : Joining) (skip : Skip) (cols : ℕ) (bands : List Band) (edges : List BandEdges) (tables : List Pairs)
-    → HaveEdges j bands edges → AllZip (IsBandTable skip cols) bands tables
-    → AllZip (Lists skip) (band_areas edges) tables
-bands-list j skip cols [] [] [] have are = tt
-bands-list j skip cols [] (one ∷ edges) tables have are = absurd have
-bands-list j skip cols [] [] (table ∷ tables) have are = absurd are
-bands-list j skip cols (band ∷ bands) [] tables have are = absurd have
-bands-list j skip cols (band ∷ bands) (one ∷ edges) [] have are = absurd are
-bands-list j skip cols (band ∷ bands) (one ∷ edges) (table ∷ tables) have are = (
-  lists j band.map band.numbers have.0.numbers are.0.filled one.areas have.0.areas skip table are.0.lists,
-  bands-list j skip cols bands edges tables have.1 are.1,
-)
 
 -- ---- the sizes of the whole
 
@@ -189,16 +171,3 @@ areas-few j whole numbered is filled areas has =
       entries-long 1 sizes,
       length-map-range_with_len (size_of_number numbered rows cols) 1 areas,
     )
-
--- ---- the law
-
-pub sizes-exist : ClumpingExists → SizesExist
-sizes-exist exists j whole bands edges cut filled skip tables are numbers many join =
-    let own = exists j whole filled in
-    let tell = join whole bands cut in
-    let areas = greatest_of 0 own.0.rows in
-    have-sizes j whole own.0 own.1.1 filled skip (band_areas edges) numbers tables many
-    (bands-list j skip whole.region.cols bands edges tables cut.all are)
-    (size-listed j whole bands edges cut filled skip tables are numbers tell own.0 own.1.1)
-    (numbers-good j whole areas (has-areas j whole own.0 own.1.1) bands edges cut.all numbers tell
-    (many ∙ sum-map (λ (one : BandEdges). one.areas) edges))

@@ -1,25 +1,17 @@
 -- The cells of a clump of the whole are those of the clumps of tiles that have its number.
-use Rattle.std.proofs.Common.{◌≡◌, ℕ, zero, suc, pos, negsuc, ◌+◌, ◌-◌, ◌<◌, ◌≤◌, map, [], ◌∷◌, ◌++◌, List, length}
-use Rattle.std.proofs.Common.{get_or, drop, Some, None, Bool, true, false, ◌&&◌, ◌||◌, ◌==◌, cond, refl, ap, sym}
+use Rattle.std.proofs.Common.{◌≡◌, ℕ, zero, suc, pos, negsuc, ◌+◌, ◌-◌, ◌<◌, ◌≤◌, map, [], ◌∷◌, List}
+use Rattle.std.proofs.Common.{get_or, Some, None, Bool, true, false, ◌&&◌, ◌||◌, ◌==◌, cond, refl, ap, sym}
 use Rattle.std.proofs.Common.{◌∙◌, arith, zero-add, eqb-true, eq-eqb}
-use Rattle.std.specs.Prelude.{count_by, sum_by}
+use Rattle.std.specs.Prelude.{count_by}
 use Rattle.std.specs.List.{range_with_len}
 use Rattle.std.specs.Ordering.{eq_by_cmp, is_eq}
 use Rattle.std.specs.Cmp.{tied_itself}
-use Rattle.std.proofs.lemmas.List.{drop_all, ext_get_or}
-use Rattle.std.proofs.lemmas.List.FromFn.{length-map-range_with_len, get_or-map-range_with_len}
-use Rattle.std.proofs.lemmas.List.Sums.{sum_by-cons}
 use Rattle.cell_core.specs.Grid.{Grid, CellValue}
 use Rattle.cell_cats_areas.specs.declared.clump.Joining.{Joining}
 use Rattle.cell_cats_areas.specs.Areas.{Position, cell_at_spot, IsClumping}
 use Rattle.cell_cats_areas.specs.parts.CellPlaces.{position}
 use Rattle.cell_cats_areas.proofs.CountLemmas.{numbers_count_areas}
-use Rattle.cell_stats_combinations.specs.Combinations.{
-  Combination,
-  combination_cmp,
-  combination_cmp_total,
-  all_combinations,
-}
+use Rattle.cell_stats_combinations.specs.Combinations.{Combination, combination_cmp, combination_cmp_total}
 use Rattle.cell_stats_combinations.proofs.OrderLemmas.{combination_cmp-exact, is_equal}
 use Rattle.cell_stats_counts.specs.Counts.{count_of}
 use Rattle.cell_stats.proofs.SortedLemmas.{both_true}

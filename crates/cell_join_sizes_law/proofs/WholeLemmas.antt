@@ -1,10 +1,10 @@
--- Sizes added up by an areas text are those of the areas of the undivided map.
+-- Sizes added up with a numbering are those of the clumps of the full map.
 use Rattle.std.proofs.Common.{◌≡◌, ℕ, zero, suc, pos, ◌+◌, ◌-◌, ◌<◌, ◌≤◌, List, [], ◌∷◌, ◌++◌, length, map, flat_map, filter, get_or, sum, take, drop, Bool, true, false, cond, not, Some, None, refl, ap, sym, ◌∙◌, subst, arith, append-nil, append_assoc, length-append, length-drop, ⊎_elim}
 use Rattle.std.specs.Prelude.{All}
-use Rattle.std.specs.List.{AllZip, Contains}
+use Rattle.std.specs.List.{Contains}
 use Rattle.std.proofs.lemmas.Bool.{cases_lt}
 use Rattle.std.proofs.lemmas.List.{ext_get_or, take-append-drop}
-use Rattle.std.proofs.lemmas.List.Elements.{All-append, All-cons, All-contains_itself, All-head, All-nil, All-tail, All-weaker}
+use Rattle.std.proofs.lemmas.List.Elements.{All-cons, All-contains_itself, All-head, All-nil, All-tail, All-weaker}
 use Rattle.std.proofs.lemmas.List.FromFn.{get_or-map-range_with_len, length-map-range_with_len, length-range_with_len}
 use Rattle.cell_core.specs.Grid.{Grid, IsFilled}
 use Rattle.cell_cats_areas.specs.declared.clump.Joining.{Joining}
@@ -16,26 +16,19 @@ use Rattle.cell_stats_combinations.specs.LeftOut.{is_left_out}
 use Rattle.cell_stats_counts.specs.Counts.{count_of}
 use Rattle.cell_stats.specs.CategoryTables.{Pairs, IsTable}
 use Rattle.cell_cats_law.specs.AreaLaw.{cells_of}
-use Rattle.cell_tiles_joining.specs.Bands.{Band, HasAreas, IsCutInto, TellNumbers}
-use Rattle.cell_tiles_joining.specs.declared.edges.BandEdges.{BandEdges}
+use Rattle.cell_join_numbers.specs.Labelled.{HasAreas}
 use Rattle.cell_join_tiles.specs.parts.Greatest.{greatest_of}
 use Rattle.cell_join_tiles.proofs.GreatestLemmas.{has-areas}
 use Rattle.cell_join_sizes.specs.Sizes.{size_of_area}
-use Rattle.cell_tiles_joining_law.specs.SizeLaw.{sizes_of_bands}
 use Rattle.cell_join_sizes_law.specs.SizeLaw.{size_of_number, sizes_of_areas}
-use Rattle.cell_tiles_joining_law.specs.NumberTables.{IsBandTable}
 use Rattle.cell_join_sizes_law.specs.NumberTables.{entries_from, entry_of_null, listed_sizes, number_table}
-use Rattle.cell_tiles_joining_law.proofs.BandTableLemmas.{tables-list}
 use Rattle.cell_join_sizes_law.proofs.NumberTableLemmas.{entry-only, entry-there, numbers-are-listed}
-use Rattle.cell_tiles_joining_law.proofs.SizeLemmas.{size-of-whole}
 use Rattle.cell_join_lines.specs.declared.stretch.Stretch.{Stretch}
 use Rattle.cell_join_lines.specs.AreasText.{numbers_told, stretch_numbers, stretches_of}
 use Rattle.cell_join_lines.proofs.ToldLemmas.{numbers-are-told}
 use Rattle.cell_join_sizes.specs.SizeTexts.{AreTablesOfBands, BandSizes, HasTally, HaveSizes, IsNullEntry, entries_of_areas, number_entries, stretch_areas}
 use Rattle.cell_join_sizes.proofs.TallyLemmas.{size-other, size-some, told-with-size}
-use Rattle.cell_cats_areas_law.specs.ExistsLaw.{ClumpingExists}
-use Rattle.cell_join_sizes_law.specs.AllNumbers.{NoNumberOfBandsIsLeftOut}
-use Rattle.cell_join_sizes_law.specs.WholeSizes.{SizesOfTheWhole, band_areas, table_read}
+use Rattle.cell_join_sizes_law.specs.ExistingSizes.{table_read}
 
 -- ---- the entries of numbers are listed as they are printed
 
@@ -99,16 +92,6 @@ table-some skip cells table is =
     some-listed table
     (All-weaker (Contains table) (λ (e : Combination × ℕ). 0 < e.1) (λ e there. ((is.counted e.0 e.1).0 there).1.0) table
     (All-contains_itself table))
-
-some-in : (skip : Skip) (cols : ℕ) (bands : List Band) (tables : List Pairs) → AllZip (IsBandTable skip cols) bands tables
-    → All IsSome (flat_map listed_sizes tables)
-some-in skip cols [] [] are = All-nil IsSome
-some-in skip cols [] (table ∷ tables) are = absurd are
-some-in skip cols (band ∷ bands) [] are = absurd are
-some-in skip cols (band ∷ bands) (table ∷ tables) are =
-    All-append IsSome (listed_sizes table) (flat_map listed_sizes tables)
-    (table-some skip (cells_of band.numbers band.map.region.rows band.map.region.cols) table are.0.lists)
-    (some-in skip cols bands tables are.1)
 
 -- ---- as many as the whole has
 
@@ -222,33 +205,3 @@ has-size j whole numbered is filled areas has numbers sizes area n one most =
     let some : 0 < size_of_number numbered whole.region.rows whole.region.cols n =
     subst (λ (k : ℕ). 0 < size_of_number numbered whole.region.rows whole.region.cols k) next cell in
     told-with-size n numbers sizes (subst (λ (k : ℕ). 0 < k) (area n one) some)
-
-pub no-number-of-bands-is-left-out : ClumpingExists → NoNumberOfBandsIsLeftOut
-no-number-of-bands-is-left-out exists j whole bands edges cut filled numbers tell areas has =
-    let own = exists j whole filled in
-    has-size j whole own.0 own.1.1 filled areas has numbers (sizes_of_bands whole.region.cols bands edges)
-    (λ n one. ap (λ (k : ℕ). size_of_number own.0 k whole.region.cols n) (sym filled.count)
-    ∙ size-of-whole j whole bands edges cut numbers tell own.0 own.1.1 whole.region.cols n one)
-
--- ---- the law
-
--- each number has in the whole as many cells as its sizes in the tables are together
-pub size-listed : (j : Joining) (whole : Grid) (bands : List Band) (edges : List BandEdges) → IsCutInto j whole bands edges
-    → IsFilled whole.region whole.rows → (skip : Skip) (tables : List Pairs)
-    → AllZip (IsBandTable skip whole.region.cols) bands tables
-    → (numbers : List ℕ) → TellNumbers j whole bands edges numbers → (numbered : Grid) → IsClumping j whole numbered
-    → (n : ℕ) → 0 < n
-    → size_of_number numbered whole.region.rows whole.region.cols n
-    ≡ size_of_area n numbers (flat_map listed_sizes tables)
-size-listed j whole bands edges cut filled skip tables are numbers tell numbered is n one =
-    let cols = whole.region.cols in
-    ap (λ (k : ℕ). size_of_number numbered k whole.region.cols n) (sym filled.count)
-    ∙ size-of-whole j whole bands edges cut numbers tell numbered is cols n one
-    ∙ ap (size_of_area n numbers) (sym (tables-list j skip cols bands edges tables cut.all are))
-
-pub sizes-of-the-whole : SizesOfTheWhole
-sizes-of-the-whole j whole bands edges cut filled skip tables are numbers many join sizes have numbered is =
-    sizes-are-listed j whole numbered is filled numbers (flat_map listed_sizes tables) sizes
-    (tally-of (band_areas edges) numbers many tables sizes have)
-    (some-in skip whole.region.cols bands tables are)
-    (size-listed j whole bands edges cut filled skip tables are numbers (join whole bands cut) numbered is)

@@ -1,8 +1,6 @@
 -- Sizes of the clumps of the full map.
-pub mod AllNumbers
 pub mod ExistingSizes
 pub mod RightTexts
-pub mod WholeSizes
 pub mod NumberTables
 pub mod SizeLaw
 pub mod TileSizes

@@ -1,5 +1,5 @@
 -- The sizes of the clumps of a map: how many cells have each number.
-use Rattle.std.specs.Prelude.{ℕ, pos, ◌≡◌, List, [], ◌∷◌, ◌++◌, map, length, Some}
+use Rattle.std.specs.Prelude.{ℕ, pos, List, [], ◌∷◌, map, Some}
 use Rattle.std.specs.List.{range_with_len}
 use Rattle.cell_core.specs.Grid.{Grid}
 use Rattle.cell_stats_counts.specs.Counts.{count_of}

@@ -1,6 +1,0 @@
--- Lemmas on texts of edges that go together.
-pub mod GoodLemmas
-pub mod MapLemmas
-pub mod RangeLemmas
-pub mod WholeLemmas
-pub mod WrittenLemmas

@@ -1,0 +1,67 @@
+-- A statement r.stats over each part of maps: its outputs, joined, are its output over the full maps.
+use Rattle.std.specs.Prelude.{ℕ, ◌≡◌, ◌<◌, ◌-◌, ◌*◌, ◌^◌, false, List, [], ◌∷◌, All, length, map, Option, None}
+use Rattle.cell_core_devices.specs.Blocks.{capped_count}
+use Rattle.cell_core_devices.specs.Device.{Coming, append_known}
+use Rattle.cell_core.specs.Grid.{AreCells}
+use Rattle.cell_core.specs.Shelf.{ShelfValue}
+use Rattle.cell_parts.specs.Parts.{Rectangle}
+use Rattle.cell_parts.specs.TableParts.{Part, AreParts}
+use Rattle.cell_join_tables.specs.JoinedTexts.{AreJoinedTexts, readings_of}
+use Rattle.cell_join_tables_law.specs.PrintedParts.{CanBeReadBack, JoinTo}
+use Rattle.rcell_script.specs.declared.statement.Statement.{Statement}
+use Rattle.rcell_script_commands.specs.declared.command.Command.TheVariants.{Stats}
+use Rattle.rcell_script_commands.specs.declared.command.StatsOptions.{StatsOptions}
+use Rattle.rcell.specs.Output.{IsOutput, format_of}
+
+-- the statement is r.stats of the maps in these places and prints a whole table: no line for each cell, no rest after a
+-- combination, and lines that can be read back
+pub record PrintsTable (statement : Statement) (places : List ℕ) (options : StatsOptions) : Type 0 where
+  pub command : statement.command ≡ Stats places options
+  pub readable : CanBeReadBack (format_of options) places
+  pub table : options.cells ≡ false
+  pub all : options.after ≡ None
+
+-- a run over a shelf that stands for a rectangle of others, and what it wrote
+pub record PartRun : Type 0 where
+  pub place : Rectangle
+  pub shelf : ShelfValue
+  pub text : List ℕ
+
+-- the part that it ran over
+abbrev pub part_of : PartRun → Part
+part_of run = record { place = run.place; maps = run.shelf.maps }
+
+-- what it wrote, as a text to be joined: whole, and with no failure behind it
+abbrev pub coming_of : PartRun → Coming
+coming_of run = record { bytes = run.text; fails = false }
+
+-- the shelf is as large as the rectangle, and the text is the output of the statement over it
+pub record IsRunOf (statement : Statement) (run : PartRun) : Type 0 where
+  pub rows : run.shelf.region.rows ≡ run.place.rows
+  pub cols : run.shelf.region.cols ≡ run.place.cols
+  pub output : IsOutput run.shelf (statement ∷ []) run.text
+
+-- runs of the statement over parts of maps of fewer than 2^64 - 1 cells, however these are cut, and whatever the names
+-- and labels of the parts
+pub record AreRunsOfParts (statement : Statement) (whole : ShelfValue) (runs : List PartRun) : Type 0 where
+  pub cells : All (λ m. AreCells m.rows) whole.maps
+  pub small : whole.region.rows * whole.region.cols < 2 ^ 64 - 1
+  pub parts : AreParts whole.region.rows whole.region.cols whole.maps (map part_of runs)
+  pub outputs : All (IsRunOf statement) runs
+
+-- the outputs over the parts join to the output over the full maps
+abbrev pub RunsOfPartsJoin : Type 0
+RunsOfPartsJoin =
+    (statement : Statement) (places : List ℕ) (options : StatsOptions) → PrintsTable statement places options
+    → (whole : ShelfValue) (runs : List PartRun) → AreRunsOfParts statement whole runs
+    → (text : List ℕ) → IsOutput whole (statement ∷ []) text
+    → JoinTo (format_of options) (map coming_of runs) text
+
+-- if these outputs were joined without an error, the sink took exactly the output over the full maps
+abbrev pub JoinedRunsAreOneRun : Type 0
+JoinedRunsAreOneRun =
+    (statement : Statement) (places : List ℕ) (options : StatsOptions) → PrintsTable statement places options
+    → (whole : ShelfValue) (runs : List PartRun) → AreRunsOfParts statement whole runs
+    → (text : List ℕ) → IsOutput whole (statement ∷ []) text → (before now : Option (List ℕ)) (written : ℕ)
+    → AreJoinedTexts (format_of options) (readings_of (format_of options) (map coming_of runs)) before now written
+    → (now ≡ append_known before text) × (written ≡ capped_count (length text))

@@ -1,2 +1,0 @@
-pub mod PartRunLemmas
-pub mod ScriptRunLemmas

@@ -1,3 +1,0 @@
--- Runs over parts of maps.
-pub mod PartRuns
-pub mod ScriptRuns
