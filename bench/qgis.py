@@ -88,9 +88,9 @@ NATIVE_RULES = [0, 30, 1, 31, 60, 2, 61, 255, 3]
 WAYS = [
     Way(COUNT, "native:rasterlayeruniquevaluesreport", "native:rasterlayeruniquevaluesreport",
         lambda it, to: {"INPUT": it.path, "BAND": 1, "OUTPUT_TABLE": f"{to}.gpkg"}),
-    Way(COUNT, "rcell:table", "rcell:table", lambda it, to: {"INPUT": [it.path], "UNIT": 2, "OUTPUT": f"{to}.gpkg"}),
+    Way(COUNT, "rcell:composition", "rcell:composition", lambda it, to: {"INPUT": it.path, "OUTPUT": f"{to}.gpkg"}),
     Way(COUNT, "grass7:r.stats", "grass7:r.stats", lambda it, to: {"input": [it.path], "html": f"{to}.html", **GRASS_TABLE}),
-    Way(ZONES, "rcell:table", "rcell:table", lambda it, to: {"INPUT": [it.path, it.zones], "UNIT": 2, "OUTPUT": f"{to}.gpkg"}),
+    Way(ZONES, "rcell:cross", "rcell:cross", lambda it, to: {"INPUT": [it.path, it.zones], "OUTPUT": f"{to}.gpkg"}),
     Way(ZONES, "grass7:r.stats", "grass7:r.stats", lambda it, to: {"input": [it.path, it.zones], "html": f"{to}.html", **GRASS_TABLE}),
     Way(ZONES, "native:rasterlayerzonalstats, sums of codes", "native:rasterlayerzonalstats",
         lambda it, to: {"INPUT": it.path, "BAND": 1, "ZONES": it.zones, "ZONES_BAND": 1, "OUTPUT_TABLE": f"{to}.gpkg"}),
@@ -99,12 +99,12 @@ WAYS = [
                         "OUTPUT": f"{to}.tif"}),
     Way(RULES, "rcell:reclass", "rcell:reclass",
         lambda it, to: {"INPUT": it.path, "RULES": "0 thru 30 = 1 low\n31 thru 60 = 2\n61 thru 255 = 3", "OUTPUT": f"{to}.tif"}),
-    Way(AREAS, "rcell:areas, map and sizes", "rcell:areas", lambda it, to: {"INPUT": it.path, "OUTPUT": f"{to}.tif", "SIZES": f"{to}.gpkg"}),
-    Way(AREAS, "rcell:areas, map alone", "rcell:areas", lambda it, to: {"INPUT": it.path, "OUTPUT": f"{to}.tif"}),
+    Way(AREAS, "rcell:patches, map and table", "rcell:patches", lambda it, to: {"INPUT": it.path, "MAP": f"{to}.tif", "OUTPUT": f"{to}.gpkg"}),
+    Way(AREAS, "rcell:patches, table alone", "rcell:patches", lambda it, to: {"INPUT": it.path, "OUTPUT": f"{to}.gpkg"}),
     Way(AREAS, "grass7:r.clump, map alone", "grass7:r.clump", lambda it, to: {"input": it.path, "title": "areas", "output": f"{to}.tif"}),
     Way(AREAS, "gdal:polygonize, polygons", "gdal:polygonize",
         lambda it, to: {"INPUT": it.path, "BAND": 1, "FIELD": "class", "OUTPUT": f"{to}.gpkg"}, "patches"),
-    Way(MODE, "rcell:mode", "rcell:mode", lambda it, to: {"INPUT": it.path, "SIZE": 0, "OUTPUT": f"{to}.tif"}),
+    Way(MODE, "rcell:majority", "rcell:majority", lambda it, to: {"INPUT": it.path, "OUTPUT": f"{to}.tif"}),
     Way(MODE, "grass7:r.neighbors", "grass7:r.neighbors", lambda it, to: {"input": it.path, "method": 2, "size": 3, "output": f"{to}.tif"}),
 ]
 

@@ -118,27 +118,26 @@ pair <- function(terras, ours, cells) by_turns(list(terra = terras, rcell = ours
 
 calls <- function(path, other) {
   cells <- SIDE^2
-  nine <- "r.mapcalc m = nmode(x[-1,-1],x[-1,0],x[-1,1],x[0,-1],x,x[0,1],x[1,-1],x[1,0],x[1,1])"
   rules <- c("r.reclass input=x output=k", sprintf("%d = %d", seq_len(CLASSES), seq_len(CLASSES) %/% 4L), "end")
   from_to <- cbind(seq_len(CLASSES), seq_len(CLASSES) %/% 4L)
   show("counts (`freq`)", pair(function() freq(rast(path)), function() rcell_table("r.stats -c input=x", x = path), cells))
   show("new classes (`classify`)", pair(function() classify(rast(path), from_to), function() rcell_grid(rules, "k", x = path), cells))
-  show("majority of nine (`focal`, modal)", pair(function() focal(rast(path), 3, "modal", na.rm = TRUE), function() rcell_grid(nine, "m", x = path), cells))
-  show("cross table (`crosstab`)", pair(function() crosstab(c(rast(path), rast(other)), long = TRUE), function() rcell_crosstab(path, other), cells))
+  show("majority of nine (`focal`, modal)", pair(function() focal(rast(path), 3, "modal", na.rm = TRUE), function() rcell_majority(path, fill = TRUE), cells))
+  show("cross table (`crosstab`)", pair(function() crosstab(c(rast(path), rast(other)), long = TRUE), function() rcell_cross(x = path, y = other), cells))
   show("adjacency (`table` of shifted matrices)", pair(function() adjacency_by_table(rast(path)), function() rcell_adjacency(path), cells))
 }
 
 patchy_calls <- function(path) {
   cells <- SIDE^2
   show("areas of one class (`patches`)", pair(function() patches(rast(path) == 3, directions = 8, zeroAsNA = TRUE),
-    function() rcell_areas(path, 8, classes = 3), cells))
+    function() rcell_patches(path, 8, classes = 3), cells))
   show("sizes of one class (`freq` of `patches`); of all, with perimeters", pair(function() freq(patches(rast(path) == 3, directions = 8, zeroAsNA = TRUE)),
     function() rcell_patches(path, 8), cells))
 }
 
 small_calls <- function(path) {
   of_each <- function() lapply(seq_len(CLASSES), function(class) patches(rast(path) == class, directions = 4, zeroAsNA = TRUE))
-  perimeters <- function() perim(as.polygons(rcell_areas(path, 4)))
+  perimeters <- function() perim(as.polygons(rcell_grid("r.clump input=x output=p", "p", x = path)))
   show(sprintf("areas of each class, %d x %d (`patches` of each)", SMALL, SMALL), pair(of_each, function() rcell_patches(path, 4), SMALL^2))
   show(sprintf("perimeters, %d x %d (`perim` of `as.polygons`)", SMALL, SMALL), pair(perimeters, function() rcell_patches(path, 4), SMALL^2))
 }

@@ -7,6 +7,7 @@ import shutil
 from dataclasses import dataclass, field
 
 HERE = pathlib.Path(__file__).resolve().parent
+ANSWERS = ("composition", "cross", "change", "patches", "zonal", "majority", "align")
 
 
 @dataclass
@@ -19,7 +20,13 @@ class Case:
     maps : dict of str to str
         Paths of rasters by the names of the maps.
     call : str
-        `table`, `grid NAME`, `write NAME`, or `areas` of the first map, by default or with a connectivity of 4 or 8.
+        `table`, `grid NAME`, `write NAME`, or one of the seven functions.
+    words : list of str
+        The maps of a function, in order.
+    options : dict of str to str
+        The parameters of a function.
+    digits : int
+        To how many digits numbers are compared.
     script : str
     area : str
         The unit of areas that is asked for, or nothing.
@@ -38,6 +45,9 @@ class Case:
     name: str
     maps: dict[str, str] = field(default_factory=dict)
     call: str = "table"
+    words: list[str] = field(default_factory=list)
+    options: dict[str, str] = field(default_factory=dict)
+    digits: int = 12
     script: str = ""
     area: str = ""
     percent: bool = False
@@ -64,6 +74,11 @@ def _blocks(text: str) -> dict[str, list[str]]:
     return found
 
 
+def _path(file: str) -> str:
+    """The path of a raster of `rasters`, or of an example of the repository."""
+    return str((HERE.parent if file.startswith("examples/") else HERE / "rasters") / file)
+
+
 def read(path: pathlib.Path) -> Case:
     """The case of a file."""
     blocks = _blocks(path.read_text(encoding="utf-8"))
@@ -73,10 +88,18 @@ def read(path: pathlib.Path) -> Case:
         kind, _, front = key.partition(" ")
         if kind in ("answer", "refused"):
             expected[front] = (lines, kind == "refused")
+    kind, *words = blocks["call"][0].split()
+    options = dict(word.split("=", 1) for word in words if "=" in word)
+    for key in ("labels", "zone_labels"):
+        if key in options:
+            options[key] = _path(options[key])
     return Case(
         name=path.stem,
-        maps={name: str(HERE / "rasters" / file) for name, file in maps.items()},
-        call=blocks["call"][0],
+        maps={name: _path(file) for name, file in maps.items()},
+        call=kind if kind in ANSWERS else blocks["call"][0],
+        words=[word for word in words if "=" not in word],
+        options=options,
+        digits=int("".join(blocks.get("digits", ["12"]))),
         script="\n".join(blocks.get("script", [])),
         area="".join(blocks.get("area", [])),
         percent="percent" in blocks,

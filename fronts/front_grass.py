@@ -71,9 +71,6 @@ def of_grid(name: str) -> list[str]:
 def asked(case: Case) -> tuple[str, list[str]]:
     """The script, and the words after r.rcell."""
     kind, *words = case.call.split()
-    if kind == "areas":
-        flag = " -d" if words == ["8"] else ""
-        return f"r.clump{flag} input={next(iter(case.maps))} output=areas", ["output=areas=found"]
     return TABLE.sub(lambda found: found[0] + ADDED, case.script), [f"output={words[0]}=found"] if kind == "grid" else []
 
 

@@ -17,37 +17,36 @@ HERE = pathlib.Path(__file__).resolve().parent
 os.environ.setdefault("QT_QPA_PLATFORM", "offscreen")
 sys.path[:0] = [str(HERE.parent / "qgis"), "/usr/share/qgis/python/plugins"]
 
-from cases import Case, cases, copied  # noqa: E402  (the path above has to be set first)
+from cases import ANSWERS, Case, cases, copied  # noqa: E402  (the path above has to be set first)
 from osgeo import gdal  # noqa: E402
-from qgis.core import NULL, QgsApplication, QgsProcessingException  # noqa: E402
+from qgis.core import NULL, QgsApplication, QgsProcessingException, QgsRasterLayer, QgsVectorLayer  # noqa: E402
 
 # QGIS has one kind of error; which of ours it was is told by the text, as fronts/README.md lists it.
 KINDS = [
     ("other crs", r"its coordinate reference system is |it has no coordinate reference system"),
-    ("other region", r"not of the region of "),
+    ("other region", r"not of the region of |shifted by |cells of "),
     ("read failed", r"cannot open|rows \d+ to \d+ cannot be read"),
-    ("bad map", r"not a map of whole numbers|has \d+ bands|a (rotated )?transform|its values are scaled"),
+    ("bad map", r"not a map of whole numbers|has \d+ bands|a (rotated )?transform|its values are scaled|no polygon|not polygons|no field "),
     ("refused", r""),
 ]
-UNITS = ["", "m2", "ha", "km2"]
+# Parts of a change that are outputs of their own.
+PARTS = {"matrix": "MATRIX", "summary": "SUMMARY"}
+FACTS = ("SHIFT_ROWS", "SHIFT_COLUMNS", "CELLS_USED", "CELLS_REPEATED", "CELLS_LOST")
 
 
-def plain(value: Any) -> str:
-    return "*" if value is None or value == NULL else f"{value:.12g}" if isinstance(value, float) else str(value)
+def plain(value: Any, digits: int = 12) -> str:
+    return "*" if value is None or value == NULL else f"{value:.{digits}g}" if isinstance(value, float) else str(value)
 
 
 def asked(case: Case) -> tuple[str, dict[str, Any]]:
     """The algorithm and its parameters."""
     kind, *words = case.call.split()
-    if kind == "areas":
-        chosen = {"DIAGONAL": words[0] == "8"} if words else {}
-        return "rcell:areas", {"INPUT": next(iter(case.maps.values())), **chosen, "SIZES": "TEMPORARY_OUTPUT"}
     common = {"INPUT": list(case.maps.values()), "NAMES": ",".join(case.maps), "SCRIPT": case.script}
     if case.crs:
         common["CRS"] = case.crs
     if kind in ("grid", "write"):
         return "rcell:script", {**common, "MAP": words[0]}
-    return "rcell:script", {**common, "UNIT": UNITS.index(case.area), "PERCENT": case.percent, "TABLE": "TEMPORARY_OUTPUT"}
+    return "rcell:script", {**common, "AREA": case.area or "none", "PERCENT": case.percent, "TABLE": "TEMPORARY_OUTPUT"}
 
 
 def of_raster(path: str) -> list[str]:
@@ -57,14 +56,40 @@ def of_raster(path: str) -> list[str]:
     return [" ".join("*" if value == nodata else str(value) for value in row) for row in rows]
 
 
-def of_layer(layer: Any) -> list[str]:
+def of_layer(layer: Any, digits: int = 12) -> list[str]:
     titles = [field.name() for field in layer.fields()]
-    return ["|".join(titles)] + ["|".join(plain(value) for value in feature.attributes()) for feature in layer.getFeatures()]
+    return ["|".join(titles)] + ["|".join(plain(value, digits) for value in feature.attributes()) for feature in layer.getFeatures()]
+
+
+def layer_of(case: Case, name: str) -> Any:
+    path = case.maps[name]
+    return QgsVectorLayer(path, name, "ogr") if path.endswith(".geojson") else QgsRasterLayer(path, name)
+
+
+def answered(case: Case, room: str) -> list[str]:
+    """One of the seven algorithms, whose parameters are the parameters of the functions in capitals."""
+    import processing
+
+    layers = [layer_of(case, name) for name in case.words]
+    parameters: dict[str, Any] = {"INPUT": layers if case.call in ("cross", "change") else layers[0]}
+    if case.call == "zonal":
+        parameters["ZONES"] = layers[1]
+    for key, text in case.options.items():
+        if key != "table":
+            parameters[key.upper()] = layer_of(case, text) if key in ("zones", "to") else text == "yes" if key in ("fill", "null") else text
+    if case.call in ("majority", "align"):
+        found = processing.run(f"rcell:{case.call}", {**parameters, "OUTPUT": os.path.join(room, f"{case.name}.tif")})
+        facts = ["|".join(FACTS).lower(), "|".join(plain(found[name]) for name in FACTS)] if case.call == "align" else []
+        return [*facts, *of_raster(found["OUTPUT"])]
+    part = PARTS.get(case.options.get("table", ""), "OUTPUT")
+    return of_layer(processing.run(f"rcell:{case.call}", {**parameters, "OUTPUT": "TEMPORARY_OUTPUT", part: "TEMPORARY_OUTPUT"})[part], case.digits)
 
 
 def answer(case: Case, room: str) -> list[str]:
     import processing
 
+    if case.call in ANSWERS:
+        return answered(case, room)
     algorithm, parameters = asked(case)
     if case.call.startswith("table"):
         return of_layer(processing.run(algorithm, parameters)["TABLE"])
@@ -102,6 +127,7 @@ def main() -> None:
     with tempfile.TemporaryDirectory(prefix="R\u00e4ume von QGIS ") as room:
         # QGIS leaves statistics beside a raster that it opens.
         shutil.copytree(HERE / "rasters", f"{room}/rasters")
+        shutil.copytree(HERE.parent / "examples/rasters", f"{room}/rasters", dirs_exist_ok=True)
         for case in (it for it in cases() if "qgis" not in it.left_out):
             case.maps = {name: f"{room}/rasters/{os.path.basename(path)}" for name, path in case.maps.items()}
             try:

@@ -5,6 +5,7 @@
 
 from __future__ import annotations
 
+import json
 import pathlib
 from typing import Sequence
 from xml.sax.saxutils import escape
@@ -18,6 +19,8 @@ ROOM = pathlib.Path(__file__).resolve().parent / "rasters"
 NULL = -9999
 LEAST_FLOAT = float(np.finfo("float32").min)
 COVER = [[1, 1, 2, NULL, 3], [1, 2, 2, 2, 3], [3, 3, 1, 1, 2], [3, 1, 1, 2, 2]]
+LATER = [[1, 2, 2, 3, 3], [2, 2, 2, NULL, 3], [3, 1, 1, 1, 2], [1, 1, 3, 2, 2]]
+HEIGHTS = [[-5, 10, 12, 1000000, 40], [3, NULL, 8, 8, 9], [7, 7, 2, 0, 15], [100, 6, 5, 4, NULL]]
 ZONES = [[7, 7, 8, 8, 8], [7, 7, 8, 8, 8], [NULL, 7, 8, 8, 8], [NULL, 7, 7, 8, 8]]
 LABELS = ["", "wood, wet", "Wiese \u00fc", "built up"]
 # Labels that a table or a shell could stumble over, by categories that begin far from 0.
@@ -110,6 +113,25 @@ def write_text(name: str, rows: list[str]) -> None:
     (ROOM / f"{name}.txt").write_text(OWN_FORM + "\n".join(rows) + "\n", encoding="utf-8")
 
 
+def write_polygons() -> None:
+    """Districts by name and number, of which two overlap and one has no centre of a cell; and one in another reference system."""
+    boxes = [("Nord", 20, 0, 0, 60, 40), ("S\u00fcd", 10, 0, 40, 60, 80), ("Ost", 30, 50, 0, 100, 55), ("Punkt", 40, 99, 79, 100, 80)]
+    features = []
+    for name, number, west, top, east, bottom in boxes:
+        ring = [[500000 + x, 5400000 - y] for x, y in [(west, top), (east, top), (east, bottom), (west, bottom), (west, top)]]
+        features.append({"type": "Feature", "properties": {"name": name, "number": number}, "geometry": {"type": "Polygon", "coordinates": [ring]}})
+    for file, code, kept in [("districts", 32632, features), ("far_districts", 31467, features), ("dot", 32632, features[3:])]:
+        crs = {"type": "name", "properties": {"name": f"urn:ogc:def:crs:EPSG::{code}"}}
+        text = json.dumps({"type": "FeatureCollection", "crs": crs, "features": kept}, ensure_ascii=False, indent=None)
+        (ROOM / f"{file}.geojson").write_text(text + "\n", encoding="utf-8")
+
+
+def write_legends() -> None:
+    """Legends of the cover: one that is right and one class short, and one with a class twice."""
+    (ROOM / "legend.csv").write_text('value,label,colour\n1,"wood, wet",#228b22\n2,Wiese \u00fc,#9acd32\n', encoding="utf-8")
+    (ROOM / "twice.csv").write_text("value,label\n1,wood\n2,meadow\n1,town\n", encoding="utf-8")
+
+
 def write_masked(name: str, cells: object) -> None:
     """With a mask of its own, in which the null cells are 0."""
     with rasterio.Env(GDAL_TIFF_INTERNAL_MASK=True):
@@ -166,6 +188,11 @@ def main() -> None:
     write_table("odd", ODD_LABELS)
     write("noise", noise(9, 12))
     write_masked("masked", COVER)
+    write("later", LATER)
+    write("heights", HEIGHTS, "int32")
+    write("lonlat", COVER, transform=Affine(0.0003, 0, 8.9999, 0, -0.0002, 48.75305), crs="EPSG:4326")
+    write_polygons()
+    write_legends()
     write_edges()
     write_text("own", ["1 1 2 * 3", "1 2 2 2 3", "3 3 1 1 2", "3 1 1 2 2"])
     write_text("broken", ["1 1 2 * 3", "1 2 2.5 2 3", "3 3 1 1 2", "3 1 1 2 2"])

@@ -26,7 +26,7 @@ def environment() -> dict[str, str]:
 
 
 def missing_of_python() -> str:
-    for library in ("numpy", "rasterio"):
+    for library in ("numpy", "rasterio", "pandas"):
         if subprocess.run([sys.executable, "-c", f"import {library}"], capture_output=True).returncode:
             return f"{library} is not installed"
     return ""
@@ -53,7 +53,7 @@ def missing_of_grass() -> str:
 MISSING = {"python": missing_of_python, "r": missing_of_r, "qgis": missing_of_qgis, "grass": missing_of_grass}
 # Packages of Debian.
 PACKAGES = {
-    "python": "python3-numpy python3-rasterio",
+    "python": "python3-numpy python3-rasterio python3-pandas",
     "r": "r-base-core r-cran-terra r-cran-data.table r-cran-processx r-cran-codetools",
     "qgis": "python3-qgis python3-gdal python3-numpy",
     "grass": "grass-core python3-numpy",
@@ -87,7 +87,7 @@ def is_right(case: Case, front: str, lines: list[str]) -> bool:
         return lines == expected
     told = dict(line.split(": ", 1) for line in lines if ": " in line)
     wanted = dict(line.split(": ", 1) for line in expected)
-    text = wanted.pop("text")
+    text = wanted.pop("text", "")
     return told.get("text", "").startswith(text) and all(told.get(key) == value for key, value in wanted.items())
 
 

@@ -7,6 +7,7 @@ The same sources and the same program give the same bytes, whoever builds it and
 
 from __future__ import annotations
 
+import html
 import os
 import pathlib
 import re
@@ -18,7 +19,7 @@ import zipfile
 
 HERE = pathlib.Path(__file__).resolve().parent
 REPOSITORY = HERE.parent
-KINDS = (".json", ".py", ".txt", ".svg")
+KINDS = (".json", ".model3", ".py", ".svg", ".txt")
 
 
 def said_by(*words: str) -> str:
@@ -39,6 +40,13 @@ def licences() -> dict[str, bytes]:
     return {**found, "rcell/LICENSE": (REPOSITORY / "LICENSE.md").read_bytes()}
 
 
+def page() -> bytes:
+    """docs/qgis.md as the page of the button Help: its text, which reads well as it is."""
+    text = (REPOSITORY / "docs/qgis.md").read_text(encoding="utf-8")
+    head = '<!DOCTYPE html><html lang="en"><head><meta charset="utf-8"><title>rcell for QGIS</title></head>'
+    return f'{head}<body><pre style="max-width: 60em; white-space: pre-wrap">{html.escape(text)}</pre></body></html>\n'.encode()
+
+
 def files(program: pathlib.Path) -> dict[str, tuple[bytes, int]]:
     """The bytes and the mode of each file, by its name in the zip."""
     version = (REPOSITORY / "VERSION").read_text(encoding="utf-8").strip()
@@ -55,6 +63,7 @@ def files(program: pathlib.Path) -> dict[str, tuple[bytes, int]]:
         if not name.endswith("__init__.py"):
             found[f"rcell/core/front/{pathlib.PurePath(name).name}"] = (REPOSITORY / name).read_bytes(), 0o644
     found |= {name: (content, 0o644) for name, content in licences().items()}
+    found["rcell/help/qgis.html"] = page(), 0o644
     found["rcell/bin/rcell"] = program.read_bytes(), 0o755
     return found
 

@@ -21,6 +21,7 @@ from qgis.core import (
     QgsLegendStyle,
     QgsMapLayerLegendUtils,
     QgsPrintLayout,
+    QgsProcessingModelAlgorithm,
     QgsProject,
     QgsRasterLayer,
     QgsUnitTypes,
@@ -31,6 +32,7 @@ from qgis.PyQt.QtWidgets import QApplication
 from qgis.utils import iface
 
 ROOM = os.environ["RCELL_QGIS_ROOM"]
+MODEL = os.path.join(os.path.dirname(os.path.abspath(__file__)), "rcell/examples/patches_of_grouped_classes.model3")
 
 
 def wait(seconds: float) -> None:
@@ -52,8 +54,8 @@ def draw_dialog(country: QgsRasterLayer, hemisphere: QgsRasterLayer) -> None:
     """The table of country by hemisphere, filled in."""
     from processing.gui.AlgorithmDialog import AlgorithmDialog
 
-    dialog = AlgorithmDialog(QgsApplication.processingRegistry().createAlgorithmById("rcell:table"), False, iface.mainWindow())
-    dialog.setParameters({"INPUT": [country.id(), hemisphere.id()], "UNIT": 3, "PERCENT": True})
+    dialog = AlgorithmDialog(QgsApplication.processingRegistry().createAlgorithmById("rcell:cross"), False, iface.mainWindow())
+    dialog.setParameters({"INPUT": [country.id(), hemisphere.id()], "AREA": "km2"})
     dialog.resize(920, 520)
     dialog.show()
     wait(1)
@@ -65,8 +67,8 @@ def draw_result(country: QgsRasterLayer) -> None:
     """The greatest islands and parts of countries, as a layout that could be printed."""
     import processing
 
-    found = processing.run("rcell:areas", {"INPUT": country, "DIAGONAL": True, "LEAST": 250, "OUTPUT": f"{ROOM}/areas.tif", "SIZES": "TEMPORARY_OUTPUT"})
-    areas = QgsRasterLayer(found["OUTPUT"], "Connected areas", "gdal")
+    found = processing.run("rcell:patches", {"INPUT": country, "CONNECTIVITY": "8", "LEAST": 250, "MAP": f"{ROOM}/areas.tif", "OUTPUT": "TEMPORARY_OUTPUT"})
+    areas = QgsRasterLayer(found["MAP"], "Patches", "gdal")
     QgsProject.instance().addMapLayer(areas)
     layout = QgsPrintLayout(QgsProject.instance())
     layout.initializeDefaults()
@@ -113,10 +115,9 @@ def draw_model(country: QgsRasterLayer) -> None:
     import processing
     from processing.modeler.ModelerDialog import ModelerDialog
 
-    from tests.model import model_of_areas
-
-    model = model_of_areas()
-    found = processing.run(model, {"cover": country, "areas:Map of areas": f"{ROOM}/model.tif", "areas:Table of areas": "TEMPORARY_OUTPUT"})
+    model = QgsProcessingModelAlgorithm()
+    model.fromFile(MODEL)
+    found = processing.run(model, {"cover": country, "patches:Map of patches": f"{ROOM}/model.tif", "patches:Table of patches": "TEMPORARY_OUTPUT"})
     if not os.path.isfile(f"{ROOM}/model.tif"):
         raise RuntimeError(f"the model made no map: {found}")
     designer = ModelerDialog(model)

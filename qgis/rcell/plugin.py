@@ -6,6 +6,7 @@ from __future__ import annotations
 from qgis.core import QgsApplication
 
 from .provider import RcellProvider
+from .translation import translator
 
 
 class RcellPlugin:
@@ -13,6 +14,10 @@ class RcellPlugin:
 
     def __init__(self) -> None:
         self._provider: RcellProvider | None = None
+        # Kept here: what it translates ends with it.
+        self._translator = translator()
+        if self._translator is not None:
+            QgsApplication.installTranslator(self._translator)
 
     def initProcessing(self) -> None:
         """Called alone where there is no window, as by qgis_process."""

@@ -9,6 +9,7 @@ import os
 from typing import Any, Mapping, Sequence
 
 from qgis.core import (
+    Qgis,
     QgsFeature,
     QgsFeatureSink,
     QgsField,
@@ -19,17 +20,19 @@ from qgis.core import (
     QgsRasterFileWriter,
     QgsRasterLayer,
 )
-from qgis.PyQt.QtCore import QVariant
+from qgis.PyQt import QtCore
 from qgis.PyQt.QtGui import QColor
 
-from .core.answers import UNITS, Grid, Table
+from .core.answers import Grid, Table
+from .core.counting import Answer
 from .core.errors import WriteFailed
 from .core.files import Check, partly, write_raster
 from .core.rasters import Raster
+from .core.sizes import UNITS
 
 # A legend of more classes is none.
 MOST_CLASSES = 1000
-_TYPES = {"whole": QVariant.LongLong, "real": QVariant.Double, "text": QVariant.String}
+_VERSION_OF_META_TYPES = 33800
 _GOLDEN = 0.618033988749895
 
 
@@ -113,16 +116,23 @@ def counted_classes(grid: Grid, like: Raster) -> list[tuple[int, str]]:
 # Tables
 
 
-def fields_of(table: Table) -> QgsFields:
+def types_of_fields(version: int, core: Any = QtCore) -> dict[str, Any]:
+    """The types of fields: those of Qt's meta objects from QGIS 3.38 on, the only ones of Qt 6; variants before."""
+    types = core.QMetaType.Type if version >= _VERSION_OF_META_TYPES else core.QVariant
+    return {"whole": types.LongLong, "real": types.Double, "text": types.QString if version >= _VERSION_OF_META_TYPES else types.String}
+
+
+def fields_of(table: Table | Answer) -> QgsFields:
     """The fields of a table."""
     fields = QgsFields()
+    types = types_of_fields(Qgis.QGIS_VERSION_INT)
     for column in table.columns():
-        if not fields.append(QgsField(column.title, _TYPES[column.kind])):
+        if not fields.append(QgsField(column.title, types[column.kind])):
             raise WriteFailed("the table", f"there is a field {column.title} already")
     return fields
 
 
-def put_features(sink: QgsFeatureSink, table: Table, path: str) -> None:
+def put_features(sink: QgsFeatureSink, table: Table | Answer, path: str) -> None:
     """Puts the rows of a table into a sink.
 
     Raises

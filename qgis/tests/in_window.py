@@ -82,7 +82,7 @@ def refused_in_dialog() -> dict[str, Any]:
     shifted = QgsRasterLayer(os.path.join(ROOM, "shifted.tif"), "shifted")
     QgsProject.instance().addMapLayer(shifted)
     cover = QgsProject.instance().mapLayersByName("cover")[0]
-    algorithm = QgsApplication.processingRegistry().createAlgorithmById("rcell:table")
+    algorithm = QgsApplication.processingRegistry().createAlgorithmById("rcell:cross")
     ok, text = algorithm.checkParameterValues({"INPUT": [cover.id(), shifted.id()], "OUTPUT": "TEMPORARY_OUTPUT"}, _context())
     return {"refused": text if not ok else ""}
 
@@ -97,12 +97,12 @@ def cancelled_in_dialog() -> dict[str, Any]:
     """Cancels while a large map is worked on in a thread of its own, as the dialog does."""
     large = os.path.join(ROOM, "large.tif")
     target = os.path.join(ROOM, "never.tif")
-    parameters = {"INPUT": large, "DIAGONAL": True, "OUTPUT": QgsProcessingOutputLayerDefinition(target, None), "SIZES": "TEMPORARY_OUTPUT"}
+    parameters = {"INPUT": large, "CONNECTIVITY": "8", "MAP": QgsProcessingOutputLayerDefinition(target, None), "OUTPUT": "TEMPORARY_OUTPUT"}
     from qgis.core import QgsProcessingAlgRunnerTask, QgsProcessingFeedback
 
     # The task keeps no hold of what it is given.
     feedback, context, ended = QgsProcessingFeedback(), _context(), []
-    algorithm = QgsApplication.processingRegistry().createAlgorithmById("rcell:areas")
+    algorithm = QgsApplication.processingRegistry().createAlgorithmById("rcell:patches")
     task = QgsProcessingAlgRunnerTask(algorithm, parameters, context, feedback)
     task.executed.connect(lambda ok, results: ended.append((ok, time.monotonic())))
     at: list[float] = []

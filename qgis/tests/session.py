@@ -68,6 +68,20 @@ def run(algorithm: Any, log: QgsProcessingFeedback | None = None, **parameters: 
     return found
 
 
+def districts() -> Any:
+    """Two polygons over the left part of the maps that are made, with a name and a number."""
+    from qgis.core import QgsFeature, QgsGeometry, QgsVectorLayer
+
+    layer = QgsVectorLayer("Polygon?crs=EPSG:32632&field=name:string&field=number:integer", "districts", "memory")
+    for name, number, box in (("Nord", 20, (500000, 5399965, 500055, 5400000)), ("S\u00fcd", 10, (500000, 5399920, 500055, 5399965))):
+        feature = QgsFeature(layer.fields())
+        feature.setAttributes([name, number])
+        west, south, east, north = box
+        feature.setGeometry(QgsGeometry.fromWkt(f"POLYGON(({west} {south}, {east} {south}, {east} {north}, {west} {north}, {west} {south}))"))
+        layer.dataProvider().addFeature(feature)
+    return layer
+
+
 def rows(layer: Any) -> tuple[list[str], list[list[Any]]]:
     """The titles and the rows of a table, None for null."""
     from qgis.core import NULL, QgsVectorLayer

@@ -1,4 +1,4 @@
-"""Tables, areas, reclassified maps and majorities beside a plain model, and what scripts answer."""
+"""Reclassified maps and the outputs of scripts."""
 
 from __future__ import annotations
 
@@ -25,60 +25,6 @@ class AnswersTest(unittest.TestCase):
 
     def raster(self, name: str, cells: object, dtype: int = gdal.GDT_Int32, nodata: float | None = 0, **words: object) -> Raster:
         return Raster.open(name, made.write(os.path.join(self.room, f"{name}.tif"), cells, dtype, nodata=nodata, **words))
-
-    def test_tables_of_random_and_patchy_maps(self) -> None:
-        for a, b, dtype in [(made.noise(1, 40, 33), made.patchy(2, 40, 33), gdal.GDT_Byte), (made.patchy(3, 21, 50), made.noise(4, 21, 50), gdal.GDT_Int16),
-                            (made.noise(5, 1, 1), made.noise(6, 1, 1), gdal.GDT_Float32), (np.zeros((3, 4), int), np.zeros((3, 4), int), gdal.GDT_Int32)]:
-            rasters = [self.raster("a", a, dtype), self.raster("b", b, dtype)]
-            for nulls in (False, True):
-                table = answers.table(self.program, rasters, nulls)
-                first, second, cells = (column.values for column in table.columns())
-                found = {(x or 0, y or 0): count for x, y, count in zip(first, second, cells)}
-                self.assertEqual(found, made.counts(a, b, nulls=nulls))
-
-    def test_rows_are_ordered_and_null_is_last(self) -> None:
-        table = answers.table(self.program, [self.raster("a", [[3, -1, 0, 2]])], True)
-        self.assertEqual(table.columns()[0].values, [-1, 2, 3, None])
-
-    def test_columns_have_names_of_their_own(self) -> None:
-        rasters = [self.raster(name, [[1, 2]], names=["", "x"]) for name in ("lc", "LC", "cells", "lc_label")]
-        table = answers.table(self.program, rasters, False).measured("km2", True, rasters[0])
-        self.assertEqual([column.title for column in table.columns()], [
-            "lc", "lc_label", "LC_2", "LC_label_2", "cells", "cells_label", "lc_label_3", "lc_label_label", "cells_2", "km2", "percent"])
-
-    def test_areas_of_random_and_patchy_maps(self) -> None:
-        for cells in (made.noise(7, 30, 30, 3), made.patchy(8, 25, 40), made.noise(9, 1, 60, 2), np.zeros((3, 3), int)):
-            raster = self.raster("lc", cells)
-            for diagonal in (False, True):
-                wanted = made.areas(cells, diagonal)
-                found = answers.areas(self.program, raster, diagonal)
-                self.assertTrue((found.grid.cells == wanted).all())
-                sizes = np.bincount(wanted.reshape(-1))[1:]
-                self.assertEqual(found.cells.tolist(), sizes.tolist())
-                classes = [int(cells.reshape(-1)[(wanted == number).argmax()]) for number in range(1, wanted.max() + 1)]
-                self.assertEqual(found.categories.tolist(), classes)
-
-    def test_areas_that_are_left_out_keep_the_numbers_of_others(self) -> None:
-        cells = made.patchy(10, 30, 30)
-        raster = self.raster("lc", cells)
-        every, some = answers.areas(self.program, raster, True), answers.areas(self.program, raster, True, least=5)
-        kept = every.cells >= 5
-        self.assertEqual(some.numbers.tolist(), every.numbers[kept].tolist())
-        self.assertTrue((some.grid.cells == np.where(np.isin(every.grid.cells, some.numbers), every.grid.cells, 0)).all())
-        two = every.categories[[0, -1]].tolist()
-        self.assertEqual(set(answers.areas(self.program, raster, True, classes=two).categories.tolist()), set(two))
-
-    def test_a_table_of_areas(self) -> None:
-        found = answers.areas(self.program, self.raster("lc", [[5, 5, 7]], names=[""] * 5 + ["five"]), False)
-        raster = self.raster("lc", [[5, 5, 7]], names=[""] * 5 + ["five"])
-        self.assertEqual([(column.title, column.values) for column in found.table(raster).columns()], [
-            ("area", [1, 2]), ("category", [5, 7]), ("label", ["five", None]), ("cells", [2, 1]), ("ha", [0.08, 0.04])])
-
-    def test_majority(self) -> None:
-        for cells in (made.noise(11, 23, 19, 4, 0.3), made.patchy(12, 20, 20)):
-            for size in (3, 5, 7):
-                found = answers.mode(self.program, self.raster("lc", cells), size, is_filled=True).cells
-                self.assertTrue((np.where(found == NULL, 0, found) == made.commonest(cells, size)).all())
 
     def test_reclass(self) -> None:
         cells = made.noise(13, 20, 20)

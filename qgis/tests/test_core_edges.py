@@ -13,10 +13,11 @@ import time
 import unittest
 from typing import Any
 
+import asked
 import made
 import numpy as np
 from osgeo import gdal
-from rcell.core import answers, program
+from rcell.core import answers, landscape, program
 from rcell.core.errors import BadMap, OtherCrs, OtherRegion, Refused, WriteFailed
 from rcell.core.files import check_target, write_raster
 from rcell.core.rasters import Raster, fitted
@@ -40,7 +41,7 @@ class Room(unittest.TestCase):
         return Raster.open(name, made.write(self.path(f"{name}.tif"), cells, dtype, **options))
 
     def counts(self, raster: Raster) -> list[tuple[Any, ...]]:
-        found = answers.table(PROGRAM, [raster], True)
+        found = asked.table(PROGRAM, [raster], True)
         assert found.cells is not None
         return [(None if code == answers.NULL else code, count) for code, count in zip(found.categories[:, 0].tolist(), found.cells.tolist())]
 
@@ -131,13 +132,13 @@ class CrsTest(Room):
 class AnswersTest(Room):
     def test_hectares_are_what_they_print(self) -> None:
         table = answers.Table(("a",), np.array([[1], [2]]), np.array([74183, 75058]), (None,), unit="ha", cell_area=900.0)
-        self.assertEqual([column.values for column in table.columns() if column.title == "ha"], [[6676.47, 6755.22]])
+        self.assertEqual([column.values for column in table.columns() if column.title == "area_ha"], [[6676.47, 6755.22]])
 
-    def test_mode_keeps_cells_without_data(self) -> None:
+    def test_majority_keeps_cells_without_data(self) -> None:
         raster = self.made("m", [[1, 1, 0], [1, 2, 0], [0, 0, 0]], nodata=0)
         null = answers.NULL
-        self.assertEqual(answers.mode(PROGRAM, raster, 3).cells.tolist(), [[1, 1, null], [1, 1, null], [null] * 3])
-        self.assertEqual(answers.mode(PROGRAM, raster, 3, is_filled=True).cells.tolist(), [[1, 1, 1], [1, 1, 1], [1, 1, 2]])
+        self.assertEqual(landscape.majority(PROGRAM, raster, 3).cells.tolist(), [[1, 1, null], [1, 1, null], [null] * 3])
+        self.assertEqual(landscape.majority(PROGRAM, raster, 3, is_filled=True).cells.tolist(), [[1, 1, 1], [1, 1, 1], [1, 1, 2]])
 
     def test_the_script_is_judged_before_a_map_is_looked_for(self) -> None:
         raster = self.made("lc")
@@ -233,8 +234,8 @@ class FilesTest(Room):
 class StreamsTest(Room):
     def test_closed_streams_end_a_run_as_open_ones_do(self) -> None:
         path = made.write(self.path("lc.tif"), CELLS)
-        text = ("import sys; sys.path[:0] = sys.argv[3:]; from rcell.core import answers, program; from rcell.core.rasters import Raster\n"
-                "found = answers.table(program.find_program(), [Raster.open('lc', sys.argv[1])], True)\n"
+        text = ("import sys; sys.path[:0] = sys.argv[3:]; import asked; from rcell.core import program; from rcell.core.rasters import Raster\n"
+                "found = asked.table(program.find_program(), [Raster.open('lc', sys.argv[1])], True)\n"
                 "open(sys.argv[2], 'w').write(str(found.cells.tolist()))")
         for closed in ("<&-", ">&-", "2>&-", "<&- >&-", "<&- >&- 2>&-"):
             told = self.path("told")

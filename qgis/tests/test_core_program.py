@@ -15,6 +15,7 @@ import unittest
 from typing import Callable
 from unittest import mock
 
+import asked
 import made
 from rcell.core import answers, program
 from rcell.core.errors import Cancelled, Killed, MissingProgram, WrongProgram
@@ -75,14 +76,14 @@ class ProgramTest(unittest.TestCase):
 
     def test_killed(self) -> None:
         with self.assertRaises(Killed) as caught:
-            answers.table(self.script("kill -9 $$"), [self.raster], False)
+            asked.table(self.script("kill -9 $$"), [self.raster], False)
         self.assertEqual(str(caught.exception), "the program was killed by signal 9 (SIGKILL): too little memory, or someone ended it")
 
     def test_a_status_that_is_not_understood(self) -> None:
         with self.assertRaisesRegex(WrongProgram, "ended in status 7 and said: Unsinn"):
-            answers.table(self.script("echo Unsinn >&2; exit 7"), [self.raster], False)
+            asked.table(self.script("echo Unsinn >&2; exit 7"), [self.raster], False)
         with self.assertRaisesRegex(WrongProgram, "has written what this plugin does not understand"):
-            answers.table(self.script("cat \"$1\" > /dev/null; echo 1 2 3"), [self.raster], False)
+            asked.table(self.script("cat \"$1\" > /dev/null; echo 1 2 3"), [self.raster], False)
 
     def cancelled(self, path: str, after: float, raster: Raster | None = None) -> float:
         """How long a run goes on after it was cancelled."""
@@ -92,7 +93,7 @@ class ProgramTest(unittest.TestCase):
         timer.start()
         self.addCleanup(timer.cancel)
         with self.assertRaises(Cancelled):
-            answers.table(path, [raster or self.raster], False, program.Watch(is_cancelled=cancel.is_set))
+            asked.table(path, [raster or self.raster], False, program.Watch(is_cancelled=cancel.is_set))
         return time.monotonic() - at[0]
 
     def test_a_cancel_ends_the_program_within_half_a_second(self) -> None:
@@ -110,7 +111,7 @@ class ProgramTest(unittest.TestCase):
         open_before = len(os.listdir("/proc/self/fd"))
         for path in (ANSWERING, self.script("exit 3"), "/nowhere/rcell"):
             try:
-                answers.table(path, [self.raster], False)
+                asked.table(path, [self.raster], False)
             except (WrongProgram, OSError):
                 pass
         self.assertEqual(len(os.listdir("/proc/self/fd")), open_before)
@@ -129,8 +130,8 @@ class ProgramTest(unittest.TestCase):
         path = made.write(os.path.join(self.room, "large.tif"), made.noise(2, 1500, 1500))
         here = os.path.dirname(os.path.abspath(__file__))
         code = (f"import signal, sys; sys.path[:0] = [{os.path.dirname(here)!r}]; signal.signal(signal.SIGINT, signal.default_int_handler)\n"
-                f"from rcell.core import answers; from rcell.core.rasters import Raster\n"
-                f"while True: answers.areas({copy!r}, Raster.open('lc', {path!r}), False)")
+                f"from rcell.core.landscape import patches; from rcell.core.rasters import Raster\n"
+                f"while True: patches({copy!r}, Raster.open('lc', {path!r}), 4, 'ha')")
         for number in (signal.SIGTERM, signal.SIGKILL, signal.SIGINT):
             waiting = subprocess.Popen([sys.executable, "-c", code], stderr=subprocess.DEVNULL)
             self.wait_for(lambda: bool(running(copy)), 60)

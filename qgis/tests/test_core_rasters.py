@@ -8,11 +8,14 @@ import sys
 import tempfile
 import unittest
 
+import asked
 import made
 import numpy as np
 from osgeo import gdal
 from rcell.core import answers, files
+from rcell.core.composition import cross
 from rcell.core.errors import BadMap, Cancelled, OtherRegion, ReadFailed, Refused, WriteFailed
+from rcell.core.landscape import patches
 from rcell.core.program import find_program
 from rcell.core.rasters import Raster, check_regions
 
@@ -32,7 +35,7 @@ class InRoom(unittest.TestCase):
     def refused(self, kind: type, text: str, path: str, **words: object) -> None:
         with self.assertRaises(kind) as caught:
             raster = Raster.open("lc", path, **words)
-            answers.table(self.program, [raster], True)
+            asked.table(self.program, [raster], True)
         self.assertTrue(caught.exception.text.startswith(text), caught.exception.text)
 
 
@@ -42,7 +45,7 @@ class ReadingTest(InRoom):
                       gdal.GDT_UInt64, gdal.GDT_Int64):
             with self.subTest(dtype=gdal.GetDataTypeName(dtype)):
                 raster = Raster.open("lc", made.write(self.path(f"{dtype}.tif"), CELLS, dtype, nodata=0))
-                table = answers.table(self.program, [raster], True)
+                table = asked.table(self.program, [raster], True)
                 self.assertEqual([column.values for column in table.columns()], [[1, 2, 7, None], [2, 2, 1, 1]])
 
     def test_what_is_no_category(self) -> None:
@@ -57,11 +60,11 @@ class ReadingTest(InRoom):
 
     def test_least_number_that_is_nodata(self) -> None:
         raster = Raster.open("lc", made.write(self.path("least.tif"), [[1, -(2**31)]], nodata=-(2**31)))
-        self.assertEqual(answers.table(self.program, [raster], True).columns()[0].values, [1, None])
+        self.assertEqual(asked.table(self.program, [raster], True).columns()[0].values, [1, None])
 
     def test_nan_is_null(self) -> None:
         raster = Raster.open("lc", made.write(self.path("nan.tif"), [[1.0, np.nan, -9.0]], gdal.GDT_Float32, nodata=-9))
-        self.assertEqual(answers.table(self.program, [raster], True).columns()[1].values, [1, 2])
+        self.assertEqual(asked.table(self.program, [raster], True).columns()[1].values, [1, 2])
 
     def test_floats_beyond_their_exactness_are_warned_of_once(self) -> None:
         raster = Raster.open("lc", made.write(self.path("far.tif"), np.full((3, 3), 2**24 + 2), gdal.GDT_Float32))
@@ -109,13 +112,13 @@ class ReadingTest(InRoom):
         with open(self.path("grid.txt"), "w", encoding="utf-8") as file:
             file.write("north: 2\nsouth: 0\neast: 3\nwest: 0\nrows: 2\ncols: 3\n1 * 2\n7 7 *\n")
         raster = Raster.open("lc", self.path("grid.txt"))
-        self.assertEqual([column.values for column in answers.table(self.program, [raster], True).columns()], [[1, 2, 7, None], [1, 1, 2, 2]])
-        self.assertEqual(answers.areas(self.program, raster, False).categories.tolist(), [1, 2, 7])
+        self.assertEqual([column.values for column in cross(self.program, [raster], "", True).columns()[:2]], [[1, 2, 7, None], [1, 1, 2, 2]])
+        self.assertEqual(patches(self.program, raster, 4, "")[0].columns()[1].values, [1, 2, 7])
 
     def test_further_nulls_of_the_user(self) -> None:
         path = made.write(self.path("lc.tif"), CELLS, gdal.GDT_Byte, nodata=0)
         raster = Raster.open("lc", path, null_ranges=[(2, 6)], use_nodata=False)
-        self.assertEqual([column.values for column in answers.table(self.program, [raster], True).columns()], [[0, 1, 7, None], [1, 2, 1, 2]])
+        self.assertEqual([column.values for column in cross(self.program, [raster], "", True).columns()[:2]], [[0, 1, 7, None], [1, 2, 1, 2]])
 
 
 class RegionTest(InRoom):
@@ -140,7 +143,7 @@ class RegionTest(InRoom):
     def test_degrees_have_no_area(self) -> None:
         raster = self.opened("a", 8.0)
         with self.assertRaisesRegex(Refused, "area= needs a map in metres or feet"):
-            answers.table(self.program, [raster], False).measured("ha", False, raster)
+            asked.table(self.program, [raster], False).measured("ha", False, raster)
 
     def test_feet_count_as_feet(self) -> None:
         raster = Raster.open("lc", made.write(self.path("feet.tif"), CELLS, transform=(0, 100, 0, 200, 0, -100), epsg=2263))
@@ -154,7 +157,7 @@ class LabelsTest(InRoom):
         path = made.write(self.path("odd.tif"), [list(range(1, 12))], gdal.GDT_Byte, names=self.ODD)
         raster = Raster.open("lc", path)
         self.assertEqual([raster.labels[category] for category in range(1, 12)], self.ODD[1:])
-        table = answers.table(self.program, [raster], False)
+        table = asked.table(self.program, [raster], False)
         self.assertEqual(table.columns()[1].values, self.ODD[1:])
         for ending in ("gpkg", "csv"):
             files.write_table(self.path(f"odd.{ending}"), table)
@@ -181,7 +184,7 @@ class WritingTest(InRoom):
 
     def test_what_cannot_be_written_leaves_what_stood_there(self) -> None:
         cells = made.noise(1, 300, 300)
-        table = answers.table(self.program, [self.raster], True)
+        table = asked.table(self.program, [self.raster], True)
         os.mkdir(self.path("folder.tif"))
         for path in (self.path("nowhere/a.tif"), self.path("folder.tif")):
             with self.assertRaises(WriteFailed):
@@ -207,7 +210,7 @@ class WritingTest(InRoom):
         self.assertEqual(made.left_in(self.room), [])
 
     def test_what_stood_there_is_replaced_by_what_is_whole(self) -> None:
-        table = answers.table(self.program, [self.raster], True)
+        table = asked.table(self.program, [self.raster], True)
         for name in ("r.tif", "r.csv", "r.gpkg"):
             with open(self.path(name), "w", encoding="utf-8") as file:
                 file.write("stood there")
@@ -222,7 +225,7 @@ class WritingTest(InRoom):
         def cancel() -> None:
             raise Cancelled()
 
-        table = answers.table(self.program, [self.raster], True)
+        table = asked.table(self.program, [self.raster], True)
         for name in ("c.tif", "c.gpkg", "c.csv"):
             with open(self.path(name), "w", encoding="utf-8") as file:
                 file.write("stood there")
@@ -252,14 +255,14 @@ class WritingTest(InRoom):
     def test_tables_have_numbers_as_numbers(self) -> None:
         from osgeo import ogr
 
-        table = answers.table(self.program, [self.raster, self.raster], True).measured("ha", True, self.raster)
+        table = asked.table(self.program, [self.raster, self.raster], True).measured("ha", True, self.raster)
         for ending in ("csv", "gpkg"):
             files.write_table(self.path(f"t.{ending}"), table)
             source = ogr.Open(self.path(f"t.{ending}"))
             layer = source.GetLayer(0)
             fields = [layer.GetLayerDefn().GetFieldDefn(at) for at in range(layer.GetLayerDefn().GetFieldCount())]
             self.assertEqual([(field.GetName(), field.GetTypeName()) for field in fields], [
-                ("lc", "Integer64"), ("lc_2", "Integer64"), ("cells", "Integer64"), ("ha", "Real"), ("percent", "Real")])
+                ("lc", "Integer64"), ("lc_2", "Integer64"), ("cells", "Integer64"), ("area_ha", "Real"), ("percent", "Real")])
             self.assertEqual([feature.IsFieldSetAndNotNull(0) for feature in layer], [True, True, True, False])
 
 

@@ -4,6 +4,7 @@ from __future__ import annotations
 
 import os
 import pathlib
+import shutil
 import stat
 import tempfile
 import threading
@@ -17,6 +18,7 @@ from osgeo import gdal
 from qgis.core import (
     QgsApplication,
     QgsCoordinateReferenceSystem,
+    QgsGeometry,
     QgsPalettedRasterRenderer,
     QgsProcessingContext,
     QgsProcessingException,
@@ -26,7 +28,9 @@ from qgis.core import (
     QgsSettings,
     QgsVectorLayer,
 )
+from qgis.PyQt.QtCore import QTranslator, QUrl
 from qgis.PyQt.QtGui import QColor
+from rcell import results
 
 COVER = np.array([[1, 1, 2, 0, 3], [1, 2, 2, 2, 3], [3, 3, 1, 1, 2], [3, 1, 1, 2, 2]])
 ZONES = np.array([[7, 7, 8, 8, 8], [7, 7, 8, 8, 8], [0, 7, 8, 8, 8], [0, 7, 7, 8, 8]])
@@ -66,44 +70,43 @@ class InSession(unittest.TestCase):
 
 class TableTest(InSession):
     def test_class_by_zone(self) -> None:
-        found = self.run_("table", INPUT=[self.cover, self.zones], UNIT=2, PERCENT=True, OUTPUT="TEMPORARY_OUTPUT")
-        titles, rows = session.rows(found["OUTPUT"])
-        self.assertEqual(titles, ["cover", "cover_label", "zones", "cells", "ha", "percent"])
+        titles, rows = session.rows(self.run_("cross", INPUT=[self.cover, self.zones], OUTPUT="TEMPORARY_OUTPUT")["OUTPUT"])
+        self.assertEqual(titles, ["cover", "cover_label", "zones", "cells", "area_ha", "percent"])
         self.assertEqual([row[:5] for row in rows[:2]], [[1, "wood, wet", 7, 5, 0.2], [1, "wood, wet", 8, 2, 0.08]])
-        self.assertEqual(found["ROWS"], 6)
+        self.assertEqual(len(rows), 6)
         self.assertIn("\n  r.stats -cn input=map_1,map_2", self.log.told[0])
 
     def test_two_layers_of_one_name(self) -> None:
         first, second = QgsRasterLayer(self.zones, "p02"), QgsRasterLayer(self.cover, "P02")
-        titles, rows = session.rows(self.run_("table", INPUT=[first, second], OUTPUT="TEMPORARY_OUTPUT")["OUTPUT"])
-        self.assertEqual((titles, rows[0]), (["p02", "P02_2", "P02_label", "cells"], [7, 1, "wood, wet", 5]))
+        titles, rows = session.rows(self.run_("cross", INPUT=[first, second], AREA="none", OUTPUT="TEMPORARY_OUTPUT")["OUTPUT"])
+        self.assertEqual((titles, rows[0]), (["p02", "P02_2", "P02_label", "cells", "percent"], [7, 1, "wood, wet", 5, 500 / 17]))
 
     def test_files_of_tables_have_numbers_as_numbers(self) -> None:
         for ending in ("gpkg", "csv"):
-            path = self.run_("table", INPUT=[self.cover], NULLS=True, OUTPUT=self.path(f"t.{ending}"))["OUTPUT"]
+            path = self.run_("cross", INPUT=[self.cover], NULL=True, OUTPUT=self.path(f"t.{ending}"))["OUTPUT"]
             layer = QgsVectorLayer(path, "t", "ogr")
             kinds = {field.name(): field.typeName() for field in layer.fields()}
             self.assertEqual((kinds["cover"], kinds["cells"], kinds["cover_label"]), ("Integer64", "Integer64", "String"))
-            self.assertEqual(session.rows(layer)[1][-1][-1], 1)
+            self.assertEqual(session.rows(layer)[1][-1][-3:], [1, 0.04, None])
         self.assertEqual(made.left_in(self.room), [])
 
     def test_labels_are_those_that_the_user_sees(self) -> None:
         layer = self.labelled([(1, "1"), (2, "meadow"), (3, "town (12 cells, 4.8 ha)")])
-        titles, rows = session.rows(self.run_("table", INPUT=[layer], OUTPUT="TEMPORARY_OUTPUT")["OUTPUT"])
+        titles, rows = session.rows(self.run_("cross", INPUT=[layer], OUTPUT="TEMPORARY_OUTPUT")["OUTPUT"])
         self.assertEqual([row[1] for row in rows], [None, "meadow", "town"])
         plain = self.labelled([(1, "1"), (2, "2"), (3, "3")])
-        self.assertEqual(session.rows(self.run_("table", INPUT=[plain], OUTPUT="TEMPORARY_OUTPUT")["OUTPUT"])[1][0][1], "wood, wet")
+        self.assertEqual(session.rows(self.run_("cross", INPUT=[plain], OUTPUT="TEMPORARY_OUTPUT")["OUTPUT"])[1][0][1], "wood, wet")
 
     def test_nulls_are_those_that_the_user_has_declared(self) -> None:
         layer = QgsRasterLayer(self.zones, "zones")
         layer.dataProvider().setUserNoDataValue(1, [QgsRasterRange(8, 8)])
         layer.dataProvider().setUseSourceNoDataValue(1, False)
-        rows = session.rows(self.run_("table", INPUT=[layer], NULLS=True, OUTPUT="TEMPORARY_OUTPUT")["OUTPUT"])[1]
-        self.assertEqual(rows, [[0, 2], [7, 7], [None, 11]])
+        rows = session.rows(self.run_("cross", INPUT=[layer], NULL=True, OUTPUT="TEMPORARY_OUTPUT")["OUTPUT"])[1]
+        self.assertEqual([row[:2] for row in rows], [[0, 2], [7, 7], [None, 11]])
 
     def test_floats_beyond_their_exactness_are_warned_of(self) -> None:
         path = made.write(self.path("far.tif"), [[2**24 + 2, 1]], gdal.GDT_Float32)
-        self.run_("table", INPUT=[path], OUTPUT="TEMPORARY_OUTPUT")
+        self.run_("cross", INPUT=[path], OUTPUT="TEMPORARY_OUTPUT")
         self.assertIn("warning: far: floats of 32 bits are not exact beyond 16777216, and the map has greater cells", self.log.told)
 
 
@@ -113,35 +116,35 @@ class RefusalsTest(InSession):
     def test_maps(self) -> None:
         shifted = made.write(self.path("shifted.tif"), COVER, transform=(500010, 20, 0, 5400000, 0, -20))
         message = self.refused("Unable to execute algorithm\nshifted: not of the region of `cover`, and nothing is resampled: east is 500110",
-                               "table", INPUT=[self.cover, shifted], OUTPUT=self.path("t.gpkg"))
+                               "cross", INPUT=[self.cover, shifted], OUTPUT=self.path("t.gpkg"))
         self.assertIn("\n  shifted: north 5400000, south 5399920, east 500110, west 500010, 4 rows, 5 columns", message)
         bands = made.write(self.path("bands.tif"), COVER, bands=3)
-        self.refused("Unable to execute algorithm\nbands: has 3 bands", "table", INPUT=[bands], OUTPUT=self.path("t.gpkg"))
+        self.refused("Unable to execute algorithm\nbands: has 3 bands", "cross", INPUT=[bands], OUTPUT=self.path("t.gpkg"))
         turned = made.write(self.path("turned.tif"), COVER, transform=(0, 20, 3, 0, 3, -20))
-        self.refused("Unable to execute algorithm\nturned: a rotated transform", "areas", INPUT=turned, OUTPUT=self.path("a.tif"), SIZES=self.path("t.gpkg"))
+        self.refused("Unable to execute algorithm\nturned: a rotated transform", "patches", INPUT=turned, MAP=self.path("a.tif"), OUTPUT=self.path("t.gpkg"))
         halves = made.write(self.path("halves.tif"), COVER / 2, gdal.GDT_Float32)
-        self.refused("Unable to execute algorithm\nhalves: not a map of whole numbers: the cell at row 1, column 1 is 0.5", "mode", INPUT=halves,
+        self.refused("Unable to execute algorithm\nhalves: not a map of whole numbers: the cell at row 1, column 1 is 0.5", "majority", INPUT=halves,
                      OUTPUT=self.path("m.tif"))
         degrees = made.write(self.path("degrees.tif"), COVER, transform=made.DEGREES, epsg=4326)
-        self.refused("area= needs a map in metres or feet", "table", INPUT=[degrees], UNIT=2, OUTPUT=self.path("t.gpkg"))
-        self.refused("nowhere: cannot open: ", "table", INPUT=[self.path("nowhere.tif")], OUTPUT=self.path("t.gpkg"))
+        self.refused("area= needs a map in metres or feet", "script", INPUT=[degrees], NAMES="lc", SCRIPT="r.stats -c input=lc", AREA="ha", TABLE=self.path("t.gpkg"))
+        self.refused("nowhere: cannot open: ", "cross", INPUT=[self.path("nowhere.tif")], OUTPUT=self.path("t.gpkg"))
         self.assertFalse(os.path.exists(self.path("t.gpkg")))
 
     def test_a_fault_far_down_is_found_by_the_run(self) -> None:
         cells = np.ones((3000, 300))
         cells[2900, 17] = 0.5
         path = made.write(self.path("late.tif"), cells, gdal.GDT_Float32)
-        message = self.refused("late: not a map of whole numbers: the cell at row 2901, column 18 is 0.5", "table", INPUT=[path], OUTPUT=self.path("t.gpkg"))
+        message = self.refused("late: not a map of whole numbers: the cell at row 2901, column 18 is 0.5", "cross", INPUT=[path], OUTPUT=self.path("t.gpkg"))
         self.assertNotIn("Unable to execute", message)
         self.assertFalse(os.path.exists(self.path("t.gpkg")))
 
     def test_words(self) -> None:
-        self.refused("arguments: no raster is given", "table", INPUT=[], OUTPUT="TEMPORARY_OUTPUT")
-        self.refused("arguments: 17 rasters, and a table has at most 16", "table", INPUT=[self.cover] * 17, OUTPUT="TEMPORARY_OUTPUT")
-        self.refused("cover: has 1 band, and no band 5", "mode", INPUT=self.cover, BAND=5, SIZE=0, OUTPUT=self.path("m.tif"))
-        self.refused("no format has this ending", "mode", INPUT=self.cover, SIZE=0, OUTPUT=self.path("m.xyz9"))
-        self.refused("arguments: classes are whole numbers, divided by commas, and not `1;2`", "areas", INPUT=self.cover, CLASSES="1;2",
-                     OUTPUT=self.path("a.tif"), SIZES="TEMPORARY_OUTPUT")
+        self.refused("arguments: no raster is given", "cross", INPUT=[], OUTPUT="TEMPORARY_OUTPUT")
+        self.refused("arguments: 17 rasters, and a table has at most 16", "cross", INPUT=[self.cover] * 17, OUTPUT="TEMPORARY_OUTPUT")
+        self.refused("cover: has 1 band, and no band 5", "majority", INPUT=self.cover, BAND=5, OUTPUT=self.path("m.tif"))
+        self.refused("no format has this ending", "majority", INPUT=self.cover, OUTPUT=self.path("m.xyz9"))
+        self.refused("arguments: classes are whole numbers, divided by commas, and not `1;2`", "patches", INPUT=self.cover, CLASSES="1;2",
+                     OUTPUT="TEMPORARY_OUTPUT")
         common = {"INPUT": [self.cover], "SCRIPT": "r.stats -c input=lc\nr.stats input=lc"}
         self.refused("2 names are given, and 1 rasters", "script", **common, NAMES="a,b")
         self.refused("'1a' is no name of a map", "script", **common, NAMES="1a")
@@ -150,20 +153,25 @@ class RefusalsTest(InSession):
         self.refused("the map x is wanted, and no place for it is given", "script", **common, NAMES="lc", MAP="x")
 
     def test_reference_systems(self) -> None:
+        far = session.districts()
+        feature = next(far.getFeatures())
+        far.dataProvider().changeGeometryValues({feature.id(): QgsGeometry.fromWkt("POLYGON((500001 5399999, 500002 5399999, 500002 5399998, 500001 5399999))")})
+        self.run_("composition", INPUT=self.cover, ZONES=far, OUTPUT="TEMPORARY_OUTPUT")
+        self.assertIn("warning: districts: 1 of 2 polygons have no centre of a cell: 1", self.log.told)
         gauss = made.write(self.path("gauss.tif"), COVER, epsg=31467)
         bare = made.write(self.path("bare.tif"), COVER, epsg=0)
-        self.refused("gauss: its coordinate reference system is EPSG:31467", "table", INPUT=[self.cover, gauss], OUTPUT=self.path("t.gpkg"))
-        self.refused("bare: it has no coordinate reference system, and `cover` has EPSG:32632", "table", INPUT=[bare, self.cover],
+        self.refused("gauss: its coordinate reference system is EPSG:31467", "cross", INPUT=[self.cover, gauss], OUTPUT=self.path("t.gpkg"))
+        self.refused("bare: it has no coordinate reference system, and `cover` has EPSG:32632", "cross", INPUT=[bare, self.cover],
                      OUTPUT=self.path("t.gpkg"))
         common = {"NAMES": "a,b", "SCRIPT": "r.stats -c input=a,b", "TABLE": self.path("t.gpkg")}
         self.refused("b: its coordinate reference system is EPSG:31467", "script", INPUT=[self.cover, gauss], **common)
         self.refused("b: its coordinate reference system is EPSG:32632", "script", INPUT=[bare, self.cover], CRS="EPSG:31467", **common)
-        self.refused("CRS is no coordinate reference system: 'nonsense'", "table", INPUT=[bare], CRS="nonsense", OUTPUT=self.path("t.gpkg"))
-        self.run_("table", INPUT=[bare, self.cover], CRS="EPSG:32632", OUTPUT=self.path("t.gpkg"))
+        self.refused("CRS is no coordinate reference system: 'nonsense'", "cross", INPUT=[bare], CRS="nonsense", OUTPUT=self.path("t.gpkg"))
+        self.run_("cross", INPUT=[bare, self.cover], CRS="EPSG:32632", OUTPUT=self.path("t.gpkg"))
         self.run_("script", INPUT=[bare, self.cover], CRS="EPSG:32632", **common)
         layer = QgsRasterLayer(bare, "bare")
         layer.setCrs(QgsCoordinateReferenceSystem("EPSG:32632"))
-        self.run_("table", INPUT=[layer, self.cover], OUTPUT=self.path("t.gpkg"))
+        self.run_("cross", INPUT=[layer, self.cover], OUTPUT=self.path("t.gpkg"))
 
     def test_quotes_are_reported_by_the_program(self) -> None:
         for wanted in ({"OUTPUT": self.path("x.tif")}, {"OUTPUT": self.path("x.tif"), "MAP": "x"}, {"TABLE": "TEMPORARY_OUTPUT"}):
@@ -176,8 +184,8 @@ class RefusalsTest(InSession):
         self.assertTrue(message.startswith("script, line 2: number not whole at column 20\n  r.mapcalc x = lc + 1.5\n                     ^\n  try: "), message)
 
     def test_a_folder_that_is_missing_is_told_before_the_run(self) -> None:
-        self.refused("cannot be written: there is no folder", "table", INPUT=[self.cover], OUTPUT=self.path("nowhere/t.gpkg"))
-        self.refused("cannot be written: there is no folder", "mode", INPUT=self.cover, OUTPUT=self.path("nowhere/m.tif"))
+        self.refused("cannot be written: there is no folder", "cross", INPUT=[self.cover], OUTPUT=self.path("nowhere/t.gpkg"))
+        self.refused("cannot be written: there is no folder", "majority", INPUT=self.cover, OUTPUT=self.path("nowhere/m.tif"))
         self.assertEqual([line for line in self.log.told if line.startswith("command")], [])
 
     def test_a_program_that_is_missing(self) -> None:
@@ -186,9 +194,9 @@ class RefusalsTest(InSession):
             from processing.core.ProcessingConfig import ProcessingConfig
 
             ProcessingConfig.readSettings()
-            algorithm = QgsApplication.processingRegistry().algorithmById("rcell:mode")
+            algorithm = QgsApplication.processingRegistry().algorithmById("rcell:majority")
             self.assertEqual(algorithm.canExecute(), (False, "the program /nowhere/rcell is not there, or may not be executed"))
-            self.refused("the program /nowhere/rcell is not there", "mode", INPUT=self.cover, OUTPUT=self.path("m.tif"))
+            self.refused("the program /nowhere/rcell is not there", "majority", INPUT=self.cover, OUTPUT=self.path("m.tif"))
         finally:
             QgsSettings().setValue("Processing/Configuration/RCELL_PROGRAM", "")
             ProcessingConfig.readSettings()
@@ -200,13 +208,14 @@ class MapsTest(InSession):
         self.assertEqual(layer.renderer().type(), "paletted")
         return [(int(entry.value), entry.label) for entry in layer.renderer().classes()]
 
-    def test_areas(self) -> None:
-        found = self.run_("areas", INPUT=self.cover, DIAGONAL=True, LEAST=3, OUTPUT=self.path("areas.tif"), SIZES="TEMPORARY_OUTPUT")
-        titles, rows = session.rows(found["SIZES"])
-        self.assertEqual((titles, rows[0]), (["area", "category", "label", "cells", "ha"], [1, 1, "wood, wet", 3, 0.12]))
-        self.assertEqual((found["AREAS"], self.legend(found["OUTPUT"])[1]), (4, (2, "2: Wiese \u00fc (7 cells, 0.28 ha)")))
-        self.assertEqual(set(self.run_("areas", INPUT=self.cover, OUTPUT=self.path("alone.tif"))), {"AREAS", "OUTPUT"})
-        dataset = gdal.Open(found["OUTPUT"])
+    def test_patches(self) -> None:
+        found = self.run_("patches", INPUT=self.cover, CONNECTIVITY="8", LEAST=3, MAP=self.path("patches.tif"), OUTPUT="TEMPORARY_OUTPUT")
+        titles, rows = session.rows(found["OUTPUT"])
+        self.assertEqual((titles[:5], rows[0][:5]), (["patch", "class", "label", "cells", "area_ha"], [1, 1, "wood, wet", 3, 0.12]))
+        self.assertEqual(titles[5:], ["perimeter_m", "core_ha", "west", "south", "east", "north"])
+        self.assertEqual((found["PATCHES"], self.legend(found["MAP"])[1]), (4, (2, "2: Wiese \u00fc (7 cells, 0.28 ha)")))
+        self.assertEqual(set(self.run_("patches", INPUT=self.cover, OUTPUT="TEMPORARY_OUTPUT")), {"PATCHES", "OUTPUT"})
+        dataset = gdal.Open(found["MAP"])
         self.assertEqual((dataset.GetRasterBand(1).GetNoDataValue(), dataset.GetSpatialRef().GetAuthorityCode(None)), (0, "32632"))
         self.assertEqual(dataset.GetGeoTransform(), made.METRES)
 
@@ -218,18 +227,18 @@ class MapsTest(InSession):
         band.GetNoDataValue()
         self.assertEqual(band.GetRasterCategoryNames()[1], "green, all of it")
         # What it leaves goes on to the next algorithm: the label, and not the count of the legend.
-        rows = session.rows(self.run_("table", INPUT=[QgsRasterLayer(found["OUTPUT"], "r")], OUTPUT="TEMPORARY_OUTPUT")["OUTPUT"])[1]
-        self.assertEqual(rows[0], [1, "green, all of it", 14])
+        rows = session.rows(self.run_("cross", INPUT=[QgsRasterLayer(found["OUTPUT"], "r")], OUTPUT="TEMPORARY_OUTPUT")["OUTPUT"])[1]
+        self.assertEqual(rows[0][:3], [1, "green, all of it", 14])
 
-    def test_mode_keeps_labels_and_colours(self) -> None:
+    def test_majority_keeps_labels_and_colours(self) -> None:
         layer = self.labelled([(1, "wet wood"), (2, "meadow"), (3, "town")])
-        found = self.run_("mode", INPUT=layer, SIZE=0, OUTPUT=self.path("m.tif"))
+        found = self.run_("majority", INPUT=layer, OUTPUT=self.path("m.tif"))
         result = QgsRasterLayer(found["OUTPUT"], "map")
         entries = result.renderer().classes()
         self.assertEqual([(entry.label, entry.color.red()) for entry in entries], [("wet wood", 10), ("meadow", 20), ("town", 30)])
         commonest = made.commonest(COVER, 3)
         self.assertEqual(gdal.Open(found["OUTPUT"]).ReadAsArray().tolist(), np.where(COVER == 0, -(2**31), commonest).tolist())
-        filled = self.run_("mode", INPUT=layer, SIZE=0, FILL=True, OUTPUT=self.path("f.tif"))
+        filled = self.run_("majority", INPUT=layer, FILL=True, OUTPUT=self.path("f.tif"))
         self.assertEqual(gdal.Open(filled["OUTPUT"]).ReadAsArray().tolist(), commonest.tolist())
 
     def test_the_legend_of_a_result_that_is_loaded(self) -> None:
@@ -248,10 +257,92 @@ class MapsTest(InSession):
         details.postProcessor().postProcessLayer(layer, context, self.log)
         self.assertEqual([entry.label for entry in layer.renderer().classes()], ["all (19 cells, 0.76 ha)"])
 
+    def test_zones_may_be_polygons(self) -> None:
+        found = self.run_("composition", INPUT=self.cover, ZONES=session.districts(), ZONE_FIELD="name", OUTPUT="TEMPORARY_OUTPUT")
+        titles, rows = session.rows(found["OUTPUT"])
+        self.assertEqual(titles, ["zone", "zone_label", "class", "label", "cells", "area_ha", "percent"])
+        self.assertEqual([row[:5] for row in rows], [[1, "Nord", 1, "wood, wet", 3], [1, "Nord", 2, "Wiese \u00fc", 3], [2, "S\u00fcd", 1, "wood, wet", 3],
+                                                     [2, "S\u00fcd", 3, "built up", 3]])
+        numbers = session.rows(self.run_("zonal", INPUT=self.cover, ZONES=session.districts(), ZONE_FIELD="number", OUTPUT="TEMPORARY_OUTPUT")["OUTPUT"])[1]
+        self.assertEqual([row[0] for row in numbers], [10, 20])
+        self.refused("no field x: there are name, number", "composition", INPUT=self.cover, ZONES=session.districts(), ZONE_FIELD="x", OUTPUT=self.path("t.gpkg"))
+        far = session.districts()
+        feature = next(far.getFeatures())
+        far.dataProvider().changeGeometryValues({feature.id(): QgsGeometry.fromWkt("POLYGON((500001 5399999, 500002 5399999, 500002 5399998, 500001 5399999))")})
+        self.run_("composition", INPUT=self.cover, ZONES=far, OUTPUT="TEMPORARY_OUTPUT")
+        self.assertIn("warning: districts: 1 of 2 polygons have no centre of a cell: 1", self.log.told)
+        gauss = made.write(self.path("gauss.tif"), COVER, epsg=31467)
+        self.refused("districts: its coordinate reference system is EPSG:32632", "composition", INPUT=gauss, ZONES=session.districts(), OUTPUT=self.path("t.gpkg"))
+        self.assertEqual([name for name in gdal.ReadDir("/vsimem/") or [] if name.startswith("rcell_zones")], [])
+
+    def test_labels_of_a_file(self) -> None:
+        with open(self.path("legend.csv"), "w", encoding="utf-8") as file:
+            file.write("value,label\n7,North\n")
+        rows = session.rows(self.run_("composition", INPUT=self.zones, LABELS=self.path("legend.csv"), OUTPUT="TEMPORARY_OUTPUT")["OUTPUT"])[1]
+        self.assertEqual([row[:2] for row in rows], [[7, "North"], [8, None]])
+        self.assertIn("warning: labels: no label for 8 of zones", self.log.told)
+
+    def test_change_and_its_parts(self) -> None:
+        found = self.run_("change", INPUT=[self.cover, self.zones], AREA="m2", OUTPUT="TEMPORARY_OUTPUT", MATRIX="TEMPORARY_OUTPUT", SUMMARY="TEMPORARY_OUTPUT")
+        titles, rows = session.rows(found["MATRIX"])
+        self.assertEqual((titles, rows[0]), (["from", "7", "8"], ["wood, wet", 2000, 800]))
+        self.assertEqual(session.rows(found["SUMMARY"])[0][:3], ["class", "label", "before_m2"])
+        self.assertEqual(set(self.run_("change", INPUT=[self.cover, self.zones], OUTPUT="TEMPORARY_OUTPUT")), {"OUTPUT"})
+
+    def test_align_keeps_labels_and_reports(self) -> None:
+        moved = made.write(self.path("moved.tif"), COVER, gdal.GDT_Byte, nodata=0, names=NAMES, transform=(500020, 20, 0, 5400000, 0, -20))
+        found = self.run_("align", INPUT=moved, TO=self.zones, OUTPUT=self.path("a.tif"))
+        self.assertEqual([found[name] for name in ("SHIFT_ROWS", "SHIFT_COLUMNS", "CELLS_USED", "CELLS_REPEATED", "CELLS_LOST")], [0, -1, 15, 0, 4])
+        self.assertEqual(gdal.Open(found["OUTPUT"]).ReadAsArray()[0].tolist(), [-(2**31), 1, 1, 2, -(2**31)])
+        self.assertEqual(self.legend(found["OUTPUT"])[0], (1, "wood, wet"))
+        self.refused("shifted by 0 rows and -0.5 columns", "align", OUTPUT=self.path("b.tif"), TO=self.zones,
+                     INPUT=made.write(self.path("half.tif"), COVER, transform=(500010, 20, 0, 5400000, 0, -20)))
+
+    def test_a_model_of_two_algorithms(self) -> None:
+        from qgis.core import QgsProcessingModelAlgorithm
+
+        model = QgsProcessingModelAlgorithm()
+        self.assertTrue(model.fromFile(os.path.join(os.path.dirname(results.__file__), "examples/patches_of_grouped_classes.model3")))
+        # QGIS leaves statistics next to a raster that it opens.
+        shutil.copytree(os.path.join(os.path.dirname(results.__file__), "../../examples/rasters"), self.path("islands"))
+        path = self.path("islands/country.tif")
+        session.run(model, cover=path, **{"patches:Map of patches": self.path("model.tif"), "patches:Table of patches": self.path("model.gpkg")})
+        rules = "1 = 1 Indonesia\n2 thru 6 = 2 its neighbours"
+        grouped = self.run_("reclass", INPUT=path, RULES=rules, OUTPUT=self.path("r.tif"))["OUTPUT"]
+        found = self.run_("patches", INPUT=grouped, CONNECTIVITY="8", LEAST=100, MAP=self.path("a.tif"), OUTPUT="TEMPORARY_OUTPUT")
+        self.assertTrue((gdal.Open(found["MAP"]).ReadAsArray() == gdal.Open(self.path("model.tif")).ReadAsArray()).all())
+        self.assertEqual([row[1:] for row in session.rows(self.path("model.gpkg"))[1]], session.rows(found["OUTPUT"])[1])
+
+    def test_texts_can_be_translated_and_helped(self) -> None:
+        class German(QTranslator):
+            def isEmpty(self) -> bool:
+                return False
+
+            def translate(self, context: str, text: str, *_: object) -> str:
+                return f"de: {text}" if context == "rcell" and text else ""
+
+        translator = German()
+        QgsApplication.installTranslator(translator)
+        try:
+            for algorithm in (each.create() for each in QgsApplication.processingRegistry().providerById("rcell").algorithms()):
+                texts = [algorithm.displayName(), algorithm.shortDescription(), *(each.description() for each in algorithm.parameterDefinitions())]
+                self.assertEqual([text for text in texts if not text.startswith("de: ")], [], algorithm.id())
+                self.assertEqual(algorithm.shortHelpString().count("de: "), len(algorithm.HELP))
+                self.assertTrue(os.path.isfile(QUrl(algorithm.helpUrl()).toLocalFile()), algorithm.id())
+        finally:
+            QgsApplication.removeTranslator(translator)
+
+    def test_types_of_fields_of_qt_6(self) -> None:
+        class Core:
+            class QMetaType:
+                class Type:
+                    LongLong, Double, QString = 4, 6, 10
+
+        self.assertEqual(results.types_of_fields(33800, Core), {"whole": 4, "real": 6, "text": 10})
+
     def test_a_script_and_all_that_it_writes(self) -> None:
         script = "r.mapcalc big = lc * 1000000000\nr.stats -c -l input=lc,zone\nr.out.ascii input=big\nr.stats input=zone"
-        found = self.run_("script", INPUT=[self.cover, self.zones], NAMES="lc, zone", SCRIPT=script, OUTPUT=self.path("x.tif"), FOLDER=self.path("all"),
-                          UNIT=0)
+        found = self.run_("script", INPUT=[self.cover, self.zones], NAMES="lc, zone", SCRIPT=script, OUTPUT=self.path("x.tif"), FOLDER=self.path("all"))
         self.assertEqual(sorted(name for name in os.listdir(found["FOLDER"]) if not name.endswith(".xml")),
                          ["big.qml", "big.tif", "table_2.csv", "table_2.csvt", "table_4.csv", "table_4.csvt"])
         self.assertEqual(gdal.Open(found["OUTPUT"]).ReadAsArray()[0].tolist(), [10**9, 10**9, 2 * 10**9, -(2**31), -(2**31)])
@@ -260,7 +351,7 @@ class MapsTest(InSession):
     def test_an_input_is_never_the_output(self) -> None:
         before = pathlib.Path(self.zones).read_bytes()
         with self.assertRaisesRegex(QgsProcessingException, "the output file is the input file"):
-            self.run_("mode", INPUT=self.zones, SIZE=0, OUTPUT=self.zones)
+            self.run_("majority", INPUT=self.zones, OUTPUT=self.zones)
         os.mkdir(self.path("all"))
         inside = made.write(self.path("all/big.tif"), COVER)
         with self.assertRaisesRegex(QgsProcessingException, "the output file is the input file"):
@@ -269,7 +360,7 @@ class MapsTest(InSession):
 
     def test_other_tables_are_left_to_qgis(self) -> None:
         for target in (self.path("t.ods"), f"ogr:dbname='{self.path('db.gpkg')}' table=\"t\""):
-            self.assertEqual(self.run_("table", INPUT=[self.cover], OUTPUT=target)["ROWS"], 3)
+            self.assertIn("OUTPUT", self.run_("cross", INPUT=[self.cover], OUTPUT=target))
 
     def test_names_are_made_of_those_of_layers(self) -> None:
         layer = QgsRasterLayer(self.cover, "Gel\u00e4nde 2020 (neu)")
@@ -285,10 +376,10 @@ class MapsTest(InSession):
 
         ProcessingConfig.setSettingValue("RCELL_PROGRAM", path)
         try:
-            self.assertEqual(QgsApplication.processingRegistry().algorithmById("rcell:mode").canExecute()[0], True)
+            self.assertEqual(QgsApplication.processingRegistry().algorithmById("rcell:majority").canExecute()[0], True)
             started = time.monotonic()
             threading.Timer(0.5, self.log.cancel).start()
-            self.refused("cancelled", "mode", INPUT=self.cover, OUTPUT=self.path("m.tif"))
+            self.refused("cancelled", "majority", INPUT=self.cover, OUTPUT=self.path("m.tif"))
             self.assertLess(time.monotonic() - started, 3.0)
             self.assertFalse(os.path.exists(self.path("m.tif")))
         finally:

@@ -35,8 +35,8 @@ class AnswersTest(InSession):
 
     def counted(self, path: str) -> dict[tuple[int, ...], tuple[int, float]]:
         """Cells and square metres of each category by the plugin."""
-        titles, rows = session.rows(self.run_("table", INPUT=[path], UNIT=1, OUTPUT="TEMPORARY_OUTPUT")["OUTPUT"])
-        at, area = titles.index("cells"), titles.index("m2")
+        titles, rows = session.rows(self.run_("composition", INPUT=path, AREA="m2", OUTPUT="TEMPORARY_OUTPUT")["OUTPUT"])
+        at, area = titles.index("cells"), titles.index("area_m2")
         return {(row[0],): (row[at], row[area]) for row in rows}
 
     def test_tables_of_native(self) -> None:
@@ -72,24 +72,24 @@ class AnswersTest(InSession):
                   made.write(self.path("b.tif"), made.patchy(4, 200, 200), gdal.GDT_Byte, nodata=0)),
                  (maps["country"], self.path("islands/hemisphere.tif"))]
         for first, second in pairs:
-            titles, rows = session.rows(self.run_("table", INPUT=[first, second], OUTPUT="TEMPORARY_OUTPUT")["OUTPUT"])
-            places = [at for at, title in enumerate(titles) if not title.endswith("_label")]
+            titles, rows = session.rows(self.run_("cross", INPUT=[first, second], AREA="none", OUTPUT="TEMPORARY_OUTPUT")["OUTPUT"])
+            places = [at for at, title in enumerate(titles) if not title.endswith("_label") and title != "percent"]
             found = {tuple(row[at] for at in places[:-1]): row[places[-1]] for row in rows}
             self.assertEqual(found, self.grass(first, second))
 
-    def test_areas_of_grass(self) -> None:
+    def test_patches_of_grass(self) -> None:
         if not session.has("grass7:r.clump"):
             self.skipTest("QGIS has no GRASS (the plugin grassprovider, grass-core)")
         for name, path in self.maps().items():
-            for diagonal in (False, True):
-                with self.subTest(map=name, diagonal=diagonal):
-                    session.run("grass7:r.clump", input=path, title="areas", output=self.path("clump.tif"), **{"-d": diagonal})
-                    found = self.run_("areas", INPUT=path, DIAGONAL=diagonal, OUTPUT=self.path("areas.tif"), SIZES="TEMPORARY_OUTPUT")
-                    mine = gdal.Open(found["OUTPUT"]).ReadAsArray()
-                    self.assert_one_to_one(mine, gdal.Open(self.path("clump.tif")), found["AREAS"])
+            for connectivity in ("4", "8"):
+                with self.subTest(map=name, connectivity=connectivity):
+                    session.run("grass7:r.clump", input=path, title="areas", output=self.path("clump.tif"), **{"-d": connectivity == "8"})
+                    found = self.run_("patches", INPUT=path, CONNECTIVITY=connectivity, MAP=self.path("patches.tif"), OUTPUT="TEMPORARY_OUTPUT")
+                    mine = gdal.Open(found["MAP"]).ReadAsArray()
+                    self.assert_one_to_one(mine, gdal.Open(self.path("clump.tif")), found["PATCHES"])
 
     def assert_one_to_one(self, mine: NDArray[np.int32], dataset: gdal.Dataset, count: int) -> None:
-        """The same areas under other numbers."""
+        """The same patches under other numbers."""
         theirs = dataset.ReadAsArray().astype(np.int64)
         nodata = dataset.GetRasterBand(1).GetNoDataValue()
         theirs[theirs == nodata] = 0
@@ -103,22 +103,31 @@ class AnswersTest(InSession):
         for name, path in self.maps().items():
             with self.subTest(map=name):
                 session.run("grass7:r.neighbors", input=path, method=2, size=3, output=self.path("mode.tif"))
-                found = self.run_("mode", INPUT=path, SIZE=0, FILL=True, OUTPUT=self.path("m.tif"))
+                found = self.run_("majority", INPUT=path, FILL=True, OUTPUT=self.path("m.tif"))
                 mine, dataset = gdal.Open(found["OUTPUT"]).ReadAsArray(), gdal.Open(self.path("mode.tif"))
                 theirs = dataset.ReadAsArray().astype(np.int64)
                 theirs[theirs == dataset.GetRasterBand(1).GetNoDataValue()] = -(2**31)
                 self.assertTrue((mine == theirs).all())
 
-    def test_a_model_of_two_algorithms(self) -> None:
-        from model import LEAST, RULES, model_of_areas
+    def test_zones_of_native(self) -> None:
+        path, zones = self.maps()["noise"], made.write(self.path("z.tif"), made.noise(5, 300, 300, 4), gdal.GDT_Byte, nodata=0)
+        theirs = session.run("native:rasterlayerzonalstats", INPUT=path, BAND=1, ZONES=zones, ZONES_BAND=1, REF_LAYER=0, OUTPUT_TABLE="TEMPORARY_OUTPUT")
+        titles, rows = session.rows(theirs["OUTPUT_TABLE"])
+        of_native = {row[titles.index("zone")]: [row[titles.index(name)] for name in ("count", "sum", "mean", "min", "max")] for row in rows}
+        titles, rows = session.rows(self.run_("zonal", INPUT=path, ZONES=zones, OUTPUT="TEMPORARY_OUTPUT")["OUTPUT"])
+        for row in rows:
+            mine = [row[titles.index(name)] for name in ("cells", "sum", "mean", "minimum", "maximum")]
+            np.testing.assert_allclose(mine, of_native[row[0]], rtol=1e-12)
 
-        path = self.maps()["country"]
-        names = {"areas:Map of areas": self.path("model.tif"), "areas:Table of areas": self.path("model.gpkg")}
-        session.run(model_of_areas(), cover=path, **names)
-        grouped = self.run_("reclass", INPUT=path, RULES=RULES, OUTPUT=self.path("r.tif"))["OUTPUT"]
-        found = self.run_("areas", INPUT=grouped, DIAGONAL=True, LEAST=LEAST, OUTPUT=self.path("a.tif"), SIZES="TEMPORARY_OUTPUT")
-        self.assertTrue((gdal.Open(found["OUTPUT"]).ReadAsArray() == gdal.Open(self.path("model.tif")).ReadAsArray()).all())
-        self.assertEqual([row[1:] for row in session.rows(self.path("model.gpkg"))[1]], session.rows(found["SIZES"])[1])
+    def test_polygons_of_native(self) -> None:
+        path = self.maps()["noise"]
+        polygons = session.districts()
+        theirs = session.run("native:zonalhistogram", INPUT_RASTER=path, RASTER_BAND=1, INPUT_VECTOR=polygons, OUTPUT="TEMPORARY_OUTPUT")
+        titles, rows = session.rows(theirs["OUTPUT"])
+        of_native = {(row[titles.index("number")], int(title.removeprefix("HISTO_"))): row[at] for row in rows for at, title in enumerate(titles)
+                     if title.startswith("HISTO_") and title != "HISTO_NODATA" and row[at]}
+        rows = session.rows(self.run_("composition", INPUT=path, ZONES=polygons, ZONE_FIELD="number", OUTPUT="TEMPORARY_OUTPUT")["OUTPUT"])[1]
+        self.assertEqual({(row[0], row[1]): row[2] for row in rows}, of_native)
 
     def test_rules_of_native(self) -> None:
         path = self.maps()["noise"]

@@ -75,16 +75,16 @@ class ProcessTest(unittest.TestCase):
 
     def test_it_is_listed(self) -> None:
         told = self.process("list").stdout
-        for name in ("areas", "mode", "reclass", "script", "table"):
+        for name in ("align", "change", "composition", "cross", "majority", "patches", "reclass", "script", "zonal"):
             self.assertIn(f"rcell:{name}\t", told)
-        self.assertIn("Connected areas", self.process("help", "rcell:areas").stdout)
+        self.assertIn("Patches", self.process("help", "rcell:patches").stdout)
 
     def test_a_table_of_a_geotiff_and_a_geopackage(self) -> None:
         wanted = made.counts(made.patchy(1, 60, 80), made.noise(2, 60, 80, 3))
         for ending in ("gpkg", "csv"):
             target = self.path(f"t \u00fc.{ending}")
-            found = self.results("rcell:table", f"INPUT={self.cover}", f"INPUT={self.zones}", "UNIT=2", f"OUTPUT={target}")
-            self.assertEqual((found["OUTPUT"], found["ROWS"]), (target, len(wanted)))
+            found = self.results("rcell:cross", f"INPUT={self.cover}", f"INPUT={self.zones}", "AREA=ha", f"OUTPUT={target}")
+            self.assertEqual(found["OUTPUT"], target)
             source = ogr.Open(target)
             rows = [(feature.GetField("Fl\u00e4che 1"), feature.GetField("zones"), feature.GetField("cells")) for feature in source.GetLayer(0)]
             self.assertEqual({row[:2]: row[2] for row in rows}, wanted)
@@ -92,15 +92,15 @@ class ProcessTest(unittest.TestCase):
 
     def test_maps(self) -> None:
         cells = made.patchy(1, 60, 80)
-        found = self.results("rcell:areas", f"INPUT={self.cover}", "DIAGONAL=true", f"OUTPUT={self.path('areas.tif')}", f"SIZES={self.path('s.gpkg')}")
-        self.assertTrue((gdal.Open(found["OUTPUT"]).ReadAsArray() == made.areas(cells, True)).all())
-        self.assertEqual(found["AREAS"], int(made.areas(cells, True).max()))
+        found = self.results("rcell:patches", f"INPUT={self.cover}", "CONNECTIVITY=8", f"MAP={self.path('patches.tif')}", f"OUTPUT={self.path('s.gpkg')}")
+        self.assertTrue((gdal.Open(found["MAP"]).ReadAsArray() == made.areas(cells, True)).all())
+        self.assertEqual(found["PATCHES"], int(made.areas(cells, True).max()))
         found = self.results("rcell:reclass", f"INPUT={self.cover}", "RULES=1 thru 4 = 1 low\n* = 2 high", f"OUTPUT={self.path('r.tif')}")
         wanted = np.select([cells == 0, cells <= 4], [-(2**31), 1], 2)
         self.assertTrue((gdal.Open(found["OUTPUT"]).ReadAsArray() == wanted).all())
         with open(self.path("r.qml"), encoding="utf-8") as file:
             self.assertIn(f'label="low ({int((wanted == 1).sum())} cells, ', file.read())
-        found = self.results("rcell:mode", f"INPUT={self.cover}", "SIZE=1", "FILL=true", f"OUTPUT={self.path('m.tif')}")
+        found = self.results("rcell:majority", f"INPUT={self.cover}", "SIZE=5", "FILL=true", f"OUTPUT={self.path('m.tif')}")
         theirs = gdal.Open(found["OUTPUT"]).ReadAsArray()
         self.assertTrue((np.where(theirs == -(2**31), 0, theirs) == made.commonest(cells, 5)).all())
 
@@ -113,21 +113,21 @@ class ProcessTest(unittest.TestCase):
 
     def test_in_the_locale_c(self) -> None:
         target = self.path("c \u00fc.gpkg")
-        self.results("rcell:table", f"INPUT={self.cover}", f"OUTPUT={target}", LC_ALL="C")
+        self.results("rcell:cross", f"INPUT={self.cover}", f"OUTPUT={target}", LC_ALL="C")
         self.assertTrue(os.path.isfile(target))
-        found = self.results("rcell:mode", f"INPUT={self.cover}", "SIZE=0", f"OUTPUT={self.path('c ü.tif')}", LC_ALL="C")
+        found = self.results("rcell:majority", f"INPUT={self.cover}", f"OUTPUT={self.path('c ü.tif')}", LC_ALL="C")
         self.assertTrue(os.path.isfile(found["OUTPUT"]))
 
     def test_refusals(self) -> None:
         shifted = made.write(self.path("shifted.tif"), made.noise(2, 60, 80, 3), transform=(500010, 20, 0, 5400000, 0, -20))
         self.refused("shifted: not of the region of `Fl\u00e4che 1`, and nothing is resampled: east is 501610, not 501600 (10 more)",
-                     "rcell:table", f"INPUT={self.cover}", f"INPUT={shifted}", f"OUTPUT={self.path('no.gpkg')}")
-        self.refused("has 2 bands", "rcell:mode", f"INPUT={made.write(self.path('bands.tif'), [[1]], bands=2)}", "SIZE=0", f"OUTPUT={self.path('no.tif')}")
-        self.refused("a rotated transform", "rcell:mode", f"INPUT={made.write(self.path('turned.tif'), [[1]], transform=(0, 1, 1, 0, 1, -1))}", "SIZE=0",
+                     "rcell:cross", f"INPUT={self.cover}", f"INPUT={shifted}", f"OUTPUT={self.path('no.gpkg')}")
+        self.refused("has 2 bands", "rcell:majority", f"INPUT={made.write(self.path('bands.tif'), [[1]], bands=2)}", f"OUTPUT={self.path('no.tif')}")
+        self.refused("a rotated transform", "rcell:majority", f"INPUT={made.write(self.path('turned.tif'), [[1]], transform=(0, 1, 1, 0, 1, -1))}",
                      f"OUTPUT={self.path('no.tif')}")
-        self.refused("the cell at row 1, column 2 is 2.5", "rcell:table", f"INPUT={made.write(self.path('half.tif'), [[1, 2.5]], gdal.GDT_Float32)}",
+        self.refused("the cell at row 1, column 2 is 2.5", "rcell:cross", f"INPUT={made.write(self.path('half.tif'), [[1, 2.5]], gdal.GDT_Float32)}",
                      f"OUTPUT={self.path('no.gpkg')}")
-        self.refused("there is no folder", "rcell:table", f"INPUT={self.cover}", f"OUTPUT={self.path('nowhere/no.gpkg')}")
+        self.refused("there is no folder", "rcell:cross", f"INPUT={self.cover}", f"OUTPUT={self.path('nowhere/no.gpkg')}")
         self.refused("  r.mapcalc x = lc + 1.5\n                     ^", "rcell:script", f"INPUT={self.cover}", "NAMES=lc", "SCRIPT=r.mapcalc x = lc + 1.5",
                      f"OUTPUT={self.path('no.tif')}")
         self.assertEqual([name for name in os.listdir(self.room) if name.startswith("no.")], [])
@@ -135,7 +135,7 @@ class ProcessTest(unittest.TestCase):
     def test_a_program_that_is_missing(self) -> None:
         os.rename(self.program, self.program + ".away")
         try:
-            self.refused("the program rcell was not found: neither in the setting, nor in the environment variable RCELL", "rcell:table",
+            self.refused("the program rcell was not found: neither in the setting, nor in the environment variable RCELL", "rcell:cross",
                          f"INPUT={self.cover}", f"OUTPUT={self.path('no.gpkg')}")
         finally:
             os.rename(self.program + ".away", self.program)
@@ -143,7 +143,7 @@ class ProcessTest(unittest.TestCase):
     def test_nothing_is_left_where_qgis_is_ended(self) -> None:
         large = made.write(self.path("large.tif"), made.noise(3, 2500, 2500), gdal.GDT_Byte, nodata=0)
         for number in (signal.SIGTERM, signal.SIGKILL):
-            words = [PROGRAM, "run", "rcell:areas", "--", f"INPUT={large}", f"OUTPUT={self.path('no.tif')}", f"SIZES={self.path('no.gpkg')}"]
+            words = [PROGRAM, "run", "rcell:patches", "--", f"INPUT={large}", f"MAP={self.path('no.tif')}", f"OUTPUT={self.path('no.gpkg')}"]
             waiting = subprocess.Popen(words, env=self.environment(), stdout=subprocess.DEVNULL, stderr=subprocess.DEVNULL)
             ends = time.monotonic() + 60
             while not running(self.program) and waiting.poll() is None and time.monotonic() < ends:

@@ -42,7 +42,7 @@ class WindowTest(unittest.TestCase):
 
     def test_install_from_zip(self) -> None:
         self.assertTrue(self.told["is_active"])
-        self.assertEqual(self.told["algorithms"], [f"rcell:{name}" for name in ("areas", "mode", "reclass", "script", "table")])
+        self.assertEqual(self.told["algorithms"], [f"rcell:{name}" for name in ("align", "change", "composition", "cross", "majority", "patches", "reclass", "script", "zonal")])
 
     def test_the_program_may_be_executed_after_the_first_run(self) -> None:
         self.assertEqual((self.told["mode"] & 0o111, self.told["mode_after"]), (0, 0o755))

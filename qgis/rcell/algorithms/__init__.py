@@ -3,10 +3,12 @@
 
 from __future__ import annotations
 
-from .areas import AreasAlgorithm
-from .mode import ModeAlgorithm
+from .align import AlignAlgorithm
+from .majority import MajorityAlgorithm
+from .patches import PatchesAlgorithm
 from .reclass import ReclassAlgorithm
 from .script import ScriptAlgorithm
-from .table import TableAlgorithm
+from .tables import ChangeAlgorithm, CompositionAlgorithm, CrossAlgorithm, ZonalAlgorithm
 
-ALGORITHMS = (TableAlgorithm, AreasAlgorithm, ReclassAlgorithm, ModeAlgorithm, ScriptAlgorithm)
+ALGORITHMS = (CompositionAlgorithm, CrossAlgorithm, ChangeAlgorithm, PatchesAlgorithm, ZonalAlgorithm, MajorityAlgorithm, AlignAlgorithm,
+              ReclassAlgorithm, ScriptAlgorithm)

@@ -6,10 +6,12 @@ from __future__ import annotations
 from typing import Any
 
 from qgis.core import QgsProcessingContext, QgsProcessingFeedback, QgsProcessingParameterRasterDestination, QgsProcessingParameterString
+from qgis.PyQt.QtCore import QT_TRANSLATE_NOOP
 
 from ..core import answers
 from ..core.program import Watch
 from ..results import counted_classes
+from ..translation import tr
 from .base import Parameters, RcellAlgorithm
 
 
@@ -17,23 +19,31 @@ class ReclassAlgorithm(RcellAlgorithm):
     """Gives classes new numbers and labels by rules."""
 
     NAME = "reclass"
-    TITLE = "Reclassify by rules"
-    SHORT = "Gives the classes of a raster new numbers and labels by the rules of r.reclass, and a legend with cells and areas."
+    TITLE = QT_TRANSLATE_NOOP("rcell", "Reclassify by rules")
+    SHORT = QT_TRANSLATE_NOOP("rcell", "Gives the classes of a raster new numbers and labels by the rules of r.reclass, and a legend with cells and areas.")
     TAGS = ("reclassify", "r.reclass", "rules", "recode", "group", "labels", "legend")
     HELP = (
-        "<p>A rule is a line: classes, <code>=</code>, the new class, and its label where it has one.</p>"
-        "<p><code>1 thru 3 = 1 forest<br>4 7 9 = 2 open land<br>12 = NULL<br>* = 3 all else</code></p>"
-        "<p>Ranges have both their ends. A class that no rule names has no data in the result; <code>*</code> is all that is not "
-        "named above, and <code>* = *</code> keeps it. Lines that begin with <code>#</code> are notes.</p>"
-        "<p>The result has its labels as category names in the file and a legend that says how many cells and hectares each class "
-        "has. The legend stands beside the file as .qml, too.</p>"
+        QT_TRANSLATE_NOOP("rcell", (
+            "<p>A rule is a line: classes, <code>=</code>, the new class, and its label where it has one.</p>"
+        )),
+        QT_TRANSLATE_NOOP("rcell", (
+            "<p><code>1 thru 3 = 1 forest<br>4 7 9 = 2 open land<br>12 = NULL<br>* = 3 all else</code></p>"
+        )),
+        QT_TRANSLATE_NOOP("rcell", (
+            "<p>Ranges have both their ends. A class that no rule names has no data in the result; <code>*</code> is all that "
+            "is not named above, and <code>* = *</code> keeps it. Lines that begin with <code>#</code> are notes.</p>"
+        )),
+        QT_TRANSLATE_NOOP("rcell", (
+            "<p>The result has its labels as category names in the file and a legend that says how many cells and hectares "
+            "each class has. The legend stands beside the file as .qml, too.</p>"
+        )),
     )
 
     def initAlgorithm(self, configuration: Any = None) -> None:
         """Declares the parameters."""
         self.add_raster()
-        self.addParameter(QgsProcessingParameterString("RULES", "Rules, one a line", "1 thru 3 = 1 low\n* = 2 high", multiLine=True))
-        self.addParameter(QgsProcessingParameterRasterDestination("OUTPUT", "Reclassified map"))
+        self.addParameter(QgsProcessingParameterString("RULES", tr("Rules, one a line"), "1 thru 3 = 1 low\n* = 2 high", multiLine=True))
+        self.addParameter(QgsProcessingParameterRasterDestination("OUTPUT", tr("Reclassified map")))
 
     def answer(self, program: str, parameters: Parameters, context: QgsProcessingContext, feedback: QgsProcessingFeedback,
                watch: Watch) -> dict[str, Any]:

@@ -14,10 +14,10 @@ from qgis.core import (
     QgsProcessingParameterEnum,
     QgsProcessingParameterFeatureSink,
     QgsProcessingParameterFolderDestination,
-    QgsProcessingParameterMultipleLayers,
     QgsProcessingParameterRasterDestination,
     QgsProcessingParameterString,
 )
+from qgis.PyQt.QtCore import QT_TRANSLATE_NOOP
 
 from ..core import answers
 from ..core.answers import Answers, Table
@@ -28,8 +28,8 @@ from ..core.rasters import Raster, fitted
 from ..core.script import statements_of
 from ..layers import names_of, raster_of
 from ..results import counted_classes, put_legend
-from .base import UNIT_NAMES, UNITS, Parameters, RcellAlgorithm, program_setting
-from .table import raster_layers
+from ..translation import tr
+from .base import AREAS, Parameters, RcellAlgorithm, program_setting
 
 # Rows of a table that the log shows.
 _SHOWN_ROWS = 20
@@ -39,34 +39,43 @@ class ScriptAlgorithm(RcellAlgorithm):
     """Runs a script of map algebra over some rasters."""
 
     NAME = "script"
-    TITLE = "Script of map algebra"
-    SHORT = "Runs a script of r.mapcalc, r.reclass, r.clump, r.stats and r.out.ascii over rasters: a map, a table, or all outputs."
+    TITLE = QT_TRANSLATE_NOOP("rcell", "Script of map algebra")
+    SHORT = QT_TRANSLATE_NOOP("rcell", "Runs a script of r.mapcalc, r.reclass, r.clump, r.stats and r.out.ascii over rasters: a map, a table, or all outputs.")
     TAGS = ("map algebra", "raster calculator", "r.mapcalc", "r.reclass", "r.clump", "r.stats", "expression")
     IS_OF_ONE_RASTER = False
     HELP = (
-        "<p>The script calls the rasters by the names that are given, in their order, or by the names of their layers with "
-        "<code>_</code> for each letter that a name cannot have.</p>"
-        "<p><code>r.mapcalc wet = if(cover == 4 &amp;&amp; slope &lt; 2, 1, null())<br>r.clump -d input=wet output=ponds<br>"
-        "r.stats -c -n input=ponds,zone</code></p>"
-        "<p>The map is the one that is named, or the only one that the script makes; the table is that of its only <code>r.stats</code>. "
-        "The folder has all that the script writes: a table for each <code>r.stats</code>, called by its line, a GeoTIFF for each "
-        "<code>r.out.ascii</code>.</p>"
-        "<p>Where a line is refused the log shows it with a mark under the place. Numbers are whole and never wrap or round.</p>"
+        QT_TRANSLATE_NOOP("rcell", (
+            "<p>The script calls the rasters by the names that are given, in their order, or by the names of their layers "
+            "with <code>_</code> for each letter that a name cannot have.</p>"
+        )),
+        QT_TRANSLATE_NOOP("rcell", (
+            "<p><code>r.mapcalc wet = if(cover == 4 &amp;&amp; slope &lt; 2, 1, null())<br>r.clump -d input=wet "
+            "output=ponds<br>r.stats -c -n input=ponds,zone</code></p>"
+        )),
+        QT_TRANSLATE_NOOP("rcell", (
+            "<p>The map is the one that is named, or the only one that the script makes; the table is that of its only "
+            "<code>r.stats</code>. The folder has all that the script writes: a table for each <code>r.stats</code>, called "
+            "by its line, a GeoTIFF for each <code>r.out.ascii</code>.</p>"
+        )),
+        QT_TRANSLATE_NOOP("rcell", (
+            "<p>Where a line is refused the log shows it with a mark under the place. Numbers are whole and never wrap or "
+            "round.</p>"
+        )),
     )
 
     def initAlgorithm(self, configuration: Any = None) -> None:
         """Declares the parameters."""
-        self.addParameter(QgsProcessingParameterMultipleLayers("INPUT", "Rasters, 1 to 16", QgsProcessing.TypeRaster))
-        self.addParameter(QgsProcessingParameterString("NAMES", "Their names in the script, divided by commas", optional=True))
-        self.addParameter(QgsProcessingParameterString("SCRIPT", "Script", multiLine=True))
-        self.addParameter(QgsProcessingParameterString("MAP", "Map that is wanted (empty: the only one that is made)", optional=True))
-        self.addParameter(QgsProcessingParameterEnum("UNIT", "Areas of the table", UNIT_NAMES, defaultValue=0))
-        self.addParameter(QgsProcessingParameterBoolean("PERCENT", "Percentages of the table", False))
-        self.addParameter(QgsProcessingParameterRasterDestination("OUTPUT", "Map", optional=True, createByDefault=False))
+        self.add_rasters(tr("Rasters, 1 to 16"))
+        self.addParameter(QgsProcessingParameterString("NAMES", tr("Their names in the script, divided by commas"), optional=True))
+        self.addParameter(QgsProcessingParameterString("SCRIPT", tr("Script"), multiLine=True))
+        self.addParameter(QgsProcessingParameterString("MAP", tr("Map that is wanted (empty: the only one that is made)"), optional=True))
+        self.addParameter(QgsProcessingParameterEnum("AREA", tr("Unit of areas of the table"), AREAS, False, AREAS[0], False, True))
+        self.addParameter(QgsProcessingParameterBoolean("PERCENT", tr("Percentages of the table"), False))
+        self.addParameter(QgsProcessingParameterRasterDestination("OUTPUT", tr("Map"), optional=True, createByDefault=False))
         self.addParameter(
-            QgsProcessingParameterFeatureSink("TABLE", "Table", QgsProcessing.TypeVector, optional=True, createByDefault=False))
+            QgsProcessingParameterFeatureSink("TABLE", tr("Table"), QgsProcessing.TypeVector, optional=True, createByDefault=False))
         self.addParameter(
-            QgsProcessingParameterFolderDestination("FOLDER", "Folder for all outputs", optional=True, createByDefault=False))
+            QgsProcessingParameterFolderDestination("FOLDER", tr("Folder for all outputs"), optional=True, createByDefault=False))
         self.add_crs()
 
     def checkParameterValues(self, parameters: Parameters, context: QgsProcessingContext) -> tuple[bool, str]:
@@ -102,7 +111,7 @@ class ScriptAlgorithm(RcellAlgorithm):
 
     def _named_layers(self, parameters: Parameters, context: QgsProcessingContext) -> list[tuple[str, Any]]:
         given = self.parameterAsString(parameters, "NAMES", context)
-        layers = raster_layers(self, parameters, context, [name.strip() for name in given.split(",")])
+        layers = self.raster_layers(parameters, context, [name.strip() for name in given.split(",")])
         return list(zip(names_of(layers, given), layers))
 
     def _check_wanted(self, parameters: Parameters, context: QgsProcessingContext) -> None:
@@ -144,7 +153,7 @@ class ScriptAlgorithm(RcellAlgorithm):
 
     def _measure(self, found: Answers, parameters: Parameters, context: QgsProcessingContext) -> None:
         """Puts areas and percentages into the tables, where they are asked for."""
-        unit = UNITS[self.parameterAsEnum(parameters, "UNIT", context)]
+        unit = self.area(parameters, context)
         percent = self.parameterAsBoolean(parameters, "PERCENT", context)
         if unit or percent:
             measured = {id(table): table.measured(unit, percent, self.rasters[0]) for table in found.tables}

@@ -1,10 +1,10 @@
 # SPDX-License-Identifier: Apache-2.0 OR GPL-2.0-or-later
-"""What the algorithms answer: tables, maps, areas."""
+"""The outputs of scripts: tables and maps."""
 
 from __future__ import annotations
 
 from dataclasses import dataclass, field, replace
-from typing import Any, Iterable, Mapping, Sequence, Union
+from typing import Mapping, Sequence, Union
 
 import numpy as np
 from numpy.typing import NDArray
@@ -14,8 +14,8 @@ from .errors import Refused
 from .program import Output, Watch, execute, judge
 from .rasters import Raster, fitted
 from .script import labels_in, labels_of_rules, statements_of
+from .sizes import UNITS
 
-UNITS = {"m2": 1.0, "ha": 1e4, "km2": 1e6}
 # Of categories that lie within so many each is counted at its place, in place of being sorted.
 _FEW_CATEGORIES = 1 << 20
 Value = Union[int, float, str, None]
@@ -49,7 +49,6 @@ class Table:
     cell_area : float
         In square metres.
     has_percent : bool
-    label_title : str
     """
 
     titles: tuple[str, ...]
@@ -60,7 +59,6 @@ class Table:
     unit: str = ""
     cell_area: float = 1.0
     has_percent: bool = False
-    label_title: str = "{}_label"
 
     def columns(self) -> list[Column]:
         """Each map, its labels, `cells`, areas, `percent`; a title that occurs already has `_2` after it, whatever its case."""
@@ -70,11 +68,11 @@ class Table:
             found.append(Column(title, "whole", [None if code == NULL else code for code in codes]))
             labels = self.labels[place]
             if labels is not None:
-                found.append(Column(self.label_title.format(title), "text", [labels.get(code) for code in codes]))
+                found.append(Column(f"{title}_label", "text", [labels.get(code) for code in codes]))
         if self.cells is not None:
             found.append(Column("cells", "whole", self.cells.tolist()))
             if self.unit:
-                found.append(Column(self.unit, "real", (self.cells * self.cell_area / UNITS[self.unit]).tolist()))
+                found.append(Column(f"area_{self.unit}", "real", (self.cells * self.cell_area / UNITS[self.unit]).tolist()))
             if self.has_percent:
                 found.append(Column("percent", "real", (self.cells * 100.0 / max(int(self.cells.sum()), 1)).tolist()))
         titles = unique([column.title for column in found])
@@ -149,7 +147,8 @@ def check_area(first: Raster) -> None:
         Where the map is in degrees.
     """
     if first.is_geographic:
-        raise Refused("area= needs a map in metres or feet: in degrees the area of a cell differs from row to row")
+        raise Refused("area= needs a map in metres or feet: in degrees the area of a cell differs from row to row; "
+                      "rcell:composition, rcell:cross, rcell:change and rcell:patches weigh each row")
 
 
 # Scripts
@@ -211,14 +210,6 @@ def _answer(output: Output, labels: Mapping[str, Mapping[int, str]], maps: Mappi
     )
 
 
-def table(program: str, rasters: Sequence[Raster], nulls: bool, watch: Watch | None = None) -> Table:
-    """How many cells each combination of categories has; columns of labels where a map has labels."""
-    maps = {f"map_{place}": raster for place, raster in enumerate(rasters, 1)}
-    script = f"r.stats -c{'' if nulls else 'n'} input={','.join(maps)}"
-    found = run(program, script, maps, watch=watch).tables[0]
-    return replace(found, labels=tuple(raster.labels or None for raster in rasters))
-
-
 def grid(program: str, script: str, name: str, raster: Raster, watch: Watch | None = None) -> Grid:
     """A map that a script makes of one map, which it calls `map`."""
     return run(program, script, {"map": raster}, [name], watch).grids[-1]
@@ -243,98 +234,3 @@ def reclass(program: str, raster: Raster, rules: str, watch: Watch | None = None
             raise
         raise type(refusal)(refusal.text, "rules", refusal.line - 1, refusal.status, refusal.content, advice=refusal.advice) from None
     return replace(made, labels=labels_of_rules(lines))
-
-
-def mode(program: str, raster: Raster, size: int, is_filled: bool = False, watch: Watch | None = None) -> Grid:
-    """The commonest category of the square around each cell: nulls and what is off the map left out, the least where several are.
-
-    A cell that is null stays null, unless `is_filled`.
-    """
-    reach = size // 2
-    around = (f"map[{row},{col}]" for row in range(-reach, reach + 1) for col in range(-reach, reach + 1))
-    commonest = f"nmode({','.join(around)})"
-    script = f"r.mapcalc commonest = {commonest if is_filled else f'if(isnull(map), null(), {commonest})'}"
-    made = grid(program, script, "commonest", raster, watch)
-    return replace(made, labels=raster.labels)
-
-
-# Areas
-
-
-@dataclass(frozen=True)
-class Areas:
-    """The connected areas of a map.
-
-    Attributes
-    ----------
-    grid : Grid
-        Their numbers, 0 where there is none; those that were left out are 0 too, and the others keep their numbers.
-    numbers, categories, cells : array of int64
-        Of each area that was kept.
-    """
-
-    grid: Grid
-    numbers: NDArray[np.int64]
-    categories: NDArray[np.int64]
-    cells: NDArray[np.int64]
-
-    def table(self, raster: Raster) -> Table:
-        """`area`, `category`, `label` where the map has labels, `cells`, and `ha` where it is not in degrees."""
-        found = Table(
-            titles=("area", "category"),
-            categories=np.column_stack([self.numbers, self.categories]),
-            cells=self.cells,
-            labels=(None, raster.labels or None),
-            label_title="label",
-        )
-        return found if raster.is_geographic else found.measured("ha", False, raster)
-
-
-def areas(program: str, raster: Raster, diagonal: bool, least: int = 1, classes: Iterable[int] | None = None,
-          watch: Watch | None = None) -> Areas:
-    """The connected areas of a map, numbered in the order of their first cells.
-
-    Parameters
-    ----------
-    program, raster
-    diagonal : bool
-        Whether cells that touch at a corner are connected too.
-    least : int
-        Areas of fewer cells are left out.
-    classes : iterable of int, optional
-        Only areas of these categories.
-    watch : Watch, optional
-    """
-    script = f"r.clump{' -d' if diagonal else ''} input={'map' if classes is None else 'kept'} output=areas"
-    if classes is not None:
-        rules = "\n".join(f"{category} = {category}" for category in classes)
-        script = f"r.reclass input=map output=kept\n{rules}\nend\n{script}"
-    found = run(program, script, {"map": raster}, ["areas", "map"] if raster.is_text else ["areas"], watch).grids
-    numbers = found[0].cells
-    numbers[numbers == NULL] = 0
-    cells = np.bincount(numbers.reshape(-1))[1:].astype(np.int64)
-    blocks: Iterable[NDArray[Any]] = [found[1].cells] if raster.is_text else (block for block, _ in raster.blocks())
-    categories = _at(_first_cells(numbers), blocks)
-    is_kept = np.concatenate([[False], cells >= least])
-    kept = np.flatnonzero(is_kept)
-    if kept.size < cells.size:
-        numbers = np.where(is_kept[numbers], numbers, np.int32(0))
-    return Areas(Grid("areas", numbers, 0), kept, categories[kept - 1], cells[kept - 1])
-
-
-def _first_cells(numbers: NDArray[np.int32]) -> NDArray[np.intp]:
-    """The first cell of each area: where the greatest number so far rises, since numbers are in the order of first cells."""
-    greatest = np.maximum.accumulate(numbers.reshape(-1))
-    rises = np.flatnonzero(greatest[1:] != greatest[:-1]) + 1
-    return np.concatenate([np.zeros(int(greatest[0] > 0), np.intp), rises])
-
-
-def _at(places: NDArray[np.intp], blocks: Iterable[NDArray[Any]]) -> NDArray[np.int64]:
-    """The cells at ascending places of a map that comes in blocks of rows."""
-    found = np.empty(places.size, np.int64)
-    before = known = 0
-    for cells in blocks:
-        until = int(np.searchsorted(places, before + cells.size))
-        found[known:until] = cells.reshape(-1)[places[known:until] - before]
-        before, known = before + cells.size, until
-    return found

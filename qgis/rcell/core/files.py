@@ -16,6 +16,7 @@ from numpy.typing import NDArray
 from osgeo import gdal, ogr
 
 from .answers import Column, Table
+from .counting import Answer
 from .errors import RcellError, Refused, WriteFailed
 from .front.files import Output, is_same_file
 from .labels import put_labels
@@ -104,7 +105,7 @@ def is_file_of_table(path: str) -> bool:
     return os.path.splitext(path)[1].lower() in (".csv", ".gpkg")
 
 
-def write_table(path: str, table: Table, check: Check = _no_check) -> None:
+def write_table(path: str, table: Table | Answer, check: Check = _no_check) -> None:
     """Writes a table as comma-separated values or as a GeoPackage, by the ending of the path.
 
     Now and then `check` is called; what it raises ends the writing.

@@ -169,6 +169,11 @@ class Raster:
         """The area of a cell in square metres."""
         return abs(self.geotransform[1] * self.geotransform[5]) * self.metres**2
 
+    def stated(self, crs: str) -> Raster:
+        """The map with a stated reference system, if it has none."""
+        system = Crs.of_wkt(crs)
+        return self if self.crs or not crs else replace(self, crs=system.wkt, is_geographic=system.is_geographic, metres=system.metres)
+
     def blocks(self, warn: Warn | None = None, most_rows: int | None = None) -> Iterator[tuple[Cells, Mask | None]]:
         """Its rows from north to south: cells of one, two or four bytes, and where they are null.
 
@@ -283,15 +288,20 @@ def fitted(rasters: Sequence[Raster], stated: str = "") -> list[Raster]:
     ------
     OtherCrs, OtherRegion
     """
-    _check_crs(rasters, stated)
-    system = Crs.of_wkt(stated)
-    found = [raster if raster.crs or not stated else replace(raster, crs=system.wkt, is_geographic=system.is_geographic, metres=system.metres)
-             for raster in rasters]
+    check_crs(rasters, stated)
+    found = [raster.stated(stated) for raster in rasters]
     check_regions(found)
     return found
 
 
-def _check_crs(rasters: Sequence[Raster], stated: str) -> None:
+def check_crs(rasters: Sequence[Raster], stated: str = "") -> None:
+    """All maps of a run have one reference system.
+
+    Raises
+    ------
+    OtherCrs
+        Where two have different ones, or one has none.
+    """
     first = next((raster for raster in rasters if raster.crs), None)
     if first is None:
         return
@@ -320,7 +330,15 @@ def check_regions(rasters: Sequence[Raster]) -> None:
         if raster.region != first.region:
             told = "; ".join(first.region.differences(raster.region))
             text = f"not of the region of `{first.name}`, and nothing is resampled: {told}"
-            raise OtherRegion(raster.name, f"{text}\n  {first.name}: {first.region}\n  {raster.name}: {raster.region}")
+            raise OtherRegion(raster.name, f"{text}\n  {first.name}: {first.region}\n  {raster.name}: {raster.region}\n  try: {_align_call(first, raster)}")
+
+
+def _align_call(first: Raster, raster: Raster) -> str:
+    """The call that puts a map onto the grid of the first of a run."""
+    from .align import is_of_whole_cells
+
+    resample = "" if is_of_whole_cells(raster, first) else " and RESAMPLE nearest"
+    return f'rcell:align with INPUT "{raster.name}", TO "{first.name}"{resample}'
 
 
 def _are_null(values: Cells, ranges: NullRanges) -> Mask:

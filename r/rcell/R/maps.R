@@ -20,8 +20,14 @@ sources_of <- function(dots, maps, crs = NULL) {
   twice <- names(given)[duplicated(names(given))]
   if (length(twice)) refuse(sprintf("the map %s is given twice", twice[[1]]), status = 2L)
   check_names(names(given))
+  fitted_sources(Map(source_of, names(given), given), crs)
+}
+
+# Sources of one reference system and one region, by their names.
+fitted_sources <- function(sources, crs) {
   stated <- stated_crs(crs)
-  sources <- lapply(Map(source_of, names(given), given), with_stated, stated)
+  sources <- lapply(sources, with_stated, stated)
+  names(sources) <- vapply(sources, function(source) source$name, "")
   check_crs(sources, stated)
   check_regions(sources)
   sources
@@ -37,7 +43,7 @@ check_names <- function(names) {
 
 source_of <- function(name, given) {
   if (inherits(given, "SpatRaster")) return(raster_source(name, given))
-  if (is.character(given) && length(given) == 1L && !is.na(given)) return(path_source(name, given))
+  if (is.character(given) && length(given) == 1L && !is.na(given)) return(c(path_source(name, given), given = given))
   if (is.matrix(given) && (is.numeric(given) || is.logical(given))) return(matrix_source(name, given))
   bad_map(name, sprintf("neither a path nor a SpatRaster nor a matrix of numbers, but a %s", class(given)[[1]]))
 }
@@ -221,6 +227,13 @@ send_map <- function(source, path) {
     return(invisible())
   }
   write_text(c(header_of(source$region), ""), path)
+  each_block(source, function(cells) tryCatch(
+    fwrite(list(cells), path, append = TRUE, eol = " ", na = "*", col.names = FALSE, quote = FALSE, showProgress = FALSE),
+    error = function(e) write_failed(path, conditionMessage(e))))
+}
+
+# Calls a function with the cells of each block of rows of a raster, as whole numbers.
+each_block <- function(source, use) {
   raster <- source$raster
   is_exact <- is_exact_type(raster)
   is_float <- datatype(raster) %in% "FLT4S"
@@ -232,10 +245,19 @@ send_map <- function(source, path) {
     cells <- read_block(source, row, min(count, source$region$rows - row + 1L))
     whole <- if (is_exact) as.integer(cells) else whole_cells(source, cells, row)
     if (is_float && any(abs(whole) > EXACT_FLOAT, na.rm = TRUE)) is_float <- warn_of_floats(source$name)
-    tryCatch(
-      fwrite(list(whole), path, append = TRUE, eol = " ", na = "*", col.names = FALSE, quote = FALSE, showProgress = FALSE),
-      error = function(e) write_failed(path, conditionMessage(e)))
+    use(whole)
   }
+}
+
+# All cells of a map, row by row; the program reads a map of its own form.
+all_cells <- function(source, program = NULL) {
+  if (is.null(source$raster)) {
+    own <- list(map = replace(source, "name", "map"))
+    return(run_script("r.out.ascii input=map", own, function(answer) cells_of(answer, 1L), program = program))
+  }
+  blocks <- list()
+  each_block(source, function(cells) blocks[[length(blocks) + 1L]] <<- cells)
+  unlist(blocks)
 }
 
 warn_of_floats <- function(name) {

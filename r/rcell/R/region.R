@@ -71,8 +71,8 @@ check_regions <- function(sources) {
   for (source in known[-1]) {
     if (identical(source$region, first$region)) next
     told <- paste(differences(first$region, source$region), collapse = "; ")
-    text <- sprintf("not of the region of `%s`, and nothing is resampled: %s\n  %s: %s\n  %s: %s",
-      first$name, told, first$name, told_region(first$region), source$name, told_region(source$region))
+    text <- sprintf("not of the region of `%s`, and nothing is resampled: %s\n  %s: %s\n  %s: %s\n  try: %s",
+      first$name, told, first$name, told_region(first$region), source$name, told_region(source$region), align_call(first, source))
     bad_map(source$name, text, class = "rcell_other_region")
   }
 }

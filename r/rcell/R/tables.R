@@ -1,31 +1,5 @@
 # SPDX-License-Identifier: Apache-2.0 OR GPL-2.0-or-later
-# What a table gets beside its counts: areas, percentages, the shape of a matrix.
-
-UNITS <- c(m2 = 1, ha = 1e4, km2 = 1e6)
-
-check_unit <- function(area) {
-  if (is.null(area)) return(invisible())
-  if (!is.character(area) || length(area) != 1L || !(area %in% names(UNITS))) {
-    refuse(sprintf("area= is one of %s, and not %s", paste(names(UNITS), collapse = ", "), paste(format(area), collapse = " ")), status = 2L)
-  }
-}
-
-is_in_degrees <- function(template) isTRUE(suppressWarnings(is.lonlat(template)))
-
-# How many metres the unit of the map has; 1 where nothing is known of it.
-metres_of_unit <- function(template) {
-  metres <- if (nzchar(crs(template))) suppressWarnings(linearUnits(template)) else NA_real_
-  if (is.na(metres) || metres <= 0) 1 else metres
-}
-
-# The areas of so many cells in the unit asked for: divided last, so that they print as short as they are.
-areas_of <- function(cells, template, unit) {
-  if (is_in_degrees(template)) {
-    refuse(paste0("area= needs a map in metres or feet: in degrees the area of a cell differs from row to row. Weigh the rows: count by ",
-      "`r.mapcalc row = row()` and `r.stats -c input=row,MAP`, and multiply the cells of each row by the area of its cells"))
-  }
-  cells * (prod(res(template)) * metres_of_unit(template)^2) / UNITS[[unit]]
-}
+# What a table gets next to its counts: areas, percentages, the shape of a matrix.
 
 # A table with the columns that are asked for, or as a matrix.
 finished <- function(table, answer, statement, area, percent, wide) {
@@ -36,9 +10,9 @@ finished <- function(table, answer, statement, area, percent, wide) {
   if (wide && length(statement$maps) != 2L) {
     refuse(sprintf("wide= needs a table of two maps, and this one has %d", length(statement$maps)), "script", statement$line)
   }
-  if (!is.null(area)) table[[area]] <- areas_of(table$cells, answer$template, area)
+  if (!is.null(area)) table[[area_title(area)]] <- areas_of(table$cells, answer$template, area)
   if (percent) table$percent <- 100 * table$cells / sum(as.numeric(table$cells))
-  if (wide) wide_of(table, statement, if (percent) "percent" else if (!is.null(area)) area else "cells") else table
+  if (wide) wide_of(table, statement, if (percent) "percent" else if (!is.null(area)) area_title(area) else "cells") else table
 }
 
 # A table of two maps as a matrix with the labels, or else the categories, as its names; null is last.

@@ -4,8 +4,8 @@
 \docType{package}
 \title{Tables, Patches and Overlays of Land Cover by the Proved Program rcell}
 \description{
-Counts, cross tables, connected areas with sizes and perimeters, adjacency matrices, reclassifications and map algebra of rasters
-of whole numbers. Rasters of \pkg{terra} go in; data frames and rasters of \pkg{terra} come out; every number is counted by the
+The composition of maps, cross tables, change between years, patches with sizes and perimeters, statistics by zone, majorities,
+alignment, adjacency matrices, reclassifications and map algebra of rasters of whole numbers. Rasters of \pkg{terra} go in; data frames and rasters of \pkg{terra} come out; every number is counted by the
 program rcell, which is proved from the bytes of its input to the bytes of its output. What the package adds is tested and not
 proved: that a raster becomes the text of the same cells, that numbers are read back as they were written, and that labels, areas
 and percentages are joined to the right rows.
@@ -35,7 +35,8 @@ All errors are of the class \code{rcell_error}, and of one of these:
 \code{rcell_bad_map} \tab a map is not one of whole numbers, is rotated, has several layers; fields \code{name}, \code{row},
 \code{column}, \code{value}; also \code{rcell_refused} \cr
 \code{rcell_other_crs} \tab a map has another coordinate reference system than the first, or none; also \code{rcell_bad_map} \cr
-\code{rcell_other_region} \tab a map has another extent or size than the first; also \code{rcell_bad_map} \cr
+\code{rcell_other_region} \tab a map has another extent or size than the first; also \code{rcell_bad_map}. The last line of the
+message is a call of \code{\link{rcell_align}} to paste \cr
 \code{rcell_read_failed} \tab a file cannot be opened, or a part of it is broken; also \code{rcell_bad_map} \cr
 \code{rcell_out_of_memory} \tab the program had no memory; also \code{rcell_refused} \cr
 \code{rcell_killed} \tab the program was ended by a signal (field \code{signal}) \cr
@@ -48,8 +49,9 @@ being written is removed also if R itself is killed, and only R's own temporary 
 its end.
 }
 \seealso{
-\code{\link{rcell_table}}, \code{\link{rcell_run}}, \code{\link{rcell_grid}}, \code{\link{rcell_areas}}, \code{\link{rcell_patches}},
-\code{\link{rcell_adjacency}}, \code{\link{rcell_crosstab}}, \code{\link{rcell_program}}
+\code{\link{rcell_composition}}, \code{\link{rcell_cross}}, \code{\link{rcell_change}}, \code{\link{rcell_patches}}, \code{\link{rcell_zonal}},
+\code{\link{rcell_majority}}, \code{\link{rcell_align}}, \code{\link{rcell_adjacency}}; scripts: \code{\link{rcell_table}},
+\code{\link{rcell_run}}, \code{\link{rcell_grid}}; \code{\link{rcell_program}}
 }
 \examples{
 lc <- matrix(c(1, 1, 2, 3, 2, 2), 2, byrow = TRUE)

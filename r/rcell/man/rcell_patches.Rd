@@ -1,25 +1,36 @@
 \name{rcell_patches}
 \alias{rcell_patches}
 \title{The Patches of a Map}
-\description{The connected areas of every class, with their sizes and perimeters.}
+\description{List the patches of every class, with their sizes, perimeters, cores and outlines.}
 \usage{
-rcell_patches(x, connectivity = 4, area = "ha", crs = NULL, program = NULL)
+rcell_patches(x, connectivity = 4, area = "ha", zones = NULL, classes = NULL,
+              least = NULL, core_depth = 1, labels = NULL, zone_labels = NULL,
+              zone_field = NULL, crs = NULL, program = NULL)
 }
 \arguments{
 \item{x}{a map: a \code{SpatRaster}, a path or a matrix; see \code{\link{rcell-package}}.}
 \item{connectivity}{4: cells are connected by edges; 8: by edges and corners.}
-\item{area}{the unit of the areas: \code{"m2"}, \code{"ha"} or \code{"km2"}.}
+\item{area}{as in \code{\link{rcell_composition}}; with \code{NULL}, there is \code{core_cells}.}
+\item{classes}{only patches of these classes have a row.}
+\item{least}{only patches of at least so many cells have a row.}
+\item{core_depth}{how many steps a core cell is away from all other patches, 1 to 20.}
+\item{zones, labels, zone_labels, zone_field}{as in \code{\link{rcell_composition}}.}
 \item{crs, program}{as in \code{\link{rcell_run}}.}
 }
+\details{
+A patch has the number that r.clump gives it in the full map, even if other rows are left out. The map of these numbers is
+\code{rcell_grid("r.clump input=x output=p", "p", x = x)}, with \code{-d} for a connectivity of 8.
+}
 \value{
-A data frame with a row for each patch, ordered by class and then by patch:
-\item{class}{the category}
-\item{label}{its label, where the map has labels}
-\item{patch}{the number of the patch, as in the map of \code{\link{rcell_areas}} with the same \code{connectivity}}
-\item{cells}{how many cells it has}
-\item{area}{its area; \code{NA} for a map in degrees}
-\item{perimeter}{the length of all edges of its cells that border on another patch, on null or on the end of the map, holes
-included, in metres; \code{NA} for a map in degrees}
+A data frame with a row for each patch, ordered by their numbers:
+\item{patch, class, label}{its number, its class, and the label if the map has any}
+\item{cells, area_ha}{its size, in cells and in the unit asked for}
+\item{perimeter_m}{the length of its sides to other patches, to cells without data and to the edge of the map, holes included, in metres;
+\code{NA} in degrees, with a warning}
+\item{core_ha}{the area of its core: of the cells whose neighbours within \code{core_depth} steps, each to one of four
+neighbours, are all of the patch}
+\item{west, south, east, north}{the edges of its bounding box}
+\item{zone, zone_label}{the zone in which most of its cells lie, the smaller of two; \code{NA} if none does}
 }
 \examples{
 lc <- matrix(c(5, 7, 5, 5, 5, 7), 2, byrow = TRUE)

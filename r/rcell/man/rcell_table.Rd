@@ -9,9 +9,9 @@ rcell_table(.script, ..., area = NULL, percent = FALSE, wide = FALSE,
 \arguments{
 \item{.script}{a line \code{r.stats ..}, or a script that has one or more of them.}
 \item{...}{maps by name, as \code{lc = "landcover.tif"}; see \code{\link{rcell-package}}.}
-\item{area}{\code{"m2"}, \code{"ha"} or \code{"km2"}: adds a column of areas with this name, the number of cells times the size of a
-cell in the unit of the reference system. A map in degrees is an error: there the area of a cell differs from row to row. One without
-a reference system is taken to be in metres.}
+\item{area}{\code{"m2"}, \code{"ha"} or \code{"km2"}: adds a column \code{area_m2}, \code{area_ha} or \code{area_km2}, the number of cells times
+the size of a cell. A map in degrees is an error: there the area of a cell differs from row to row, and \code{\link{rcell_composition}} and
+\code{\link{rcell_cross}} weigh each row. A map without a reference system is taken to be in metres.}
 \item{percent}{adds a column of percentages of all cells of the table.}
 \item{wide}{returns a table of two maps as a matrix: of percentages or areas if you ask for them, else of cells.}
 \item{crs, maps, program}{as in \code{\link{rcell_run}}.}

@@ -52,3 +52,9 @@ leftovers <- function() list.files(tempdir(), pattern = "^rcell-", all.files = T
 
 # Whether a raster has the reference system of a file.
 same_crs_of <- function(map, path) identical(crs(map), crs(rast(path)))
+
+# The surface of an ellipsoid, by its major axis and its inverse flattening.
+surface <- function(major, inverse) {
+  e2 <- (2 - 1 / inverse) / inverse
+  2 * pi * major^2 * (1 + (1 - e2) * atanh(sqrt(e2)) / sqrt(e2))
+}

@@ -77,7 +77,7 @@ expect_identical(class(other)[1:3], c("rcell_other_crs", "rcell_bad_map", "rcell
 expect_identical(other[c("source", "status")], list(source = "b", status = 1L))
 expect_identical(other$text, paste("its coordinate reference system is EPSG:31467 (DHDN / 3-degree Gauss-Kruger zone 3), and that of `a` is",
   "EPSG:25832 (ETRS89 / UTM zone 32N): reproject one of them first, as with terra::project or gdalwarp -t_srs EPSG:25832"))
-expect_inherits(refusal(rcell_crosstab(plain, gauss)), "rcell_other_crs")
+expect_inherits(refusal(rcell_cross(a = plain, b = gauss)), "rcell_other_crs")
 expect_inherits(refusal(both(plain, write_vrt("far.vrt", crs = "EPSG:31467", transform = "0, 1, 0, 2, 0, -1"))), "rcell_other_crs")
 lacking <- paste("it has no coordinate reference system, and `%s` has EPSG:25832 (ETRS89 / UTM zone 32N):",
   "state it with crs=\"EPSG:25832\"")
@@ -90,7 +90,7 @@ expect_inherits(refusal(both(plain, bare, crs = "EPSG:31467")), "rcell_other_crs
 expect_identical(refusal(counts(plain, crs = "nonsense"))[c("source", "status", "text")],
   list(source = "arguments", status = 2L, text = "crs= is no coordinate reference system: 'nonsense'"))
 expect_identical(refusal(counts(plain, crs = 25832))$status, 2L)
-expect_inherits(refusal(rcell_crosstab(plain, matrix(1, 2, 2), crs = "EPSG:25832")), "rcell_other_region")
+expect_inherits(refusal(rcell_cross(a = plain, b = matrix(1, 2, 2), crs = "EPSG:25832")), "rcell_other_region")
 
 # One system, however it is spelled: with and without its code.
 unnamed <- sub(",[^,]*ID\\[\"EPSG\",25832\\]\\]$", "]", crs(rast(plain)))
@@ -101,22 +101,21 @@ expect_identical(nrow(both(plain, spelled)), 3L)
 
 # terra takes a map without a system within 180 by 90 for one in degrees: here it has none, read or written.
 near <- write_vrt("near.vrt", transform = "0, 1, 0, 2, 0, -1", crs = "")
-expect_identical(counts(near, area = "m2")$m2, c(1, 2, 1))
+expect_identical(counts(near, area = "m2")$area_m2, c(1, 2, 1))
 written <- rcell_grid("", "x", x = near, filename = file("written.tif"))
 expect_identical(crs(written), "")
 expect_false(any(grepl("Coordinate System", describe(file("written.tif")))))
-expect_identical(rcell_table("r.stats -c input=x", x = written, area = "m2")$m2, c(1, 2, 1))
-expect_identical(rcell_patches(near, area = "m2")$area, c(1, 1, 1, 1))
+expect_identical(rcell_table("r.stats -c input=x", x = written, area = "m2")$area_m2, c(1, 2, 1))
+expect_identical(rcell_patches(near, area = "m2")$area_m2, c(1, 1, 1, 1))
 
 # Hectares are what they print: 74183 cells of 30 m are 6676.47 ha.
 many <- rast(nrows = 269, ncols = 277, xmin = 0, xmax = 277 * 30, ymin = 0, ymax = 269 * 30, crs = "EPSG:25832", vals = rep(1:2, c(74183, 330)))
-expect_identical(rcell_table("r.stats -c input=x", x = many, area = "ha")$ha[[1]], 6676.47)
-expect_identical(rcell_patches(many)$area[[1]], 6676.47)
+expect_identical(rcell_table("r.stats -c input=x", x = many, area = "ha")$area_ha[[1]], 6676.47)
+expect_identical(rcell_patches(many)$area_ha[[1]], 6676.47)
 
-# One default for the map of patches and for their sizes.
+# One default for the map of patches and for their sizes: that of r.clump.
 board <- matrix(c(1, 2, 1, 2, 1, 2, 1, 2, 3), 3)
-expect_equal(max(values(rcell_areas(board), mat = FALSE)), max(rcell_patches(board)$patch))
-expect_identical(names(formals(rcell_areas))[[2]], "connectivity")
+expect_equal(max(values(rcell_grid("r.clump input=x output=p", "p", x = board), mat = FALSE)), max(rcell_patches(board)$patch))
 expect_identical(formals(rcell_patches)$connectivity, 4)
 
 # The script is judged before a map is looked for, and the word that is no option is named.

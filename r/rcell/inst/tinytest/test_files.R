@@ -21,14 +21,14 @@ expect_identical(sort(list.files(room, all.files = TRUE, no.. = TRUE)), c("kind.
 rcell_grid("r.mapcalc x = 16777216 + lc", "x", lc = lc, filename = file("great.tif"))
 expect_equal(values(rast(file("great.tif")), mat = FALSE), values(lc, mat = FALSE) + 16777216)
 
-# Areas, and a file that is there already.
-rcell_areas(lc, filename = file("areas.tif"))
-expect_equivalent(as_rows(rast(file("areas.tif"))), as_rows(rcell_areas(lc)))
-before <- tools::md5sum(file("areas.tif"))
-expect_inherits(refusal(rcell_areas(lc, 8, filename = file("areas.tif"))), "rcell_write_failed")
-expect_identical(tools::md5sum(file("areas.tif")), before)
-rcell_areas(lc, 8, filename = file("areas.tif"), overwrite = TRUE)
-expect_equivalent(as_rows(rast(file("areas.tif"))), as_rows(rcell_areas(lc, 8)))
+# A majority, and a file that is there already.
+rcell_majority(lc, filename = file("majority.tif"))
+expect_equivalent(as_rows(rast(file("majority.tif"))), as_rows(rcell_majority(lc)))
+before <- tools::md5sum(file("majority.tif"))
+expect_inherits(refusal(rcell_majority(lc, 5, filename = file("majority.tif"))), "rcell_write_failed")
+expect_identical(tools::md5sum(file("majority.tif")), before)
+rcell_majority(lc, 5, filename = file("majority.tif"), overwrite = TRUE)
+expect_equivalent(as_rows(rast(file("majority.tif"))), as_rows(rcell_majority(lc, 5)))
 rcell_grid("", "lc", lc = lc, filename = file("kind.tif"), overwrite = TRUE)
 expect_false(file.exists(file("kind.tif.aux.xml")))
 

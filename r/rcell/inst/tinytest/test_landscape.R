@@ -9,7 +9,21 @@ maps <- list(
 real <- system.file("extdata", "country.tif", package = "rcell")
 if (nzchar(real)) maps$real <- setValues(rast(rast(real)), values(rast(real), mat = FALSE))
 
-# The areas of a map by a flood of its cells in plain R, numbered by their first cells.
+# Whether all cells of the diamond around a cell are of its patch.
+is_core <- function(numbers, depth) {
+  rows <- row(numbers)
+  cols <- col(numbers)
+  found <- !is.na(numbers)
+  for (down in -depth:depth) for (right in -(depth - abs(down)):(depth - abs(down))) {
+    is_in <- rows + down >= 1 & rows + down <= nrow(numbers) & cols + right >= 1 & cols + right <= ncol(numbers)
+    there <- cbind(as.vector(rows + down), as.vector(cols + right))[is_in, , drop = FALSE]
+    found[!is_in] <- FALSE
+    found[is_in] <- found[is_in] & numbers[there] %in% numbers & (numbers[there] == numbers[is_in]) %in% TRUE
+  }
+  found
+}
+
+# The patches of a map by a flood of its cells in plain R, numbered by their first cells.
 flooded <- function(map, connectivity) {
   cells <- as_rows(map)
   found <- matrix(NA_integer_, nrow(cells), ncol(cells))
@@ -38,39 +52,51 @@ flooded <- function(map, connectivity) {
   found
 }
 
+clumped <- function(map, connectivity) rcell_grid(sprintf("r.clump%s input=x output=p", if (connectivity == 8) " -d" else ""), "p", x = map)
+
 for (name in names(maps)) for (connectivity in c(4, 8)) {
   map <- maps[[name]]
   info <- paste(name, connectivity)
-  areas <- rcell_areas(map, connectivity)
-  numbers <- as_rows(areas)
+  patches <- clumped(map, connectivity)
+  numbers <- as_rows(patches)
   if (ncell(map) <= 1200) expect_equal(numbers, flooded(map, connectivity), info = info)
-  expect_true(compareGeom(areas, map), info = info)
+  expect_true(compareGeom(patches, map), info = info)
 
   # Class by class they are the patches of terra, which has none by values; the numbers are its own within a class. (A map of one
   # cell it numbers otherwise.)
   if (ncell(map) > 1) for (class in unique(na.omit(values(map, mat = FALSE)))) {
-    of_class <- as_rows(rcell_areas(map, connectivity, classes = class))
+    of_class <- as_rows(clumped(ifel(map == class, class, NA), connectivity))
     terras <- as_rows(patches(map == class, directions = connectivity, zeroAsNA = TRUE, allowGaps = FALSE))
     expect_equal(of_class, terras, info = paste(info, class))
   }
 
-  # Sizes, areas, classes, perimeters.
+  # Numbers, classes, sizes, areas, perimeters, outlines; the polygons of terra have the last two as well.
   found <- rcell_patches(map, connectivity)
-  expect_identical(names(found), c("class", "patch", "cells", "area", "perimeter"), info = info)
-  expect_identical(found$cells, tabulate(numbers)[found$patch], info = info)
-  expect_equal(found$area, found$cells * prod(res(map)) / 1e4, info = info)
+  expect_identical(names(found), c("patch", "class", "cells", "area_ha", "perimeter_m", "core_ha", "west", "south", "east", "north"), info = info)
+  expect_identical(found$patch, seq_len(max(numbers, na.rm = TRUE)), info = info)
+  expect_identical(found$cells, tabulate(numbers), info = info)
+  expect_equal(found$area_ha, found$cells * prod(res(map)) / 1e4, info = info)
   expect_equal(found$class, as_rows(map)[match(found$patch, numbers)], info = info)
-  expect_identical(order(found$class, found$patch), seq_len(nrow(found)), info = info)
-  expect_equal(found$perimeter[order(found$patch)], perim(as.polygons(areas)), info = info)
+  shapes <- as.polygons(patches)
+  expect_equal(found$perimeter_m, perim(shapes), info = info)
+  expect_equal(as.matrix(found[c("west", "east", "south", "north")]),
+    t(sapply(seq_along(shapes), function(at) as.vector(ext(shapes[at])))), check.attributes = FALSE, info = info)
+
+  # Core cells by erosion: all cells of the diamond around them are of the patch.
+  for (depth in c(1, 3)) {
+    core <- rcell_patches(map, connectivity, area = NULL, core_depth = depth)$core_cells
+    expect_identical(core, tabulate(numbers[is_core(numbers, depth)], max(numbers, na.rm = TRUE)), info = paste(info, depth))
+  }
 }
 
-# The areas that are few are left out, and the others keep their numbers.
-all <- rcell_areas(maps$patchy, 8)
-large <- rcell_areas(maps$patchy, 8, least = 30)
-sizes <- tabulate(values(all, mat = FALSE))
-expect_equal(values(large, mat = FALSE), ifelse(sizes[values(all, mat = FALSE)] >= 30, values(all, mat = FALSE), NA))
+# Rows that are left out change no number; the zone is that of most cells, the smaller of two.
+all <- rcell_patches(maps$patchy, 8)
+expect_equal(rcell_patches(maps$patchy, 8, least = 30, classes = c(2, 5)), all[all$cells >= 30 & all$class %in% c(2, 5), ], check.attributes = FALSE)
+zones <- made_map(60, 50, 4, seed = 21)
+zoned <- rcell_patches(maps$patchy, 8, zones = zones)
+counts <- table(as_rows(clumped(maps$patchy, 8)), factor(as_rows(zones), 1:4))
+expect_identical(zoned$zone, as.integer(unname(ifelse(rowSums(counts) == 0, NA, max.col(counts, "first")))))
 expect_identical(nrow(rcell_patches(matrix(NA_real_, 2, 2))), 0L)
-expect_true(all(is.na(values(rcell_areas(matrix(NA_real_, 2, 2))))))
 
 # Adjacency: each pair of cells that share an edge, both ways, as tables of the shifted matrix count it.
 shifted <- function(map) {
@@ -95,45 +121,33 @@ edges <- sum(rcell_adjacency(map)[upper.tri(diag(length(unique(values(map)))))])
 outline <- 2 * (nrow(map) + ncol(map)) * 30
 expect_equal(edges, (sum(perim(as.polygons(map))) - outline) / 2)
 
-# Cross tables.
-other <- made_map(30, 40, 5, TRUE, seed = 11)
-mine <- rcell_crosstab(maps$noise, other)
-theirs <- as.data.frame(crosstab(c(maps$noise, other), long = TRUE))
-theirs <- theirs[order(theirs[[1]], theirs[[2]]), ]
-expect_equivalent(as.matrix(mine), as.matrix(theirs[theirs[[3]] > 0, ]))
-all_cells <- rcell_crosstab(maps$noise, other, useNA = TRUE)
-expect_identical(sum(all_cells$cells), 1200L)
-codes <- table(values(maps$noise, mat = FALSE), values(other, mat = FALSE), useNA = "ifany")
-expect_equivalent(all_cells$cells, as.vector(t(codes))[as.vector(t(codes)) > 0])
-if (nzchar(real)) {
-  sides <- rast(file.path(dirname(real), "hemisphere.tif"))
-  theirs <- as.data.frame(crosstab(c(maps$real, setValues(rast(sides), values(sides, mat = FALSE))), long = TRUE))
-  theirs <- theirs[order(theirs[[1]], theirs[[2]]), ]
-  expect_equivalent(as.matrix(rcell_crosstab(maps$real, sides)[c("x", "y", "cells")]), as.matrix(theirs[theirs[[3]] > 0, ]))
-}
 frequencies <- freq(maps$noise)
 expect_equivalent(rcell_table("r.stats -cn input=x", x = maps$noise)$cells, as.integer(frequencies[, "count"]))
 expect_identical(rcell_table("r.stats -c input=x", x = maps$noise)$cells[[4]], as.integer(freq(maps$noise, value = NA)[, "count"]))
 
-# The majority of nine cells, nulls left out, the least of those that are equal: as a function of R has it.
-majority <- function(cells) {
-  if (all(is.na(cells))) NA else which.max(tabulate(cells))
+# The majority of a window, nulls left out, ties to the smallest: as a function of R has it; by counts of classes beyond 9.
+majority <- function(cells) if (all(is.na(cells))) NA else which.max(tabulate(cells))
+for (name in intersect(c("noise", "patchy", "oblong"), names(maps))) for (size in c(3, 9, 11, 15)) {
+  wanted <- as_rows(focal(maps[[name]], size, majority))
+  expect_equal(as_rows(rcell_majority(maps[[name]], size, fill = TRUE)), wanted, info = paste(name, size))
+  wanted[is.na(as_rows(maps[[name]]))] <- NA
+  expect_equal(as_rows(rcell_majority(maps[[name]], size)), wanted, info = paste(name, size))
 }
-window <- "r.mapcalc m = nmode(x[-1,-1],x[-1,0],x[-1,1],x[0,-1],x,x[0,1],x[1,-1],x[1,0],x[1,1])"
-for (name in intersect(c("noise", "patchy", "real"), names(maps))) {
-  expect_equal(as_rows(rcell_grid(window, "m", x = maps[[name]])), as_rows(focal(maps[[name]], 3, majority)), info = name)
-}
+expect_equal(as_rows(rcell_majority(matrix(c(-5, NA, -5, 7, 1e9, 7), 2), 11, fill = TRUE)), matrix(-5, 2, 3))
+expect_identical(refusal(rcell_majority(maps$cell, 4))$text, "size= is odd, 3 to 15, not 4")
 
-# Areas by labels, and in degrees, where there is no length.
+# Labels, and degrees, in which there is no length.
 labelled <- maps$patchy
 levels(labelled) <- data.frame(value = 1:5, cover = c("wood", "water", "town", "field", "heath"))
 found <- rcell_patches(labelled)
-expect_identical(names(found), c("class", "label", "patch", "cells", "area", "perimeter"))
+expect_identical(names(found)[1:4], c("patch", "class", "label", "cells"))
 expect_identical(found$label, c("wood", "water", "town", "field", "heath", NA)[found$class])
 expect_identical(rownames(rcell_adjacency(labelled)), c("wood", "water", "town", "field", "heath", "6"))
-expect_identical(names(rcell_crosstab(labelled, maps$patchy)), c("x", "x_label", "y", "y_label", "cells"))
+expect_identical(levels(rcell_majority(labelled))[[1]][[2]], levels(labelled)[[1]][[2]])
 degrees <- rast(nrows = 2, ncols = 2, vals = c(1, 1, 2, 2))
-expect_identical(rcell_patches(degrees)$area, c(NA_real_, NA_real_))
-expect_identical(rcell_patches(degrees)$cells, c(2L, 2L))
-expect_equal(rcell_patches(maps$noise, area = "m2")$area, rcell_patches(maps$noise)$area * 1e4)
+expect_warning(found <- rcell_patches(degrees), "perimeters are not computed in degrees")
+expect_identical(found$perimeter_m, c(NA_real_, NA_real_))
+expect_equal(sum(found$area_ha) * 1e4, surface(6378137, 298.257223563), tolerance = 1e-12)
+expect_equal(rcell_patches(maps$noise, area = "m2")$area_m2, rcell_patches(maps$noise)$area_ha * 1e4)
+expect_identical(refusal(rcell_patches(maps$cell, connectivity = 6))$text, "connectivity= is 4 or 8")
 expect_identical(leftovers(), character())

@@ -81,7 +81,7 @@ writeRaster(first, file("float.tif"), datatype = "FLT4S", overwrite = TRUE)
 expect_silent(counts(file("float.tif")))
 
 # Two layers of one name are two maps of a call, and a raster of two layers is refused.
-expect_identical(names(rcell_crosstab(first, first)), c("x", "y", "cells"))
+expect_identical(names(rcell_cross(x = first, y = first)), c("x", "y", "cells", "area_ha", "percent"))
 twice <- c(first, first)
 names(twice) <- c("lc", "lc")
 expect_identical(rcell_table("r.stats -c input=a,b", a = twice[[1]], b = twice[[2]])$cells, counts(first)$cells)

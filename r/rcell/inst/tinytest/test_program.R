@@ -97,7 +97,7 @@ asked <- run_apart(room, c("folder <- room <- Sys.getenv('TMPDIR')", "path <- li
   "cat(found$cells, found$k_label == green, again$k_label == green, '')",
   "g <- rcell_grid('', 'lc', lc = path, filename = sub('m ', 'n ', path))",
   "Encoding(room) <- 'UTF-8'", "spelled <- paste0(room, '/o \\u00e4.tif')",
-  "g <- rcell_grid('', 'lc', lc = path, filename = spelled)", "g <- rcell_areas(path, 8, filename = spelled, overwrite = TRUE)",
+  "g <- rcell_grid('', 'lc', lc = path, filename = spelled)", "g <- rcell_majority(path, 3, filename = spelled, overwrite = TRUE)",
   "cat(rcell_table('r.stats -cnl input=lc', lc = path)$lc_label[1] == green, '')",
   "cat(rcell_table('r.stats -c input=g', g = sub('o ([^.]*).tif', 'g \\\\1.txt', spelled))$cells, '')",
   "cat(length(list.files(folder, '[.]tif$')), length(list.files(folder, '^[.]rcell', all.files = TRUE)))"),

@@ -31,10 +31,10 @@ expect_identical(refusal(rcell_grid("", "lend", lc = lc))$text, "no map lend: th
 expect_identical(refusal(rcell_run("r.stats input=lc", maps = list("land-use" = lc)))$source, "arguments")
 expect_identical(refusal(rcell_run(NA, lc = lc))$text, "the script is no text")
 expect_true(grepl("^neither a path nor a SpatRaster", refusal(rcell_run("", lc = 1:3))$text))
-expect_identical(refusal(rcell_areas(lc, 6))$text, "connectivity= is 4 or 8")
-expect_identical(refusal(rcell_areas(lc, classes = 3e9))$text, "classes= are whole numbers to 2147483647 either way")
-expect_identical(refusal(rcell_areas(lc, least = NA))$text, "least= is a number of cells")
-expect_identical(refusal(rcell_areas(lc, filename = NA))$text, "filename= is one path")
+expect_identical(refusal(rcell_patches(lc, 6))$text, "connectivity= is 4 or 8")
+expect_identical(refusal(rcell_patches(lc, classes = 3e9))$text, "classes= are whole numbers to 2147483647 either way")
+expect_identical(refusal(rcell_patches(lc, least = NA))$text, "least= is a number of cells")
+expect_identical(refusal(rcell_majority(lc, filename = NA))$text, "filename= is one path")
 
 # Marks may not make a script too long without a word.
 long <- paste(c(rep("r.stats input=lc", 2), rep(paste0("#", strrep("x", 60000)), 17), "#", strrep("#", 28500)), collapse = "\n")

@@ -6,8 +6,8 @@ zone <- rast(matrix(c(7, 7, 8, 8, 7, 7, 8, 8, NA, 7, 8, 8), 3, byrow = TRUE), ex
 # Counts, areas, percentages.
 found <- rcell_table("r.stats -c input=lc", lc = lc)
 expect_identical(found, data.frame(lc = c(1L, 2L, 3L, NA), cells = c(5L, 4L, 2L, 1L)))
-expect_identical(rcell_table("r.stats -c -n input=lc", lc = lc, area = "m2")$m2, c(500, 400, 200))
-expect_identical(rcell_table("r.stats -c -n input=lc", lc = lc, area = "ha")$ha, c(5, 4, 2) / 100)
+expect_identical(rcell_table("r.stats -c -n input=lc", lc = lc, area = "m2")$area_m2, c(500, 400, 200))
+expect_identical(rcell_table("r.stats -c -n input=lc", lc = lc, area = "ha")$area_ha, c(5, 4, 2) / 100)
 expect_equal(rcell_table("r.stats -c input=lc", lc = lc, percent = TRUE)$percent, 100 * c(5, 4, 2, 1) / 12)
 expect_identical(names(rcell_table("r.stats -c input=lc,lc", lc = lc)), c("lc", "lc_2", "cells"))
 expect_identical(rcell_table("r.stats input=lc", maps = list(lc = lc)), data.frame(lc = c(1L, 2L, 3L, NA)))
@@ -56,5 +56,5 @@ expect_inherits(refusal(rcell_table("r.out.ascii input=lc", lc = lc)), "rcell_re
 degrees <- rast(nrows = 2, ncols = 2, vals = 1)
 expect_true(grepl("in degrees", refusal(rcell_table("r.stats -c input=x", x = degrees, area = "ha"))$text))
 feet <- rast(nrows = 1, ncols = 1, xmin = 0, xmax = 100, ymin = 0, ymax = 100, crs = "EPSG:2263", vals = 1)
-expect_equal(rcell_table("r.stats -c input=x", x = feet, area = "m2")$m2, (100 * 1200 / 3937)^2, tolerance = 1e-9)
+expect_equal(rcell_table("r.stats -c input=x", x = feet, area = "m2")$area_m2, (100 * 1200 / 3937)^2, tolerance = 1e-9)
 expect_identical(leftovers(), character())

@@ -61,10 +61,10 @@ invisible(file.symlink("in.tif", file("link.tif")))
 for (path in c("in.tif", "link.tif")) for (map in list(file("in.tif"), rast(file("in.tif")))) {
   found <- refusal(rcell_grid("", "x", x = map, filename = file(path), overwrite = TRUE))
   expect_identical(found[c("source", "text")], list(source = "arguments", text = "the output file is the input file: give another filename="), info = path)
-  expect_inherits(refusal(rcell_areas(map, filename = file(path), overwrite = TRUE)), "rcell_refused")
+  expect_inherits(refusal(rcell_majority(map, filename = file(path), overwrite = TRUE)), "rcell_refused")
 }
 writeLines(c("north: 2", "south: 0", "east: 2", "west: 0", "rows: 2", "cols: 2", "1 1", "1 2"), file("g.txt"))
-expect_inherits(refusal(rcell_areas(file("g.txt"), filename = file("g.txt"), overwrite = TRUE)), "rcell_refused")
+expect_inherits(refusal(rcell_majority(file("g.txt"), filename = file("g.txt"), overwrite = TRUE)), "rcell_refused")
 expect_identical(tools::md5sum(file("in.tif")), before)
 
 # Nothing is left when R is ended while it writes, whatever ends it, and the old file is whole.

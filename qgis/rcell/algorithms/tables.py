@@ -1,0 +1,209 @@
+# SPDX-License-Identifier: Apache-2.0 OR GPL-2.0-or-later
+"""rcell:composition, rcell:cross, rcell:change and rcell:zonal: tables of rasters."""
+
+from __future__ import annotations
+
+from typing import Any
+
+from qgis.core import QgsProcessingContext, QgsProcessingFeedback, QgsProcessingParameterBoolean, QgsProcessingParameterRasterLayer, QgsProcessingParameterString
+from qgis.PyQt.QtCore import QT_TRANSLATE_NOOP
+
+from ..core import composition
+from ..core.errors import Refused
+from ..core.program import Watch
+from ..core.rasters import Raster, fitted
+from ..layers import raster_of
+from ..translation import tr
+from .base import Parameters, RcellAlgorithm
+
+_DEGREES = QT_TRANSLATE_NOOP("rcell", (
+    "<p>In a raster in degrees, the cells of each row are weighed by their size on the ellipsoid of the reference system.</p>"
+))
+_ZONES = QT_TRANSLATE_NOOP("rcell", (
+    "<p>Zones are a raster that fits to the cell, or polygons: a cell belongs to a polygon if its centre lies in it. Whole numbers of "
+    "the field are the zones; other values are their labels, and get the numbers 1, 2, ..</p>"
+))
+
+
+class CompositionAlgorithm(RcellAlgorithm):
+    """Counts the cells of each class, in all of a raster or by zone."""
+
+    NAME = "composition"
+    TITLE = QT_TRANSLATE_NOOP("rcell", "Composition")
+    SHORT = QT_TRANSLATE_NOOP("rcell", "Lists the classes of a raster with cells, areas and percentages, in all of it or in each zone.")
+    TAGS = ("area", "land cover", "unique values", "count", "percent", "zonal histogram", "tabulate area", "r.report", "r.stats")
+    HELP = (
+        QT_TRANSLATE_NOOP("rcell", (
+            "<p>A row for each class that occurs, or for each class of each zone. Percentages are of the cells that have "
+            "data.</p>"
+        )),
+        _ZONES,
+        _DEGREES,
+    )
+
+    def initAlgorithm(self, configuration: Any = None) -> None:
+        """Declares the parameters."""
+        self.add_raster()
+        self.add_zones()
+        self.add_area()
+        self.add_labels()
+        self.addParameter(QgsProcessingParameterBoolean("NULL", tr("Rows of cells without data"), False))
+        self.add_crs()
+        self.add_table()
+
+    def checked_rasters(self, parameters: Parameters, context: QgsProcessingContext) -> list[Raster]:
+        """The raster and its zones."""
+        return self.zoned_rasters(parameters, context)
+
+    def answer(self, program: str, parameters: Parameters, context: QgsProcessingContext, feedback: QgsProcessingFeedback,
+               watch: Watch) -> dict[str, Any]:
+        """The table."""
+        raster, zones = [*self.rasters, None][:2]
+        assert raster is not None
+        is_null = self.parameterAsBoolean(parameters, "NULL", context)
+        found = composition.composition(program, raster, zones, self.area(parameters, context), is_null, watch)
+        self.warn_of_lacking(parameters, "LABELS", found, "class", raster)
+        return {"OUTPUT": self.put_table(parameters, context, "OUTPUT", found)}
+
+
+class CrossAlgorithm(RcellAlgorithm):
+    """Counts the cells of each combination of the classes of some rasters."""
+
+    NAME = "cross"
+    TITLE = QT_TRANSLATE_NOOP("rcell", "Cross table")
+    SHORT = QT_TRANSLATE_NOOP("rcell", "Counts the cells of each combination of the classes of up to 16 rasters, with areas, percentages and labels.")
+    TAGS = ("cross table", "crosstab", "tabulate area", "zonal", "zonal histogram", "r.stats", "overlay", "combine")
+    IS_OF_ONE_RASTER = False
+    HELP = (
+        QT_TRANSLATE_NOOP("rcell", (
+            "<p>The table has a column for each raster, named after its layer, one for its labels if it has any, then cells, "
+            "areas and percentages of all cells that have data in every raster.</p>"
+        )),
+        QT_TRANSLATE_NOOP("rcell", (
+            "<p>The rasters must have one coordinate reference system and fit each other to the cell: nothing is reprojected "
+            "or resampled. <i>Align</i> puts one onto the grid of another.</p>"
+        )),
+        _DEGREES,
+    )
+
+    def initAlgorithm(self, configuration: Any = None) -> None:
+        """Declares the parameters."""
+        self.add_rasters(tr("Rasters, 1 to 16"))
+        self.add_area()
+        self.addParameter(QgsProcessingParameterBoolean("NULL", tr("Rows of cells without data"), False))
+        self.add_crs()
+        self.add_table()
+
+    def checked_rasters(self, parameters: Parameters, context: QgsProcessingContext) -> list[Raster]:
+        """The rasters, which fit each other."""
+        return fitted([raster_of(layer, layer.name()) for layer in self.raster_layers(parameters, context)], self.crs(parameters, context))
+
+    def answer(self, program: str, parameters: Parameters, context: QgsProcessingContext, feedback: QgsProcessingFeedback,
+               watch: Watch) -> dict[str, Any]:
+        """The table."""
+        found = composition.cross(program, self.rasters, self.area(parameters, context), self.parameterAsBoolean(parameters, "NULL", context), watch)
+        return {"OUTPUT": self.put_table(parameters, context, "OUTPUT", found)}
+
+
+class ChangeAlgorithm(RcellAlgorithm):
+    """Compares rasters of two or more years."""
+
+    NAME = "change"
+    TITLE = QT_TRANSLATE_NOOP("rcell", "Change between years")
+    SHORT = QT_TRANSLATE_NOOP("rcell", "Lists what became what between years, as a table, a matrix and a summary of gains and losses.")
+    TAGS = ("change", "transition", "gain", "loss", "swap", "cross table", "land cover change", "time series")
+    IS_OF_ONE_RASTER = False
+    HELP = (
+        QT_TRANSLATE_NOOP("rcell", (
+            "<p>The rasters are in the order of time; more than two need their years. Cells count that have data in both "
+            "years.</p>"
+        )),
+        QT_TRANSLATE_NOOP("rcell", (
+            "<p>The summary has for each class its area before and after, gain, loss, net change (gain less loss), swap "
+            "(twice the smaller of gain and loss) and persistence. The matrix has a row for each class of the earlier and a "
+            "column for each class of the later raster.</p>"
+        )),
+        _DEGREES,
+    )
+
+    def initAlgorithm(self, configuration: Any = None) -> None:
+        """Declares the parameters."""
+        self.add_rasters(tr("Rasters in the order of time, 2 to 16"))
+        self.addParameter(QgsProcessingParameterString("YEARS", tr("Years, divided by commas (needed for more than two rasters)"), optional=True))
+        self.add_area()
+        self.add_labels()
+        self.add_crs()
+        self.add_table()
+        self.add_table(tr("Matrix"), "MATRIX", True)
+        self.add_table(tr("Summary"), "SUMMARY", True)
+
+    def checked_rasters(self, parameters: Parameters, context: QgsProcessingContext) -> list[Raster]:
+        """The rasters, which fit each other."""
+        layers = self.raster_layers(parameters, context)
+        rasters = [self.labelled(raster_of(layer, layer.name()), parameters, "LABELS", context) for layer in layers]
+        return fitted(rasters, self.crs(parameters, context))
+
+    def answer(self, program: str, parameters: Parameters, context: QgsProcessingContext, feedback: QgsProcessingFeedback,
+               watch: Watch) -> dict[str, Any]:
+        """The table and, if they are asked for, the matrix and the summary."""
+        years = [int(year) for year in numbers_of(self.parameterAsString(parameters, "YEARS", context), "years")]
+        table, *rest = composition.change(program, self.rasters, years, self.area(parameters, context), watch)
+        self.warn_of_lacking(parameters, "LABELS", rest[1], "class", self.rasters[0])
+        results = {"OUTPUT": self.put_table(parameters, context, "OUTPUT", table)}
+        for name, found in zip(("MATRIX", "SUMMARY"), rest):
+            if parameters.get(name):
+                results[name] = self.put_table(parameters, context, name, found)
+        return results
+
+
+class ZonalAlgorithm(RcellAlgorithm):
+    """Statistics of the whole numbers of a raster by zone."""
+
+    NAME = "zonal"
+    TITLE = QT_TRANSLATE_NOOP("rcell", "Statistics by zone")
+    SHORT = QT_TRANSLATE_NOOP("rcell", "Lists sum, mean, minimum, maximum, variance and quantiles of a raster of whole numbers for each zone.")
+    TAGS = ("zonal statistics", "mean", "median", "quantile", "sum", "r.stats.zonal", "raster layer zonal statistics")
+    HELP = (
+        QT_TRANSLATE_NOOP("rcell", (
+            "<p>Zones without a value have no row. The variance is that of the population; quantiles between two values are "
+            "interpolated. The columns of quantiles are called after their percentages, as q50 and q2_5.</p>"
+        )),
+        _ZONES,
+    )
+
+    def initAlgorithm(self, configuration: Any = None) -> None:
+        """Declares the parameters."""
+        self.addParameter(QgsProcessingParameterRasterLayer("INPUT", tr("Raster of values")))
+        self.add_band()
+        self.add_zones(False)
+        self.addParameter(QgsProcessingParameterString("QUANTILES", tr("Quantiles from 0 to 1, divided by commas"), "0.5", optional=True))
+        self.add_crs()
+        self.add_table()
+
+    def checked_rasters(self, parameters: Parameters, context: QgsProcessingContext) -> list[Raster]:
+        """The values and the zones."""
+        return self.zoned_rasters(parameters, context)
+
+    def answer(self, program: str, parameters: Parameters, context: QgsProcessingContext, feedback: QgsProcessingFeedback,
+               watch: Watch) -> dict[str, Any]:
+        """The table."""
+        values, zones = self.rasters
+        quantiles = numbers_of(self.parameterAsString(parameters, "QUANTILES", context), "quantiles")
+        found = composition.zonal(program, values, zones, quantiles, watch)
+        self.warn_of_lacking(parameters, "ZONE_LABELS", found, "zone", zones)
+        return {"OUTPUT": self.put_table(parameters, context, "OUTPUT", found)}
+
+
+def numbers_of(text: str, name: str) -> list[float]:
+    """The numbers of a list.
+
+    Raises
+    ------
+    Refused
+        A part is no number, or of years and classes no whole one.
+    """
+    try:
+        return [float(part) if name == "quantiles" else int(part) for part in text.split(",") if text.strip()]
+    except ValueError:
+        kind = "numbers" if name == "quantiles" else "whole numbers"
+        raise Refused(f"{name} are {kind}, divided by commas, and not `{text}`", status=2) from None

@@ -1,0 +1,58 @@
+# SPDX-License-Identifier: Apache-2.0 OR GPL-2.0-or-later
+"""Labels from a file: a CSV with the header `value,label[,colour]`, or a style of QGIS."""
+
+from __future__ import annotations
+
+import csv
+import xml.etree.ElementTree as ElementTree
+from typing import Iterable
+
+from .cells import MAX_CATEGORY
+from .errors import Refused
+
+_HEADERS = (["value", "label"], ["value", "label", "colour"], ["value", "label", "color"])
+
+
+def legend_of(path: str, name: str = "labels") -> dict[int, str]:
+    """The labels of a file.
+
+    Raises
+    ------
+    Refused
+        The file cannot be read, or a value is no whole number or occurs twice; the source is `name`.
+    """
+    try:
+        if path.lower().endswith(".qml"):
+            return _checked(_of_style(path), name)
+        with open(path, newline="", encoding="utf-8-sig") as file:
+            rows = list(csv.reader(file, skipinitialspace=True))
+    except OSError as error:
+        raise Refused(f"cannot open: {path}: {error.strerror}", name, status=4) from None
+    except (ElementTree.ParseError, UnicodeDecodeError, csv.Error) as error:
+        raise Refused(f"{path}: {error}", name) from None
+    if rows and [title.strip() for title in rows[0]] not in _HEADERS:
+        raise Refused(f"{path}: no header value,label: the first line is {','.join(rows[0])}", name)
+    if len(rows) < 2:
+        raise Refused(f"{path} is empty", name)
+    return _checked(((f"{path}, line {line}: ", *row[:2]) for line, row in enumerate(rows[1:], 2) if row), name)
+
+
+def _of_style(path: str) -> list[tuple[str, str, str]]:
+    """The classes of a paletted style, or of one of exact colours."""
+    entries = [entry for kind in ("paletteEntry", "item") for entry in ElementTree.parse(path).iter(kind) if "value" in entry.attrib]
+    return [(f"{path}: ", entry.attrib["value"], entry.attrib.get("label", "")) for entry in entries]
+
+
+def _checked(rows: Iterable[tuple[str, ...]], name: str) -> dict[int, str]:
+    found: dict[int, str] = {}
+    for place, value, *label in rows:
+        try:
+            code = int(value)
+        except ValueError:
+            raise Refused(f"{place}{value} is no whole number", name) from None
+        if abs(code) > MAX_CATEGORY:
+            raise Refused(f"{place}{value} is no whole number", name)
+        if code in found:
+            raise Refused(f"{place}the value {value} is there twice", name)
+        found[code] = label[0].strip() if label else ""
+    return {code: label for code, label in found.items() if label}

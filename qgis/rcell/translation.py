@@ -1,0 +1,24 @@
+# SPDX-License-Identifier: Apache-2.0 OR GPL-2.0-or-later
+"""The texts of dialogs in the language of QGIS: those that i18n/rcell_LANGUAGE.qm has, and English else."""
+
+from __future__ import annotations
+
+import os
+
+from qgis.core import QgsApplication
+from qgis.PyQt.QtCore import QCoreApplication, QTranslator
+
+CONTEXT = "rcell"
+_FOLDER = os.path.join(os.path.dirname(os.path.abspath(__file__)), "i18n")
+
+
+def tr(text: str) -> str:
+    """A text in the language of QGIS."""
+    return str(QCoreApplication.translate(CONTEXT, text))
+
+
+def translator() -> QTranslator | None:
+    """The translations into the language of QGIS, if there are any."""
+    path = os.path.join(_FOLDER, f"rcell_{QgsApplication.locale()[:2]}.qm")
+    found = QTranslator()
+    return found if os.path.isfile(path) and found.load(path) else None

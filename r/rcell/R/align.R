@@ -1,0 +1,95 @@
+# SPDX-License-Identifier: Apache-2.0 OR GPL-2.0-or-later
+# A map on the grid of another one: moved by whole cells, or by its nearest cells where that is asked for.
+
+# A shift is one of whole cells within so much of a cell; a centre on a border is in the southern or eastern cell within so much.
+SHIFT_TOLERANCE <- 1e-3
+BORDER_TOLERANCE <- 1e-6
+
+rcell_align <- function(x, to, resample = NULL, filename = "", overwrite = FALSE, crs = NULL, program = NULL) {
+  if (!is.null(resample) && !identical(resample, "nearest")) {
+    refuse(sprintf("resample= is \"nearest\", not '%s'", paste(format(resample), collapse = " ")), status = 2L)
+  }
+  check_filename(filename, overwrite)
+  sources <- lapply(list(source_of("map", x), grid_source("to", to)), with_stated, stated_crs(crs))
+  check_inputs(filename, sources)
+  map <- sources[[1]]
+  target <- sources[[2]]
+  for (source in sources) if (is.null(source$template)) bad_map(source$name, "no header from which its grid could be taken")
+  systems <- c(map$crs, target$crs)
+  if (!nzchar(map$crs) != !nzchar(target$crs)) check_crs(rev(sources), "")
+  is_same <- !any(nzchar(systems)) || same_crs(map$crs, target$crs)
+  if (is.null(resample)) check_alignment(map, target, is_same)
+  place <- if (is_same) places_by_side(map$template, target$template) else places_by_centre(map$template, target$template)
+  cells <- all_cells(map, program)
+  found <- cells[place$index]
+  raster <- rast(target$template, vals = found)
+  if (length(map$labels$codes)) levels(raster) <- data.frame(value = map$labels$codes, label = map$labels$labels)
+  raster <- written(raster, filename)
+  attr(raster, "aligned") <- facts_of(place, cells)
+  raster
+}
+
+# A map of which the grid alone matters; it may have no values.
+grid_source <- function(name, given) {
+  if (!inherits(given, "SpatRaster") || hasValues(given)) return(source_of(name, given))
+  list(name = name, path = "", template = template_of(given), region = region_of(name, given), crs = crs(given))
+}
+
+# That a map needs nothing but to be moved by whole cells.
+check_alignment <- function(map, target, is_same) {
+  if (!is_same) check_crs(list(target, map), "")
+  sizes <- list(res(map$template), res(target$template))
+  if (any(abs(sizes[[1]] - sizes[[2]]) * c(map$region$cols, map$region$rows) > SHIFT_TOLERANCE * sizes[[1]])) {
+    text <- sprintf("cells of %s, and those of `to` are %s: resample=\"nearest\" takes the nearest cell",
+      paste(format(sizes[[1]], digits = 15, trim = TRUE), collapse = " x "), paste(format(sizes[[2]], digits = 15, trim = TRUE), collapse = " x "))
+    bad_map(map$name, text, class = "rcell_other_region")
+  }
+  shift <- shift_of(map$template, target$template)
+  if (any(shift != round(shift))) {
+    bad_map(map$name, sprintf("shifted by %.10g rows and %.10g columns, not by whole cells: resample=\"nearest\" takes the nearest cell",
+      shift[[1]], shift[[2]]), class = "rcell_other_region")
+  }
+}
+
+# The row and the column of the grid of `from` at which `to` begins; whole if they nearly are.
+shift_of <- function(from, to) {
+  shift <- c((ymax(from) - ymax(to)) / res(from)[[2]], (xmin(to) - xmin(from)) / res(from)[[1]])
+  ifelse(abs(shift - round(shift)) <= SHIFT_TOLERANCE, round(shift), shift)
+}
+
+# For each cell of `to` the cell of `from` in which its centre lies, NA for none.
+places_by_side <- function(from, to) {
+  shift <- shift_of(from, to)
+  along <- function(shift, ratio, count, most) {
+    place <- floor(shift + (seq_len(count) - 0.5) * ratio + BORDER_TOLERANCE) + 1
+    ifelse(place >= 1 & place <= most, place, NA)
+  }
+  ratio <- res(to) / res(from)
+  rows <- along(shift[[1]], ratio[[2]], nrow(to), nrow(from))
+  cols <- along(shift[[2]], ratio[[1]], ncol(to), ncol(from))
+  list(index = as.vector(outer(cols, (rows - 1) * ncol(from), `+`)), shift = shift)
+}
+
+# The same in another reference system, by the centres of cells.
+places_by_centre <- function(from, to) {
+  centres <- project(xyFromCell(to, seq_len(ncell(to))), from = crs(to), to = crs(from))
+  row <- floor((ymax(from) - centres[, 2]) / res(from)[[2]] + BORDER_TOLERANCE)
+  col <- floor((centres[, 1] - xmin(from)) / res(from)[[1]] + BORDER_TOLERANCE)
+  is_in <- is.finite(row) & is.finite(col) & row >= 0 & row < nrow(from) & col >= 0 & col < ncol(from)
+  list(index = as.numeric(ifelse(is_in, row * ncol(from) + col + 1, NA)), shift = c(NA_real_, NA_real_))
+}
+
+# How many cells of the map that have a value are in the result, are in it more than once, and are not in it.
+facts_of <- function(place, cells) {
+  times <- tabulate(place$index, length(cells))[!is.na(cells)]
+  data.frame(shift_rows = place$shift[[1]], shift_columns = place$shift[[2]], cells_used = sum(times > 0L), cells_repeated = sum(times > 1L),
+    cells_lost = sum(times == 0L))
+}
+
+# The call that moves a map onto the first one of a run, to be pasted.
+align_call <- function(first, source) {
+  shown <- function(one) if (is.character(one$given)) sprintf("\"%s\"", one$given) else one$name
+  is_moved <- !is.null(first$template) && !is.null(source$template) && isTRUE(all.equal(res(first$template), res(source$template), tolerance = 1e-9)) &&
+    all(shift_of(source$template, first$template) %% 1 == 0)
+  sprintf("%s <- rcell_align(%s, to = %s%s)", source$name, shown(source), shown(first), if (is_moved) "" else ", resample = \"nearest\"")
+}

@@ -1,0 +1,39 @@
+\name{rcell_composition}
+\alias{rcell_composition}
+\title{The Composition of a Map}
+\description{Count the cells of each class, in the whole map or in each zone, with areas, percentages and labels.}
+\usage{
+rcell_composition(x, zones = NULL, area = "ha", labels = NULL, zone_labels = NULL,
+                  zone_field = NULL, null = FALSE, crs = NULL, program = NULL)
+}
+\arguments{
+\item{x}{a map: a \code{SpatRaster}, a path or a matrix; see \code{\link{rcell-package}}.}
+\item{zones}{a map of zones, or polygons: a \code{SpatVector} or the path of a file of them. See below.}
+\item{area}{the unit of areas: \code{"ha"}, \code{"km2"} or \code{"m2"}; \code{NULL} for no column of areas.}
+\item{labels, zone_labels}{the labels of the classes and of the zones, if the maps have others or none: the path of a CSV file with the
+header \code{value,label} or \code{value,label,colour}, the path of a QGIS style (\code{.qml}), a data frame with the columns
+\code{value} and \code{label}, a vector with the classes as its names, or a \code{SpatRaster} with labels.}
+\item{zone_field}{the field of the polygons that has the zones.}
+\item{null}{whether rows of cells without data are added, as the last of each zone.}
+\item{crs, program}{as in \code{\link{rcell_run}}.}
+}
+\details{
+Polygons are drawn on the grid of \code{x} with \code{terra::rasterize}: a cell belongs to a polygon if its centre lies in it, and to the
+later one of two. Whole numbers in the field are the zones. Other values get the numbers 1, 2, .. in the order of the file, and are the
+labels; without a field, so do the polygons. Polygons of one value are one zone. You get a warning for polygons that have no centre of a cell, and for cells that lie in
+two polygons.
+
+In a map in degrees, the cell areas are the exact areas of the ellipsoidal zones between parallels, and the cells of each row are
+counted apart. The ellipsoid is taken from the coordinate reference system.
+}
+\value{
+A data frame with the columns \code{zone} and \code{zone_label} (if there are zones, and if they have labels), \code{class},
+\code{label} (if there are labels), \code{cells}, \code{area_ha} (or the other unit), and \code{percent}: of the cells of the zone that have data.
+Rows ascend by zone and class. Cells outside all zones are left out.
+}
+\seealso{\code{\link{rcell_cross}} for more maps, \code{\link{rcell_change}} for two years.}
+\examples{
+lc <- matrix(c(1, 1, 2, 3, 2, 2), 2, byrow = TRUE)
+rcell_composition(lc, area = "m2", labels = c("1" = "wood", "2" = "water", "3" = "town"))
+rcell_composition(lc, zones = matrix(c(7, 7, 8, 7, 8, 8), 2, byrow = TRUE), area = NULL)
+}

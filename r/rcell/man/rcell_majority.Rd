@@ -1,0 +1,23 @@
+\name{rcell_majority}
+\alias{rcell_majority}
+\title{The Majority of a Neighbourhood}
+\description{Give each cell the most frequent class of the square around it.}
+\usage{
+rcell_majority(x, size = 3, fill = FALSE, filename = "", overwrite = FALSE,
+               crs = NULL, program = NULL)
+}
+\arguments{
+\item{x}{a map: a \code{SpatRaster}, a path or a matrix; see \code{\link{rcell-package}}.}
+\item{size}{the side of the square in cells, odd, 3 to 15.}
+\item{fill}{whether cells without data get the class of their neighbours; else they stay without data.}
+\item{filename, overwrite}{as in \code{\link{rcell_grid}}.}
+\item{crs, program}{as in \code{\link{rcell_run}}.}
+}
+\details{
+Cells without data do not count, nor do cells outside the map. Of several most frequent classes the smallest is taken.
+}
+\value{A \code{SpatRaster} with the labels of \code{x}.}
+\examples{
+lc <- matrix(c(1, 1, 2, 1, 2, 2, 1, 1, NA), 3, byrow = TRUE)
+terra::as.matrix(rcell_majority(lc), wide = TRUE)
+}

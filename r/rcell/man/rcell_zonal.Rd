@@ -1,0 +1,23 @@
+\name{rcell_zonal}
+\alias{rcell_zonal}
+\title{Statistics by Zone}
+\description{Summarise the whole numbers of a map in each zone.}
+\usage{
+rcell_zonal(values, zones, quantiles = 0.5, zone_labels = NULL, zone_field = NULL,
+            crs = NULL, program = NULL)
+}
+\arguments{
+\item{values}{a map of whole numbers; see \code{\link{rcell-package}}.}
+\item{zones, zone_labels, zone_field}{as in \code{\link{rcell_composition}}.}
+\item{quantiles}{numbers from 0 to 1; between two values they are interpolated, as \code{quantile(type = 7)} does.}
+\item{crs, program}{as in \code{\link{rcell_run}}.}
+}
+\value{
+A data frame with a row for each zone that has a value: \code{zone}, \code{zone_label}, \code{cells}, \code{sum}, \code{mean}, \code{minimum},
+\code{maximum}, \code{variance} (of the population), and a column for each quantile, as \code{q50} and \code{q2_5}.
+}
+\examples{
+height <- matrix(c(10, 12, 30, 11, 31, 35), 2, byrow = TRUE)
+zone <- matrix(c(1, 1, 2, 1, 2, 2), 2, byrow = TRUE)
+rcell_zonal(height, zone, quantiles = c(0.25, 0.5))
+}
