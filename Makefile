@@ -7,18 +7,18 @@
 # make example   proves and builds bin/rcell alone, and runs it on the land cover of examples/land-cover
 #                OBJECTS=FILE, for make and make example: takes the proved objects of a release if they are of exactly these sources
 # make documents runs each example of the documents on bin/rcell and bin/rcell-join, and compares
-# make check     the gate: every proof, then the programs, the documents, the release and the fronts
+# make check     the gate: every proof, then the programs, documents, release and packages
 #                PARTS="lint documents" runs these parts alone, PARTS=list names them
-# make static    links bin/rcell-static and bin/rcell-join-static, each from the object of its program: for each Linux on x86-64
+# make static    links bin/rcell-static and bin/rcell-join-static, which run on any Linux on x86-64
 # make dist      makes the release in dist/: tarball, package of Debian, wheel, packages for R and QGIS, objects, bill of materials
 # make debian11  runs the release's quick start in a root of Debian 11 (as root, with debootstrap)
-# make edits     tries the edits of crates/NAME/edits/, of which the gate tries those of tools/edits.txt: each must be refused
-# make hostile   uses the program as an enemy would: each growth, read, write and byte in turn, and the greatest inputs (an hour)
-# make fuzz      runs it on random input beside a plain model, SECONDS=60 of them, from SEED=
-# make bench     times each task beside a yardstick in C++, and doubles one dimension after another; BENCH=--short takes five minutes
+# make edits     tries the edits of crates/NAME/edits/, of which the gate tries those of tools/edits.txt: each must be rejected
+# make hostile   attacks the program: memory, reads, writes and bytes fail in turn, and the largest inputs (an hour)
+# make fuzz      runs it on random input next to a plain model for SECONDS=60, from SEED=
+# make bench     times each task next to C++, and doubles one dimension after another; BENCH=--short takes five minutes
 # make figures   measures all that bench/RESULTS.md shows and writes it there, into README.md and into docs/speed.png (an hour)
 # make pictures  draws the pictures of the documents
-# make exchange  holds the program and the documents against GRASS and GDAL, where they are installed
+# make exchange  compares the program and the documents with GRASS and GDAL, if they are installed
 # make clean     removes all that was built
 # make help      prints this
 

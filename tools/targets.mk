@@ -1,5 +1,5 @@
-# make lint      holds the crates to the rules of the house, in seconds; WRITE=1 shortens the lists of exceptions
-# make reading   prints the definitions that have to be believed, in reading order; COMMAND=r.stats for one command
+# make lint      checks sources and documents against the rules, in seconds; WRITE=1 shortens the lists of exceptions
+# make reading   prints the definitions to believe, in reading order; COMMAND=r.stats for one command
 # make site      makes dist/site, the documents as pages of HTML with search and references; it works from the file system
 # make site-check  opens each page of it in headless Chromium
 
