@@ -36,9 +36,9 @@ list() {
     done
 }
 
-# The helpers go to bin, their pages to the others, and their modules below share/rcell, with what they share with the Python package.
+# The helpers go to bin, their pages to the others, and their modules below share/rcell, with the Python package, which rcell-gis runs.
 helpers() {
-    files python/src/rcell_front | while read -r file; do echo "644 $file $shared/rcell_front/${file##*/}"; done
+    files python/src | grep -v '\.pyc$' | while read -r file; do echo "644 $file $shared/${file#python/src/}"; done
     files helpers | while read -r file; do
         name=${file#helpers/}
         case $name in

@@ -114,7 +114,7 @@ class Room:
         for helper in glob.glob(f"{ROOT}/helpers/rcell-*[a-z]"):
             shutil.copy(helper, f"{path}/bin")
         shutil.copytree(f"{ROOT}/helpers", f"{path}/share/rcell", ignore=shutil.ignore_patterns("__pycache__", "rcell-*"))
-        shutil.copytree(f"{ROOT}/python/src/rcell_front", f"{path}/share/rcell/rcell_front", ignore=shutil.ignore_patterns("__pycache__"))
+        shutil.copytree(f"{ROOT}/python/src", f"{path}/share/rcell", ignore=shutil.ignore_patterns("__pycache__"), dirs_exist_ok=True)
         for name in ("examples", "tools"):
             shutil.copytree(f"{ROOT}/{name}", f"{path}/{name}", ignore=shutil.ignore_patterns("__pycache__"))
 

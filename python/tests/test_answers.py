@@ -1,4 +1,4 @@
-"""Answers in the words of pandas, xarray, matplotlib and GDAL, and the command line."""
+"""Answers in the words of pandas, xarray, matplotlib and GDAL."""
 
 from __future__ import annotations
 
@@ -15,7 +15,6 @@ from hypothesis import strategies as st
 
 import rcell
 from rcell import _labels
-from rcell.__main__ import main
 
 from .conftest import LAND, TRANSFORM
 
@@ -34,24 +33,23 @@ def land(**words: Any) -> rcell.Map:
 
 def test_a_frame_has_the_columns_asked_for() -> None:
     frame = rcell.table("r.stats -c -l input=lc", lc=land(), area="ha", percent=True)
-    assert list(frame.columns) == ["lc", "lc_label", "cells", "ha", "percent"]
-    assert [str(kind) for kind in frame.dtypes] == ["Int64", "string", "Int64", "float64", "float64"]
+    assert list(frame.columns) == ["lc", "lc_label", "cells", "area_ha", "percent"]
+    assert [str(kind) for kind in frame.dtypes] == ["Int64", "string", "int64", "float64", "float64"]
     assert frame["lc"].isna().tolist() == [False, False, False, True]
     assert frame["lc_label"].tolist()[:3] == list(NAMES.values())
-    assert frame["ha"].tolist() == [5 * 0.0625, 4 * 0.0625, 2 * 0.0625, 0.0625]
+    assert frame["area_ha"].tolist() == [5 * 0.0625, 4 * 0.0625, 2 * 0.0625, 0.0625]
     assert frame["percent"].sum() == pytest.approx(100)
     assert frame.groupby("lc_label")["cells"].sum()["c"] == 2
 
 
 def test_units_of_area() -> None:
-    assert rcell.table("r.stats -cn input=lc", lc=land(), area="m2")["m2"].tolist() == [3125, 2500, 1250]
-    assert rcell.table("r.stats -cn input=lc", lc=land(), area="km2")["km2"].tolist() == [0.003125, 0.0025, 0.00125]
+    assert rcell.table("r.stats -cn input=lc", lc=land(), area="m2")["area_m2"].tolist() == [3125, 2500, 1250]
+    assert rcell.table("r.stats -cn input=lc", lc=land(), area="km2")["area_km2"].tolist() == [0.003125, 0.0025, 0.00125]
     feet = rcell.Map(LAND, (10, 0, 0, 0, -10, 30), "EPSG:2263")
-    assert rcell.table("r.stats -c input=lc", lc=feet, area="m2")["m2"][0] == pytest.approx((10 * 1200 / 3937) ** 2)
+    assert rcell.table("r.stats -c input=lc", lc=feet, area="m2")["area_m2"][0] == pytest.approx((10 * 1200 / 3937) ** 2)
     for crs in ("EPSG:4326", rasterio.CRS.from_epsg(4326), rasterio.CRS.from_epsg(4326).to_wkt()):
-        with pytest.raises(rcell.Refused, match="r.mapcalc row = row"):
+        with pytest.raises(rcell.Refused, match="rcell.composition and rcell.cross weigh the rows"):
             rcell.table("r.stats -c input=lc", lc=rcell.Map(LAND, crs=crs), area="ha")
-        assert "ha" not in rcell.areas(rcell.Map(LAND, crs=crs)).sizes
 
 
 def test_a_matrix() -> None:
@@ -85,15 +83,15 @@ def test_without_pandas_and_matplotlib() -> None:
         "import sys\nfor name in ('pandas', 'matplotlib', 'xarray'): sys.modules[name] = None\nimport numpy as np, rcell\n"
         "import importlib.util as u\nfind = u.find_spec\nu.find_spec = lambda name: None if name in ('pandas', 'matplotlib', 'xarray') else find(name)\n"
         "lc = rcell.Map(np.array([[1, 2]]), labels={1: '<b>'})\nt = rcell.table('r.stats -cl input=lc', lc=lc)\nprint(type(t).__name__, t._repr_html_())\n"
-        "print(rcell.table('r.stats -c input=lc,lc', lc=lc, pivot=True).values.tolist(), rcell.areas(lc).sizes.rows)\n"
+        "print(rcell.table('r.stats -c input=lc,lc', lc=lc, pivot=True).values.tolist(), rcell.composition(lc).rows)\n"
         "print(rcell.grid('', 'lc', lc=lc)._repr_html_())\n"
         "for call in (t.frame, rcell.grid('', 'lc', lc=lc).xarray, rcell.grid('', 'lc', lc=lc).plot):\n"
         "    try: call()\n    except rcell.MissingLibrary as e: print(e.library)\n"
     )
     ran = subprocess.run([sys.executable, "-c", code], capture_output=True, text=True, env={**os.environ, "PYTHONPATH": ":".join(sys.path)})
     assert ran.stdout.splitlines() == [
-        "Table <table><tr><th>lc</th><th>lc_label</th><th>cells</th></tr><tr><td>1</td><td>&lt;b&gt;</td><td>1</td></tr><tr><td>2</td><td></td><td>1</td></tr></table>",
-        "[[1, 0], [0, 1]] [(1, 1, '<b>', 1, 0.0001), (2, 2, None, 1, 0.0001)]",
+        "StatsTable <table><tr><th>lc</th><th>lc_label</th><th>cells</th></tr><tr><td>1</td><td>&lt;b&gt;</td><td>1</td></tr><tr><td>2</td><td></td><td>1</td></tr></table>",
+        "[[1, 0], [0, 1]] [(1, '<b>', 1, 0.0001, 50.0), (2, '', 1, 0.0001, 50.0)]",
         "<p><b>lc</b>: 1 rows, 2 columns, 2 categories</p>", "pandas", "xarray", "matplotlib",
     ], ran.stderr
 
@@ -220,7 +218,7 @@ def test_data_arrays_go_both_ways() -> None:
     assert (array.dims, array.x.values.tolist(), array.y.values.tolist()) == (("y", "x"), [500012.5, 500037.5, 500062.5, 500087.5], [5499987.5, 5499962.5, 5499937.5])
     again = rcell.grid("", "lc", lc=array)
     assert (again.array.tolist(), again.transform) == (grid.array.tolist(), TRANSFORM)
-    assert rcell.table("r.stats -c input=lc", lc=array, area="ha")["ha"][0] == 0.3125
+    assert rcell.table("r.stats -c input=lc", lc=array, area="ha")["area_ha"][0] == 0.3125
     assert dict(again.labels) == {1: "broad_leaved,_wood", 2: "größer", 3: "c"}
     assert rcell.grid("", "lc", lc=array[1:, :2]).transform == (25, 0, 500_000, 0, -25, 5_499_975)
     assert rcell.grid("", "lc", lc=array.sortby("y")).array.tolist() == grid.array.tolist()
@@ -250,81 +248,6 @@ def test_lazy_arrays_are_computed_in_blocks() -> None:
     pytest.importorskip("dask.array")
     array = xarray.DataArray(np.arange(40.0).reshape(8, 5)).chunk({"dim_0": 3})
     assert rcell.grid("", "lc", lc=array).array.tolist() == np.arange(40).reshape(8, 5).tolist()
-
-
-# The command line
-
-
-def test_csv(raster: Write, capfdbinary: Any, tmp_path: pathlib.Path) -> None:
-    path = raster(LAND, nodata=0)
-    _labels.write_labels(path, NAMES)
-    assert main(["csv", "r.stats -cl input=lc", f"lc={path}", "--area", "ha", "--percent"]) == 0
-    lines = capfdbinary.readouterr().out.decode().splitlines()
-    assert lines == ["lc,lc_label,cells,ha,percent", '1,"broad leaved, wood",5,0.3125,41.66666667', "2,größer,4,0.25,33.33333333", "3,c,2,0.125,16.66666667", ",,1,0.0625,8.333333333"]
-    (tmp_path / "script").write_text("r.stats -cn input=lc,lc\n")
-    assert main(["csv", str(tmp_path / "script"), f"lc={path}", "--pivot", "--out", str(tmp_path / "t.csv")]) == 0
-    assert (tmp_path / "t.csv").read_text() == "lc,1,2,3\n1,5,0,0\n2,0,4,0\n3,0,0,2\n"
-
-
-def test_tif_and_picture(raster: Write, tmp_path: pathlib.Path) -> None:
-    path = raster(LAND, nodata=0)
-    script = "r.clump input=lc output=areas"
-    assert main(["tif", script, f"lc={path}", "--out", f"areas={tmp_path}/areas.tif", "--out", f"lc={tmp_path}/lc.txt"]) == 0
-    with rasterio.open(tmp_path / "areas.tif") as dataset:
-        assert dataset.read(1).tolist()[2] == [3, 3, 4, 4]
-    pytest.importorskip("matplotlib")
-    assert main(["picture", script, f"lc={path}", "--out", f"areas={tmp_path}/areas.png"]) == 0
-    assert (tmp_path / "areas.png").read_bytes()[:4] == b"\x89PNG"
-    assert main(["picture", script, f"lc={path}", "--out", f"areas={tmp_path}/areas.xyz"]) == 2
-    assert sorted(os.listdir(tmp_path)) == ["areas.png", "areas.tif", "lc.txt", "map.tif"]
-
-
-@pytest.mark.parametrize(
-    ("words", "status", "told"),
-    [
-        (["csv", "r.stats -q input=lc", "lc=MAP"], 1, "rcell: script, line 1: bad option\n  r.stats -q input=lc\n          ^\n  try: r.stats input=lc\n"),
-        (["csv", "r.stats -c input=lc", "lc=/nowhere"], 4, "rcell: lc: cannot open: /nowhere: No such file or directory\n"),
-        (["csv", "r.stats -c input=lc", "lc"], 2, "rcell: arguments: lc: write NAME=PATH\n"),
-        (["csv", "r.stats -c input=lc", "lc=MAP", "lc=MAP"], 2, "rcell: arguments: lc=MAP: the name lc is given twice\n"),
-        (["csv", "/nowhere/script", "lc=MAP"], 4, "rcell: script: cannot open /nowhere/script: No such file or directory\n"),
-        (["tif", "r.clump input=lc output=k", "lc=MAP", "--out", "j=j.tif"], 2, "rcell: arguments: no map j: there are lc, k\n"),
-        (["tif", "r.clump input=lc output=k", "lc=MAP", "--out", "k=/nowhere/k.tif"], 4, "rcell: /nowhere/k.tif cannot be written: No such file or directory\n"),
-    ],
-)
-def test_command_lines_that_are_refused(raster: Write, capsys: Any, words: list[str], status: int, told: str) -> None:
-    path = raster(LAND)
-    assert main([word.replace("MAP", path) for word in words]) == status
-    assert capsys.readouterr().err.replace(path, "MAP") == told
-
-
-def test_the_command_line_as_a_process(raster: Write) -> None:
-    path = raster(LAND, nodata=0)
-    environment = {**os.environ, "PYTHONPATH": ":".join(sys.path)}
-
-    def call(*words: str, **more: Any) -> Any:
-        return subprocess.run([sys.executable, "-m", "rcell", *words], capture_output=True, text=True, env=environment, **more)
-
-    assert call("csv", "-", f"lc={path}", input="r.stats -cn input=lc\n").stdout == "lc,cells\n1,5\n2,4\n3,2\n"
-    assert call("--help").returncode == 0 and call().returncode == 2
-    environment["RCELL"] = "/nowhere/rcell"
-    missing = call("csv", "r.stats -c input=lc", f"lc={path}")
-    assert (missing.returncode, missing.stderr) == (2, "rcell: the program /nowhere/rcell is not there, or may not be executed\n")
-
-
-def test_a_closed_output(raster: Write) -> None:
-    environment = {**os.environ, "PYTHONPATH": ":".join(sys.path)}
-    reader, writer = os.pipe()
-    os.close(reader)
-    ran = subprocess.run([sys.executable, "-m", "rcell", "csv", "r.stats -c input=lc", f"lc={raster(LAND)}"], stdout=writer, stderr=subprocess.PIPE, env=environment)
-    os.close(writer)
-    assert (ran.returncode, ran.stderr) == (4, b"rcell: standard output cannot be written: Broken pipe\n")
-
-
-def test_progress_is_shown_on_a_terminal(raster: Write, monkeypatch: pytest.MonkeyPatch, capsys: Any) -> None:
-    pytest.importorskip("tqdm")
-    monkeypatch.setattr(sys.stderr, "isatty", lambda: True, raising=False)
-    assert main(["csv", "r.stats -c input=lc", f"lc={raster(LAND)}"]) == 0
-    assert "cells" in capsys.readouterr().err
 
 
 # Scripts of any kind

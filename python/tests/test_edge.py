@@ -158,9 +158,9 @@ def _grid(folder: pathlib.Path, first: str) -> pathlib.Path:
 
 
 def test_classes_are_whole_numbers() -> None:
-    assert rcell.areas(LAND, classes=[1.0]).table.rows == rcell.areas(LAND, classes=[1]).table.rows  # type: ignore[list-item]
+    assert rcell.patches(LAND, classes=[1.0]).equals(rcell.patches(LAND, classes=[1]))  # type: ignore[list-item]
     with pytest.raises(rcell.Refused, match="classes= are whole numbers, not 1.9"):
-        rcell.areas(LAND, classes=[1.9])  # type: ignore[list-item]
+        rcell.patches(LAND, classes=[1.9])  # type: ignore[list-item]
 
 
 @pytest.mark.parametrize("blank", ["\u3000", "\u2028", "\u0085", "\v", "\f", "\x1c", "\u00a0"])
@@ -210,7 +210,7 @@ def test_a_map_without_a_reference_system_is_refused_next_to_one(raster: Write) 
 def test_a_reference_system_that_is_not_understood_is_refused(monkeypatch: pytest.MonkeyPatch) -> None:
     assert "its coordinate reference system is not understood: 'nonsense'" in str(refusal(rcell.Map([[1]], crs="nonsense")))
     compound = rcell.Map([[1]], (1, 0, 10, 0, -1, 50), "EPSG:9707")
-    assert list(rcell.areas(compound).sizes) == ["area", "category", "cells"]
+    assert rcell.composition(compound, area="km2")["area_km2"][0] == pytest.approx(8056.245, abs=0.001)
     with pytest.raises(rcell.Refused, match="in degrees the area of a cell differs"):
         rcell.table(SCRIPT, m=compound, area="ha")
     modules: dict[str, Any] = sys.modules

@@ -25,9 +25,9 @@ rasterio = pytest.importorskip("rasterio")
 Write = Callable[..., str]
 SECONDS = 120
 GRID = "north: 2\nsouth: 0\neast: 3\nwest: 0\nrows: 2\ncols: 3\n7 7 7\n8 8 8\n"
-CSV = "m,cells\n7,3\n8,3\n"
-TABLE = f"{shlex.quote(sys.executable)} -m rcell csv 'r.stats -c input=m' m=in.txt"
-TIF = f"{shlex.quote(sys.executable)} -m rcell tif <(echo) m=in.txt --out m="
+CSV = "class,cells,percent\n7,3,50\n8,3,50\n"
+TABLE = f"{shlex.quote(sys.executable)} -m rcell composition in.txt --area none"
+TIF = f"{shlex.quote(sys.executable)} -m rcell run <(echo) m=in.txt --out m="
 
 
 @pytest.fixture
@@ -49,7 +49,7 @@ def hidden(room: pathlib.Path) -> list[str]:
 
 
 def test_what_is_no_file_is_written_and_never_replaced(room: pathlib.Path) -> None:
-    for command, begins in ((f"{TABLE} --out ", b"m,cells"), (TIF, b"II*\0")):
+    for command, begins in ((f"{TABLE} --out ", b"class,cells"), (TIF, b"II*\0")):
         if os.geteuid() == 0:
             subprocess.run(["mknod", str(room / "null.tif"), "c", "1", "3"], check=True)
             assert shell(room, f"{command}null.tif").returncode == 0
@@ -63,7 +63,7 @@ def test_what_is_no_file_is_written_and_never_replaced(room: pathlib.Path) -> No
         assert shell(room, f"echo old > log; {command}stdout.tif >> log").returncode == 0
         assert (room / "stdout.tif").is_symlink() and (room / "log").read_bytes().startswith(b"old\n" + begins)
         full = shell(room, f"ln -sf /dev/full full.tif; {command}full.tif")
-        assert (full.returncode, full.stderr) == (4, "rcell: full.tif cannot be written: No space left on device\n")
+        assert (full.returncode, full.stderr) == (4, "rcell-gis: full.tif cannot be written: No space left on device\n")
     assert hidden(room) == []
 
 
@@ -104,13 +104,13 @@ def test_an_old_file_and_its_mask_survive_a_failure(raster: Write, tmp_path: pat
 
 
 def test_an_input_is_no_output(room: pathlib.Path) -> None:
-    (room / "script").write_text("r.stats -c input=m\n")
-    for command in (f"{TABLE} --out in.txt", f"{sys.executable} -m rcell csv script m=in.txt --out script", f"{TIF}in.txt"):
+    (room / "script.txt").write_text("r.stats -c input=m\n")
+    for command in (f"{TABLE} --out in.txt", f"{sys.executable} -m rcell run script.txt m=in.txt --out m=script.txt", f"{TIF}in.txt"):
         ran = shell(room, f"ln -sf in.txt link; {command}")
         assert (ran.returncode, ran.stderr.endswith("the output file is the input file: choose another name\n")) == (2, True), ran.stderr
     assert (room / "in.txt").read_text() == GRID
     ran = shell(room, f"{TIF}x.tif --out n=./x.tif")
-    assert (ran.returncode, ran.stderr) == (2, "rcell: arguments: ./x.tif: two maps go to one file\n")
+    assert (ran.returncode, ran.stderr) == (2, "rcell-gis: arguments: ./x.tif: two maps go to one file\n")
 
 
 # Streams and signals
@@ -125,7 +125,7 @@ def test_closed_streams(room: pathlib.Path, closed: str) -> None:
 def test_closed_and_full_standard_output(room: pathlib.Path) -> None:
     for redirection, reason in ((">&-", "is closed"), (">&- <&-", "is closed"), ("> /dev/full", "No space left on device")):
         ran = shell(room, f"{TABLE} {redirection}")
-        assert (ran.returncode, ran.stderr) == (4, f"rcell: standard output cannot be written: {reason}\n")
+        assert (ran.returncode, ran.stderr) == (4, f"rcell-gis: standard output cannot be written: {reason}\n")
     assert shell(room, f"{TABLE} | true; exit ${{PIPESTATUS[0]}}").returncode in (0, 4)
 
 
@@ -139,7 +139,7 @@ def test_a_library_with_closed_streams(room: pathlib.Path) -> None:
 @pytest.mark.parametrize("name", ["SIGHUP", "SIGINT", "SIGTERM", "SIGQUIT", "SIGXCPU"])
 def test_signals_leave_nothing(room: pathlib.Path, name: str) -> None:
     os.mkfifo(room / "fifo")
-    command = [sys.executable, "-m", "rcell", "csv", "r.stats -c input=m", "m=fifo", "--out", "out"]
+    command = [sys.executable, "-m", "rcell", "composition", "fifo", "--out", "out"]
     (room / "out").write_text("old")
     with subprocess.Popen(command, cwd=room, env=environment(RCELL_TEST=str(room)), stderr=subprocess.PIPE, text=True) as program:
         with open(room / "fifo", "w") as fifo:
@@ -209,7 +209,7 @@ def test_programs_are_not_found_through_relative_folders(room: pathlib.Path) -> 
     for path in (".:/nowhere", ":/nowhere", "/nowhere:"):
         assert shell(room, f"PATH={path} {sys.executable} -c {shlex.quote(code)}").stdout == "[]\n"
     ran = shell(room, TABLE, RCELL="rcell")
-    assert ran.stderr == f"rcell: {stranger} is not a program rcell of a version that this package knows\n"
+    assert ran.stderr == f"rcell-gis: {stranger} is not a program rcell of a version that this package knows\n"
 
 
 def test_a_program_that_does_not_end_is_told(room: pathlib.Path, monkeypatch: pytest.MonkeyPatch) -> None:
@@ -232,7 +232,7 @@ def test_a_command_states_a_reference_system(raster: Write) -> None:
     path = raster(LAND, crs="EPSG:25832")
     plain = path.replace("map.tif", "plain.txt")
     rcell.grid("", "m", m=(LAND, TRANSFORM)).write(plain)
-    words = [sys.executable, "-m", "rcell", "csv", "r.stats -c input=a,b", f"a={path}", f"b={plain}"]
+    words = [sys.executable, "-m", "rcell", "run", "r.stats -c input=a,b", f"a={path}", f"b={plain}"]
     ran = subprocess.run(words, capture_output=True, text=True, env=environment(), check=False)
     assert (ran.returncode, 'state it with crs="EPSG:25832"' in ran.stderr) == (1, True)
     ran = subprocess.run([*words, "--crs", "EPSG:25832"], capture_output=True, text=True, env=environment(), check=False)

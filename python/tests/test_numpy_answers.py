@@ -85,7 +85,7 @@ class Runs(unittest.TestCase):
 
     def test_an_output_of_each_kind(self) -> None:
         result = rcell.run("r.out.ascii input=lc null_value=-1\nr.stats -1 input=lc\nr.stats -1n input=lc\nr.stats input=lc", lc=rcell.Map(LAND, nodata=0))
-        self.assertEqual([type(output).__name__ for output in result], ["Grid", "Table", "Table", "Table"])
+        self.assertEqual([type(output).__name__ for output in result], ["Grid", "StatsTable", "StatsTable", "StatsTable"])
         self.assertEqual([len(table) for table in result.tables], [12, 11, 4])
         self.assertEqual(result[0:2], list(result)[:2])
         self.assertEqual(repr(result), "<Result: r.out.ascii of lc, r.stats of lc, r.stats of lc, r.stats of lc>")
@@ -132,16 +132,20 @@ class Runs(unittest.TestCase):
         self.assertEqual(found, [[(0, 1), (1, 5), (2, 4), (3, 2)]] * 8)
 
 
-class Areas(unittest.TestCase):
-    def test_first_cells_and_sizes(self) -> None:
-        for diagonal in (False, True):
-            found = rcell.areas(rcell.Map(LAND, nodata=0, labels={1: "wood"}), diagonal=diagonal)
-            clump = rcell.grid(f"r.clump {'-d' if diagonal else ''} input=lc output=k", "k", lc=rcell.Map(LAND, nodata=0))
-            self.assertEqual(found.array.tolist(), clump.array.tolist())
-            numbers = clump.array.filled(0)
-            rows = [(k, int(LAND[numbers == k][0]), {1: "wood"}.get(int(LAND[numbers == k][0])), int((numbers == k).sum())) for k in range(1, numbers.max() + 1)]
-            self.assertEqual([row[:4] for row in found.table.rows], rows)
-            self.assertEqual(found.table.columns, ("area", "category", "label", "cells", "ha"))
+def rows_of(answer: Any) -> list[tuple[Any, ...]]:
+    """The rows of a DataFrame or a Table, a column for each name."""
+    return list(answer.itertuples(index=False, name=None) if hasattr(answer, "itertuples") else answer.rows)
+
+
+class Patches(unittest.TestCase):
+    def test_numbers_and_sizes(self) -> None:
+        for connectivity in (4, 8):
+            land = rcell.Map(LAND, nodata=0, labels={1: "wood"})
+            found = rcell.patches(land, connectivity)
+            numbers = rcell.grid(f"r.clump {'-d' if connectivity == 8 else ''} input=lc output=k", "k", lc=land).array.filled(0)
+            rows = [(k, int(LAND[numbers == k][0]), {1: "wood"}.get(int(LAND[numbers == k][0]), ""), int((numbers == k).sum())) for k in range(1, numbers.max() + 1)]
+            self.assertEqual([row[:4] for row in rows_of(found)], rows)
+            self.assertEqual(tuple(found.columns), ("patch", "class", "label", "cells", "area_ha", "perimeter_m", "core_ha", "west", "south", "east", "north"))
 
     def test_random_maps(self) -> None:
         random = np.random.default_rng(5)
@@ -149,22 +153,26 @@ class Areas(unittest.TestCase):
             rows, cols = random.integers(1, 15, 2).tolist()
             a = random_map(random, rows, cols, 3, 0.3)
             least = int(random.integers(1, 5))
-            whole, kept = rcell.areas(a), rcell.areas(a, least=least, classes=None)
-            large = {row[0] for row in whole.table.rows if row[2] >= least}  # type: ignore[operator]
-            self.assertEqual({row[0] for row in kept.table.rows}, large)
-            self.assertEqual(set(kept.categories()), large)
-            for number, category, cells, _ in whole.table.rows:
-                inside = whole.array.filled(0) == number
-                self.assertEqual((int(inside.sum()), set(a[inside].tolist())), (cells, {category}))
+            whole, kept = rows_of(rcell.patches(a)), rows_of(rcell.patches(a, least=least))
+            self.assertEqual(kept, [row for row in whole if row[2] >= least])
+            self.assertEqual(rows_of(rcell.patches(a, classes=[1, 3])), [row for row in whole if row[1] in (1, 3)])
+            numbers = rcell.grid("r.clump input=a output=k", "k", a=a).array.filled(0)
+            for row in whole:
+                self.assertEqual(row[3:], (row[2] / 1e4, *measured(numbers == row[0])))
 
-    def test_classes(self) -> None:
-        found = rcell.areas(rcell.Map(LAND, nodata=0), classes=[2, 3, 99])
-        self.assertEqual([row[1:3] for row in found.table.rows], [(2, 4), (3, 2)])
-        self.assertEqual(len(rcell.areas(LAND, classes=[]).table), 0)
+    def test_nothing(self) -> None:
+        self.assertEqual(len(rcell.patches(LAND, classes=[])), 0)
+        self.assertEqual(len(rcell.patches(rcell.Map(np.zeros((2, 2), int), nodata=0))), 0)
 
-    def test_nulls_alone(self) -> None:
-        found = rcell.areas(rcell.Map(np.zeros((2, 2), int), nodata=0))
-        self.assertEqual((found.array.tolist(), found.table.rows), ([[None, None], [None, None]], []))
+
+def measured(inside: Any) -> tuple[float, ...]:
+    """The perimeter, the core of one step and the extent of some cells of side 1."""
+    wide = np.pad(inside, 1)
+    sides = [wide[1:-1, 1:-1] & ~np.roll(wide, step, axis)[1:-1, 1:-1] for axis in (0, 1) for step in (-1, 1)]
+    core = wide[1:-1, 1:-1] & ~np.logical_or.reduce(sides)
+    rows, cols = np.nonzero(inside)
+    height = inside.shape[0]
+    return float(sum(side.sum() for side in sides)), core.sum() / 1e4, float(cols.min()), height - rows.max() - 1.0, cols.max() + 1.0, float(height - rows.min())
 
 
 class Refusals(unittest.TestCase):
@@ -217,6 +225,7 @@ class Refusals(unittest.TestCase):
             "b: not of the region of `a`, and nothing is resampled: east is 600.5, not 600 (0.5 more); west is 500.5, not 500 (0.5 more)",
             "  a: north 1000, south 925, east 600, west 500, 3 rows, 4 columns",
             "  b: north 1000, south 925, east 600.5, west 500.5, 3 rows, 4 columns",
+            '  try: b=rcell.align(b, to=a, resample="nearest")',
         ])
         taken = rcell.run("r.stats -c input=a,b", a=(LAND, (1, 0, 1 / 3, 0, -1, 3)), b=(LAND, (1, 0, 0.33333333, 0, -1, 3)))
         self.assertEqual(len(taken), 1)
@@ -244,8 +253,8 @@ class Refusals(unittest.TestCase):
             (("r.stats -c input=lc", {"area": "acre"}), "area= is one of m2, ha, km2, and not 'acre'"),
             (("r.stats input=lc", {"percent": True}), "percent= needs a table with cells: r.stats -c"),
             (("r.stats -c input=lc", {"pivot": True}), "pivot= needs a table of two maps, and this one has 1"),
-            (("r.out.ascii input=lc", {}), "one table is asked for, and the script has r.out.ascii in line 1: rcell.run answers all outputs"),
-            (("# nothing", {}), "one table is asked for, and the script has no r.stats: rcell.run answers all outputs"),
+            (("r.out.ascii input=lc", {}), "one table is asked for, and the script has r.out.ascii in line 1: rcell.run returns all outputs"),
+            (("# nothing", {}), "one table is asked for, and the script has no r.stats: rcell.run returns all outputs"),
         ):
             with self.subTest(told=told), self.assertRaises(rcell.Refused) as caught:
                 rcell.table(words[0], lc=lc, **words[1])  # type: ignore[arg-type]
@@ -387,7 +396,7 @@ class Texts(unittest.TestCase):
         path = self.file(text)
         grid = rcell.grid("r.clump input=g output=k", "g", g=path)
         self.assertEqual((grid.array.tolist(), grid.region), ([[None, 27, -6]], rcell.Region(10.5, -0.25, 4, 0, 1, 3)))
-        self.assertEqual(rcell.areas(path).table.rows[0][:3], (1, 27, 1))
+        self.assertEqual(rows_of(rcell.patches(path))[0][:3], (1, 27, 1))
 
     def test_with_an_array_beside_it(self) -> None:
         grid = rcell.Grid("lc", np.ma.MaskedArray(LAND.astype(np.int32)), region := rcell.Region(3, 0, 4, 0, 3, 4), region.transform)

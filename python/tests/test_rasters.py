@@ -64,7 +64,7 @@ def test_rows_from_south_to_north(raster: Write) -> None:
     grid = rcell.grid("", "lc", lc=path)
     assert grid.array.tolist() == LAND[::-1].tolist()
     assert (grid.region.north, grid.transform) == (75, (25, 0, 0, 0, -25, 75))
-    assert rcell.areas(path).table.rows[0][1] == 3
+    assert rcell.patches(path)["class"][0] == 3
 
 
 def test_without_georeference(raster: Write) -> None:

@@ -1,5 +1,5 @@
 # SPDX-License-Identifier: Apache-2.0 OR GPL-2.0-or-later
-"""rcell for Python: tables, maps and areas of rasters of whole numbers, counted by the proved program.
+"""rcell for Python: tables, maps and patches of rasters of whole numbers, counted by the proved program.
 
 A script is run over maps of one region, which are given by name: paths of GeoTIFFs, arrays, DataArrays.
 
@@ -15,7 +15,10 @@ import importlib
 import os
 from typing import TYPE_CHECKING, Any
 
-from ._answers import Areas, Result, areas, grid, run, table
+from ._align import align
+from ._answers import Result, grid, run, table
+from ._change import Change, change
+from ._composition import composition, cross
 from ._errors import (
     BadMap,
     Killed,
@@ -32,15 +35,19 @@ from ._errors import (
 )
 from ._grid import Grid
 from ._joiner import find_joiner
-from ._maps import Map
+from ._majority import majority
+from ._maps import Aligned, Map
+from ._patches import patches
 from ._program import find_program
 from ._region import Region
-from ._table import Pivot, Table
+from ._table import Pivot, StatsTable, Table
 from ._version import __version__
+from ._zonal import zonal
 
 __all__ = [
-    "Areas",
+    "Aligned",
     "BadMap",
+    "Change",
     "Grid",
     "Killed",
     "Map",
@@ -55,16 +62,23 @@ __all__ = [
     "Refused",
     "Region",
     "Result",
+    "StatsTable",
     "Table",
     "WriteFailed",
     "WrongProgram",
     "__version__",
-    "areas",
+    "align",
+    "change",
+    "composition",
+    "cross",
     "grid",
     "joiner",
+    "majority",
+    "patches",
     "program",
     "run",
     "table",
+    "zonal",
 ]
 
 if TYPE_CHECKING:
@@ -74,7 +88,7 @@ if TYPE_CHECKING:
 
 
 def program(path: str | os.PathLike[str] | None = None) -> str:
-    """The path of the program that the calls run.
+    """Return the path of the program that the calls run.
 
     Parameters
     ----------
@@ -84,14 +98,14 @@ def program(path: str | os.PathLike[str] | None = None) -> str:
     Returns
     -------
     str
-        The first of: the environment variable RCELL, the program beside this Python, where the wheel puts it, the path.
+        The first of: the environment variable RCELL, the program next to this Python, where the wheel puts it, the path.
 
     Raises
     ------
     MissingProgram
-        Where there is none.
+        There is none.
     WrongProgram
-        Where it is another program, or of a version that this package does not know.
+        It is another program, or of a version that this package does not know.
 
     Examples
     --------
@@ -103,7 +117,7 @@ def program(path: str | os.PathLike[str] | None = None) -> str:
 
 
 def joiner(path: str | os.PathLike[str] | None = None) -> str:
-    """The path of the program rcell-join, which joins the tables of tiles.
+    """Return the path of the program rcell-join, which joins the tables of tiles.
 
     Parameters
     ----------
@@ -113,14 +127,14 @@ def joiner(path: str | os.PathLike[str] | None = None) -> str:
     Returns
     -------
     str
-        The first of: the environment variable RCELL_JOIN, the program beside rcell, the one beside this Python, the path.
+        The first of: the environment variable RCELL_JOIN, the program next to rcell, the one next to this Python, the path.
 
     Raises
     ------
     MissingProgram
-        Where there is none.
+        There is none.
     WrongProgram
-        Where it is another program, or of a version that this package does not know.
+        It is another program, or of a version that this package does not know.
 
     Examples
     --------

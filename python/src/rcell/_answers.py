@@ -1,38 +1,31 @@
 # SPDX-License-Identifier: Apache-2.0 OR GPL-2.0-or-later
-"""The calls: run, table, grid and areas."""
+"""The calls that take a script: run, table and grid."""
 
 from __future__ import annotations
 
-import numbers
 from collections.abc import Sequence
-from dataclasses import dataclass, field
 from typing import Any, Iterable, Mapping, overload
 
 import numpy as np
-from numpy.typing import NDArray
 
-from ._crs import is_geographic
 from ._errors import Refused
 from ._grid import Grid
 from ._libraries import has
-from ._maps import Source, source_of, sources_of
-from ._masked import filled, masked
-from ._program import Output, Progress, execute, judge
+from ._maps import Source, named_once, sources_of
+from ._program import Output, execute, judge
 from ._script import labels_in, statements_of
-from ._table import Table
-from ._texts import TextMap
+from ._table import StatsTable
 
-__all__ = ["Areas", "Result", "areas", "grid", "run", "table"]
+__all__ = ["Result", "grid", "grids_of", "outputs_with", "run", "run_of", "table"]
 
 
-class Result(Sequence["Table | Grid"]):
+class Result(Sequence["StatsTable | Grid"]):
     """The outputs of a script in the order of its statements: a table for each r.stats, a grid for each r.out.ascii.
 
-    Attributes
+    Parameters
     ----------
-    tables : list of Table
-    grids : dict of str to Grid
-        By the names of the maps.
+    outputs : iterable of StatsTable or Grid
+        The outputs.
 
     Examples
     --------
@@ -42,11 +35,11 @@ class Result(Sequence["Table | Grid"]):
     [('r.stats', 1, ('lc',)), ('r.out.ascii', 2, ('lc',))]
     """
 
-    def __init__(self, outputs: Iterable[Table | Grid]) -> None:
+    def __init__(self, outputs: Iterable[StatsTable | Grid]) -> None:
         self._outputs = list(outputs)
 
     @property
-    def tables(self) -> list[Table]:
+    def tables(self) -> list[StatsTable]:
         """The tables alone.
 
         Examples
@@ -55,7 +48,7 @@ class Result(Sequence["Table | Grid"]):
         >>> len(rcell.run("r.stats -c input=lc", lc=np.array([[1, 2]])).tables)
         1
         """
-        return [output for output in self._outputs if isinstance(output, Table)]
+        return [output for output in self._outputs if isinstance(output, StatsTable)]
 
     @property
     def grids(self) -> dict[str, Grid]:
@@ -70,12 +63,12 @@ class Result(Sequence["Table | Grid"]):
         return {output.name: output for output in self._outputs if isinstance(output, Grid)}
 
     @overload
-    def __getitem__(self, place: int) -> Table | Grid: ...
+    def __getitem__(self, place: int) -> StatsTable | Grid: ...
 
     @overload
-    def __getitem__(self, place: slice) -> list[Table | Grid]: ...
+    def __getitem__(self, place: slice) -> list[StatsTable | Grid]: ...
 
-    def __getitem__(self, place: int | slice) -> Table | Grid | list[Table | Grid]:
+    def __getitem__(self, place: int | slice) -> StatsTable | Grid | list[StatsTable | Grid]:
         return self._outputs[place]
 
     def __len__(self) -> int:
@@ -87,43 +80,37 @@ class Result(Sequence["Table | Grid"]):
 
 
 class _Run:
-    """A script over maps, and what its answers need to know of them."""
+    """A script over maps, and what its results need to know of them."""
 
     def __init__(
         self,
         script: str,
         maps: Mapping[str, Any] | None,
         named: Mapping[str, Any],
-        progress: Progress | None = None,
         crs: Any = None,
     ) -> None:
-        given = {**(maps or {}), **named}
-        twice = set(maps or {}) & set(named)
-        if twice:
-            raise Refused(f"the map {sorted(twice)[0]} is given twice", status=2)
         self.script = script
         self.sources: dict[str, Source]
-        self.sources, self.crs = sources_of(given, crs)
+        self.sources, self.crs = sources_of(named_once(maps, named), crs)
         self.first = next(iter(self.sources.values()))
-        self._progress = progress
         self._made = labels_in(script)
 
-    def outputs(self, wanted: Sequence[str] = ()) -> list[Table | Grid]:
-        """Runs the script, and answers its outputs; after them the cells of the maps that are wanted."""
-        ran = execute(self.script, self.sources, wanted=wanted, progress=self._progress)
+    def outputs(self, wanted: Sequence[str] = ()) -> list[StatsTable | Grid]:
+        """Run the script and return its outputs; after them the cells of the maps that are wanted."""
+        ran = execute(self.script, self.sources, wanted=wanted)
         return [self._answer(output) for output in ran]
 
     def labels(self, name: str) -> Mapping[int, str]:
-        """The labels of a map: those of the rules that made it, or of the map given."""
+        """The labels of a map: from the rules that made it, or from the map that was given."""
         return self.sources[name].labels if name in self.sources else self._made.get(name, {})
 
-    def _answer(self, output: Output) -> Table | Grid:
+    def _answer(self, output: Output) -> StatsTable | Grid:
         statement = output.statement
         if statement.is_of_cells and (statement.command == "r.out.ascii" or statement.line == 0):
             return self._grid(output)
         values = output.values.reshape(-1, 1).astype(np.int64) if statement.is_of_cells else output.values
         count = len(statement.maps)
-        return Table(
+        return StatsTable(
             command=statement.command,
             line=statement.line,
             maps=statement.maps,
@@ -150,11 +137,12 @@ class _Run:
             labels=self.labels(name),
             command=output.statement.command,
             line=output.statement.line,
+            colors=self.sources[name].colors if name in self.sources else {},
         )
 
 
 def run(script: str, maps: Mapping[str, Any] | None = None, /, *, crs: Any = None, **named: Any) -> Result:
-    """Runs a script over maps of one region.
+    """Run a script over maps of one region.
 
     Parameters
     ----------
@@ -166,6 +154,8 @@ def run(script: str, maps: Mapping[str, Any] | None = None, /, *, crs: Any = Non
         Maps by name. A map is a path to anything that rasterio opens or to a grid of the program's own form; an array or
         masked array of whole numbers (with cells of side 1), `(array, region)` or `(array, transform)`; a `Map`; a `Grid`; a
         DataArray; an open dataset or a band of rasterio.
+    crs : any, optional
+        The reference system of maps that have none.
 
     Returns
     -------
@@ -175,9 +165,9 @@ def run(script: str, maps: Mapping[str, Any] | None = None, /, *, crs: Any = Non
     Raises
     ------
     Refused
-        As the program refuses, with source, line and text; BadMap and OtherRegion where a map can't be sent.
+        The program rejects the script or a map, with source, line and text; BadMap and OtherRegion if a map cannot be sent.
     RcellError
-        Where the program is missing, wrong or killed.
+        The program is missing, wrong or killed.
 
     Examples
     --------
@@ -201,32 +191,36 @@ def table(
     crs: Any = None,
     **named: Any,
 ) -> Any:
-    """Runs a script whose only output is a table, and answers it.
+    """Run a script that produces one table and return it.
 
     Parameters
     ----------
     script : str
         A line `r.stats ..`, or a script with one.
-    maps, **named
-        As those of `run`.
+    maps : mapping, optional
+        As in `run`.
     area : {"m2", "ha", "km2"}, optional
-        Adds a column of areas. A map in degrees is refused: there the area of a cell differs from row to row. A map without
-        a reference system is taken to be in metres.
+        Adds a column of areas. A map in degrees is an error, since the area of a cell differs from row to row: `composition` and
+        `cross` weigh the rows. A map without a reference system is taken to be in metres.
     percent : bool
         Adds a column of percentages of all cells of the table.
     pivot : bool
-        Answers a table of two maps as a matrix, of percentages or areas where these are asked for, else of cells.
+        Returns a table of two maps as a matrix, of percentages or areas if these are asked for, else of cells.
+    crs : any, optional
+        The reference system of maps that have none.
+    **named
+        Maps by name, as in `run`.
 
     Returns
     -------
     pandas.DataFrame
-        Columns by map name (nullable Int64), `NAME_label` with the flag `-l` (text), `cells`, then the unit of area, and
-        `percent`. Where pandas is not installed a Table, or a Pivot.
+        Columns by map name (nullable Int64), `NAME_label` with the flag `-l` (text), `cells`, `area_ha` or another unit, and
+        `percent`. Without pandas a StatsTable, or a Pivot.
 
     Raises
     ------
     Refused
-        As `run`; where the script has not one table; where there is no area.
+        As `run`; the script has not one table; there is no area.
 
     Examples
     --------
@@ -241,21 +235,21 @@ def table(
     answer = table_of(_Run(script, maps, named, crs=crs), area, percent, pivot)
     if pivot:
         return answer.pivot_frame() if has("pandas") else answer.pivot()
-    return answer.frame() if has("pandas") else answer
+    return answer.answer()
 
 
-def run_of(script: str, maps: Mapping[str, Any], progress: Progress | None = None, crs: Any = None) -> _Run:
-    """Return a run that reports its progress, for the command line."""
-    return _Run(script, maps, {}, progress, crs)
+def run_of(script: str, maps: Mapping[str, Any], crs: Any = None) -> _Run:
+    """Return a run of a script, which other calls and the command line ask for its maps."""
+    return _Run(script, maps, {}, crs)
 
 
-def table_of(of: _Run, area: str | None, percent: bool, pivot: bool) -> Table:
+def table_of(of: _Run, area: str | None, percent: bool, pivot: bool) -> StatsTable:
     """The only table of a run, with the columns asked for."""
     writing = [statement for statement in statements_of(of.script) if statement.writes]
     outputs = of.outputs()
-    if len(outputs) != 1 or not isinstance(outputs[0], Table):
+    if len(outputs) != 1 or not isinstance(outputs[0], StatsTable):
         told = ", ".join(f"{statement.command} in line {statement.line}" for statement in writing) or "no r.stats"
-        raise Refused(f"one table is asked for, and the script has {told}: rcell.run answers all outputs", "script")
+        raise Refused(f"one table is asked for, and the script has {told}: rcell.run returns all outputs", "script")
     answer = outputs[0]
     if pivot and len(answer.maps) != 2:
         answer.pivot()
@@ -265,7 +259,7 @@ def table_of(of: _Run, area: str | None, percent: bool, pivot: bool) -> Table:
 
 
 def grid(script: str, name: str, maps: Mapping[str, Any] | None = None, /, *, crs: Any = None, **named: Any) -> Grid:
-    """Runs a script, and answers one of its maps.
+    """Run a script and return one of its maps.
 
     Parameters
     ----------
@@ -273,17 +267,22 @@ def grid(script: str, name: str, maps: Mapping[str, Any] | None = None, /, *, cr
         It need write nothing; what it writes is left out.
     name : str
         A map that it makes, or one that is given.
-    maps, **named
-        As those of `run`.
+    maps : mapping, optional
+        As in `run`.
+    crs : any, optional
+        The reference system of maps that have none.
+    **named
+        Maps by name, as in `run`.
 
     Returns
     -------
     Grid
+        The map, with the labels of the rules that made it, or of the map that was given.
 
     Raises
     ------
     Refused
-        As `run`, and where there is no such map.
+        As `run`, and if there is no such map.
 
     Examples
     --------
@@ -295,148 +294,17 @@ def grid(script: str, name: str, maps: Mapping[str, Any] | None = None, /, *, cr
 
 
 def grids_of(of: _Run, names: Sequence[str]) -> list[Grid]:
-    """Some maps of a run."""
+    """Return some maps of a run."""
+    found = outputs_with(of, names)
+    return [output for output in found[len(found) - len(names) :] if isinstance(output, Grid)]
+
+
+def outputs_with(of: _Run, names: Sequence[str]) -> list[StatsTable | Grid]:
+    """Return the outputs of a run, and after them some of its maps."""
     made = [statement.output for statement in statements_of(of.script) if statement.output is not None]
     known = [*of.sources, *made]
     for name in names:
         if name not in known:
             judge(of.script, of.sources)
             raise Refused(f"no map {name}: there are {', '.join(known)}", status=2)
-    return [output for output in of.outputs(wanted=names)[-len(names) :] if isinstance(output, Grid)]
-
-
-@dataclass(frozen=True, eq=False)
-class Areas(Grid):
-    """The connected areas of a map, numbered in the order of their first cells.
-
-    Attributes
-    ----------
-    table : Table
-        The area, its category, and its cells, an entry for each area that was kept.
-    all_cells : int
-        How many cells all areas have, those that were left out too.
-
-    Examples
-    --------
-    >>> import numpy as np, rcell
-    >>> found = rcell.areas(np.array([[5, 5, 7, 5]]), least=2)
-    >>> found.array.tolist(), found.table.rows
-    ([[1, 1, None, None]], [(1, 5, 2, 0.0002)])
-    """
-
-    table: Table = field(default_factory=lambda: _no_table())
-
-    @property
-    def sizes(self) -> Any:
-        """The areas: `area`, `category`, `label` where the map has labels, `cells`, and `ha` where it is not in degrees.
-
-        Returns
-        -------
-        pandas.DataFrame
-            A Table where pandas is not installed.
-
-        Examples
-        --------
-        >>> import numpy as np, rcell
-        >>> rcell.areas(np.array([[5, 5, 7, 5]])).sizes
-           area  category  cells      ha
-        0     1         5      2  0.0002
-        1     2         7      1  0.0001
-        2     3         5      1  0.0001
-        """
-        return self.table.frame() if has("pandas") else self.table
-
-
-def _no_table() -> Table:
-    return Table("r.stats", 0, ("area", "category"), np.empty((0, 2), np.int64), np.empty(0, np.int64))
-
-
-def areas(given: Any, /, *, diagonal: bool = False, least: int | None = None, classes: Iterable[int] | None = None) -> Areas:
-    """The connected areas of a map, with their sizes.
-
-    Parameters
-    ----------
-    given : path, array, .. as a map of `run`
-    diagonal : bool
-        Whether cells that touch at a corner are connected too.
-    least : int, optional
-        Areas of fewer cells are left out: null in the grid, and no entry of the sizes. The others keep their numbers.
-    classes : iterable of int, optional
-        Only areas of these categories; all else is null.
-
-    Returns
-    -------
-    Areas
-        A Grid of their numbers, with `.sizes`.
-
-    Raises
-    ------
-    Refused
-        As `run`.
-
-    Examples
-    --------
-    >>> import numpy as np, rcell
-    >>> lc = np.array([[5, 7, 5], [5, 5, 7]])
-    >>> rcell.areas(lc, classes=[5]).array.tolist()
-    [[1, None, 2], [1, 1, None]]
-    """
-    source = source_of("map", given)
-    of = _Run(_script_of_areas(diagonal, classes), {"map": source}, {})
-    is_text = isinstance(source, TextMap)
-    found, *inputs = grids_of(of, ["areas", "map"] if is_text else ["areas"])
-    numbers = filled(found.array, 0)
-    cells = np.bincount(numbers.reshape(-1))[1:].astype(np.int64)
-    categories = _at(_first_cells(numbers), [inputs[0].array.data] if is_text else (block.cells for block in source.blocks()))
-    kept = np.flatnonzero(cells >= (least or 0))
-    sizes = Table(
-        command="r.clump",
-        line=0,
-        maps=("area", "category"),
-        categories=np.column_stack([kept + 1, categories[kept]]),
-        cells=cells[kept],
-        labels={"category": source.labels} if source.labels else None,
-        label_title="label",
-        cell=of.cell,
-        crs=source.crs,
-    )
-    if not is_geographic(source.crs):
-        sizes = sizes.with_area("ha")
-    if kept.size < cells.size:
-        is_kept = np.concatenate([[False], cells >= (least or 0)])
-        numbers = np.where(is_kept[numbers], numbers, 0)
-    array = masked(numbers, numbers == 0)
-    return Areas("areas", array, found.region, found.transform, found.crs, {}, "r.clump", 0, sizes)
-
-
-def _script_of_areas(diagonal: bool, classes: Iterable[int] | None) -> str:
-    clump = f"r.clump{' -d' if diagonal else ''} input={'map' if classes is None else 'kept'} output=areas"
-    if classes is None:
-        return clump
-    rules = "\n".join(f"{_class_of(category)} = {_class_of(category)}" for category in classes)
-    return f"r.reclass input=map output=kept\n{rules}\nend\n{clump}"
-
-
-def _class_of(given: Any) -> int:
-    if isinstance(given, numbers.Real) and given == int(given):
-        return int(given)
-    raise Refused(f"classes= are whole numbers, not {given!r}", status=2)
-
-
-def _first_cells(numbers: NDArray[np.int32]) -> NDArray[np.intp]:
-    """The first cell of each area: where the greatest number so far rises, since numbers are in the order of first cells."""
-    greatest = np.maximum.accumulate(numbers.reshape(-1))
-    rises = greatest[1:] != greatest[:-1]
-    first = [0] if greatest.size and greatest[0] else []
-    return np.concatenate([np.array(first, np.intp), np.flatnonzero(rises) + 1])
-
-
-def _at(places: NDArray[np.intp], blocks: Iterable[NDArray[Any]]) -> NDArray[np.int64]:
-    """The cells at ascending places of a map that comes in blocks of rows."""
-    found = np.empty(places.size, np.int64)
-    before = known = 0
-    for cells in blocks:
-        until = int(np.searchsorted(places, before + cells.size))
-        found[known:until] = cells.reshape(-1)[places[known:until] - before]
-        before, known = before + cells.size, until
-    return found
+    return of.outputs(wanted=names)

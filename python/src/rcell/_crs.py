@@ -9,14 +9,14 @@ from typing import Any, Mapping
 from ._errors import BadMap, OtherCrs, Refused
 from ._libraries import has, need
 
-__all__ = ["UNITS_OF_AREA", "cell_area", "common_crs", "is_geographic", "wkt_of"]
+__all__ = ["UNITS_OF_AREA", "are_same_crs", "cell_area", "common_crs", "is_geographic", "metres_of_unit", "wkt_of"]
 
 UNITS_OF_AREA = {"m2": 1.0, "ha": 1e4, "km2": 1e6}
 _NAME = re.compile(r'\s*\w+\s*\[\s*"([^"]*)"')
 _SHOWN = 60
 _BY_ROWS = (
-    "area= needs a map in metres or feet: in degrees the area of a cell differs from row to row. Weigh the rows: count by "
-    "`r.mapcalc row = row()` and `r.stats -c input=row,MAP`, and multiply the cells of each row by the area of its cells"
+    "area= needs a map in metres or feet: in degrees the area of a cell differs from row to row; rcell.composition and "
+    'rcell.cross weigh the rows, as rcell.composition("lc.tif", area="ha")'
 )
 
 
@@ -67,7 +67,7 @@ def _checked(name: str, crs: Any) -> Any:
         raise BadMap(name, f"its coordinate reference system is not understood: {str(crs)[:_SHOWN]!r}") from None
 
 
-def common_crs(maps: Mapping[str, Any], stated: Any = None) -> Any:
+def common_crs(maps: Mapping[str, Any], stated: Any = None, warp: str = "gdalwarp") -> Any:
     """Return the reference system that maps have in common.
 
     Parameters
@@ -76,6 +76,8 @@ def common_crs(maps: Mapping[str, Any], stated: Any = None) -> Any:
         The reference systems by the names of the maps; None for none.
     stated : any, optional
         The one that maps without one are said to have.
+    warp : str
+        The program of GDAL that reprojects them.
 
     Raises
     ------
@@ -102,14 +104,15 @@ def common_crs(maps: Mapping[str, Any], stated: Any = None) -> Any:
         if crs is None and stated is None:
             text = f"it has no coordinate reference system, and `{first}` has {_shown(common)}: state it with crs=\"{_code(common)}\""
             raise OtherCrs(name, text)
-        if crs is not None and not _are_same(crs, common):
+        if crs is not None and not are_same_crs(crs, common):
             other = f"that of `{first}` is {_shown(common)}" if stated is None else f"crs= is {_shown(common)}"
-            hint = f"reproject one of them first, as with gdalwarp -t_srs {_code(common)}"
+            hint = f"reproject one of them first, as with {warp} -t_srs {_code(common)}"
             raise OtherCrs(name, f"its coordinate reference system is {_shown(crs)}, and {other}: {hint}")
     return common
 
 
-def _are_same(one: Any, other: Any) -> bool:
+def are_same_crs(one: Any, other: Any) -> bool:
+    """Return whether two reference systems are the same."""
     return one is other or (type(one) is type(other) and bool(one == other)) or bool(_known(one) == _known(other))
 
 
@@ -125,7 +128,7 @@ def is_geographic(crs: Any) -> bool:
     return known is not None and bool(known.is_geographic)
 
 
-def _metres_of_unit(crs: Any) -> float:
+def metres_of_unit(crs: Any) -> float:
     """Return how many metres the unit of a projected reference system has; 1 without one."""
     known = _known(crs)
     if known is None:
@@ -160,4 +163,4 @@ def cell_area(unit: str, cell: tuple[float, float], crs: Any) -> tuple[float, fl
         raise Refused(f"area= is one of {', '.join(UNITS_OF_AREA)}, and not {unit!r}", status=2)
     if is_geographic(crs):
         raise Refused(_BY_ROWS)
-    return cell[0] * cell[1] * _metres_of_unit(crs) ** 2, UNITS_OF_AREA[unit]
+    return cell[0] * cell[1] * metres_of_unit(crs) ** 2, UNITS_OF_AREA[unit]

@@ -41,16 +41,16 @@ class RcellError(Exception):
 
 
 class Refused(RcellError):
-    """A map, a script or a request was refused, and nothing was answered.
+    """A map, a script or a request is invalid, and nothing was returned.
 
     Parameters
     ----------
     text : str
-        What is wrong, in the words of the program where it refused.
+        What is wrong; errors of the program have its own text.
     source : str
         The name of the map, or `script`, `output` or `arguments`.
     line : int
-        The line of the source, from 1; 0 where the fault belongs to no line.
+        The line of the source, from 1; 0 if the error belongs to no line.
     status : int
         The exit status of the program: 1 for a grid or the script, 2 for the command line, 3 out of memory, 4 for files.
     content : str, optional
@@ -110,7 +110,12 @@ class Refused(RcellError):
 
 
 class OutOfMemory(Refused, MemoryError):
-    """The program ran out of memory; `source` and `line` tell where.
+    """The program ran out of memory; `source` and `line` say where.
+
+    Parameters
+    ----------
+    text, source, line, status, content, advice, column
+        As in Refused.
 
     Examples
     --------
@@ -126,7 +131,7 @@ class BadMap(Refused, ValueError):
     Parameters
     ----------
     name : str
-        The name of the map; it is the `source` of the refusal as well.
+        The name of the map; it is the `source` of the error as well.
     text : str
         What is wrong.
     row, col : int, optional
@@ -154,7 +159,14 @@ class BadMap(Refused, ValueError):
 
 
 class OtherRegion(BadMap):
-    """A map whose edges, rows or columns are not those of the first; nothing is resampled.
+    """A map whose edges, rows or columns differ from the first; nothing is resampled.
+
+    Its last line is the call of `rcell.align` that brings the map onto the grid of the first.
+
+    Parameters
+    ----------
+    name, text, row, col, value
+        As in BadMap.
 
     Examples
     --------
@@ -168,7 +180,12 @@ class OtherRegion(BadMap):
 
 
 class OtherCrs(BadMap):
-    """A map whose coordinate reference system is not that of the others, or that has none where others have one.
+    """A map whose coordinate reference system differs from the others, or that has none if others have one.
+
+    Parameters
+    ----------
+    name, text, row, col, value
+        As in BadMap.
 
     Examples
     --------
@@ -184,6 +201,11 @@ class OtherCrs(BadMap):
 
 class ReadFailed(BadMap):
     """A file that cannot be opened, or a part of it that cannot be read.
+
+    Parameters
+    ----------
+    name, text
+        As in BadMap.
 
     Examples
     --------
@@ -230,9 +252,9 @@ class WrongProgram(RcellError):
 
 
 class Killed(RcellError):
-    """The program was ended by a signal; where a machine has too little memory, that is the kernel's doing.
+    """The program was ended by a signal; if a machine has too little memory, the kernel does that.
 
-    Attributes
+    Parameters
     ----------
     signal : int
         The number of the signal.
@@ -271,6 +293,15 @@ class WriteFailed(RcellError, OSError):
 class MissingLibrary(RcellError, ImportError):
     """A library that this call needs is not installed.
 
+    Parameters
+    ----------
+    library : str
+        Its name.
+    extra : str
+        The extra of the wheel that installs it.
+    purpose : str
+        What it is needed for.
+
     Examples
     --------
     >>> import rcell
@@ -289,6 +320,6 @@ class MissingLibrary(RcellError, ImportError):
         return f"{self.purpose} the library {self.library} is needed: pip install 'rcell[{self.extra}]', or {package}"
 
 
-# Their names are those of the package, in messages as well.
+# They are named as in the package, in messages as well.
 for _name in __all__:
     globals()[_name].__module__ = "rcell"

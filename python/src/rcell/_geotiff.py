@@ -62,14 +62,14 @@ def profile_of(rows: int, cols: int, transform: tuple[float, ...], crs: Any, dty
 
 
 def write_geotiff(grid: Grid, path: str) -> None:
-    """Writes a grid as GeoTIFF under a path, whole or not at all.
+    """Write a grid as GeoTIFF under a path, whole or not at all.
 
-    The file is made in memory, compressed, and written by Python: the library that makes it does not tell of a full disk.
+    The file is made in memory, compressed, and written by Python: the library that makes it does not report a full disk.
 
     Raises
     ------
     WriteFailed
-        Where the file can't be written.
+        The file cannot be written.
     """
     rasterio = need("rasterio", "gis", "to write a GeoTIFF")
     kept = compressed(grid.array)
@@ -79,6 +79,8 @@ def write_geotiff(grid: Grid, path: str) -> None:
     with replacing(path) as beside, told_of(path, rasterio.errors.RasterioError):
         with need("rasterio.io", "gis", "to write a GeoTIFF").MemoryFile() as memory:
             with memory.open(**profile) as dataset:
+                if grid.colors and dtype == "uint8":  # the only one of the three types that has a colour table
+                    dataset.write_colormap(1, {code: tuple(bytes.fromhex(color[1:])) for code, color in grid.colors.items() if 0 <= code < nodata})
                 dataset.write(cells, 1)
             with open(beside, "wb") as file:
                 file.write(memory.getbuffer())

@@ -33,7 +33,7 @@ _PALETTES = ("tab20", "tab20b", "tab20c")
 class Grid:
     """A map that a script made, or one of its inputs.
 
-    Attributes
+    Parameters
     ----------
     name : str
         The name of the map.
@@ -44,8 +44,8 @@ class Grid:
         That of the first map of the run, never read back from text.
     crs : any
         That of the first map of the run; None where it has none.
-    labels : mapping of int to str
-        Of the rules of the script, or of the map that was given.
+    labels, colors : mapping of int to str
+        Of the rules of the script, or of the map that was given; colours as `#rrggbb`.
     command : str
     line : int
         The line of the script; 0 where the map was asked for by name.
@@ -66,6 +66,7 @@ class Grid:
     labels: Mapping[int, str] = field(default_factory=dict)
     command: str = "r.out.ascii"
     line: int = 0
+    colors: Mapping[int, str] = field(default_factory=dict)
 
     @property
     def maps(self) -> tuple[str, ...]:
@@ -81,7 +82,19 @@ class Grid:
 
     @classmethod
     def of_values(cls, values: NDArray[np.int32], **words: Any) -> Grid:
-        """A grid of cells in which -2147483648 is null.
+        """Return a grid of cells in which -2147483648 is null.
+
+        Parameters
+        ----------
+        values : array of int32
+            The cells.
+        **words
+            The other parameters of a Grid.
+
+        Returns
+        -------
+        Grid
+            With the null cells masked.
 
         Examples
         --------
@@ -94,7 +107,12 @@ class Grid:
         return cls(array=masked(values, values == NULL), **words)
 
     def as_map(self) -> Map:
-        """The same as a map that goes in; a call does that by itself.
+        """Return the same as a map that goes in; a call does that by itself.
+
+        Returns
+        -------
+        Map
+            With the same cells, region, labels and colours.
 
         Examples
         --------
@@ -103,10 +121,15 @@ class Grid:
         >>> rcell.run("r.stats -c input=areas", areas=areas).tables[0].rows
         [(1, 2), (2, 1), (3, 1)]
         """
-        return Map(self.array, self.transform, self.crs, None, self.labels)
+        return Map(self.array, self.transform, self.crs, None, self.labels, self.colors)
 
     def categories(self) -> list[int]:
-        """The categories that occur, ascending.
+        """Return the categories that occur, ascending.
+
+        Returns
+        -------
+        list of int
+            Each category once.
 
         Examples
         --------
@@ -118,13 +141,13 @@ class Grid:
         return found
 
     def write(self, path: str | os.PathLike[str]) -> str:
-        """Writes the map to a file, whole or not at all.
+        """Write the map to a file, whole or not at all.
 
         Parameters
         ----------
         path : path
             `.tif` or `.tiff` for a GeoTIFF (compressed, of the smallest type that has room for the categories and for
-            nodata) with transform, reference system, nodata and labels as category names; `.txt` for a grid of the
+            nodata) with transform, reference system, nodata, labels as category names and colours as a colour table; `.txt` for a grid of the
             program's own form, which GRASS reads too. A file that is there is replaced.
 
         Returns
@@ -135,11 +158,11 @@ class Grid:
         Raises
         ------
         WriteFailed
-            Where the file can't be written; nothing new is there then.
+            The file cannot be written; nothing new is there then.
         Refused
-            Where the name says no form that is known.
+            The name says no form that is known.
         MissingLibrary
-            Where rasterio is needed and not installed.
+            Rasterio is needed and not installed.
 
         Examples
         --------
@@ -163,7 +186,12 @@ class Grid:
         return text
 
     def text(self) -> bytes:
-        """The map as a grid text, which the program reads.
+        """Return the map as a grid text, which the program reads.
+
+        Returns
+        -------
+        bytes
+            The header and the rows.
 
         Examples
         --------
@@ -177,7 +205,7 @@ class Grid:
         return self.region.header().encode() + b"null: " + null_text + b"\n" + rows.tobytes()
 
     def xarray(self) -> Any:
-        """The map as a DataArray: coordinates of the centres of cells, reference system as rioxarray has it.
+        """Return the map as a DataArray: coordinates of the centres of cells, reference system as rioxarray has it.
 
         Returns
         -------
@@ -187,7 +215,7 @@ class Grid:
         Raises
         ------
         MissingLibrary
-            Where xarray is not installed.
+            Xarray is not installed.
 
         Examples
         --------
@@ -200,24 +228,25 @@ class Grid:
         return data_array_of(self.array, self.region, self.transform, self.crs, self.labels, self.name)
 
     def plot(self, ax: Any = None, *, legend: bool = True) -> Any:
-        """Draws the map by matplotlib, with a legend of its labels.
+        """Draw the map with matplotlib, with a legend of its labels.
 
         Parameters
         ----------
         ax : matplotlib.axes.Axes, optional
-            Where it is drawn; a new figure where it is None.
+            Where it is drawn; a new figure if it is not given.
         legend : bool
-            Whether a legend of the labels, or of the categories, is drawn beside the map; a map of more than 30
+            Whether a legend of the labels, or of the categories, is drawn next to the map; a map of more than 30
             categories has a scale in its place.
 
         Returns
         -------
         matplotlib.axes.Axes
+            The axes with the map.
 
         Raises
         ------
         MissingLibrary
-            Where matplotlib is not installed.
+            Matplotlib is not installed.
 
         Examples
         --------
@@ -248,10 +277,11 @@ class Grid:
         colors_of = need("matplotlib.colors", "plot", "to draw a map")
         if not 0 < len(categories) <= LEGEND_LIMIT:
             return self.array, "viridis", None
-        palette = [color for name in _PALETTES for color in matplotlib.colormaps[name].colors]
+        spare = (color for name in _PALETTES for color in matplotlib.colormaps[name].colors)
+        palette = [self.colors.get(category) or next(spare) for category in categories]
         places = np.searchsorted(categories, filled(self.array, categories[0]))
         shown = masked(places, mask_of(self.array))
-        colors = colors_of.ListedColormap(palette[: len(categories)])
+        colors = colors_of.ListedColormap(palette)
         return shown, colors, colors_of.BoundaryNorm(np.arange(len(categories) + 1) - 0.5, len(categories))
 
     def _add_legend(self, ax: Any, categories: list[int], colors: Any) -> None:
@@ -263,12 +293,17 @@ class Grid:
         ax.legend(handles=handles, loc="upper left", bbox_to_anchor=(1.02, 1.0), borderaxespad=0.0, frameon=False)
 
     def picture(self) -> bytes:
-        """The map as a PNG, a pixel a cell, null transparent; a large map has a cell of some.
+        """Return the map as a PNG, a pixel a cell, null transparent; a large map has a cell of some.
+
+        Returns
+        -------
+        bytes
+            The picture.
 
         Raises
         ------
         MissingLibrary
-            Where matplotlib is not installed.
+            Matplotlib is not installed.
 
         Examples
         --------
@@ -280,7 +315,7 @@ class Grid:
 
     def _picture(self, longest: int) -> bytes:
         step = -(-max(self.region.shape) // longest)
-        small = Grid(self.name, self.array[::step, ::step], self.region, self.transform)
+        small = Grid(self.name, self.array[::step, ::step], self.region, self.transform, colors=self.colors)
         places, colors, norm = small._colored(self.categories())
         image = need("matplotlib.cm", "plot", "to draw a map").ScalarMappable(norm, colors).to_rgba(places, bytes=True)
         times = max(1, min(longest, THUMBNAIL) // max(places.shape))

@@ -1,20 +1,24 @@
 # SPDX-License-Identifier: Apache-2.0 OR GPL-2.0-or-later
 """Labels of the categories of a raster: GDAL's category names and its attribute tables.
 
-rasterio has no call for them. GDAL's own Python (`osgeo`) reads and writes them where it is installed; without it they are
-read from and written to the file `.aux.xml` beside the raster, where GDAL keeps them.
+rasterio has no call for them. GDAL's own Python (`osgeo`) reads and writes them if it is installed; without it they are
+read from and written to the file `.aux.xml` next to the raster, where GDAL keeps them.
 """
 
 from __future__ import annotations
 
+import contextlib
 import os
+import re
 import warnings
 import xml.etree.ElementTree as ElementTree
 from typing import Any, Mapping
 
+from ._errors import RcellError
+from ._legends import Legend, legend_of_qml
 from ._libraries import has, need
 
-__all__ = ["read_labels", "write_labels"]
+__all__ = ["read_labels", "read_legend", "write_labels"]
 
 # Category names are a list from 0 on: beyond so many, or with negative categories, an attribute table says the same in less.
 NAMES_LIMIT = 1 << 16
@@ -35,6 +39,44 @@ def read_labels(path: str, band: int) -> dict[int, str]:
     return _read_by_gdal(path, band) if has("osgeo") else _read_beside(path, band)
 
 
+def read_legend(path: str, dataset: Any, band: int) -> Legend:
+    """Return the labels and colours of a band of an open raster.
+
+    Labels are category names, the names of an attribute table, CF's `flag_meanings`, or a style of QGIS next to the raster;
+    colours are from a colour table, or from the style.
+    """
+    style = Legend({}, {})
+    beside = os.path.splitext(path)[0] + ".qml"
+    if os.path.isfile(beside):
+        with contextlib.suppress(RcellError):  # a style of another kind is no legend
+            style = legend_of_qml(beside)
+    tags = dataset.tags(band)
+    labels = read_labels(path, band) or flags_of(tags.get("flag_values"), tags.get("flag_meanings")) or style.labels
+    return Legend(labels, _color_table(dataset, band, labels) or style.colors)
+
+
+def flags_of(values: Any, meanings: Any) -> dict[int, str]:
+    """Return labels as CF has them: whole numbers, and words in their order.
+
+    Examples
+    --------
+    >>> flags_of("{1,2}", "wood water")
+    {1: 'wood', 2: 'water'}
+    """
+    codes = re.findall(r"[+-]?[0-9]+", str(values)) if isinstance(values, str) else [] if values is None else list(values)
+    words = str(meanings).split() if meanings else []
+    return {int(code): word for code, word in zip(codes, words)} if len(codes) == len(words) else {}
+
+
+def _color_table(dataset: Any, band: int, labels: Mapping[int, str]) -> dict[int, str]:
+    """The colours of a colour table; black is what a table has for categories that nobody gave a colour."""
+    try:
+        table = dataset.colormap(band)
+    except ValueError:
+        return {}
+    return {code: "#%02x%02x%02x" % rgba[:3] for code, rgba in table.items() if code in labels or any(rgba[:3])}
+
+
 def write_labels(path: str, labels: Mapping[int, str]) -> str | None:
     """Gives the first band of a raster its labels.
 
@@ -47,7 +89,7 @@ def write_labels(path: str, labels: Mapping[int, str]) -> str | None:
     Returns
     -------
     str or None
-        The file beside the raster that now has them.
+        The file next to the raster that now has them.
 
     Raises
     ------

@@ -3,12 +3,13 @@
 
 from __future__ import annotations
 
+import json
 import math
 import numbers
 import os
 import warnings
 from dataclasses import dataclass, field
-from typing import Any, Iterator, Mapping, Protocol, Sequence
+from typing import Any, Iterator, Mapping, NamedTuple, Protocol, Sequence
 
 import numpy as np
 from numpy.typing import ArrayLike
@@ -16,11 +17,11 @@ from numpy.typing import ArrayLike
 from ._crs import common_crs
 from ._errors import BadMap, OtherRegion, Refused
 from ._masked import data_of, is_masked_array, mask_of
-from ._region import Region, Transform, six_numbers
+from ._region import Region, Shift, Transform, six_numbers
 from ._script import check_names
 from ._text import MAX_CATEGORY, Cells, Mask, range_of
 
-__all__ = ["ArrayMap", "Block", "Map", "Source", "checked", "whole_nodata"]
+__all__ = ["Aligned", "ArrayMap", "Block", "Map", "Source", "checked", "whole_nodata"]
 
 # Cells of a block, about: large enough that a block costs more than its call, small enough for the cache of a processor.
 BLOCK_CELLS = 1 << 20
@@ -52,7 +53,7 @@ class Source(Protocol):
 
     @property
     def transform(self) -> Transform:
-        """Its transform, which answers get."""
+        """Its transform, which results get."""
 
     @property
     def nodata(self) -> int | None:
@@ -61,6 +62,10 @@ class Source(Protocol):
     @property
     def labels(self) -> Mapping[int, str]:
         """Labels of its categories."""
+
+    @property
+    def colors(self) -> Mapping[int, str]:
+        """Colours of its categories, as `#rrggbb`."""
 
     @property
     def crs(self) -> Any:
@@ -96,13 +101,13 @@ def checked(name: str, cells: Cells, null: Mask | None, nodata: float | None, fi
     Parameters
     ----------
     name : str
-        The name of the map, for the refusal.
+        The name of the map, for the error.
     cells : array, rows x cols
     null : array of bool or None
     nodata : float or None
         The value that is null, compared by value.
     first_row, first_col : int
-        The place of the first cell in the map, for the refusal.
+        The place of the first cell in the map, for the error.
 
     Raises
     ------
@@ -170,7 +175,7 @@ class ArrayMap:
     Parameters
     ----------
     name : str
-        The name of the map, for refusals.
+        The name of the map, for errors.
     array : array of whole numbers, rows x cols
         Its type may be any integer, bool, or float where all cells are whole numbers; NaN is null.
     region : Region
@@ -181,7 +186,7 @@ class ArrayMap:
     labels : mapping, optional
     crs : any, optional
     exact_transform : tuple of six float, optional
-        The transform that answers get; that of the region where it is None.
+        The transform that results get; None: the transform of the region.
 
     Raises
     ------
@@ -197,6 +202,7 @@ class ArrayMap:
     labels: Mapping[int, str] = field(default_factory=dict)
     crs: Any = None
     exact_transform: Transform | None = None
+    colors: Mapping[int, str] = field(default_factory=dict)
 
     def __post_init__(self) -> None:
         _check_dimensions(self.name, self.array)
@@ -208,12 +214,12 @@ class ArrayMap:
 
     @property
     def transform(self) -> Transform:
-        """The transform that answers get."""
+        """The transform that results get."""
         return self.exact_transform or self.region.transform
 
     @property
     def nodata(self) -> int | None:
-        """The value that is null, where the blocks do not tell it."""
+        """The value that is null, if the blocks do not mask it."""
         return whole_nodata(self.array.dtype, self.nodata_value)
 
     def range(self) -> tuple[int, int]:
@@ -242,6 +248,31 @@ def _check_dimensions(name: str, array: Any) -> None:
         raise BadMap(name, f"an array without cells ({array.shape[0]} x {array.shape[1]})")
 
 
+class Aligned(NamedTuple):
+    """What `rcell.align` did to a map.
+
+    Parameters
+    ----------
+    shift_rows, shift_columns : float or None
+        The row and column of the map at which the new grid begins, from 0; None between two reference systems.
+    cells_used, cells_repeated, cells_lost : int
+        How many of its cells with a value are in the result, are there more than once, and are not there.
+
+    Examples
+    --------
+    >>> import numpy as np, rcell
+    >>> lc = rcell.Map(np.array([[1, 2, 3]]))
+    >>> rcell.align(lc, to=lc).aligned
+    Aligned(shift_rows=0, shift_columns=0, cells_used=3, cells_repeated=0, cells_lost=0)
+    """
+
+    shift_rows: float | None
+    shift_columns: float | None
+    cells_used: int
+    cells_repeated: int
+    cells_lost: int
+
+
 @dataclass(frozen=True)
 class Map:
     """A map that is in memory, with all that an array can't say of itself.
@@ -259,6 +290,10 @@ class Map:
     nodata : float, optional
         A value that is null.
     labels : mapping of int to str, optional
+    colors : mapping of int to str, optional
+        As `#rrggbb`.
+    aligned : Aligned, optional
+        What `rcell.align` did to it.
 
     Examples
     --------
@@ -273,9 +308,21 @@ class Map:
     crs: Any = None
     nodata: float | None = None
     labels: Mapping[int, str] = field(default_factory=dict)
+    colors: Mapping[int, str] = field(default_factory=dict)
+    aligned: Aligned | None = None
 
     def source(self, name: str) -> ArrayMap:
-        """The same under a name, as the program needs it.
+        """Return the same under a name, as the program needs it.
+
+        Parameters
+        ----------
+        name : str
+            The name of the map, which errors have.
+
+        Returns
+        -------
+        ArrayMap
+            Its cells with their region.
 
         Examples
         --------
@@ -291,7 +338,7 @@ class Map:
         null = mask_of(given) if is_masked_array(given) else None
         _check_dimensions(name, array)
         array, null, region, transform = _placed(name, array, null, self.region)
-        return ArrayMap(name, array, region, null, self.nodata, self.labels, self.crs or None, transform)
+        return ArrayMap(name, array, region, null, self.nodata, self.labels, self.crs or None, transform, self.colors)
 
 
 def _placed(name: str, array: Cells, null: Mask | None, place: Any) -> tuple[Cells, Mask | None, Region, Transform]:
@@ -310,7 +357,7 @@ def _placed(name: str, array: Cells, null: Mask | None, place: Any) -> tuple[Cel
 
 
 def in_region(name: str, make: Any, *words: Any) -> Region:
-    """A region; what it refuses is told of the map."""
+    """Return a region; its errors name the map."""
     try:
         region: Region = make(*words)
     except BadMap as refusal:
@@ -319,7 +366,7 @@ def in_region(name: str, make: Any, *words: Any) -> Region:
 
 
 def source_of(name: str, given: Any) -> Source:
-    """What a caller gives as a map.
+    """Return the map that a caller gives.
 
     Parameters
     ----------
@@ -360,15 +407,31 @@ def source_of(name: str, given: Any) -> Source:
     raise BadMap(name, f"neither a path nor an array nor a raster, but a {type(given).__name__}")
 
 
-def sources_of(maps: Mapping[str, Any], crs: Any = None) -> tuple[dict[str, Source], Any]:
+def named_once(maps: Mapping[str, Any] | None, named: Mapping[str, Any]) -> dict[str, Any]:
+    """Return the maps of a mapping and of keywords, unless one is in both."""
+    twice = set(maps or {}) & set(named)
+    if twice:
+        raise Refused(f"the map {min(twice)} is given twice", status=2)
+    return {**(maps or {}), **named}
+
+
+def sources_of(maps: Mapping[str, Any], crs: Any = None, given: Mapping[str, Any] | None = None) -> tuple[dict[str, Source], Any]:
     """Return the maps of a call, and the coordinate reference system that they have in common.
+
+    Parameters
+    ----------
+    maps : mapping of str to any
+    crs : any
+        The reference system that is stated for maps without one.
+    given : mapping of str to any, optional
+        The maps as the caller gave them, which an advice repeats.
 
     Raises
     ------
     OtherCrs
         A map has another reference system than the others, or none where others have one and `crs` does not state it.
     OtherRegion
-        A map has not the region of the first; it says which edges differ, and by how much.
+        The region of a map differs from the first; the text says which edges differ, by how much, and how to align it.
     """
     if not maps:
         raise Refused("no map is given: name them, as lc=\"landcover.tif\"", status=2)
@@ -380,5 +443,14 @@ def sources_of(maps: Mapping[str, Any], crs: Any = None) -> tuple[dict[str, Sour
         if source.region != first.region:
             told = "; ".join(first.region.differences(source.region))
             text = f"not of the region of `{first_name}`, and nothing is resampled: {told}"
-            raise OtherRegion(name, f"{text}\n  {first_name}: {first.region}\n  {name}: {source.region}")
+            fault = OtherRegion(name, f"{text}\n  {first_name}: {first.region}\n  {name}: {source.region}")
+            nearest = "" if Shift.between(source.transform, first.transform, first.region.shape).is_whole else ', resample="nearest"'
+            mine, its = (_written(of, (given or maps)[of]) for of in (name, first_name))
+            fault.advice = f"{name}=rcell.align({mine}, to={its}{nearest})"
+            raise fault
     return sources, common
+
+
+def _written(name: str, given: Any) -> str:
+    """A map as a caller would write it: the path, or its name."""
+    return json.dumps(os.fspath(given), ensure_ascii=False) if isinstance(given, (str, os.PathLike)) else name

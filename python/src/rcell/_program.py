@@ -39,7 +39,6 @@ PROBE_SECONDS = 60
 _AT_COLUMN = re.compile(r" at column [0-9]+$")
 _MESSAGE = re.compile(r"rcell: ([^:]*):(\d+): (.*)")
 
-Progress = Callable[[int], None]
 Answer = TypeVar("Answer")
 
 
@@ -87,7 +86,7 @@ def find_program(program: str | os.PathLike[str] | None = None) -> str:
     MissingProgram
         Where there is none.
     WrongProgram
-        Where it does not answer as this package needs it.
+        It does not work as this package needs it.
     """
     path = os.fspath(program) if program is not None else os.environ.get("RCELL") or next(candidates("rcell"), "")
     if not path:
@@ -208,7 +207,6 @@ def execute(
     *,
     wanted: Sequence[str] = (),
     program: str | os.PathLike[str] | None = None,
-    progress: Progress | None = None,
 ) -> list[Output]:
     """Runs a script over maps of one region.
 
@@ -216,12 +214,10 @@ def execute(
     ----------
     script : str
     maps : mapping of str to Source
-        By their names; at least one. Their regions are those of the first, or the program refuses.
+        By their names; at least one. They all have the region of the first.
     wanted : sequence of str
-        Maps whose cells are answered after the outputs of the script.
+        Maps whose cells are returned after the outputs of the script.
     program : path, optional
-    progress : callable, optional
-        Called with the number of cells of each block sent.
 
     Returns
     -------
@@ -231,7 +227,7 @@ def execute(
     Raises
     ------
     Refused
-        As the program refuses, with the line of the caller's script.
+        The program rejects a map or the script; it has the line of the caller's script.
     BadMap
         Where a cell can't be sent.
     OutOfMemory, Killed, MissingProgram, WrongProgram
@@ -240,7 +236,7 @@ def execute(
     def outputs(reader: _Reader, plan: Plan, region: Region) -> list[Output]:
         return [reader.output(statement, mark, region) for statement, mark in zip(plan.outputs, plan.marks)]
 
-    return _answered(script, maps, wanted, outputs, program, progress)
+    return _answered(script, maps, wanted, outputs, program)
 
 
 def judge(script: str, names: Iterable[str]) -> None:
@@ -249,7 +245,7 @@ def judge(script: str, names: Iterable[str]) -> None:
     Raises
     ------
     Refused
-        As the program refuses the script.
+        The program rejects the script.
     """
     null = np.ones((1, 1), np.bool_)
     execute(script, {name: ArrayMap(name, np.zeros((1, 1), np.uint8), Region.of_cells(1, 1), null) for name in names})
@@ -274,7 +270,6 @@ def _answered(
     wanted: Sequence[str],
     answer_of: Callable[[_Reader, Plan, Region], Answer],
     program: str | os.PathLike[str] | None,
-    progress: Progress | None = None,
 ) -> Answer:
     """What is read of the output of a run, once the run has ended well and nothing is left of it."""
     path = find_program(program)
@@ -285,7 +280,7 @@ def _answered(
     files = {name: source.path for name, source in maps.items() if isinstance(source, TextMap) and source.held is None}
     with _Run(path, list(maps), files) as run:
         for place, source in enumerate(maps.values()):
-            _send(run, place, source, progress)
+            _send(run, place, source)
         run.write_script(plan.text)
         reader = _Reader(run.pieces())
         answer: Answer | None = None
@@ -304,7 +299,7 @@ def _answered(
     return answer
 
 
-def _send(run: _Run, place: int, source: Source, progress: Progress | None) -> None:
+def _send(run: _Run, place: int, source: Source) -> None:
     if isinstance(source, TextMap):
         for piece in source.pieces():
             run.write(place, piece)
@@ -317,8 +312,6 @@ def _send(run: _Run, place: int, source: Source, progress: Progress | None) -> N
             break
         for piece in words.pieces(block.cells, block.null):
             run.write(place, piece)
-        if progress is not None:
-            progress(block.cells.size)
     run.close_grid(place)
 
 
@@ -403,7 +396,7 @@ class _Reader:
         return int(np.flatnonzero(is_end)[most - 1]) + 1, most
 
     def _gather(self) -> bool:
-        """Holds some more pieces; False where there is none."""
+        """Hold some more pieces; False if there is none."""
         pieces, size = [self._held], 0
         while size < PIECE_BYTES:
             piece = next(self._pieces, b"")
@@ -415,7 +408,7 @@ class _Reader:
         return size > 0
 
     def _until(self, mark: bytes | None) -> bytes:
-        """What comes before the line that is the mark, or all where there is none."""
+        """The output before the line that is the mark, or all without one."""
         if mark is None:
             return self.rest()
         line = b"\n" + mark + b"\n"

@@ -14,7 +14,8 @@ from typing import Any, Iterator, Mapping
 import numpy as np
 
 from ._errors import BadMap, RcellError, ReadFailed
-from ._labels import read_labels
+from ._labels import read_legend
+from ._legends import Legend
 from ._libraries import need
 from ._maps import BLOCK_CELLS, Block, checked, in_region, whole_nodata
 from ._region import Region, Transform, check_upright, six_numbers
@@ -200,10 +201,19 @@ class RasterMap:
         """The value that is null, where the blocks do not tell it."""
         return whole_nodata(np.dtype(self.layer.dtype), self.layer.nodata)
 
-    @functools.cached_property
+    @property
     def labels(self) -> Mapping[int, str]:
-        """Category names, or the names of an attribute table."""
-        return read_labels(self.labels_path, self.layer.band)
+        """Labels of its categories."""
+        return self._legend.labels
+
+    @property
+    def colors(self) -> Mapping[int, str]:
+        """Colours of its categories."""
+        return self._legend.colors
+
+    @functools.cached_property
+    def _legend(self) -> Legend:
+        return read_legend(self.labels_path, self.dataset, self.layer.band)
 
     def range(self) -> tuple[int, int]:
         """A guess, from some windows."""

@@ -9,9 +9,12 @@ from dataclasses import dataclass
 from fractions import Fraction
 from typing import Any, Callable, Sequence
 
+import numpy as np
+from numpy.typing import NDArray
+
 from ._errors import BadMap
 
-__all__ = ["Region", "Transform", "check_upright", "differences_of", "edges_of_transform", "six_numbers", "units_of"]
+__all__ = ["Region", "Shift", "Transform", "check_upright", "differences_of", "edges_of_transform", "six_numbers", "units_of"]
 
 # a, b, c, d, e, f of x = a * column + b * row + c and y = d * column + e * row + f, as rasterio's Affine has them.
 Transform = tuple[float, float, float, float, float, float]
@@ -23,6 +26,8 @@ UNITS = 10**DECIMALS
 EDGE_LIMIT = 10**10 * UNITS
 SIDE_LIMIT = 65_535
 CELL_LIMIT = 2_147_483_647
+# By so much of a cell two grids may be apart and still count as apart by whole cells.
+NEARLY_WHOLE = 1e-3
 
 
 def units_of(edge: float | Fraction) -> int:
@@ -139,7 +144,7 @@ class Region:
 
     @classmethod
     def from_transform(cls, transform: Sequence[float], rows: int, cols: int) -> Region:
-        """The region of a transform that is not rotated, its rows from north to south.
+        """Return the region of a transform that is not rotated, its rows from north to south.
 
         Parameters
         ----------
@@ -170,7 +175,17 @@ class Region:
 
     @classmethod
     def of_cells(cls, rows: int, cols: int) -> Region:
-        """The region of an array alone: cells of side 1, the bottom left corner at 0, 0.
+        """Return the region of an array alone: cells of side 1, the bottom left corner at 0, 0.
+
+        Parameters
+        ----------
+        rows, cols : int
+            The shape of the array.
+
+        Returns
+        -------
+        Region
+            From 0 to the number of rows and of columns.
 
         Examples
         --------
@@ -230,7 +245,12 @@ class Region:
         return width, 0.0, float(self.west), 0.0, -height, float(self.north)
 
     def header(self) -> str:
-        """The six header lines of a grid of this region.
+        """Return the six header lines of a grid of this region.
+
+        Returns
+        -------
+        str
+            The lines.
 
         Examples
         --------
@@ -248,7 +268,7 @@ class Region:
         return f"{edges}rows: {self.rows}\ncols: {self.cols}\n"
 
     def window(self, row: int, col: int, rows: int, cols: int) -> Region:
-        """The region of some of its cells.
+        """Return the region of some of its cells.
 
         Parameters
         ----------
@@ -260,6 +280,7 @@ class Region:
         Returns
         -------
         Region
+            With the edges of these cells.
 
         Examples
         --------
@@ -280,7 +301,17 @@ class Region:
         )
 
     def differences(self, other: Region) -> list[str]:
-        """In which edges and sizes another region differs from this one, and by how much; empty where they are equal.
+        """Return in which edges and sizes another region differs from this one, and by how much.
+
+        Parameters
+        ----------
+        other : Region
+            The other region.
+
+        Returns
+        -------
+        list of str
+            A text for each difference; empty if they are equal.
 
         Examples
         --------
@@ -299,3 +330,69 @@ class Region:
     def __str__(self) -> str:
         north, south, east, west = (_edge_text(units) for units in self.units)
         return f"north {north}, south {south}, east {east}, west {west}, {self.rows} rows, {self.cols} columns"
+
+
+@dataclass(frozen=True)
+class Shift:
+    """Where the cells of one grid are in another.
+
+    Attributes
+    ----------
+    rows, cols : float
+        The row and the column of the other grid, from 0, at which the first cell begins; whole numbers if all cells are whole cells.
+    height, width : float
+        The size of a cell, in cells of the other grid.
+    shape : tuple of int
+    sizes : tuple of tuple of float
+        The height and width of a cell of the other grid, and of this one.
+    """
+
+    rows: float
+    cols: float
+    height: float
+    width: float
+    shape: tuple[int, int]
+    sizes: tuple[tuple[float, float], tuple[float, float]]
+
+    @classmethod
+    def between(cls, other: Transform, grid: Transform, shape: tuple[int, int]) -> Shift:
+        """Return where a grid of so many rows and columns is in another one.
+
+        Examples
+        --------
+        >>> shift = Shift.between((10, 0, 0, 0, -10, 30), (10, 0, 20, 0, -10, 35), (3, 2))
+        >>> shift.rows, shift.cols, shift.is_whole
+        (-0.5, 2, False)
+        """
+        rows, cols = (other[5] - grid[5]) / -other[4], (grid[2] - other[2]) / other[0]
+        height, width = grid[4] / other[4], grid[0] / other[0]
+        sizes = ((-other[4], other[0]), (-grid[4], grid[0]))
+        return cls(_whole(rows), _whole(cols), height, width, shape, sizes)
+
+    @property
+    def has_other_cells(self) -> bool:
+        """Whether cells differ in size, so that the last one is off by more than a trifle."""
+        return any(abs(size - 1) * count > NEARLY_WHOLE for size, count in zip((self.height, self.width), self.shape))
+
+    @property
+    def is_whole(self) -> bool:
+        """Whether each cell is a whole cell of the other grid, or next to it."""
+        return isinstance(self.rows, int) and isinstance(self.cols, int) and not self.has_other_cells
+
+    def centres(self) -> tuple[NDArray[np.float64], NDArray[np.float64]]:
+        """Return the rows and columns of the other grid in which the centres of the rows and columns are."""
+        if self.is_whole:
+            return self.rows + np.arange(self.shape[0]) + 0.5, self.cols + np.arange(self.shape[1]) + 0.5
+        (rows, cols) = self.shape
+        return self.rows + self.height * (np.arange(rows) + 0.5), self.cols + self.width * (np.arange(cols) + 0.5)
+
+    def told(self, name: str) -> str:
+        """Return what is in the way of taking whole cells."""
+        if self.has_other_cells:
+            mine, its = (f"{height:.10g} x {width:.10g}" for height, width in self.sizes)
+            return f"cells of {mine}, and those of `{name}` are {its}"
+        return f"shifted by {self.rows:.10g} rows and {self.cols:.10g} columns, not by whole cells"
+
+
+def _whole(shift: float) -> float | int:
+    return round(shift) if abs(shift - round(shift)) <= NEARLY_WHOLE else shift

@@ -1,15 +1,16 @@
 # SPDX-License-Identifier: Apache-2.0 OR GPL-2.0-or-later
-"""Tables: what r.stats answers, as numbers with names."""
+"""Tables: columns with names, and the table that an r.stats of a script writes."""
 
 from __future__ import annotations
 
 import csv
 import html
 import io
+import json
 from collections import Counter
-from dataclasses import dataclass, field
+from dataclasses import dataclass, field, replace
 from functools import cached_property
-from typing import Any, Iterator, Mapping, NamedTuple
+from typing import Any, Iterable, Iterator, Literal, Mapping, NamedTuple
 
 import numpy as np
 from numpy.typing import NDArray
@@ -19,7 +20,7 @@ from ._errors import Refused
 from ._libraries import has, need
 from ._text import NULL
 
-__all__ = ["Pivot", "Table", "matrix_csv"]
+__all__ = ["Column", "Pivot", "StatsTable", "Table", "shortest"]
 
 Value = int | float | str | None
 # Rows that a notebook shows.
@@ -29,12 +30,12 @@ SHOWN_ROWS = 20
 class Pivot(NamedTuple):
     """A table of two maps as a matrix.
 
-    Attributes
+    Parameters
     ----------
     rows, columns : list of int, str or None
         The categories of the first and of the second map, or their labels; None is null.
     values : array of float64 or int64, rows x columns
-        0 where a combination does not occur.
+        0 if a combination does not occur.
 
     Examples
     --------
@@ -50,11 +51,213 @@ class Pivot(NamedTuple):
     values: NDArray[Any]
 
 
-@dataclass(frozen=True, repr=False)
-class Table:
-    """What one r.stats wrote.
+@dataclass(frozen=True)
+class Column:
+    """A column of a table.
 
     Attributes
+    ----------
+    name : str
+    kind : {"class", "label", "count", "measure"}
+        Whole numbers, of which -2147483648 is null; texts, of which None is missing; whole numbers; floats, of which NaN is missing.
+    values : array, or list of str or None
+    """
+
+    name: str
+    kind: Literal["class", "label", "count", "measure"]
+    values: Any
+
+    def listed(self) -> list[Value]:
+        """Return the values, None for those that are missing."""
+        if self.kind == "label":
+            return list(self.values)
+        values: list[Value] = self.values.tolist()
+        if self.kind == "class":
+            return [None if value == NULL else value for value in values]
+        return [None if value != value else value for value in values] if self.kind == "measure" else values
+
+    def series(self, pandas: Any) -> Any:
+        """Return the values as a column of a DataFrame has them."""
+        if self.kind == "class":
+            return pandas.arrays.IntegerArray(self.values.astype(np.int64), self.values == NULL)
+        return pandas.array(self.values, dtype="string") if self.kind == "label" else self.values
+
+
+class Table:
+    """Columns with names: what calls return if pandas is not installed.
+
+    Parameters
+    ----------
+    columns : iterable of Column
+
+    Examples
+    --------
+    >>> import numpy as np, rcell
+    >>> table = rcell.run("r.stats -c input=lc", lc=np.array([[1, 1, 2]])).tables[0]
+    >>> table.columns, table.rows
+    (('lc', 'cells'), [(1, 2), (2, 1)])
+    """
+
+    def __init__(self, columns: Iterable[Column]) -> None:
+        self._kept = _named_once(columns)
+
+    def _all(self) -> list[Column]:
+        return self._kept
+
+    @property
+    def columns(self) -> tuple[str, ...]:
+        """The names of the columns.
+
+        Examples
+        --------
+        >>> import numpy as np, rcell
+        >>> rcell.run("r.stats -cl input=a,a", a=np.array([[1]])).tables[0].columns
+        ('a', 'a_label', 'a_2', 'a_label_2', 'cells')
+        """
+        return tuple(column.name for column in self._all())
+
+    @cached_property
+    def rows(self) -> list[tuple[Value, ...]]:
+        """The rows, with None for what is missing.
+
+        Examples
+        --------
+        >>> import numpy as np, rcell
+        >>> rcell.run("r.stats -c input=lc", lc=rcell.Map([[1, 0]], nodata=0)).tables[0].rows
+        [(1, 1), (None, 1)]
+        """
+        return list(zip(*(column.listed() for column in self._all())))
+
+    def __len__(self) -> int:
+        return len(self._all()[0].values)
+
+    def __iter__(self) -> Iterator[tuple[Value, ...]]:
+        return iter(self.rows)
+
+    def __repr__(self) -> str:
+        return f"<Table: {len(self)} rows, {', '.join(self.columns)}>"
+
+    def frame(self) -> Any:
+        """Return the table as a DataFrame: classes as nullable Int64, counts as int64, measures as float64, labels as text.
+
+        Returns
+        -------
+        pandas.DataFrame
+            With the columns of the table.
+
+        Raises
+        ------
+        MissingLibrary
+            Pandas is not installed.
+
+        Examples
+        --------
+        >>> import numpy as np, rcell
+        >>> rcell.run("r.stats -c input=lc", lc=np.array([[1, 1, 2]])).tables[0].frame()
+           lc  cells
+        0   1      2
+        1   2      1
+        """
+        pandas = need("pandas", "table", "to return a DataFrame")
+        return pandas.DataFrame({column.name: column.series(pandas) for column in self._all()})
+
+    def answer(self) -> Any:
+        """Return the table as calls return it: a DataFrame if pandas is installed, else itself.
+
+        Returns
+        -------
+        pandas.DataFrame or Table
+            With the columns of the table.
+
+        Examples
+        --------
+        >>> import numpy as np, rcell
+        >>> rcell.run("r.stats -c input=lc", lc=np.array([[1, 1, 2]])).tables[0].answer()["cells"].sum()
+        3
+        """
+        return self.frame() if has("pandas") else self
+
+    def csv(self) -> str:
+        """Return the table as comma-separated values with a header; what is missing is empty.
+
+        Returns
+        -------
+        str
+            A line for the header and one for each row.
+
+        Examples
+        --------
+        >>> import numpy as np, rcell
+        >>> print(rcell.run("r.stats -c input=lc", lc=np.array([[1, 1, 2]])).tables[0].csv(), end="")
+        lc,cells
+        1,2
+        2,1
+        """
+        text = io.StringIO()
+        writer = csv.writer(text, lineterminator="\n")
+        writer.writerow(self.columns)
+        writer.writerows([shortest(value) for value in row] for row in self.rows)
+        return text.getvalue()
+
+    def json(self) -> str:
+        """Return the table as a list of objects in JSON; what is missing is null.
+
+        Returns
+        -------
+        str
+            A line for each object.
+
+        Examples
+        --------
+        >>> import numpy as np, rcell
+        >>> print(rcell.run("r.stats -c input=lc", lc=np.array([[1, 1, 2]])).tables[0].json(), end="")
+        [{"lc": 1, "cells": 2},
+         {"lc": 2, "cells": 1}]
+        """
+        objects = (json.dumps(dict(zip(self.columns, row)), ensure_ascii=False) for row in self.rows)
+        return "[" + ",\n ".join(objects) + "]\n"
+
+    def markdown(self) -> str:
+        """Return the table in Markdown, numbers on the right, with at most ten digits.
+
+        Returns
+        -------
+        str
+            Two lines for the header and one for each row.
+
+        Examples
+        --------
+        >>> import numpy as np, rcell
+        >>> print(rcell.run("r.stats -c input=lc", lc=np.array([[1, 1, 2]])).tables[0].markdown(), end="")
+        | lc | cells |
+        |---:|---:|
+        | 1 | 2 |
+        | 2 | 1 |
+        """
+        sides = ["---" if column.kind == "label" else "---:" for column in self._all()]
+        lines = [" | ".join(map(_escaped, self.columns)), *(" | ".join(_escaped(_plain(value)) for value in row) for row in self.rows)]
+        head, *rest = (f"| {line} |" for line in lines)
+        return "\n".join([head, f"|{'|'.join(sides)}|", *rest]) + "\n"
+
+    def __str__(self) -> str:
+        shown = [[_plain(value) for value in row] for row in self.rows[:SHOWN_ROWS]]
+        widths = [max(len(name), *(len(row[at]) for row in shown), 0) if shown else len(name) for at, name in enumerate(self.columns)]
+        lines = ["  ".join(text.rjust(width) for text, width in zip(row, widths)) for row in [list(self.columns), *shown]]
+        return "\n".join(lines + ([f"({len(self):,} rows)"] if len(self) > SHOWN_ROWS else []))
+
+    def _repr_html_(self) -> str:
+        if has("pandas"):
+            return str(self.frame()._repr_html_())
+        head = "".join(f"<th>{html.escape(name)}</th>" for name in self.columns)
+        shown = ["".join(f"<td>{html.escape(_plain(value))}</td>" for value in row) for row in self.rows[:SHOWN_ROWS]]
+        return f"<table><tr>{head}</tr>{''.join(f'<tr>{row}</tr>' for row in shown)}</table>"
+
+
+@dataclass(frozen=True, repr=False)
+class StatsTable(Table):
+    """What one r.stats of a script wrote.
+
+    Parameters
     ----------
     command : str
         `r.stats`.
@@ -65,11 +268,9 @@ class Table:
     categories : array of int64, entries x maps
         -2147483648 stands for null.
     cells : array of int64 or None
-        How many cells have the combination; None where the script did not ask for it (`-c`).
+        How many cells have the combination; None if the script did not ask for it (`-c`).
     labels : mapping or None
         By the names of maps, the labels of their categories; None without `-l`.
-    label_title : str
-        How the column of a map's labels is called.
     unit : str or None
         The unit of `area`.
     area, percent : array of float64 or None
@@ -81,8 +282,8 @@ class Table:
     --------
     >>> import numpy as np, rcell
     >>> table = rcell.run("r.stats -c input=lc", lc=np.array([[1, 1, 2]])).tables[0]
-    >>> table.columns, table.rows
-    (('lc', 'cells'), [(1, 2), (2, 1)])
+    >>> table.command, table.line, table.maps
+    ('r.stats', 1, ('lc',))
     """
 
     command: str
@@ -91,7 +292,6 @@ class Table:
     categories: NDArray[np.int64]
     cells: NDArray[np.int64] | None = None
     labels: Mapping[str, Mapping[int, str]] | None = None
-    label_title: str = "{}_label"
     unit: str | None = None
     area: NDArray[np.float64] | None = None
     percent: NDArray[np.float64] | None = None
@@ -99,54 +299,21 @@ class Table:
     crs: Any = field(default=None, repr=False)
 
     @cached_property
-    def _columns(self) -> list[tuple[str, str, int]]:
-        """The name, the kind and the map's place of each column."""
-        wanted: list[tuple[str, str, int]] = []
+    def _made(self) -> list[Column]:
+        """Each map, `NAME_label` with `-l`, `cells`, the area, and `percent`; a name that occurs already has `_2` after it."""
+        found: list[Column] = []
         for place, name in enumerate(self.maps):
-            wanted.append((name, "category", place))
+            codes = self.categories[:, place]
+            found.append(Column(name, "class", codes))
             if self.labels is not None and name in self.labels:
-                wanted.append((self.label_title.format(name), "label", place))
-        wanted += [("cells", "cells", -1)] if self.cells is not None else []
-        wanted += [(self.unit, "area", -1)] if self.unit is not None else []
-        wanted += [("percent", "percent", -1)] if self.percent is not None else []
-        return [(name, kind, place) for name, (_, kind, place) in zip(_unique([name for name, _, _ in wanted]), wanted)]
+                found.append(Column(f"{name}_label", "label", [self.labels[name].get(code) for code in codes.tolist()]))
+        found += [] if self.cells is None else [Column("cells", "count", self.cells)]
+        found += [] if self.area is None else [Column(f"area_{self.unit}", "measure", self.area)]
+        found += [] if self.percent is None else [Column("percent", "measure", self.percent)]
+        return _named_once(found)
 
-    @property
-    def columns(self) -> tuple[str, ...]:
-        """The names of the columns: each map, `NAME_label` with `-l`, `cells`, then the unit of area, and `percent`.
-
-        A name that occurs already has `_2` after it.
-
-        Examples
-        --------
-        >>> import numpy as np, rcell
-        >>> rcell.run("r.stats -cl input=a,a", a=np.array([[1]])).tables[0].columns
-        ('a', 'a_label', 'a_2', 'a_label_2', 'cells')
-        """
-        return tuple(name for name, _, _ in self._columns)
-
-    def _values(self, kind: str, place: int) -> list[Any]:
-        if kind == "label":
-            labels = (self.labels or {}).get(self.maps[place], {})
-            return [labels.get(category) for category in self.categories[:, place].tolist()]
-        if kind == "category":
-            return [None if category == NULL else category for category in self.categories[:, place].tolist()]
-        numbers = {"cells": self.cells, "area": self.area, "percent": self.percent}[kind]
-        assert numbers is not None
-        values: list[Any] = numbers.tolist()
-        return values
-
-    @cached_property
-    def rows(self) -> list[tuple[Value, ...]]:
-        """The rows, with None for null and for a label that there is not.
-
-        Examples
-        --------
-        >>> import numpy as np, rcell
-        >>> rcell.run("r.stats -c input=lc", lc=rcell.Map([[1, 0]], nodata=0)).tables[0].rows
-        [(1, 1), (None, 1)]
-        """
-        return list(zip(*(self._values(kind, place) for _, kind, place in self._columns)))
+    def _all(self) -> list[Column]:
+        return self._made
 
     def __len__(self) -> int:
         return len(self.categories)
@@ -154,55 +321,22 @@ class Table:
     def __repr__(self) -> str:
         return f"<Table {self.command}: {len(self)} rows, {', '.join(self.columns)}>"
 
-    def __iter__(self) -> Iterator[tuple[Value, ...]]:
-        return iter(self.rows)
-
-    def frame(self) -> Any:
-        """The table as a DataFrame: categories and cells as nullable Int64, labels as text.
-
-        Returns
-        -------
-        pandas.DataFrame
-
-        Raises
-        ------
-        MissingLibrary
-            Where pandas is not installed.
-
-        Examples
-        --------
-        >>> import numpy as np, rcell
-        >>> rcell.run("r.stats -c input=lc", lc=np.array([[1, 1, 2]])).tables[0].frame()
-           lc  cells
-        0   1      2
-        1   2      1
-        """
-        pandas = need("pandas", "table", "to answer a DataFrame")
-        columns: dict[str, Any] = {}
-        for name, kind, place in self._columns:
-            if kind == "category":
-                codes = self.categories[:, place]
-                columns[name] = pandas.arrays.IntegerArray(codes.copy(), codes == NULL)
-            elif kind == "cells":
-                assert self.cells is not None
-                columns[name] = pandas.arrays.IntegerArray(self.cells.copy(), np.zeros(len(self), bool))
-            elif kind == "label":
-                columns[name] = pandas.array(self._values(kind, place), dtype="string")
-            else:
-                columns[name] = self.area if kind == "area" else self.percent
-        return pandas.DataFrame(columns)
-
-    def with_area(self, unit: str) -> Table:
-        """The table with a column of areas.
+    def with_area(self, unit: str) -> StatsTable:
+        """Return the table with a column of areas.
 
         Parameters
         ----------
         unit : {"m2", "ha", "km2"}
 
+        Returns
+        -------
+        StatsTable
+            With the column `area_ha`, or of another unit.
+
         Raises
         ------
         Refused
-            Where the map is in degrees, or the table has no cells.
+            The map is in degrees, or the table has no cells.
 
         Examples
         --------
@@ -212,10 +346,15 @@ class Table:
         [(1, 2, 2.0), (2, 1, 1.0)]
         """
         square_metres, divisor = cell_area(unit, self.cell, self.crs)
-        return self._with(unit=unit, area=self._counted("area=") * square_metres / divisor)
+        return replace(self, unit=unit, area=self._counted("area=") * square_metres / divisor)
 
-    def with_percent(self) -> Table:
-        """The table with a column of percentages of all its cells.
+    def with_percent(self) -> StatsTable:
+        """Return the table with a column of percentages of all its cells.
+
+        Returns
+        -------
+        StatsTable
+            With the column `percent`.
 
         Examples
         --------
@@ -224,25 +363,25 @@ class Table:
         [(1, 3, 75.0), (2, 1, 25.0)]
         """
         cells = self._counted("percent=")
-        return self._with(percent=cells * 100.0 / max(int(cells.sum()), 1))
+        return replace(self, percent=cells * 100.0 / max(int(cells.sum()), 1))
 
     def _counted(self, asked: str) -> NDArray[np.int64]:
         if self.cells is None:
             raise Refused(f"{asked} needs a table with cells: r.stats -c", "script", self.line)
         return self.cells
 
-    def _with(self, **changes: Any) -> Table:
-        from dataclasses import replace
-
-        return replace(self, **changes)
-
     def pivot(self) -> Pivot:
-        """The table of two maps as a matrix: of percentages or areas where the table has them, else of cells.
+        """Return the table of two maps as a matrix: of percentages or areas if the table has them, else of cells.
+
+        Returns
+        -------
+        Pivot
+            Its rows, columns and values.
 
         Raises
         ------
         Refused
-            Where the table has not two maps, or no cells.
+            The table has not two maps, or no cells.
 
         Examples
         --------
@@ -267,14 +406,19 @@ class Table:
         return np.where(categories == np.iinfo(np.int64).max, NULL, categories), at
 
     def _named(self, categories: NDArray[np.int64], place: int) -> list[int | str | None]:
-        """The labels of categories; those that two have, or that read as null, with the category behind them."""
+        """The labels of categories; those that two have, or that read as null, with the category after them."""
         labels = (self.labels or {}).get(self.maps[place], {})
         names = [None if category == NULL else labels.get(category, category) for category in categories.tolist()]
         often = Counter("null" if name is None else str(name) for name in names)
         return [f"{name} ({category})" if isinstance(name, str) and often[name] > 1 else name for name, category in zip(names, categories.tolist())]
 
     def pivot_frame(self) -> Any:
-        """The matrix as a DataFrame, the names of the maps over its rows and columns.
+        """Return the matrix as a DataFrame, the names of the maps over its rows and columns.
+
+        Returns
+        -------
+        pandas.DataFrame
+            A row for each category of the first map, a column for each of the second.
 
         Examples
         --------
@@ -286,76 +430,40 @@ class Table:
         1  1  1
         2  0  1
         """
-        pandas = need("pandas", "table", "to answer a DataFrame")
+        pandas = need("pandas", "table", "to return a DataFrame")
         matrix = self.pivot()
         first, second = (pandas.Index(_axis(names), name=name) for names, name in zip(matrix[:2], self.maps))
         return pandas.DataFrame(matrix.values, first, second)
 
-    def csv(self) -> str:
-        """The table as comma-separated values with a header; null is empty.
 
-        Examples
-        --------
-        >>> import numpy as np, rcell
-        >>> print(rcell.run("r.stats -c input=lc", lc=np.array([[1, 1, 2]])).tables[0].csv(), end="")
-        lc,cells
-        1,2
-        2,1
-        """
-        text = io.StringIO()
-        writer = csv.writer(text, lineterminator="\n")
-        writer.writerow(self.columns)
-        writer.writerows([_plain(value) for value in row] for row in self.rows)
-        return text.getvalue()
-
-    def __str__(self) -> str:
-        shown = [[_plain(value) for value in row] for row in self.rows[:SHOWN_ROWS]]
-        widths = [max(len(name), *(len(row[at]) for row in shown), 0) if shown else len(name) for at, name in enumerate(self.columns)]
-        lines = ["  ".join(text.rjust(width) for text, width in zip(row, widths)) for row in [list(self.columns), *shown]]
-        return "\n".join(lines + ([f"({len(self):,} rows)"] if len(self) > SHOWN_ROWS else []))
-
-    def _repr_html_(self) -> str:
-        if has("pandas"):
-            return str(self.frame()._repr_html_())
-        head = "".join(f"<th>{html.escape(name)}</th>" for name in self.columns)
-        shown = ["".join(f"<td>{html.escape(_plain(value))}</td>" for value in row) for row in self.rows[:SHOWN_ROWS]]
-        return f"<table><tr>{head}</tr>{''.join(f'<tr>{row}</tr>' for row in shown)}</table>"
+def _named_once(columns: Iterable[Column]) -> list[Column]:
+    """Columns, each name once: one that is there already has the first number after it that makes it new."""
+    found: dict[str, Column] = {}
+    for column in columns:
+        number, new = 2, column.name
+        while new in found:
+            number, new = number + 1, f"{column.name}_{number}"
+        found[new] = replace(column, name=new)
+    return list(found.values())
 
 
-def matrix_csv(table: Table) -> str:
-    """A table of two maps as comma-separated values: a row for each category of the first, a column for each of the second.
+def shortest(value: Value) -> str:
+    """Return a value as CSV has it: numbers in the shortest form that reads back, what is missing as an empty text.
 
     Examples
     --------
-    >>> import numpy as np, rcell
-    >>> a, b = np.array([[1, 1, 2]]), np.array([[7, 8, 8]])
-    >>> print(matrix_csv(rcell.run("r.stats -c input=a,b", a=a, b=b).tables[0]), end="")
-    a,7,8
-    1,1,1
-    2,0,1
+    >>> shortest(2.0), shortest(0.1), shortest(None)
+    ('2', '0.1', '')
     """
-    matrix = table.pivot()
-    text = io.StringIO()
-    writer = csv.writer(text, lineterminator="\n")
-    writer.writerow([table.maps[0], *_axis(matrix.columns)])
-    for name, values in zip(_axis(matrix.rows), matrix.values.tolist()):
-        writer.writerow([name, *map(_plain, values)])
-    return text.getvalue()
-
-
-def _unique(names: list[str]) -> list[str]:
-    """The names, each once: one that is there already has the first number after it that makes it new."""
-    taken: list[str] = []
-    for name in names:
-        number, new = 2, name
-        while new in taken:
-            number, new = number + 1, f"{name}_{number}"
-        taken.append(new)
-    return taken
+    return "" if value is None else repr(value).removesuffix(".0") if isinstance(value, float) else str(value)
 
 
 def _plain(value: Value) -> str:
     return "" if value is None else f"{value:.10g}" if isinstance(value, float) else str(value)
+
+
+def _escaped(text: str) -> str:
+    return text.replace("\\", "\\\\").replace("|", "\\|").replace("\n", " ")
 
 
 def _axis(names: list[int | str | None]) -> list[Any]:

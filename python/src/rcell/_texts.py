@@ -44,6 +44,7 @@ class TextMap:
     held: bytes | None = None
     stream: io.FileIO | None = None
     labels: Mapping[int, str] = field(default_factory=dict)
+    colors: Mapping[int, str] = field(default_factory=dict)
     crs: Any = None
     nodata: int | None = None
 

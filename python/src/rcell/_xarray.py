@@ -1,16 +1,17 @@
 # SPDX-License-Identifier: Apache-2.0 OR GPL-2.0-or-later
-"""DataArrays of xarray, as maps and as answers."""
+"""DataArrays of xarray, as maps and as results."""
 
 from __future__ import annotations
 
 import numbers
-from dataclasses import dataclass
+from dataclasses import dataclass, field
 from typing import Any, Iterator, Mapping
 
 import numpy as np
 
 from ._crs import wkt_of
 from ._errors import BadMap
+from ._labels import flags_of
 from ._libraries import need
 from ._maps import BLOCK_CELLS, ArrayMap, Block, checked, in_region, whole_nodata
 from ._masked import MaskedCells, filled
@@ -38,10 +39,11 @@ class DataArrayMap:
     crs: Any
     nodata_value: float | None
     labels: Mapping[int, str]
+    colors: Mapping[int, str] = field(default_factory=dict)
 
     @property
     def nodata(self) -> int | None:
-        """The value that is null, where the blocks do not tell it."""
+        """The value that is null, if the blocks do not mask it."""
         return whole_nodata(self.array.dtype, self.nodata_value)
 
     def range(self) -> tuple[int, int]:
@@ -69,7 +71,7 @@ def source_of_data_array(name: str, array: Any) -> DataArrayMap | ArrayMap:
     array : xarray.DataArray
         Of two dimensions (others have one element), by their names or their CF axes, else rows first; with coordinates of the centres of cells or none at all.
         Null is NaN, and the value of `_FillValue`, `missing_value` or `nodata` among its attributes or its encoding. The
-        reference system is that of rioxarray's coordinate `spatial_ref`; labels are CF's `flag_values` and `flag_meanings`.
+        reference system is in rioxarray's coordinate `spatial_ref`; labels are CF's `flag_values` and `flag_meanings`.
 
     Raises
     ------
@@ -130,7 +132,7 @@ def _check_scale(name: str, array: Any) -> None:
 
 
 def _transform_of(name: str, array: Any) -> Transform | None:
-    """The transform of the coordinates; None where there are none."""
+    """The transform of the coordinates; None without coordinates."""
     y, x = array.dims
     if y not in array.coords or x not in array.coords:
         return None
@@ -194,13 +196,8 @@ def _nodata_of(name: str, array: Any) -> float | None:
 
 
 def _flags_of(array: Any) -> dict[int, str]:
-    """Labels as CF has them: values, and words in their order."""
-    values, meanings = array.attrs.get("flag_values"), array.attrs.get("flag_meanings")
-    if values is None or not meanings:
-        return {}
-    codes = np.asarray(values).reshape(-1)
-    words = str(meanings).split()
-    return {int(code): word for code, word in zip(codes, words)} if len(codes) == len(words) else {}
+    values = array.attrs.get("flag_values")
+    return flags_of(None if values is None else np.asarray(values).reshape(-1).tolist(), array.attrs.get("flag_meanings"))
 
 
 def data_array_of(array: MaskedCells, region: Region, transform: Transform, crs: Any, labels: Mapping[int, str], name: str) -> Any:

@@ -21,7 +21,7 @@ from .._merging import Counts, counts_of
 from .._program import judge
 from .._region import SIDE_LIMIT
 from .._script import labels_in
-from .._table import Table
+from .._table import StatsTable
 from .._text import NULL
 from . import _tasks
 from ._cluster import SHARE, free_memory
@@ -250,7 +250,7 @@ class Mosaic:
         counts = self._counts(stats, run)
         labels = self._labels(stats.inputs, script) if "l" in stats.flags else None
         cells = counts.cells if "c" in stats.flags else None
-        answer = Table("r.stats", stats.line, stats.inputs, counts.combinations, cells, labels, cell=self.sheet.cell, crs=self.sheet.crs)
+        answer = StatsTable("r.stats", stats.line, stats.inputs, counts.combinations, cells, labels, cell=self.sheet.cell, crs=self.sheet.crs)
         answer = answer if area is None else answer.with_area(area)
         answer = answer.with_percent() if percent else answer
         return answer.frame() if has("pandas") else answer
@@ -398,7 +398,7 @@ class Mosaic:
         whole = self._joined(file, tiles, diagonal, memory, by_program)
         categories, cells = self._sizes(file, tiles, diagonal, whole, memory)
         numbers = np.column_stack([np.arange(1, whole.areas + 1), categories])
-        answer = Table("r.clump", 0, ("patch", "category"), numbers, cells, cell=self.sheet.cell, crs=self.sheet.crs)
+        answer = StatsTable("r.clump", 0, ("patch", "category"), numbers, cells, cell=self.sheet.cell, crs=self.sheet.crs)
         return answer.frame() if has("pandas") else answer
 
     def _tiles_for_sizes(self, file: MapFile) -> tuple[Demand, list[Rectangle], bool]:

@@ -1,0 +1,185 @@
+#!/usr/bin/python3
+"""Measures the seven calls, the program alone and peers, by turns, in processor time, and writes a table into bench/RESULTS.md.
+
+    answers.py [--cells N] [--rounds N] [--show]
+
+Each figure is seconds of the processor (user and system, all processes), the smallest of the rounds. The maps are the patchy land cover,
+its zones and a second year as GeoTIFF, made by speed.py, and the land cover again in degrees. `program` is rcell alone, on the grids
+and the script that the package sends it, its output thrown away; `reading` is rasterio's read of the GeoTIFFs. A call may cost at
+most the reading and twice the program. With --show the table is printed and no file is written.
+"""
+
+from __future__ import annotations
+
+import argparse
+import functools
+import pathlib
+import subprocess
+import tempfile
+import warnings
+from typing import Any, Callable, Mapping
+
+import numpy as np
+import rasterio
+from scipy import ndimage
+
+import rcell
+from page import load, put
+from rcell import _program
+from rcell._geotiff import profile_of
+from rcell._script import plan_of
+from rcell._text import Words
+from speed import TRANSFORM, Task, by_turns, made_maps
+
+DEGREES = (0.001, 0.0, 5.0, 0.0, -0.001, 50.0)
+SHARE = 2
+Maps = dict[str, str]
+
+
+class Recorder:
+    """What the package sends to the program during a call: the script, and the grids as files."""
+
+    def __init__(self, folder: str) -> None:
+        self._folder = folder
+        self.words: list[list[str]] = []
+
+    def record(self, call: Task) -> None:
+        """Run a call and keep its scripts and grids."""
+        answered = _program._answered
+
+        def recording(script: str, maps: Mapping[str, Any], wanted: Any, *rest: Any) -> Any:
+            self._keep(plan_of(script, maps, wanted).text, maps)
+            return answered(script, maps, wanted, *rest)
+
+        _program._answered = recording  # type: ignore[assignment]
+        try:
+            call()
+        finally:
+            _program._answered = answered
+
+    def _keep(self, script: bytes, maps: Mapping[str, Any]) -> None:
+        stem = f"{self._folder}/run{len(self.words)}"
+        pathlib.Path(f"{stem}.script").write_bytes(script)
+        words = [rcell.program(), f"{stem}.script"]
+        for name, source in maps.items():
+            low, high = source.range()
+            text = Words(low, high, source.nodata)
+            with open(f"{stem}.{name}", "wb") as file:
+                file.write(source.region.header().encode() + b"null: " + text.null + b"\n")
+                for block in source.blocks():
+                    file.writelines(text.pieces(block.cells, block.null))
+            words.append(f"{name}={stem}.{name}")
+        self.words.append(words)
+
+    def program(self) -> None:
+        """Run the program as the call did."""
+        for words in self.words:
+            subprocess.run(words, check=True, stdout=subprocess.DEVNULL)
+
+
+def maps_of(folder: str, side: int) -> Maps:
+    """The maps by their names."""
+    made = list(made_maps(folder, side, side).values())
+    with rasterio.open(made[0]) as dataset:
+        land = dataset.read(1)
+    later = np.where(np.random.default_rng(5).random(land.shape) < 0.05, np.roll(land, 40, 1), land)
+    for name, cells, transform, crs in (("later", later, TRANSFORM, "EPSG:32632"), ("degrees", land, DEGREES, "EPSG:4326")):
+        with rasterio.open(f"{folder}/{name}.tif", "w", **profile_of(side, side, transform, crs, "uint8", 0)) as dataset:
+            dataset.write(cells, 1)
+    return {"land": made[0], "zones": made[3], "later": f"{folder}/later.tif", "degrees": f"{folder}/degrees.tif"}
+
+
+def read(*paths: str) -> list[Any]:
+    cells = []
+    for path in paths:
+        with rasterio.open(path) as dataset:
+            cells.append(dataset.read(1))
+    return cells
+
+
+def by_bincount(*paths: str) -> Any:
+    """A cross table by numpy."""
+    first, *rest = read(*paths)
+    keys = first.astype(np.int64)
+    for cells in rest:
+        keys = keys * (int(cells.max()) + 1) + cells
+    return np.bincount(keys.reshape(-1))
+
+
+def patches_by_scipy(path: str) -> int:
+    """Patches of all classes with their cells and extents."""
+    [cells] = read(path)
+    found = 0
+    for one in np.unique(cells[cells > 0]):
+        labels, count = ndimage.label(cells == one)
+        np.bincount(labels.reshape(-1))
+        found += len(ndimage.find_objects(labels))
+    return found
+
+
+def zonal_by_scipy(values: str, zones: str) -> Any:
+    cells, zone = read(values, zones)
+    index = np.unique(zone)
+    return [of(cells, zone, index) for of in (ndimage.mean, ndimage.variance, ndimage.minimum, ndimage.maximum, ndimage.median)]
+
+
+def majority_by_numpy(path: str) -> Any:
+    """The class with the largest sum of nine shifted masks."""
+    [cells] = read(path)
+    best, most = np.zeros_like(cells), np.zeros(cells.shape, np.int8)
+    for one in np.unique(cells[cells > 0]):
+        often = ndimage.uniform_filter((cells == one).astype(np.float32), 3, mode="constant")
+        count = np.rint(often * 9).astype(np.int8)
+        best, most = np.where(count > most, one, best), np.maximum(count, most)
+    return best
+
+
+def calls_of(maps: Maps) -> dict[str, tuple[list[str], Callable[[], object], tuple[str, Task]]]:
+    """Each call, with the files that it reads and a peer."""
+    land, zones, later, degrees = (maps[name] for name in ("land", "zones", "later", "degrees"))
+    return {
+        "composition": ([land], lambda: rcell.composition(land), ("numpy bincount", lambda: by_bincount(land))),
+        "composition by zone": ([land, zones], lambda: rcell.composition(land, zones), ("numpy bincount", lambda: by_bincount(zones, land))),
+        "composition in degrees": ([degrees], lambda: rcell.composition(degrees), ("", lambda: None)),
+        "cross": ([land, zones], lambda: rcell.cross(a=land, b=zones), ("numpy bincount", lambda: by_bincount(land, zones))),
+        "change": ([land, later], lambda: rcell.change(land, later).summary, ("numpy bincount", lambda: by_bincount(land, later))),
+        "patches": ([land], lambda: rcell.patches(land), ("scipy label, no perimeters or cores", lambda: patches_by_scipy(land))),
+        "zonal": ([land, zones], lambda: rcell.zonal(land, zones), ("scipy ndimage", lambda: zonal_by_scipy(land, zones))),
+        "majority 3 x 3": ([land], lambda: rcell.majority(land), ("scipy, 15 masks", lambda: majority_by_numpy(land))),
+        "align by whole cells": ([land], lambda: rcell.align(land, to=later), ("numpy, reading alone", lambda: read(land))),
+    }
+
+
+def lines_of(maps: Maps, folder: str, rounds: int) -> list[str]:
+    lines = []
+    for name, (paths, call, (peer, by_peer)) in calls_of(maps).items():
+        recorder = Recorder(folder)
+        recorder.record(call)
+        reading = functools.partial(read, *paths)
+        found = by_turns({"answer": call, "program": recorder.program, "reading": reading, "peer": by_peer}, 10**9, rounds)
+        most = found["reading"] + SHARE * found["program"]
+        told = f"{found['peer']:.2f} ({peer})" if peer else ""
+        share = f"{found['answer'] / most:.2f}" if recorder.words else f"{found['answer'] / found['reading']:.2f} of reading"
+        lines.append(f"| {name} | {found['answer']:.2f} | {found['reading']:.2f} | {found['program']:.2f} | {share} | {told} |")
+        print(lines[-1], flush=True)
+    return lines
+
+
+def main() -> None:
+    words = argparse.ArgumentParser(description=__doc__, formatter_class=argparse.RawDescriptionHelpFormatter)
+    words.add_argument("--cells", type=int, default=25_000_000)
+    words.add_argument("--rounds", type=int, default=2)
+    words.add_argument("--show", action="store_true")
+    settings = words.parse_args()
+    warnings.simplefilter("ignore")
+    side = int(settings.cells**0.5)
+    with tempfile.TemporaryDirectory(prefix="rcell-answers-") as folder:
+        lines = lines_of(maps_of(folder, side), folder, settings.rounds)
+    head = ["| answer | s | reading s | program s | share of reading + 2 program | peer s |", "|---|---|---|---|---|---|"]
+    if not settings.show:
+        told = f"{side * side:,} cells; seconds of the processor, the least of {settings.rounds} rounds in which each had its turn; {load()}."
+        put("The seven answers", "\n".join([told, "", *head, *lines]) + "\n")
+
+
+if __name__ == "__main__":
+    main()

@@ -1,0 +1,148 @@
+# SPDX-License-Identifier: Apache-2.0 OR GPL-2.0-or-later
+"""The maps of a call, and how often their classes occur together, with the areas of their cells."""
+
+from __future__ import annotations
+
+import warnings
+from dataclasses import dataclass
+from typing import Any, Mapping, Sequence
+
+import numpy as np
+from numpy.typing import NDArray
+
+from ._errors import Refused
+from ._legends import labels_of
+from ._maps import Source, source_of, sources_of
+from ._measure import Measure, measure_of
+from ._program import execute
+from ._table import Column
+from ._text import NULL
+from ._zones import zones_of
+
+__all__ = ["Counts", "Maps", "class_column", "label_columns", "places_of"]
+
+# An r.stats takes so many maps; in degrees the number of the row is one of them.
+MOST_MAPS = 16
+_SHOWN = 5
+
+Integers = NDArray[np.int64]
+
+
+@dataclass(frozen=True)
+class Counts:
+    """How often classes occur together.
+
+    Attributes
+    ----------
+    classes : array of int64, entries x maps
+        Ascending, -2147483648 for null, which comes last.
+    cells : array of int64
+    area : array of float64 or None
+        In the unit that was asked for.
+    """
+
+    classes: Integers
+    cells: Integers
+    area: NDArray[np.float64] | None
+
+    def where(self, kept: NDArray[np.bool_]) -> Counts:
+        """Return some of the entries."""
+        return Counts(self.classes[kept], self.cells[kept], None if self.area is None else self.area[kept])
+
+    def measured(self) -> NDArray[Any]:
+        """Return the areas, or the cells if no areas are asked for."""
+        return self.cells if self.area is None else self.area
+
+    def columns(self, measure: Measure, percent: NDArray[np.float64]) -> list[Column]:
+        """Return the last columns of a table: cells, area and percent."""
+        areas = [] if self.area is None else [Column(f"area_{measure.unit}", "measure", self.area)]
+        return [Column("cells", "count", self.cells), *areas, Column("percent", "measure", percent)]
+
+
+class Maps:
+    """The maps of a call: of one region and one reference system.
+
+    Parameters
+    ----------
+    maps : mapping of str to any
+    crs : any
+        The reference system that is stated for maps without one.
+    zones : any, optional
+        A map, or polygons, which become the map `zones`.
+    zone_field : str, optional
+        The field of the polygons that has their ids or names.
+    """
+
+    def __init__(self, maps: Mapping[str, Any], crs: Any = None, zones: Any = None, zone_field: str | None = None) -> None:
+        given = {name: source_of(name, map) for name, map in maps.items()}
+        if zones is not None:
+            first = next(iter(given.values()))
+            given["zones"] = source_of("zones", zones_of(zones, zone_field, first, crs))
+        elif zone_field is not None:
+            raise Refused("zone_field= names a field of polygons, and zones= is not given", status=2)
+        self.sources: dict[str, Source]
+        self.sources, self.crs = sources_of(given, crs, {**maps, "zones": zones})
+        self.first = next(iter(self.sources.values()))
+
+    def measure(self, unit: str | None) -> Measure:
+        """Return what their cells measure."""
+        return measure_of(unit, self.first, self.crs)
+
+    def tables(self, script: str) -> list[Integers]:
+        """Return the tables of a script as they are."""
+        return [output.values for output in execute(script, self.sources)]
+
+    def counts(self, tables: Sequence[Sequence[str]], measure: Measure, null: bool = False) -> list[Counts]:
+        """Return how often classes of some maps occur together, for each list of maps."""
+        flags, rows = "-c" if null else "-c -n", [] if measure.by_row is None else ["row"]
+        lines = ["r.mapcalc row = row()"] if rows else []
+        for names in tables:
+            if len(names) + len(rows) > MOST_MAPS:
+                raise Refused(f"{len(names)} maps, and a table has at most {MOST_MAPS - len(rows)}{' in degrees' if rows else ''}", status=2)
+            lines.append(f"r.stats {flags} input={','.join([*rows, *names])}")
+        return [counts_of(values, measure) for values in self.tables("\n".join(lines))]
+
+    def labels(self, name: str, legend: Any = None) -> Mapping[int, str]:
+        """Return the labels of a map: a legend if there is one, else its own labels."""
+        return labels_of(legend) if legend is not None else self.sources[name].labels
+
+
+def counts_of(values: Integers, measure: Measure) -> Counts:
+    """Return the entries of a table; of one that begins with rows, the sums over the rows."""
+    if measure.by_row is None:
+        cells = values[:, -1].copy()
+        return Counts(values[:, :-1], cells, None if measure.unit is None else measure.area(cells))
+    classes, cells = values[:, 1:-1], values[:, -1]
+    ordered = np.where(classes == NULL, np.iinfo(np.int64).max, classes)
+    order = np.lexsort(ordered.T[::-1])  # stable: the rows of each combination stay in order
+    first = places_of(ordered[order])
+    if not first.size:
+        return Counts(classes, cells, np.empty(0))
+    area = cells[order] * measure.by_row[values[order, 0] - 1]
+    return Counts(classes[order[first]], np.add.reduceat(cells[order], first), np.add.reduceat(area, first) / measure.divisor)
+
+
+def places_of(ordered: Integers) -> NDArray[np.intp]:
+    """Return where a new combination begins among rows of numbers that are in order."""
+    if not len(ordered):
+        return np.empty(0, np.intp)
+    rows = ordered if ordered.ndim == 2 else ordered[:, None]
+    differs = (rows[1:] != rows[:-1]).any(axis=1)
+    return np.concatenate([[0], np.flatnonzero(differs) + 1])
+
+
+def class_column(name: str, classes: Integers) -> Column:
+    """Return a column of classes, of which -2147483648 is missing."""
+    return Column(name, "class", classes)
+
+
+def label_columns(name: str, classes: Integers, labels: Mapping[int, str], legend: Any = None, of: str = "") -> list[Column]:
+    """Return the column of the labels of classes, if there are labels; warn if a legend lacks some."""
+    if not labels:
+        return []
+    if legend is not None:
+        lacking = sorted(set(classes.tolist()) - set(labels) - {NULL})
+        if lacking:
+            more = f", and {len(lacking) - _SHOWN} more" if len(lacking) > _SHOWN else ""
+            warnings.warn(f"labels: no label for {', '.join(map(str, lacking[:_SHOWN]))}{more} of {of or name}", stacklevel=4)
+    return [Column(name, "label", [labels.get(code, "") for code in classes.tolist()])]

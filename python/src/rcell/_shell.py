@@ -1,0 +1,370 @@
+# SPDX-License-Identifier: Apache-2.0 OR GPL-2.0-or-later
+"""The command line of `rcell-gis`: GeoTIFF in; tables as CSV, Markdown or JSON, and GeoTIFF, out."""
+
+from __future__ import annotations
+
+import argparse
+import contextlib
+import importlib
+import os
+import shlex
+import sys
+import warnings
+from typing import Any, Callable, Iterable, Iterator, NoReturn, Sequence
+
+import numpy as np
+
+from rcell_front.files import Output, end_on_signals, is_same_file, open_standard_streams, write_all
+
+from ._align import align
+from ._answers import outputs_with, run_of
+from ._change import change
+from ._composition import composition_of, cross_of
+from ._crs import UNITS_OF_AREA
+from ._errors import Killed, OtherCrs, OtherRegion, RcellError, Refused, WriteFailed
+from ._files import replacing, told_of, write_beside
+from ._grid import Grid
+from ._libraries import need
+from ._majority import SIZES, majority
+from ._masked import masked
+from ._patches import patches_of
+from ._table import Column, StatsTable, Table
+from ._version import __version__
+from ._zonal import zonal_of
+
+__all__ = ["emit", "main", "refuse_inputs", "script_of"]
+
+NAME = "rcell-gis"
+EPILOG = """\
+MAP is anything that GDAL reads, or a grid of rcell; ZONES may also be polygons, each of which has the cells whose centre is in it.
+A legend is a CSV with the header value,label, a style of QGIS (.qml) or a raster with labels. `rcell-gis COMMAND --help` says more.
+Status: 0 done; 1 a map, legend or script is invalid; 2 the command line is; 3 out of memory; 4 a file could not be read or written."""
+FORMATS: dict[str, Callable[[Table], str]] = {"csv": Table.csv, "markdown": Table.markdown, "json": Table.json}
+_ENDINGS = {".md": "markdown", ".json": "json"}
+_PICTURES = (".png", ".svg", ".pdf")
+_MEMORY, _FILES, _COMMAND_LINE = 3, 4, 2
+
+
+class _Parser(argparse.ArgumentParser):
+    """A parser that says in one line what is wrong."""
+
+    def error(self, message: str) -> NoReturn:
+        """End with status 2 and one line."""
+        sys.stderr.write(f"{self.prog}: {message}; see {self.prog} --help\n")
+        sys.exit(_COMMAND_LINE)
+
+
+# The words
+
+
+def _words() -> argparse.ArgumentParser:
+    words = _Parser(prog=NAME, description=__doc__, epilog=EPILOG, formatter_class=argparse.RawDescriptionHelpFormatter)
+    words.add_argument("--version", action="version", version=f"{NAME} {__version__}")
+    commands = words.add_subparsers(dest="command", required=True, metavar="COMMAND", parser_class=_Parser)
+    _add_tables(commands)
+    for name, run, told in (("majority", _majority, "the most frequent class of the square around each cell"), ("align", _align, "a map on the grid of another one")):
+        command = _command(commands, name, run, told)
+        command.add_argument("map", metavar="MAP")
+        command.add_argument("target", metavar="OUT.tif")
+        if name == "majority":
+            command.add_argument("--size", type=int, default=3, metavar="N", help=f"rows and columns of the square: odd, {SIZES[0]} to {SIZES[-1]}")
+            command.add_argument("--fill", action="store_true", help="gives null cells a class as well")
+        else:
+            command.add_argument("--to", required=True, metavar="OTHER", help="the map whose grid it gets")
+            command.add_argument("--resample", metavar="nearest", help="takes the nearest cell if the grids are not apart by whole cells")
+            command.add_argument("--format", choices=list(FORMATS), help="of the account of used and lost cells")
+    script = _command(commands, "run", _run, "a script: its tables on standard output, its maps in files")
+    script.add_argument("script", metavar="SCRIPT", help='a file, `-`, or a line, as "r.stats -c input=lc"')
+    script.add_argument("maps", metavar="NAME=MAP", nargs="+")
+    script.add_argument("--out", metavar="NAME=FILE", action="append", default=[], help="a map, and a .tif, .txt or picture for it; may be given again")
+    script.add_argument("--format", choices=list(FORMATS), help="of tables; csv if not given")
+    commands.add_parser("tiles", help="maps that are larger than the memory", add_help=False)
+    return words
+
+
+def _add_tables(commands: Any) -> None:
+    composition = _table_command(commands, "composition", _composition, "the cells, area and percentage of each class, in all or by zone")
+    composition.add_argument("map", metavar="MAP")
+    composition.add_argument("--null", action="store_true", help="adds the cells that are null")
+    cross = _table_command(commands, "cross", _cross, "how often the classes of several maps occur together", zones=False)
+    cross.add_argument("maps", metavar="NAME=MAP", nargs="+")
+    cross.add_argument("--labels", metavar="NAME=LEGEND", action="append", default=[], help="a legend for a map; may be given again")
+    cross.add_argument("--null", action="store_true", help="adds combinations with null")
+    changed = _table_command(commands, "change", _change, "what became of each class between two or more years", zones=False)
+    changed.add_argument("maps", metavar="MAP", nargs="+", help="two maps or more, in the order of their years")
+    changed.add_argument("--labels", metavar="LEGEND", help="of all maps")
+    changed.add_argument("--years", type=_wholes, metavar="YEAR,..", help="one for each map")
+    changed.add_argument("--table", choices=["table", "matrix", "summary"], default="table", help="a row for each change, a matrix, or gains and losses by class")
+    patches = _table_command(commands, "patches", _patches, "the patches of a map")
+    patches.add_argument("map", metavar="MAP")
+    patches.add_argument("--connectivity", type=int, choices=[4, 8], default=4, help="8: cells that share a corner are of one patch as well")
+    patches.add_argument("--classes", type=_wholes, metavar="CLASS,..", help="patches of these classes alone")
+    patches.add_argument("--least", type=int, metavar="CELLS", help="patches of so many cells or more alone")
+    patches.add_argument("--core-depth", type=int, default=1, metavar="N", help="steps from the border of a patch to its core")
+    zonal = _table_command(commands, "zonal", _zonal, "sums, means, quantiles by zone", labels=False, zones=False, area=False)
+    zonal.add_argument("map", metavar="VALUES")
+    zonal.add_argument("zones", metavar="ZONES")
+    zonal.add_argument("--quantiles", default="0.5", metavar="Q,..", help="from 0 to 1")
+    _add_zone_words(zonal)
+
+
+def _command(commands: Any, name: str, run: Callable[[argparse.Namespace], None], told: str) -> argparse.ArgumentParser:
+    parser: argparse.ArgumentParser = commands.add_parser(name, help=told, description=f"Writes {told}.")
+    parser.set_defaults(run=run)
+    parser.add_argument("--crs", metavar="EPSG:CODE", help="the coordinate reference system of maps that have none")
+    return parser
+
+
+def _table_command(
+    commands: Any, name: str, run: Callable[[argparse.Namespace], None], told: str, labels: bool = True, zones: bool = True, area: bool = True
+) -> argparse.ArgumentParser:
+    parser = _command(commands, name, run, told)
+    if area:
+        parser.add_argument("--area", choices=[*UNITS_OF_AREA, "none"], default="ha", help="the unit of areas; ha if not given")
+    if zones:
+        parser.add_argument("--labels", metavar="LEGEND", help="the labels of the classes")
+        parser.add_argument("--zones", metavar="ZONES", help="a map, or polygons")
+        _add_zone_words(parser)
+    parser.add_argument("--format", choices=list(FORMATS), help="csv if not given, unless the name of the file says otherwise")
+    parser.add_argument("--out", metavar="FILE", help="a file in place of standard output")
+    return parser
+
+
+def _add_zone_words(parser: argparse.ArgumentParser) -> None:
+    parser.add_argument("--zone-field", metavar="FIELD", help="the field of polygons that has the ids or names of the zones")
+    parser.add_argument("--zone-labels", metavar="LEGEND", help="the labels of the zones")
+
+
+def _wholes(text: str) -> list[int]:
+    try:
+        return [int(word) for word in text.split(",")]
+    except ValueError:
+        raise argparse.ArgumentTypeError(f"whole numbers are needed, not {text}") from None
+
+
+def _pairs(words: Sequence[str]) -> dict[str, str]:
+    """Words NAME=PATH by their names."""
+    found: dict[str, str] = {}
+    for word in words:
+        name, equals, path = word.partition("=")
+        if not (name and equals and path):
+            raise Refused(f"{word}: write NAME=PATH", status=_COMMAND_LINE)
+        if name in found:
+            raise Refused(f"{word}: the name {name} is given twice", status=_COMMAND_LINE)
+        found[name] = path
+    return found
+
+
+# The commands. Each says in `given` which files it reads, by the names that errors have for them.
+
+
+def _composition(words: argparse.Namespace) -> None:
+    words.given = {"map": words.map, **({"zones": words.zones} if words.zones else {})}
+    _put(words, composition_of(words.map, words.zones, _unit(words), words.labels, words.zone_labels, words.zone_field, words.null, words.crs))
+
+
+def _cross(words: argparse.Namespace) -> None:
+    words.given = _pairs(words.maps)
+    _put(words, cross_of(words.given, _unit(words), _pairs(words.labels), words.null, words.crs))
+
+
+def _change(words: argparse.Namespace) -> None:
+    names = ("before", "after") if len(words.maps) == 2 else [f"map_{at + 1}" for at in range(len(words.maps))]
+    words.given = dict(zip(names, words.maps))
+    found = change(words.maps, years=words.years, area=_unit(words), labels=words.labels, crs=words.crs)
+    _put(words, {"table": found.long, "matrix": found.wide, "summary": found.short}[words.table]())
+
+
+def _patches(words: argparse.Namespace) -> None:
+    words.given = {"map": words.map, **({"zones": words.zones} if words.zones else {})}
+    rest = (words.classes, words.least, words.core_depth, words.labels, words.zone_labels, words.zone_field, words.crs)
+    _put(words, patches_of(words.map, words.connectivity, _unit(words), words.zones, *rest))
+
+
+def _zonal(words: argparse.Namespace) -> None:
+    words.given = {"values": words.map, "zones": words.zones}
+    try:
+        quantiles = [float(word) for word in words.quantiles.split(",")]
+    except ValueError:
+        raise Refused(f"--quantiles are numbers from 0 to 1, not {words.quantiles}", status=_COMMAND_LINE) from None
+    _put(words, zonal_of(words.map, words.zones, quantiles, words.zone_field, words.zone_labels, words.crs))
+
+
+def _majority(words: argparse.Namespace) -> None:
+    words.given = {"map": words.map}
+    _write_maps([words.target], words.given.values(), lambda: [majority(words.map, words.size, words.fill, crs=words.crs)])
+
+
+def _align(words: argparse.Namespace) -> None:
+    words.given = {"map": words.map, "to": words.to}
+
+    def made() -> list[Grid]:
+        found = align(words.map, words.to, words.resample, crs=words.crs)
+        source, words.account = found.source("map"), found.aligned
+        array = masked(source.array, np.zeros(source.array.shape, np.bool_) if source.null is None else source.null)
+        return [Grid("map", array, source.region, source.transform, source.crs, source.labels, colors=source.colors)]
+
+    _write_maps([words.target], words.given.values(), made)
+    words.out = None
+    values = [(name, np.nan if value is None else float(value)) for name, value in words.account._asdict().items()]
+    _put(words, Table(Column(name, "measure", np.array([value])) for name, value in values))
+
+
+def _run(words: argparse.Namespace) -> None:
+    words.given, paths = _pairs(words.maps), _pairs(words.out)
+    script = script_of(words.script)
+    result: list[Any] = []
+
+    def made() -> list[Grid]:
+        result.extend(outputs_with(run_of(script, words.given, words.crs), list(paths)))
+        return result[len(result) - len(paths) :]
+
+    _write_maps(list(paths.values()), [words.script, *words.given.values()], made)
+    tables = [output for output in result if isinstance(output, StatsTable)]
+    if tables:
+        emit("\n".join(FORMATS[words.format or "csv"](table) for table in tables))
+
+
+def _write_maps(targets: list[str], inputs: Iterable[str], make: Callable[[], list[Grid]]) -> None:
+    """Write maps to files, unless one of these is an input, or of a form that is not known."""
+    for path in targets:
+        if not path.lower().endswith((".tif", ".tiff", ".txt", *_PICTURES)):
+            raise Refused(f"{path}: a map is written as .tif, .tiff, .txt or a picture ({', '.join(_PICTURES)})", status=_COMMAND_LINE)
+    refuse_inputs(targets, inputs)
+    for grid, path in zip(make(), targets):
+        if path.lower().endswith(_PICTURES):
+            _draw(grid, path)
+        else:
+            grid.write(path)
+
+
+def _draw(grid: Grid, path: str) -> None:
+    """A map with its legend as a picture, of the form that the name of the file says."""
+    need("matplotlib", "plot", "to draw a map").use("Agg")
+    axes = grid.plot()
+    with replacing(path) as beside, told_of(path):
+        axes.figure.savefig(beside, bbox_inches="tight", dpi=150)
+
+
+def _unit(words: argparse.Namespace) -> str | None:
+    return None if words.area == "none" else str(words.area)
+
+
+def _put(words: argparse.Namespace, table: Table) -> None:
+    """Write a table to its file or to standard output."""
+    form = words.format or (_ENDINGS.get(os.path.splitext(words.out)[1].lower(), "csv") if words.out else "csv")
+    text = FORMATS[form](table)
+    if not words.out:
+        emit(text)
+        return
+    refuse_inputs([words.out], words.given.values())
+    write_beside(words.out, text.encode("utf-8", "surrogateescape"))
+
+
+# What the command line of tiles uses as well
+
+
+def script_of(word: str) -> str:
+    """Return the text of a script: of a file, of standard input, or the word itself."""
+    if word == "-":
+        with _told_of_script("standard input"):
+            return sys.stdin.buffer.read().decode("utf-8", "surrogateescape")
+    if not os.path.exists(word) and word.startswith("r."):
+        return word
+    with _told_of_script(word), open(word, encoding="utf-8", errors="surrogateescape", newline="") as file:
+        return file.read()
+
+
+@contextlib.contextmanager
+def _told_of_script(path: str) -> Iterator[None]:
+    """Raise what goes wrong with a script as Refused."""
+    try:
+        yield
+    except (OSError, ValueError) as error:
+        raise Refused(f"cannot open {path}: {getattr(error, 'strerror', None) or error}", "script", status=_FILES) from None
+
+
+def refuse_inputs(outputs: Iterable[str], inputs: Iterable[str]) -> None:
+    """Raise Refused if a file is to be written that is read too, or that is named twice."""
+    seen: list[str] = []
+    kept = list(inputs)
+    for path in outputs:
+        if any(is_same_file(path, given) for given in kept):
+            raise Refused(f"{path}: the output file is the input file: choose another name", status=_COMMAND_LINE)
+        if os.path.realpath(path) in seen:
+            raise Refused(f"{path}: two maps go to one file", status=_COMMAND_LINE)
+        seen.append(os.path.realpath(path))
+
+
+def emit(text: str) -> None:
+    """Write to standard output, and at once: what it does not take is not tried again when Python ends."""
+    sys.stdout.flush()
+    with told_of("standard output"), Output("-") as output:
+        write_all(output.stream(), text.encode("utf-8", "surrogateescape"))
+
+
+# The end
+
+
+def main(words: Sequence[str] | None = None) -> int:
+    """Run a command line and return its exit status.
+
+    Examples
+    --------
+    >>> main(["composition", "/nowhere.tif"])
+    4
+    """
+    if words is None:
+        open_standard_streams()
+        end_on_signals()
+    given = list(sys.argv[1:] if words is None else words)
+    if given[:1] == ["tiles"]:
+        return int(importlib.import_module("rcell.tiles._command").main(given[1:]))
+    settings = argparse.Namespace(given={})
+    with warnings.catch_warnings():
+        warnings.simplefilter("default", UserWarning)
+        warnings.showwarning = lambda message, *_, **__: _tell(f"warning: {message}")
+        try:
+            settings = _words().parse_args(given, settings)
+            settings.run(settings)
+        except KeyboardInterrupt:
+            return 130
+        except RcellError as error:
+            if isinstance(error, (OtherRegion, OtherCrs)):
+                error.advice = _align_words(error, settings.given)
+            _tell(_in_one_line(error))
+            return _status(error)
+    return 0
+
+
+def _tell(text: str) -> None:
+    sys.stderr.write(f"{NAME}: {text}\n")
+
+
+def _in_one_line(error: RcellError) -> str:
+    """An error with the line of the script and what to write instead, all in one line."""
+    if not isinstance(error, Refused):
+        return str(error).replace("\n", "; ")
+    place = f"{error.source}, line {error.line}" if error.line else error.source
+    parts = [f"{place}: {error.text}", *([f"`{error.content.strip()}`"] if error.content else []), *([f"try: {error.advice}"] if error.advice else [])]
+    return "; ".join(line.strip() for part in parts for line in part.split("\n"))
+
+
+def _align_words(error: Refused, given: dict[str, str]) -> str | None:
+    """The command that aligns a map with the first one, if it is known which these are."""
+    first = next(iter(given), "")
+    if not error.advice or error.source not in given or error.source == first:
+        return "--resample nearest" if error.advice else None
+    stem, ending = os.path.splitext(given[error.source])
+    words = ["align", given[error.source], f"{stem}-aligned{ending}", "--to", given[first]]
+    return shlex.join([NAME, *words, *(["--resample", "nearest"] if "resample=" in error.advice else [])])
+
+
+def _status(error: RcellError) -> int:
+    if isinstance(error, Refused):
+        return error.status
+    return _FILES if isinstance(error, WriteFailed) else _MEMORY if isinstance(error, Killed) else _COMMAND_LINE
+
+
+if __name__ == "__main__":
+    sys.exit(main())

@@ -1,0 +1,129 @@
+# SPDX-License-Identifier: Apache-2.0 OR GPL-2.0-or-later
+"""Statistics of the values of a map by zone."""
+
+from __future__ import annotations
+
+from decimal import Decimal
+from typing import Any, Iterable
+
+import numpy as np
+from numpy.typing import NDArray
+
+from ._counting import Maps, class_column, label_columns, places_of
+from ._errors import Refused
+from ._table import Column, Table
+
+__all__ = ["zonal", "zonal_of"]
+
+Integers = NDArray[np.int64]
+Floats = NDArray[np.float64]
+
+
+def zonal(
+    values: Any,
+    zones: Any,
+    quantiles: Iterable[float] = (0.5,),
+    *,
+    zone_field: str | None = None,
+    zone_labels: Any = None,
+    crs: Any = None,
+) -> Any:
+    """Compute statistics of the values of a map of whole numbers by zone.
+
+    Parameters
+    ----------
+    values : path, array, .. as a map of `run`
+    zones : map, or path of polygons, or GeoDataFrame
+        Polygons are rasterised with GDAL: a cell is in the polygon that has its centre.
+    quantiles : iterable of float
+        From 0 to 1, each a column: 0.5 is `q50`, 0.025 is `q2_5`. They are linear, as numpy's are by default.
+    zone_field : str, optional
+        The field of the polygons that has the ids of the zones, or their names.
+    zone_labels : path, dict or DataFrame, optional
+        The legend of the zones, as in `composition`.
+    crs : any, optional
+        The reference system of maps that have none.
+
+    Returns
+    -------
+    pandas.DataFrame
+        Columns `zone`, `zone_label`, `cells`, `sum`, `mean`, `minimum`, `maximum`, `variance` (of the population), and the quantiles.
+        Zones without a value have no row. A Table without pandas.
+
+    Raises
+    ------
+    Refused
+        As `run`; quantiles that are not from 0 to 1.
+
+    Examples
+    --------
+    >>> import numpy as np, rcell
+    >>> height, zone = np.array([[412, 415, 420]]), np.array([[1, 1, 2]])
+    >>> rcell.zonal(height, zone)
+       zone  cells  sum   mean  minimum  maximum  variance    q50
+    0     1      2  827  413.5      412      415      2.25  413.5
+    1     2      1  420  420.0      420      420      0.00  420.0
+    """
+    return zonal_of(values, zones, quantiles, zone_field, zone_labels, crs).answer()
+
+
+def zonal_of(values: Any, zones: Any, quantiles: Iterable[float], zone_field: str | None, zone_labels: Any, crs: Any) -> Table:
+    """Return the table of `zonal`."""
+    asked = [(_title(quantile), float(quantile)) for quantile in quantiles]
+    maps = Maps({"values": values}, crs, zones, zone_field)
+    entries = maps.tables("r.stats -c -n input=zones,values")[0]
+    first = places_of(entries[:, 0])
+    ids = entries[first, 0]
+    columns = [class_column("zone", ids), *label_columns("zone_label", ids, maps.labels("zones", zone_labels), zone_labels, "zones")]
+    return Table(columns + _moments(entries[:, 1], entries[:, 2], first) + _quantiles(entries[:, 1], entries[:, 2], first, asked))
+
+
+def _title(quantile: Any) -> str:
+    """The name of the column of a quantile: q and its percentage, with _ for the point."""
+    try:
+        number = float(quantile)
+    except (TypeError, ValueError):
+        number = -1.0
+    percentage = Decimal(repr(number)) * 100
+    if not 0 <= number <= 1:
+        raise Refused(f"quantiles= are from 0 to 1, not {quantile!r}", status=2)
+    text = f"{percentage:f}"
+    return "q" + (text.rstrip("0").rstrip(".") if "." in text else text).replace(".", "_")
+
+
+def _moments(values: Integers, cells: Integers, first: NDArray[np.intp]) -> list[Column]:
+    """Sums and what follows from them, in whole numbers until they are divided."""
+    if not first.size:
+        sums = squares = count = least = most = np.empty(0, np.int64)
+    else:
+        last = np.concatenate([first[1:], [values.size]]) - 1
+        count, least, most = np.add.reduceat(cells, first), values[first], values[last]
+        sums = np.add.reduceat(values * cells, first)
+        # Squares of large values do not fit in 64 bits.
+        largest = int(np.abs(values).max())
+        exact = values if largest**2 * int(count.max()) < 2**63 else values.astype(object)
+        squares = np.add.reduceat(exact * exact * cells, first)
+    whole = list(zip(count.tolist(), sums.tolist(), squares.tolist()))
+    mean = np.array([total / n for n, total, _ in whole], np.float64)
+    variance = np.array([(n * squared - total * total) / (n * n) for n, total, squared in whole], np.float64)
+    kept: list[tuple[str, Any, Any]] = [("cells", "count", count), ("sum", "count", sums), ("mean", "measure", mean)]
+    kept += [("minimum", "count", least), ("maximum", "count", most), ("variance", "measure", variance)]
+    return [Column(*column) for column in kept]
+
+
+def _quantiles(values: Integers, cells: Integers, first: NDArray[np.intp], asked: list[tuple[str, float]]) -> list[Column]:
+    """Quantiles between the neighbours in the order of the cells of a zone, as numpy's method `linear` has them."""
+    if not first.size:
+        return [Column(title, "measure", np.empty(0)) for title, _ in asked]
+    until = np.cumsum(cells)
+    before = np.concatenate([[0], until])[first]
+    count = np.add.reduceat(cells, first)
+    columns = []
+    for title, quantile in asked:
+        place = (count - 1) * quantile
+        lower = np.floor(place).astype(np.int64)
+        part = place - lower
+        low, high = (values[np.searchsorted(until, before + at, "right")] for at in (lower, np.minimum(lower + 1, count - 1)))
+        step = (high - low).astype(np.float64)
+        columns.append(Column(title, "measure", np.where(part < 0.5, low + step * part, high - step * (1 - part))))
+    return columns
