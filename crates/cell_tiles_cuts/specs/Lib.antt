@@ -1,3 +1,0 @@
--- Areas of bands joined at the cuts.
-pub mod CutBands
-pub mod parts

@@ -1,3 +1,0 @@
--- What only private functions and proofs cite.
-pub mod CountRows
-pub mod MadeEdges
