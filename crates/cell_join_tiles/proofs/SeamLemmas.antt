@@ -10,8 +10,7 @@ use Rattle.cell_cats_areas.specs.Areas.{Position, cell_at_spot, AreNeighbours, A
 use Rattle.cell_cats_areas.specs.parts.CellPlaces.{position}
 use Rattle.cell_cats_areas.proofs.PathLemmas.{AreAdjacent-sym}
 use Rattle.cell_parts.specs.AreaParts.{moved_position}
-use Rattle.cell_parts.proofs.AreaLemmas.{is-some}
-use Rattle.cell_parts.proofs.CutAreaLemmas.{rows-near}
+use Rattle.cell_parts.proofs.AreaLemmas.{is-some, rows-near}
 use Rattle.cell_join_numbers.specs.Labelled.{IsMeeting}
 use Rattle.cell_join_tiles.proofs.LengthLemmas.{before-next, index_in, Crosses, next-to}
 use Rattle.cell_join_tiles.proofs.MeetingLemmas.{Touch, mark-inside, line_meetings-have, line_meetings-only}

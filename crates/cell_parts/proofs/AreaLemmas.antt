@@ -27,6 +27,14 @@ neighbours-back n i j (inr e) = inr (omega (arith, e))
 pub same-back : (n i j : ℕ) → n + i ≡ n + j → i ≡ j
 same-back n i j e = omega (arith, e)
 
+-- adjacent cells lie in one row, or in neighbouring ones
+pub rows-near : (j : Joining) (p q : Position) → AreAdjacent j p q → (p.row ≡ q.row) ⊎ AreNeighbours p.row q.row
+rows-near Edges p q (inl e) = inl e.0
+rows-near Edges p q (inr e) = inr e.0
+rows-near EdgesAndCorners p q (inl (inl e)) = inl e.0
+rows-near EdgesAndCorners p q (inl (inr e)) = inr e.0
+rows-near EdgesAndCorners p q (inr h) = inr h.0
+
 module _ (r : Rectangle) (p q : Position) where
   edge-moved : ShareEdge p q → ShareEdge (moved_position r p) (moved_position r q)
   edge-moved (inl e) = inl (ap (λ n. r.top + n) e.0, neighbours-moved r.left _ _ e.1)

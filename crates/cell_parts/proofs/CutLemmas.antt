@@ -1,13 +1,10 @@
 -- What is cut out of maps is a part of them.
-use Rattle.std.proofs.Common.{◌≡◌, ℕ, zero, suc, ◌+◌, ◌<◌, ◌≤◌, List, [], ◌∷◌, map, take, drop, length, get_or, Some, None, IsSome, refl, ap, sym, ◌∙◌, zero-add, arith, ⊎_elim}
+use Rattle.std.proofs.Common.{◌≡◌, ℕ, zero, suc, ◌+◌, ◌<◌, ◌≤◌, List, [], ◌∷◌, map, take, drop, length, get_or, Some, None, IsSome, refl, ap, sym, ◌∙◌, arith, ⊎_elim}
 use Rattle.std.proofs.lemmas.Bool.{cases_lt}
-use Rattle.std.proofs.lemmas.List.{get_or-take, get_or-drop, get_or_past, get_or_append_left, get_or-append-add}
-use Rattle.std.proofs.lemmas.List.Elements.{All-head, All-tail}
-use Rattle.std.specs.Prelude.{All}
+use Rattle.std.proofs.lemmas.List.{get_or-take, get_or-drop, get_or_past}
 use Rattle.cell_core.specs.Grid.{CellValue}
-use Rattle.cell_stats_combinations.specs.Combinations.{cell_of_map}
 use Rattle.cell_cats_areas.specs.Areas.{cell_at_spot}
-use Rattle.cell_parts.specs.Parts.{Rectangle, cut_out, CutOutsAreParts, Cut, IsCutBelow, CutsAreParts}
+use Rattle.cell_parts.specs.Parts.{Rectangle, cut_out, CutOutsAreParts}
 use Rattle.cell_parts.specs.AreaParts.{CutOutsAreTiles}
 
 pub length-take-most : {A : Type 0} (n : ℕ) (xs : List A) → length (take n xs) ≤ n
@@ -72,34 +69,3 @@ cut-outs-are-parts r (w ∷ whole) (m ∷ part) cut row col zero high wide =
     let here : m.rows ≡ cut_out r w.rows = ap (first-or []) cut in
     ap (λ l. get_or (get_or l row []) col None) here ∙ cell-there r w.rows row col high wide
 cut-outs-are-parts r (w ∷ whole) (m ∷ part) cut row col (suc place) high wide = cut-outs-are-parts r whole part (ap (drop 1) cut) row col place high wide
-
--- ---- cut between two rows
-
-upper-there : (above : ℕ) (c : Cut) → IsCutBelow above c → (row col : ℕ) → row < above → get_or (get_or c.upper.rows row []) col None ≡ get_or (get_or c.whole.rows row []) col None
-upper-there above c is row col high =
-    let within : row < length c.upper.rows = omega (arith, is.count, high) in
-    ap (λ l. get_or l col None) (sym (get_or_append_left c.upper.rows c.lower.rows [] row within)) ∙ ap (λ l. get_or (get_or l row []) col None) (sym is.rows)
-
-lower-there : (above : ℕ) (c : Cut) → IsCutBelow above c → (row col : ℕ) → get_or (get_or c.lower.rows row []) col None ≡ get_or (get_or c.whole.rows (above + row) []) col None
-lower-there above c is row col =
-    ap (λ l. get_or l col None) (sym (get_or-append-add c.upper.rows c.lower.rows row [])) ∙ ap (λ l. get_or (get_or l (length c.upper.rows + row) []) col None) (sym is.rows)
-    ∙ ap (λ n. get_or (get_or c.whole.rows (n + row) []) col None) is.count
-
-uppers : (above row col : ℕ) (cuts : List Cut) → All (IsCutBelow above) cuts → (place : ℕ) → row < above → cell_of_map (map (λ cut. cut.upper) cuts) row col place ≡ cell_of_map (map (λ cut. cut.whole) cuts) row col place
-uppers above row col [] all place high = refl
-uppers above row col (c ∷ cuts) all zero high = upper-there above c (All-head (IsCutBelow above) c cuts all) row col high
-uppers above row col (c ∷ cuts) all (suc place) high = uppers above row col cuts (All-tail (IsCutBelow above) c cuts all) place high
-
-lowers : (above row col : ℕ) (cuts : List Cut) → All (IsCutBelow above) cuts → (place : ℕ) → cell_of_map (map (λ cut. cut.lower) cuts) row col place ≡ cell_of_map (map (λ cut. cut.whole) cuts) (above + row) col place
-lowers above row col [] all place = refl
-lowers above row col (c ∷ cuts) all zero = lower-there above c (All-head (IsCutBelow above) c cuts all) row col
-lowers above row col (c ∷ cuts) all (suc place) = lowers above row col cuts (All-tail (IsCutBelow above) c cuts all) place
-
-pub cuts-are-parts : CutsAreParts
-cuts-are-parts above below cols cuts all = (
-  λ row col place high wide.
-      uppers above row col cuts all place high
-      ∙ ap (λ r. cell_of_map (map (λ cut. cut.whole) cuts) r col place) (sym (zero-add row))
-      ∙ ap (λ c. cell_of_map (map (λ cut. cut.whole) cuts) (0 + row) c place) (sym (zero-add col)),
-  λ row col place high wide. lowers above row col cuts all place ∙ ap (λ c. cell_of_map (map (λ cut. cut.whole) cuts) (above + row) c place) (sym (zero-add col)),
-)

@@ -1,6 +1,5 @@
 pub mod AreaLemmas
 pub mod BlockLemmas
-pub mod CutAreaLemmas
 pub mod CutLemmas
 pub mod GridLemmas
 pub mod ListingLemmas

@@ -1,5 +1,5 @@
 -- Tables merged.
-use Rattle.std.proofs.Common.{◌≡◌, ◌+◌, ◌↔◌, ℕ, zero, suc, List, [], ◌∷◌, map, Bool, true, false, cond, unwrap_or, refl, ap, sym, ◌∙◌, arith, zero-add}
+use Rattle.std.proofs.Common.{◌≡◌, ◌↔◌, ℕ, zero, suc, List, [], ◌∷◌, map, Bool, true, false, cond, unwrap_or, refl, ap, sym, ◌∙◌, arith}
 use Rattle.std.specs.Prelude.{sum_by}
 use Rattle.cell_stats_combinations.specs.declared.skip.Skip.{Skip}
 use Rattle.cell_stats_combinations.specs.Combinations.{Combination, all_combinations}
@@ -7,8 +7,7 @@ use Rattle.cell_stats_combinations.specs.LeftOut.{kept_cells, is_left_out}
 use Rattle.cell_stats_counts.specs.Counts.{count_of}
 use Rattle.cell_stats.specs.CategoryTables.{Pairs, IsTable, table_of}
 use Rattle.cell_stats.proofs.TableLemmas.{IsFound-from, kept-IsTable, IsTable-kept, table_of-IsTable, found, count_kept}
-use Rattle.cell_parts.specs.TableParts.{combinations_of_part, count_in, IsMerge, TablesMerge, TablesMergeByRows, BandTablesMerge}
-use Rattle.cell_parts.proofs.BlockLemmas.{counts-add-by-rows, bands-add-up}
+use Rattle.cell_parts.specs.TableParts.{combinations_of_part, count_in, IsMerge, TablesMerge}
 use Rattle.cell_parts.proofs.SumLemmas.{sum-cons, parts-add-up}
 
 found-or : (n : ℕ) → unwrap_or (found n) 0 ≡ n
@@ -77,14 +76,3 @@ merge-from skip whole cells parts adds pairs =
 pub tables-merge : TablesMerge
 tables-merge rows cols whole parts are picks skip pairs =
     merge-from skip (all_combinations whole picks rows cols) (combinations_of_part picks) parts (λ k. parts-add-up rows cols whole parts are picks k) pairs
-
-pub band-tables-merge : BandTablesMerge
-band-tables-merge whole cols bands are picks skip pairs =
-    merge-from skip (all_combinations whole picks (sum_by (λ band. band.rows) bands) cols) (λ band. all_combinations band.maps picks band.rows cols) bands (λ k. bands-add-up whole cols bands are picks k) pairs
-
-pub tables-merge-by-rows : TablesMergeByRows
-tables-merge-by-rows whole upper lower above below cols is_upper is_lower picks skip pairs =
-    let one = all_combinations upper picks above cols in
-    let other = all_combinations lower picks below cols in
-    merge-from skip (all_combinations whole picks (above + below) cols) (λ (cells : List Combination). cells) (one ∷ other ∷ []) (λ k.
-    counts-add-by-rows whole upper lower above below cols is_upper is_lower picks k ∙ ap (λ n. n + count_of k other) (sym (zero-add (count_of k one)))) pairs

@@ -1,5 +1,5 @@
 -- Areas of parts: paths within the tiles of a map, and adjacent cells at their borders, make the areas of the whole.
-use Rattle.std.specs.Prelude.{ℕ, ℤ, ◌+◌, ◌<◌, ◌≡◌, ◌⊎◌, ◌↔◌, List, [], ◌∷◌, ◌++◌, map, length, Some, IsSome, IsTrue, All, Contains}
+use Rattle.std.specs.Prelude.{ℤ, ◌+◌, ◌<◌, ◌≡◌, ◌⊎◌, ◌↔◌, List, [], ◌∷◌, map, Some, IsSome, IsTrue, All, Contains}
 use Rattle.cell_core.specs.Grid.{Grid}
 use Rattle.cell_cats_areas.specs.declared.clump.Joining.{Joining}
 use Rattle.cell_cats_areas.specs.Areas.{Position, cell_at_spot, AreAdjacent, AreJoined, IsEarlierCell, IsFirst, IsClumping}
@@ -9,30 +9,6 @@ use Rattle.cell_parts.specs.Parts.{Rectangle, is_in, cut_out}
 abbrev pub IsChain : (Position → Position → Type 0) → Position → List Position → Position → Type 0
 IsChain Link p [] q = p ≡ q
 IsChain Link p (next ∷ others) q = Link p next × IsChain Link next others q
-
--- where a cell of the lower part lies in the whole
-abbrev pub lowered_position : ℕ → Position → Position
-lowered_position n p = record { row = n + p.row; col = p.col }
-
--- a path within the lower part joins two cells of the whole
-abbrev pub AreJoinedBelow : Joining → ℕ → Grid → Position → Position → Type 0
-AreJoinedBelow j n lower p q = (a b : Position) × (p ≡ lowered_position n a) × (q ≡ lowered_position n b) × AreJoined j lower a b
-
--- two adjacent cells of one category meet at a cut below so many rows: one lies in the last row above it, the other in the first below
-pub record MeetAtCut (j : Joining) (n : ℕ) (whole : Grid) (p q : Position) : Type 0 where
-  pub category : ℤ
-  pub adjacent : AreAdjacent j p q
-  pub first : cell_at_spot whole p ≡ Some category
-  pub second : cell_at_spot whole q ≡ Some category
-  pub sides : ((p.row + 1 ≡ n) × (q.row ≡ n)) ⊎ ((q.row + 1 ≡ n) × (p.row ≡ n))
-
--- a link: a path within one of the parts, or a step over the cut
-abbrev pub AreLinkedAtCut : Joining → (whole upper lower : Grid) → Position → Position → Type 0
-AreLinkedAtCut j whole upper lower p q = AreJoined j upper p q ⊎ (AreJoinedBelow j (length upper.rows) lower p q ⊎ MeetAtCut j (length upper.rows) whole p q)
-
--- cut between two rows: a path joins two cells exactly where a chain of links does
-abbrev pub AreasJoinAtCut : Type 0
-AreasJoinAtCut = (j : Joining) (whole upper lower : Grid) → whole.rows ≡ upper.rows ++ lower.rows → (p q : Position) → IsSome (cell_at_spot whole p) → AreJoined j whole p q ↔ ((others : List Position) × IsChain (AreLinkedAtCut j whole upper lower) p others q)
 
 -- a map that stands for a rectangle of another
 pub record Tile : Type 0 where

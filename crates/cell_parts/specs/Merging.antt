@@ -1,12 +1,10 @@
 -- Tables as they are merged, and merges of merges.
-use Rattle.std.specs.Prelude.{ℕ, ◌≡◌, ◌^◌, ◌≤◌, List, All, map, sum_by, flat_map}
+use Rattle.std.specs.Prelude.{List, All, map, flat_map}
 use Rattle.std.specs.List.Sorted.{IsStrictlySortedBy}
-use Rattle.cell_core.specs.Grid.{Grid}
-use Rattle.cell_stats_combinations.specs.declared.skip.Skip.{Skip}
 use Rattle.cell_stats_combinations.specs.Combinations.{combination_cmp}
 use Rattle.cell_stats_counts.specs.Listed.{HasNoZero}
-use Rattle.cell_stats.specs.CategoryTables.{Pairs, table_of}
-use Rattle.cell_parts.specs.TableParts.{Part, AreParts, combinations_of_part, count_in, IsMerge}
+use Rattle.cell_stats.specs.CategoryTables.{Pairs}
+use Rattle.cell_parts.specs.TableParts.{IsMerge}
 
 -- entries as tables list them: the combinations strictly ascend, and no count is 0
 pub record IsListing (pairs : Pairs) : Type 0 where

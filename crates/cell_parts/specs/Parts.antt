@@ -1,5 +1,5 @@
 -- Parts of maps: a rectangle of their cells, as maps of their own (the regions and labels of parts do not matter here).
-use Rattle.std.specs.Prelude.{ℕ, Bool, ◌&&◌, nat_le, nat_lt, ◌≡◌, ◌≤◌, ◌<◌, ◌+◌, List, [], ◌∷◌, ◌++◌, length, All, count_by, sum, map, flat_map, take, drop}
+use Rattle.std.specs.Prelude.{ℕ, Bool, ◌&&◌, nat_le, nat_lt, ◌≡◌, ◌≤◌, ◌<◌, ◌+◌, List, [], ◌∷◌, All, count_by, sum, map, flat_map, take, drop}
 use Rattle.cell_core.specs.Grid.{Grid, CellValue}
 use Rattle.cell_stats_combinations.specs.Combinations.{cell_of_map}
 
@@ -35,20 +35,6 @@ GridsCover = (heights widths : List ℕ) → AreTiling (sum heights) (sum widths
 -- the maps of a part have the cells that those of the whole have in the rectangle
 abbrev pub IsPart : Rectangle → (whole part : List Grid) → Type 0
 IsPart r whole part = (row col place : ℕ) → row < r.rows → col < r.cols → cell_of_map part row col place ≡ cell_of_map whole (r.top + row) (r.left + col) place
-
--- a map that is cut below so many rows: its rows are those of the upper part, then those of the lower
-pub record Cut : Type 0 where
-  pub whole : Grid
-  pub upper : Grid
-  pub lower : Grid
-
-pub record IsCutBelow (above : ℕ) (cut : Cut) : Type 0 where
-  pub rows : cut.whole.rows ≡ cut.upper.rows ++ cut.lower.rows
-  pub count : length cut.upper.rows ≡ above
-
--- maps that are cut so: the upper maps are a part of the whole, and so are the lower ones
-abbrev pub CutsAreParts : Type 0
-CutsAreParts = (above below cols : ℕ) (cuts : List Cut) → All (IsCutBelow above) cuts → IsPart (record { top = 0; left = 0; rows = above; cols = cols }) (map (λ cut. cut.whole) cuts) (map (λ cut. cut.upper) cuts) × IsPart (record { top = above; left = 0; rows = below; cols = cols }) (map (λ cut. cut.whole) cuts) (map (λ cut. cut.lower) cuts)
 
 -- the cells of rows in a rectangle, row by row
 abbrev pub cut_out : Rectangle → List (List CellValue) → List (List CellValue)

@@ -1,5 +1,5 @@
 -- Tables of parts: counts add up, and the table of the whole is that of the parts merged.
-use Rattle.std.specs.Prelude.{ℕ, ◌≡◌, ◌<◌, ◌+◌, ◌↔◌, List, [], ◌∷◌, All, map, sum_by, unwrap_or}
+use Rattle.std.specs.Prelude.{ℕ, ◌≡◌, ◌<◌, ◌↔◌, List, All, map, sum_by, unwrap_or}
 use Rattle.std.specs.FinMap.Entries.{find}
 use Rattle.std.specs.List.{Contains}
 use Rattle.std.specs.List.Sorted.{IsStrictlySortedBy}
@@ -10,14 +10,6 @@ use Rattle.cell_stats_counts.specs.Counts.{count_of}
 use Rattle.cell_stats.specs.CategoryTables.{Pairs, IsTable, table_of}
 use Rattle.cell_parts.specs.Parts.{Rectangle, AreTiling, IsPart}
 
--- cut below so many rows: each combination has as many cells in the whole as in the two parts together
-abbrev pub CountsAddByRows : Type 0
-CountsAddByRows = (whole upper lower : List Grid) (above below cols : ℕ) → IsPart (record { top = 0; left = 0; rows = above; cols = cols }) whole upper → IsPart (record { top = above; left = 0; rows = below; cols = cols }) whole lower → (picks : List ℕ) (k : Combination) → count_of k (all_combinations whole picks (above + below) cols) ≡ count_of k (all_combinations upper picks above cols) + count_of k (all_combinations lower picks below cols)
-
--- cut beside so many columns
-abbrev pub CountsAddByCols : Type 0
-CountsAddByCols = (whole left right : List Grid) (rows before behind : ℕ) → IsPart (record { top = 0; left = 0; rows = rows; cols = before }) whole left → IsPart (record { top = 0; left = before; rows = rows; cols = behind }) whole right → (picks : List ℕ) (k : Combination) → count_of k (all_combinations whole picks rows (before + behind)) ≡ count_of k (all_combinations left picks rows before) + count_of k (all_combinations right picks rows behind)
-
 -- the number beside a combination in a table, 0 where it is not listed
 abbrev pub count_in : Combination → Pairs → ℕ
 count_in k pairs = unwrap_or (find combination_cmp k pairs) 0
@@ -26,28 +18,6 @@ count_in k pairs = unwrap_or (find combination_cmp k pairs) 0
 pub record IsMerge (tables : List Pairs) (merged : Pairs) : Type 0 where
   pub ascending : IsStrictlySortedBy combination_cmp (map (λ pair. pair.0) merged)
   pub counted : (k : Combination) (n : ℕ) → Contains merged (k, n) ↔ ((0 < n) × (n ≡ sum_by (count_in k) tables))
-
--- cut below so many rows: the table of the whole is the merge of the tables of the two parts, and no other list is
-abbrev pub TablesMergeByRows : Type 0
-TablesMergeByRows = (whole upper lower : List Grid) (above below cols : ℕ) → IsPart (record { top = 0; left = 0; rows = above; cols = cols }) whole upper → IsPart (record { top = above; left = 0; rows = below; cols = cols }) whole lower → (picks : List ℕ) (skip : Skip) (pairs : Pairs) → IsMerge (table_of skip (all_combinations upper picks above cols) ∷ table_of skip (all_combinations lower picks below cols) ∷ []) pairs ↔ IsTable skip (all_combinations whole picks (above + below) cols) pairs
-
--- maps of so many rows
-pub record BandPart : Type 0 where
-  pub rows : ℕ
-  pub maps : List Grid
-
--- bands one below the other, from a row on
-abbrev pub AreBandsFrom : ℕ → ℕ → List Grid → List BandPart → Type 0
-AreBandsFrom top cols whole [] = Unit {0}
-AreBandsFrom top cols whole (band ∷ bands) = IsPart (record { top = top; left = 0; rows = band.rows; cols = cols }) whole band.maps × AreBandsFrom (top + band.rows) cols whole bands
-
--- any number of bands: each combination has as many cells in the whole as in all of them
-abbrev pub BandsAddUp : Type 0
-BandsAddUp = (whole : List Grid) (cols : ℕ) (bands : List BandPart) → AreBandsFrom 0 cols whole bands → (picks : List ℕ) (k : Combination) → count_of k (all_combinations whole picks (sum_by (λ band. band.rows) bands) cols) ≡ sum_by (λ band. count_of k (all_combinations band.maps picks band.rows cols)) bands
-
--- and the table of the whole is the merge of the tables of the bands
-abbrev pub BandTablesMerge : Type 0
-BandTablesMerge = (whole : List Grid) (cols : ℕ) (bands : List BandPart) → AreBandsFrom 0 cols whole bands → (picks : List ℕ) (skip : Skip) (pairs : Pairs) → IsMerge (map (λ band. table_of skip (all_combinations band.maps picks band.rows cols)) bands) pairs ↔ IsTable skip (all_combinations whole picks (sum_by (λ band. band.rows) bands) cols) pairs
 
 -- maps that stand for a rectangle of others
 pub record Part : Type 0 where

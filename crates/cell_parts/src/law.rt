@@ -1,9 +1,9 @@
 //! What the parts of maps say of the whole.
 
-ghost use Rattle.cell_parts.specs.AreaParts.{AreasJoin, AreasJoinAtCut, CutOutsAreTiles, FirstsAreFirsts, FirstsOfTheWhole, NumbersJoin};
+ghost use Rattle.cell_parts.specs.AreaParts.{AreasJoin, CutOutsAreTiles, FirstsAreFirsts, FirstsOfTheWhole, NumbersJoin};
 ghost use Rattle.cell_parts.specs.Merging.{MergesMerge};
-ghost use Rattle.cell_parts.specs.Parts.{CutOutsAreParts, CutsAreParts, GridsCover};
-ghost use Rattle.cell_parts.specs.TableParts.{BandTablesMerge, BandsAddUp, CountsAddByCols, CountsAddByRows, PartsAddUp, TablesMerge, TablesMergeByRows};
+ghost use Rattle.cell_parts.specs.Parts.{CutOutsAreParts, GridsCover};
+ghost use Rattle.cell_parts.specs.TableParts.{PartsAddUp, TablesMerge};
 
 /// Cut between rows and columns wherever, the rectangles cover each cell once.
 pub fn grids_cover()
@@ -13,36 +13,6 @@ pub fn grids_cover()
 /// Whatever rectangle is cut out of maps, the maps of its cells are a part of them.
 pub fn cut_outs_are_parts()
     ensures { CutOutsAreParts }
-{}
-
-/// Maps that are cut between two rows: the upper maps are a part of the whole, and so are the lower ones.
-pub fn cuts_are_parts()
-    ensures { CutsAreParts }
-{}
-
-/// A cut between two rows: each combination has as many cells in the whole as in the upper and the lower part together.
-pub fn counts_add_by_rows()
-    ensures { CountsAddByRows }
-{}
-
-/// The same of a cut between two columns.
-pub fn counts_add_by_cols()
-    ensures { CountsAddByCols }
-{}
-
-/// The table of maps that are cut between two rows is the merge of the tables of the two parts, and no other list is.
-pub fn tables_merge_by_rows()
-    ensures { TablesMergeByRows }
-{}
-
-/// Any number of bands, one below the other: each combination has as many cells in the whole as in all of them.
-pub fn bands_add_up()
-    ensures { BandsAddUp }
-{}
-
-/// And the table of the whole is the merge of the tables of the bands.
-pub fn band_tables_merge()
-    ensures { BandTablesMerge }
 {}
 
 /// Any parts that cover each cell once: each combination has as many cells in the whole as in all of them.
@@ -58,12 +28,6 @@ pub fn tables_merge()
 /// What merges the merges of groups of tables merges all the tables.
 pub fn merges_merge()
     ensures { MergesMerge }
-{}
-
-/// A map cut between two rows: a path joins two cells exactly where a chain of links does, each a path within one part or a
-/// step between adjacent cells of one category over the cut.
-pub fn areas_join_at_cut()
-    ensures { AreasJoinAtCut }
 {}
 
 /// Whatever rectangle is cut out of a map, the map of its cells is a tile of it.
