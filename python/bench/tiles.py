@@ -1,5 +1,5 @@
 #!/usr/bin/python3
-"""Measures maps by tiles: answers beside the undivided map and beside GRASS, workers, memory, the cost of joining areas.
+"""Measures maps by tiles: answers beside the undivided map and beside GRASS, workers, memory, the cost of joining clumps.
 
     tiles.py [--side N] [--folder F] [--workers W] [--task T ...] [--write] [PART ...]
 
@@ -24,8 +24,8 @@ import time
 import warnings
 import zlib
 from collections import Counter
-from collections.abc import Callable, Iterator
-from dataclasses import dataclass, replace
+from collections.abc import Callable
+from dataclasses import dataclass
 from pathlib import Path
 from typing import Any, NamedTuple
 
@@ -38,10 +38,10 @@ import rcell.tiles
 from beside import ALL, NMODE, SUM, answers, grass_maps, undivided
 from made_maps import STRIP, checkerboard, comb, land_cover, noise, runs_of, spiral, write
 from page import load, put
-from rcell.tiles._memory import Demand, areas_demand, grid_demand, places, sizes_demand, table_demand
+from rcell.tiles._memory import Demand, clump_demand, grid_demand, patches_demand, places, table_demand
 from rcell.tiles._scripts import NO_REACH, Reach
-from rcell.tiles._tasks import edges_of
-from rcell.tiles.joining import Edges, Rectangle, join
+from rcell.tiles._tasks import tile_border
+from rcell.tiles.joining import Rectangle, join
 from watching import MILLION, Figures, measured
 
 MEMORY_SIDE = 4096
@@ -190,8 +190,8 @@ def of_memory(given: Settings) -> list[str]:
     tasks: list[tuple[Demand, Callable[[rcell.tiles.Mosaic], Any]]] = [
         (table_demand(1, 1, NO_REACH), lambda mosaic: mosaic.table(TABLE)),
         (grid_demand(1, 2, Reach(1, 1, 1, 1)), lambda mosaic: mosaic.grid(f"x = {SUM}", out)),
-        (areas_demand(1), lambda mosaic: mosaic.clump("lc", out)),
-        (sizes_demand(1), lambda mosaic: mosaic.patches("lc")),
+        (clump_demand(1), lambda mosaic: mosaic.clump("lc", out)),
+        (patches_demand(1), lambda mosaic: mosaic.patches("lc")),
     ]
     rows, worst = [], 0.0
     for name, file, runs, areas in (("noise", loud, 1.0, 1.0), ("land cover", quiet, runs_of(quiet), areas_of(quiet))):
@@ -220,48 +220,37 @@ def areas_of(path: Path) -> float:
 
 
 def of_joining(given: Settings) -> list[str]:
-    """What it costs to join areas as tiles get more, and what the joining is given."""
+    """What it costs to join clumps as tiles get more, and what rcell-join is given."""
     with rcell.tiles.open(lc=str(given.path)) as mosaic:
         file, sheet = mosaic._files["lc"], mosaic.sheet
-    rows = ["One process, from the borders of tiles to the numbers of the whole. A label is an area that touches a border of its tile.", "",
-            "| Tiles | Million cells | Labels | Borders | Seconds | a label | Memory more |", "|---|---|---|---|---|---|---|"]
+    rows = ["From the borders of tiles, as texts, to the numbers of the full map: rcell-join clumps, and this process, which reads what it prints.", "",
+            "| Tiles | Million cells | Clumps of tiles | Borders | Seconds | Largest process |", "|---|---|---|---|---|---|"]
     part = min(given.side, 4096)
     for size in (2048, 1024, 512, 256, 128):
         tiles = [place for place in places(sheet, (size, size)) if place.top + place.rows <= part and place.left + place.cols <= part]
-        found = [edges_of(file, sheet, place, False) for place in tiles]
-        rows.append(_joined(found, len(found), size))
+        rows.append(_joined([tile_border(file, sheet, place, False) for place in tiles], size))
     side = min(given.side, 2048)
-    tile = edges_of(file, sheet, Rectangle(0, 0, side, side), False)
-    for count in (8, 16, 32, 64):
-        rows.append(_joined(again(tile, count), count * count, side))
+    border = tile_border(file, sheet, Rectangle(0, 0, side, side), False)
+    for count in (8, 16, 32):
+        rows.append(_joined([again(border, Rectangle(down * side, right * side, side, side)) for down in range(count) for right in range(count)], side))
     return rows
 
 
-def _joined(tiles: list[Edges] | Iterator[Edges], count: int, size: int) -> str:
-    borders = 0
-
-    def counted() -> Iterator[Edges]:
-        nonlocal borders
-        for tile in tiles:
-            borders += sum(edge.categories.nbytes + edge.numbers.nbytes for edge in (tile.top, tile.bottom, tile.left, tile.right))
-            yield tile
-
-    before = resource.getrusage(resource.RUSAGE_SELF).ru_maxrss
-    start = time.process_time()
-    whole = join(counted())
-    seconds = time.process_time() - start
-    grown = (resource.getrusage(resource.RUSAGE_SELF).ru_maxrss - before) * 1024 / MILLION
-    labels = sum(len(tile.touching) for tile in whole.tiles)
-    return told(f"| {count:,} of {size:,} | {count * size * size / MILLION:,.0f} | {labels:,} | {borders / MILLION:.1f} MB | {seconds:.2f} "
-                f"| {seconds / labels * 1e6:.1f} us | {grown:.0f} MB |")
+def _joined(borders: list[bytes], size: int) -> str:
+    before, start = resource.getrusage(resource.RUSAGE_CHILDREN), time.process_time()
+    whole = join(borders)
+    children = resource.getrusage(resource.RUSAGE_CHILDREN)
+    seconds = time.process_time() - start + children.ru_utime + children.ru_stime - before.ru_utime - before.ru_stime
+    clumps, count = sum(tile.clumps for tile in whole.tiles), len(borders)
+    peak = max(children.ru_maxrss, resource.getrusage(resource.RUSAGE_SELF).ru_maxrss) * 1024 / MILLION
+    return told(f"| {count:,} of {size:,} | {count * size * size / MILLION:,.0f} | {clumps:,} | {sum(map(len, borders)) / MILLION:.1f} MB | {seconds:.2f} "
+                f"| {peak:.0f} MB |")
 
 
-def again(tile: Edges, count: int) -> Iterator[Edges]:
-    """A tile so many times beside and below itself, as a large map would give its tiles to the joining."""
-    rows, cols = tile.place.rows, tile.place.cols
-    for down in range(count):
-        for right in range(count):
-            yield replace(tile, place=Rectangle(down * rows, right * cols, rows, cols))
+def again(border: bytes, place: Rectangle) -> bytes:
+    """A border at another place, as a large map would have it."""
+    edges, _, _ = place.region.header().partition("rows:")
+    return edges.encode() + border[border.index(b"rows:"):]
 
 
 PARTS = {"grass": of_grass, "answers": of_answers, "shapes": of_shapes, "workers": of_workers, "memory": of_memory, "joining": of_joining}

@@ -275,10 +275,9 @@ def test_a_pivot_tells_classes_of_one_label_apart() -> None:
 
 def test_modules_without_their_libraries(monkeypatch: pytest.MonkeyPatch) -> None:
     code = ("import sys; sys.modules['scipy'] = sys.modules['psutil'] = None; from rcell import *; import rcell, rcell.tiles, numpy\n"
-            "for ask in (lambda: rcell.tiles._cluster.free_memory(), lambda: rcell.tiles.joining.need('scipy.sparse', 'tiles', 'to join')):\n"
-            "    try: ask()\n    except rcell.MissingLibrary as error: print(error.library)\n")
+            "try: rcell.tiles._cluster.free_memory()\nexcept rcell.MissingLibrary as error: print(error.library)\n")
     ran = subprocess.run([sys.executable, "-c", code], capture_output=True, text=True, env=environment(), check=False)
-    assert (ran.stdout.split(), ran.stderr) == (["psutil", "scipy"], "")
+    assert (ran.stdout.split(), ran.stderr) == (["psutil"], "")
 
 
 def environment(**words: str) -> dict[str, str]:

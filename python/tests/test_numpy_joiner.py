@@ -7,19 +7,19 @@ import subprocess
 import sys
 import tempfile
 import unittest
-from collections.abc import Callable
 from typing import Any
 
 import numpy as np
 
 import rcell
 from rcell import _joiner
-from rcell._joiner import joined, joined_areas, joined_sizes, joined_tiles
+from rcell._counts import Counts, TooManyCells, counts_of
+from rcell._joiner import border_of, joined, joined_sizes, numbering_of
 from rcell._maps import ArrayMap
-from rcell._merging import Counts, TooManyCells, counts_of, merge
 from rcell._numbers import NULL
 from rcell._program import execute, table_text
 from rcell._region import Region
+from tests.merging import merge
 
 NULL_CELL = 255
 TILINGS = 60
@@ -90,76 +90,90 @@ def clump_script(diagonal: bool) -> str:
 
 
 def clumped(cells: Any, diagonal: bool) -> tuple[Any, bytes]:
-    """The numbers of the areas of a map, 0 where it is null, and their table."""
+    """The numbers of the clumps of a map, 0 where it is null, and their table."""
     maps = {"a": ArrayMap("a", cells, Region.of_cells(*cells.shape), nodata_value=NULL_CELL)}
     numbers = execute(clump_script(diagonal), maps, wanted=("k",))[-1].values
     return np.maximum(numbers, 0), table_text(f"{clump_script(diagonal)}\nr.stats -c input=k", maps)
 
 
-def grid_text(cells: Any, null: int, top: int, left: int = 0) -> bytes:
-    """A grid of the rows and columns from `top` and `left` on of a map whose cells have sides of 1."""
+def border(cells: Any, diagonal: bool, top: int = 0, left: int = 0) -> bytes:
+    """The border of a tile of a map whose cells have sides of 1."""
     rows, cols = cells.shape
-    lines = [" ".join("*" if cell == null else str(cell) for cell in row) for row in cells.tolist()]
-    return "\n".join([f"north: {-top}", f"south: {-top - rows}", f"east: {left + cols}", f"west: {left}", f"rows: {rows}", f"cols: {cols}", *lines, ""]).encode()
+    return border_of(ArrayMap("a", cells, Region(-top, -top - rows, left + cols, left, rows, cols), nodata_value=NULL_CELL), diagonal)
 
 
-def borders_of(command: str, cells: Any, numbers: Any, top: int, left: int) -> bytes:
-    """The edges or the sides of a part, as the program writes them."""
-    with tempfile.TemporaryDirectory() as folder:
-        for name, text in (("map", grid_text(cells, NULL_CELL, top, left)), ("numbers", grid_text(numbers, 0, top, left))):
-            with open(f"{folder}/{name}", "wb") as file:
-                file.write(text)
-        return subprocess.run([rcell.joiner(), command, "map", "numbers"], cwd=folder, capture_output=True, check=True).stdout
+class Tiles(unittest.TestCase):
+    def test_clumps_of_tiles_join_to_those_of_the_full_map(self) -> None:
+        for seed in range(TILINGS):
+            with self.subTest(seed=seed):
+                self.assert_joins(np.random.default_rng(seed), bool(seed % 2))
 
-
-class Parts(unittest.TestCase):
-    """Bands and the tiles of grids."""
-
-    def test_areas_of_bands_join_to_those_of_the_whole(self) -> None:
-        for seed in range(TILINGS // 2):
-            self.assert_joins(seed, "edges", joined_areas)
-
-    def test_areas_of_tiles_join_to_those_of_the_whole(self) -> None:
-        for seed in range(TILINGS // 2):
-            self.assert_joins(seed, "sides", joined_tiles)
-
-    def assert_joins(self, seed: int, command: str, join: Callable[[list[bytes], bool], bytes]) -> None:
-        random = np.random.default_rng(seed)
+    def assert_joins(self, random: np.random.Generator, diagonal: bool) -> None:
         cells = random.choice(np.array([1, 1, 2, 30, NULL_CELL], np.uint8), random.integers(1, 12, 2))
-        rows, cols = cells.shape
-        diagonal = bool(seed % 2)
-        heights, widths = cuts(random, rows), [(0, cols)] if command == "edges" else cuts(random, cols)
-        places = [(top, low, left, right) for top, low in heights for left, right in widths]
-        parts = [np.ascontiguousarray(cells[top:low, left:right]) for top, low, left, right in places]
-        own = [clumped(part, diagonal) for part in parts]
-        text = join([borders_of(command, part, numbers, place[0], place[2]) for place, part, (numbers, _) in zip(places, parts, own)], diagonal)
-        with self.subTest(seed=seed, command=command):
-            expected, table = clumped(cells, diagonal)
-            found = np.zeros(cells.shape, np.int64)
-            for (top, low, left, right), numbers in zip(places, self.renumbered(text, [numbers for numbers, _ in own])):
-                found[top:low, left:right] = numbers
-            self.assertEqual(found.tolist(), expected.tolist())
-            sizes = joined_sizes(text, [part for _, part in own])
-            self.assertEqual(sizes, b"".join(line for line in table.splitlines(keepends=True) if not line.startswith(b"*")))
+        heights, widths = (cuts(random, length) for length in cells.shape)
+        places = [(slice(top, low), slice(left, right)) for top, low in heights for left, right in widths]
+        tiles = [np.ascontiguousarray(cells[place]) for place in places]
+        own = [clumped(tile, diagonal) for tile in tiles]
+        numbering = numbering_of([border(tile, diagonal, rows.start, cols.start) for tile, (rows, cols) in zip(tiles, places)], diagonal)
+        expected, table = clumped(cells, diagonal)
+        found = np.zeros(cells.shape, np.int64)
+        for place, numbers in zip(places, self.renumbered(numbering, [numbers for numbers, _ in own])):
+            found[place] = numbers
+        self.assertEqual(found.tolist(), expected.tolist())
+        sizes = joined_sizes(numbering, [of_tile for _, of_tile in own])
+        self.assertEqual(sizes, b"".join(line for line in table.splitlines(keepends=True) if not line.startswith(b"*")))
 
-    def renumbered(self, text: bytes, parts: list[Any]) -> list[Any]:
-        """The numbers of parts with those of the whole in their place."""
-        found = [np.zeros(part.max() + 1, np.int64) for part in parts]
-        for part, first, last, number in (map(int, line.split()) for line in text.splitlines()):
-            found[part - 1][first : last + 1] = np.arange(number, number + last - first + 1)
-        return [table[part] for table, part in zip(found, parts)]
+    def renumbered(self, numbering: bytes, tiles: list[Any]) -> list[Any]:
+        """The numbers of tiles with those of the full map in their place."""
+        found = [np.zeros(tile.max() + 1, np.int64) for tile in tiles]
+        for tile, first, last, number in (map(int, line.split()) for line in numbering.splitlines()):
+            found[tile - 1][first : last + 1] = np.arange(number, number + last - first + 1)
+        return [table[tile] for table, tile in zip(found, tiles)]
 
     def test_refused(self) -> None:
-        one = grid_text(np.array([[7, 7], [1, 1], [7, 7], [1, 1], [1, 0]]), 0, 0)
-        for edges in ([one, one], [one[:-4]], [b""]):
-            with self.subTest(edges=edges), self.assertRaises(rcell.WrongProgram):
-                joined_areas(edges)
-            with self.subTest(sides=edges), self.assertRaises(rcell.WrongProgram):
-                joined_tiles(edges)
+        one = border(np.array([[7, 7], [1, 2]], np.uint8), False)
+        for borders, told in (([one, one], "west edge 0 is not the east edge 2"), ([one[:-4]], "too few cells"), ([b""], "missing key")):
+            with self.subTest(told=told), self.assertRaises(rcell.WrongProgram) as caught:
+                numbering_of(borders)
+            self.assertIn(told, str(caught.exception))
+        with self.assertRaises(rcell.WrongProgram) as caught:
+            numbering_of([one], diagonal=True)
+        self.assertIn("connectivity 4 is not the 8", str(caught.exception))
         refused: list[tuple[bytes, list[bytes]]] = [(b"1 1 2 1\n", [b"1 1\n"]), (b"1 1 1 1\n", []), (b"1 1 1 2\n", [b"1 1\n"])]
-        for areas, tables in refused:
-            with self.subTest(areas=areas), self.assertRaises(rcell.WrongProgram):
-                joined_sizes(areas, tables)
+        for numbering, tables in refused:
+            with self.subTest(numbering=numbering), self.assertRaises(rcell.WrongProgram):
+                joined_sizes(numbering, tables)
+
+    def test_a_cell_that_is_none(self) -> None:
+        with self.assertRaises(rcell.BadMap):
+            border(np.array([[0.5, 1]]), False)
+
+    def test_a_program_that_does_not_read(self) -> None:
+        cells = np.arange(1_000_000, dtype=np.int32).reshape(1000, 1000)
+        known = known_program(self, "echo 'rcell-join: border:0: no memory' >&2; exit 3")
+        with self.assertRaises(rcell.OutOfMemory):
+            border_of(ArrayMap("a", cells, Region.of_cells(1000, 1000)), program=known)
+
+
+def program(test: unittest.TestCase, body: str) -> str:
+    """A script in the place of rcell-join."""
+    folder = tempfile.TemporaryDirectory()
+    test.addCleanup(folder.cleanup)
+    path = f"{folder.name}/rcell-join"
+    with open(path, "w") as file:
+        file.write(f"#!/bin/sh\n{body}\n")
+    os.chmod(path, 0o755)
+    return path
+
+
+def known_program(test: unittest.TestCase, body: str) -> str:
+    """One that is taken for right, without being tried."""
+    from rcell import _program
+
+    path = program(test, body)
+    state = os.stat(path)
+    _program._known[path] = (state.st_ino, state.st_size, state.st_mtime_ns)
+    return path
 
 
 class Counted(unittest.TestCase):
@@ -183,22 +197,8 @@ class Counted(unittest.TestCase):
 class Programs(unittest.TestCase):
     """Programs that do not answer as they should: scripts in the place of rcell-join."""
 
-    def program(self, body: str) -> str:
-        folder = tempfile.TemporaryDirectory()
-        self.addCleanup(folder.cleanup)
-        path = f"{folder.name}/rcell-join"
-        with open(path, "w") as file:
-            file.write(f"#!/bin/sh\n{body}\n")
-        os.chmod(path, 0o755)
-        return path
-
     def join_with(self, body: str) -> bytes:
-        from rcell import _program
-
-        path = self.program(body)
-        state = os.stat(path)
-        _program._known[path] = (state.st_ino, state.st_size, state.st_mtime_ns)
-        return joined([b"1 1\n"], program=path)
+        return joined([b"1 1\n"], program=known_program(self, body))
 
     def test_found(self) -> None:
         beside = os.path.join(os.path.dirname(rcell.program()), "rcell-join")
@@ -221,8 +221,8 @@ class Programs(unittest.TestCase):
         only_tables = f"[ $1 = tables ] && exec {rcell.joiner()} \"$@\"; exit 2"
         for body in ("exit 0", "echo 1 2", "cat \"$2\" \"$3\"", "exit 3", only_tables):
             with self.subTest(body=body), self.assertRaises(rcell.WrongProgram):
-                rcell.joiner(self.program(body))
-        path = self.program("")
+                rcell.joiner(program(self, body))
+        path = program(self, "")
         with open(path, "w") as file:
             file.write("no program")
         with self.assertRaises(rcell.MissingProgram):
@@ -234,7 +234,10 @@ class Programs(unittest.TestCase):
         with self.assertRaises(rcell.OutOfMemory) as caught:
             self.join_with("echo 'rcell-join: tables:0: no memory' >&2; exit 3")
         self.assertEqual((caught.exception.source, caught.exception.status), ("tables", 3))
-        for body in ("echo 'rcell-join: output:0: count too great' >&2; exit 1", "exit 7"):
+        with self.assertRaises(TooManyCells) as great:
+            self.join_with("printf '1 5\\n'; echo 'rcell-join: output:0: count too great for 2 *' >&2; exit 1")
+        self.assertEqual(great.exception.combination, (2, None))
+        for body in ("echo 'rcell-join: t:1: bad count' >&2; exit 1", "exit 7"):
             with self.subTest(body=body), self.assertRaises(rcell.WrongProgram):
                 self.join_with(body)
 

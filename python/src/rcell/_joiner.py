@@ -1,31 +1,41 @@
 # SPDX-License-Identifier: Apache-2.0 OR GPL-2.0-or-later
 """The joiner: where it is, and runs of it over texts that are held in memory.
 
-`rcell-join` is proved from bytes to bytes: the texts that `r.stats -c` prints of the parts of a map are joined to the text that it
-prints of the map, the edges of the bands of a map or the sides of its tiles to the numbers of its areas, and the tables of these to the
-sizes of its areas. So the texts come here as the program printed them, and go on as the joiner printed them: they are read once, where the
-last one is needed as numbers.
+`rcell-join` is proved from bytes to bytes: the tables that `r.stats -c` prints of the tiles of a map are merged to the table that it
+prints of the map, the borders of tiles give the numbering of their clumps, and the tables of these add up to the sizes of the clumps
+of the map. So the texts come here as a program printed them, and go on as the joiner printed them: they are read once, where the last
+one is needed as numbers.
 """
 
 from __future__ import annotations
 
+import contextlib
 import os
 import re
+import resource
 import tempfile
-from contextlib import ExitStack
-from typing import Sequence
+import threading
+from collections.abc import Iterator, Sequence
+from contextlib import ExitStack, contextmanager
 
 from rcell_front.files import write_all
-from rcell_front.programs import Started, above_standard
+from rcell_front.programs import Started, above_standard, close, pipe
 
-from ._errors import Killed, MissingProgram, OutOfMemory, RcellError, WriteFailed, WrongProgram
-from ._merging import counts_of, merge
-from ._program import PROBE_SECONDS, candidates, find_program, known_after
+from ._counts import TooManyCells, refuse_great_counts
+from ._errors import Killed, MissingProgram, OutOfMemory, WriteFailed, WrongProgram
+from ._maps import Source
+from ._program import PROBE_SECONDS, candidates, find_program, grid_text, known_after
 
-__all__ = ["find_joiner", "joined", "joined_areas", "joined_sizes", "joined_tiles"]
+__all__ = ["border_of", "check_files", "find_joiner", "joined", "joined_sizes", "numbering_of"]
 
 _MESSAGE = re.compile(r"rcell-join: ([^:]*):(\d+): (.*)")
-_TOO_GREAT = "count too great"
+_TOO_GREAT = re.compile(r"count too great for (.*)")
+
+FILES_EACH = 2
+"""A text is open in this process, and opened again by the program."""
+
+OTHER_FILES = 256
+"""What else a process has open."""
 
 
 def find_joiner(program: str | os.PathLike[str] | None = None) -> str:
@@ -58,12 +68,13 @@ def _found() -> str:
     return beside if os.path.isfile(beside) else next(candidates("rcell-join"), "")
 
 
-_PROBE_EDGES = b"north: 1\nsouth: 0\neast: 2\nwest: 0\nrows: 5\ncols: 2\n8 9\n1 2\n8 9\n1 2\n2 *\n"
-_PROBE_SIDES = b"north: 1\nsouth: 0\neast: 2\nwest: 0\nrows: 12\ncols: 2\n8 9\n1 2\n8 9\n1 2\n8 *\n1 *\n9 *\n2 *\n1 *\n2 *\n2 *\n0 1\n"
+_PROBE_MAP = b"north: 1\nsouth: 0\neast: 2\nwest: 0\nrows: 1\ncols: 2\n8 9\n"
+_PROBE_BORDER = b"north: 1\nsouth: 0\neast: 2\nwest: 0\nrows: 10\ncols: 4\n" + (b"8 9 * *\n1 2 * *\n" * 2
+                + b"8 * * *\n1 * * *\n9 * * *\n2 * * *\n1 2 2 8\n2 * * *\n")
 _PROBES: list[tuple[list[str], list[bytes], bytes]] = [
     (["tables"], [b"1 * 2\n2 1 1\n", b"-1 7 1\n1 * 3\n* 4 5\n", b""], b"-1 7 1\n1 * 5\n2 1 1\n* 4 5\n"),
-    (["areas", "-d"], [_PROBE_EDGES], b"1 1 2 1\n"),
-    (["tiles", "-d"], [_PROBE_SIDES], b"1 1 2 1\n"),
+    (["border", "-d"], [_PROBE_MAP], _PROBE_BORDER),
+    (["clumps", "-d"], [_PROBE_BORDER], b"1 1 2 1\n"),
     (["sizes"], [b"1 1 2 1\n", b"1 7\n2 8\n* 9\n"], b"1 7\n2 8\n"),
 ]
 
@@ -79,9 +90,9 @@ def _probe(path: str) -> None:
 
 
 def joined(texts: Sequence[bytes], program: str | os.PathLike[str] | None = None) -> bytes:
-    """Join the tables of parts of a map, as `r.stats -c` prints them, to the table of the map, as it would print it.
+    """Merge the tables of tiles of a map, as `r.stats -c` prints them, to the table of the map, as it would print it.
 
-    What was joined can be joined again: in a tree of any shape the result is the same.
+    What was merged can be merged again: in a tree of any shape the result is the same.
 
     Parameters
     ----------
@@ -103,58 +114,78 @@ def joined(texts: Sequence[bytes], program: str | os.PathLike[str] | None = None
     return _answer(["tables"], texts, program)
 
 
-def joined_areas(edges: Sequence[bytes], diagonal: bool = False, program: str | os.PathLike[str] | None = None) -> bytes:
-    """Join the areas of bands of a map, by the texts of their edges from the top, to those of the map.
-
-    Returns
-    -------
-    bytes
-        The areas text: lines `BAND FIRST LAST NUMBER`, of which each tells that in the map the areas FIRST to LAST of a band have
-        NUMBER, the number after it, and so on. Bands and areas are counted from 1.
-
-    Raises
-    ------
-    OutOfMemory, Killed, WriteFailed, MissingProgram, WrongProgram
-
-    Examples
-    --------
-    >>> band = b"north: %d\\nsouth: %d\\neast: 2\\nwest: 0\\nrows: 5\\ncols: 2\\n8 9\\n1 2\\n8 9\\n1 2\\n2 *\\n"
-    >>> joined_areas([band % (2, 1), band % (1, 0)])
-    b'1 1 2 1\\n2 1 2 1\\n'
-    """
-    return _answer(["areas", *["-d"] * diagonal], edges, program)
-
-
-def joined_tiles(sides: Sequence[bytes], diagonal: bool = False, program: str | os.PathLike[str] | None = None) -> bytes:
-    """Join the areas of the tiles of a grid, by the texts of their sides row by row from the top left, to those of the map.
-
-    Returns
-    -------
-    bytes
-        The areas text, as `joined_areas` answers it; a tile has its place among the texts for its number.
-
-    Raises
-    ------
-    OutOfMemory, Killed, WriteFailed, MissingProgram, WrongProgram
-
-    Examples
-    --------
-    >>> cell = b"north: 1\\nsouth: 0\\neast: %d\\nwest: %d\\nrows: 12\\ncols: 1\\n" + b"8\\n1\\n" * 4 + b"1\\n1\\n1\\n0\\n"
-    >>> joined_tiles([cell % (1, 0), cell % (2, 1)])
-    b'1 1 1 1\\n2 1 1 1\\n'
-    """
-    return _answer(["tiles", *["-d"] * diagonal], sides, program)
-
-
-def joined_sizes(areas: bytes, tables: Sequence[bytes], program: str | os.PathLike[str] | None = None) -> bytes:
-    """Add up the sizes of the areas of bands or of tiles, by their areas text, to those of the areas of the map.
+def border_of(tile: Source, diagonal: bool = False, program: str | os.PathLike[str] | None = None) -> bytes:
+    """Return the border of a tile: its outermost cells with the numbers that `r.clump` gives them, and where its clumps begin.
 
     Parameters
     ----------
-    areas : bytes
-        The areas text of the parts.
+    tile : Source
+        Its region says where it is in the map.
+    diagonal : bool
+        Whether cells that touch at a corner are connected.
+    program : path, optional
+
+    Raises
+    ------
+    OutOfMemory, Killed, MissingProgram, WrongProgram
+    BadMap
+        A cell that can't be sent.
+    """
+    path, words = find_joiner(program), ["border", *["-d"] * diagonal]
+    reader, writer = pipe()
+    try:
+        run = _started(path, words, [reader])
+    except BaseException:
+        close(writer)
+        raise
+    finally:
+        close(reader)
+    with run:
+        try:
+            with contextlib.suppress(BrokenPipeError):
+                for piece in grid_text(tile):
+                    write_all(writer, piece)
+        finally:
+            close(writer)
+        ended = _ended(run)
+    return _checked(path, *ended)
+
+
+def numbering_of(borders: Sequence[bytes], diagonal: bool = False, program: str | os.PathLike[str] | None = None) -> bytes:
+    """Join the clumps of tiles by their borders, which come row by row of tiles from the top left.
+
+    Returns
+    -------
+    bytes
+        The numbering: lines `TILE FIRST LAST NUMBER`, each of which says that in the map the clumps FIRST to LAST of a tile have
+        NUMBER, the number after it, and so on. Tiles and clumps are counted from 1.
+
+    Raises
+    ------
+    OutOfMemory, Killed, WriteFailed, MissingProgram, WrongProgram
+
+    Examples
+    --------
+    >>> import numpy as np
+    >>> from rcell._maps import ArrayMap
+    >>> from rcell._region import Region
+    >>> tiles = [ArrayMap("tile", np.array([[8, 9]]), Region(north, north - 1, 2, 0, 1, 2)) for north in (2, 1)]
+    >>> numbering_of([border_of(tile) for tile in tiles])
+    b'1 1 2 1\\n2 1 2 1\\n'
+    """
+    return _answer(["clumps", *["-d"] * diagonal], borders, program)
+
+
+def joined_sizes(numbering: bytes, tables: Sequence[bytes], program: str | os.PathLike[str] | None = None) -> bytes:
+    """Add up the sizes of the clumps of tiles, by their numbering, to those of the clumps of the map.
+
+    Parameters
+    ----------
+    numbering : bytes
+        What `numbering_of` returned.
     tables : sequence of bytes
-        Of each part the table of the numbers of its areas, as `r.stats -c` prints it.
+        Of each tile the table of its clump numbers, as `r.stats -c` prints it.
+    program : path, optional
 
     Raises
     ------
@@ -165,32 +196,79 @@ def joined_sizes(areas: bytes, tables: Sequence[bytes], program: str | os.PathLi
     >>> joined_sizes(b"1 1 2 1\\n2 1 2 1\\n", [b"1 1\\n2 1\\n", b"1 4\\n2 5\\n* 3\\n"])
     b'1 5\\n2 6\\n'
     """
-    return _answer(["sizes"], [areas, *tables], program)
+    return _answer(["sizes"], [numbering, *tables], program)
+
+
+def check_files(count: int) -> None:
+    """Raise WriteFailed if the system does not let a process open so many texts at once."""
+    needed, most = FILES_EACH * count + OTHER_FILES, resource.getrlimit(resource.RLIMIT_NOFILE)[1]
+    if most != resource.RLIM_INFINITY and most < needed:
+        raise WriteFailed(f"to join {count:,} tiles, {needed:,} files are open at once, and this system allows {most:,}: take larger tiles")
 
 
 def _answer(words: list[str], texts: Sequence[bytes], program: str | os.PathLike[str] | None) -> bytes:
     path = find_joiner(program)
-    status, output, told = _run(path, words, texts)
+    check_files(len(texts))
+    return _checked(path, *_run(path, words, texts))
+
+
+def _checked(path: str, status: int, output: bytes, told: str) -> bytes:
+    """Return the output of a run that ended well."""
     if status == 0:
         return output
-    raise _fault(path, words, status, told, texts)
+    if status < 0:
+        raise Killed(-status)
+    found = _MESSAGE.fullmatch(told)
+    if found and status == 3:
+        raise OutOfMemory(found[3], found[1], int(found[2]), status)
+    if found and (great := _TOO_GREAT.fullmatch(found[3])):
+        refuse_great_counts(output)
+        raise TooManyCells.of_words(great[1].encode().split())
+    raise WrongProgram(f"{path} ended in status {status} and said: {told or 'nothing'}")
 
 
 def _run(path: str, words: list[str], texts: Sequence[bytes], seconds: float | None = None) -> tuple[int, bytes, str]:
     """Return the status, the output and the message."""
     with ExitStack() as opened:
+        opened.enter_context(_files_allowed(len(texts)))
         files = []
         for text in texts:
             files.append(_held(text))
             opened.callback(os.close, files[-1])
-        given = [path, *words, *(f"/dev/fd/{file}" for file in files)]
-        try:
-            run = opened.enter_context(Started(given, files, seconds))
-        except OSError as error:
-            raise MissingProgram(f"the program {path} cannot be executed: {error.strerror}") from None
-        output = b"".join(run.pieces())
-        status, message = run.end()
+        ended = _ended(opened.enter_context(_started(path, words, files, seconds)))
+    return ended
+
+
+def _started(path: str, words: list[str], files: Sequence[int], seconds: float | None = None) -> Started:
+    try:
+        return Started([path, *words, *(f"/dev/fd/{file}" for file in files)], files, seconds)
+    except OSError as error:
+        raise MissingProgram(f"the program {path} cannot be executed: {error.strerror}") from None
+
+
+def _ended(run: Started) -> tuple[int, bytes, str]:
+    output = b"".join(run.pieces())
+    status, message = run.end()
     return status, output, message.decode("utf-8", "replace").rstrip("\n")
+
+
+_limit_lock = threading.Lock()
+
+
+@contextmanager
+def _files_allowed(count: int) -> Iterator[None]:
+    """Let this process, and the program that it starts, have so many texts open, as far as the system does."""
+    needed, soft = FILES_EACH * count + OTHER_FILES, resource.getrlimit(resource.RLIMIT_NOFILE)[0]
+    if soft == resource.RLIM_INFINITY or needed <= soft:
+        yield
+        return
+    with _limit_lock:
+        soft, hard = resource.getrlimit(resource.RLIMIT_NOFILE)
+        resource.setrlimit(resource.RLIMIT_NOFILE, (needed if hard == resource.RLIM_INFINITY else min(needed, hard), hard))
+        try:
+            yield
+        finally:
+            resource.setrlimit(resource.RLIMIT_NOFILE, (soft, hard))
 
 
 def _unnamed() -> int:
@@ -215,16 +293,3 @@ def _held(text: bytes) -> int:
             raise WriteFailed(f"a text for rcell-join cannot be written: {error.strerror}") from None
         raise
     return file
-
-
-def _fault(path: str, words: list[str], status: int, told: str, texts: Sequence[bytes]) -> RcellError:
-    """The error of a run that did not end well; a sum of tables that is too great is raised by the joiner in Python, which tells of what."""
-    if status < 0:
-        return Killed(-status)
-    found = _MESSAGE.fullmatch(told)
-    if found and status == 3:
-        return OutOfMemory(found[3], found[1], int(found[2]), status)
-    if words == ["tables"] and found and found[3].startswith(_TOO_GREAT):
-        width = next(text.partition(b"\n")[0].count(b" ") for text in texts if text)
-        merge([counts_of(text, width) for text in texts])
-    return WrongProgram(f"{path} ended in status {status} and said: {told or 'nothing'}")

@@ -30,7 +30,7 @@ from ._script import SCRIPT_LIMIT, Plan, Statement, plan_of
 from ._text import NULL, Words, numbers_of
 from ._texts import TextMap
 
-__all__ = ["NULL", "Output", "candidates", "execute", "find_program", "judge", "known_after", "table_text"]
+__all__ = ["NULL", "Output", "candidates", "execute", "find_program", "grid_text", "judge", "known_after", "table_text"]
 
 PIECE_BYTES = 1 << 22
 PROBE_SECONDS = 60
@@ -299,19 +299,22 @@ def _answered(
     return answer
 
 
-def _send(run: _Run, place: int, source: Source) -> None:
+def grid_text(source: Source) -> Iterator[bytes | memoryview]:
+    """Yield the text of a map, piece by piece."""
     if isinstance(source, TextMap):
-        for piece in source.pieces():
-            run.write(place, piece)
-        run.close_grid(place)
+        yield from source.pieces()
         return
     words = Words(*source.range(), source.nodata)
-    run.write(place, source.region.header().encode() + b"null: " + words.null + b"\n")
+    yield source.region.header().encode() + b"null: " + words.null + b"\n"
     for block in source.blocks():
+        yield from words.pieces(block.cells, block.null)
+
+
+def _send(run: _Run, place: int, source: Source) -> None:
+    for piece in grid_text(source):
         if not run.is_reading:
             break
-        for piece in words.pieces(block.cells, block.null):
-            run.write(place, piece)
+        run.write(place, piece)
     run.close_grid(place)
 
 

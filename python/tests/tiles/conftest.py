@@ -5,7 +5,7 @@ from __future__ import annotations
 import os
 import shutil
 import warnings
-from collections.abc import Callable, Iterable, Iterator, Sequence
+from collections.abc import Callable, Iterator, Sequence
 from pathlib import Path
 from typing import Any
 
@@ -28,11 +28,11 @@ if "RCELL" not in os.environ and PROGRAM.exists():
 if not os.environ.get("RCELL") and not shutil.which("rcell"):
     pytest.skip("the program rcell is not built", allow_module_level=True)
 
+from rcell._counts import counts_of  # noqa: E402
 from rcell._joiner import joined  # noqa: E402
-from rcell._merging import counts_of, merge  # noqa: E402
-from rcell.tiles import NeedlessTiles, _tasks, mosaic  # noqa: E402
-from rcell.tiles._parts import JoinedParts, join_bands, join_tiles, sizes_in_parts  # noqa: E402
-from rcell.tiles.joining import Edges, join, renumber  # noqa: E402
+from rcell.tiles import NeedlessTiles, _tasks, joining, mosaic  # noqa: E402
+from tests.merging import merge  # noqa: E402
+from tests.tiles import second  # noqa: E402
 
 MakeTif = Callable[..., str]
 
@@ -45,7 +45,7 @@ def needless_tiles_are_fine() -> Iterator[None]:
 
 
 def joined_by_both(texts: Sequence[bytes]) -> bytes:
-    """Tables joined by rcell-join and by numpy, which must agree."""
+    """Tables merged by rcell-join and by numpy, which must agree."""
     text = joined(texts)
     maps = next((part.partition(b"\n")[0].count(b" ") for part in texts if part), 1)
     found, expected = counts_of(text, maps), merge([counts_of(part, maps) for part in texts])
@@ -54,34 +54,24 @@ def joined_by_both(texts: Sequence[bytes]) -> bytes:
     return text
 
 
-def areas_joined_by_both(join_parts: Callable[..., JoinedParts], parts: Iterable[Edges], diagonal: bool = False) -> JoinedParts:
-    """Areas of bands or tiles joined by rcell-join and in Python, which must agree."""
-    given = list(parts)
-    found, expected = join_parts(given, diagonal), join(given, diagonal)
-    assert found.areas == expected.areas
-    for part, tile in zip(found.tiles, expected.tiles, strict=True):
-        every = np.arange(tile.areas + 1)
-        assert (part.place, part.areas) == (tile.place, tile.areas)
-        assert np.array_equal(renumber(every, part), renumber(every, tile))
+def clumps_joined_by_both(borders: Sequence[bytes], diagonal: bool = False) -> joining.Joined:
+    """Clumps of tiles joined by rcell-join and by scipy, which must agree."""
+    found, expected = joining.join(borders, diagonal), second.join(borders, diagonal)
+    assert found.clumps == max((int(numbers.max()) for numbers in expected if len(numbers)), default=0)
+    for tile, numbers in zip(found.tiles, expected, strict=True):
+        assert tile.clumps == len(numbers)
+        assert joining.renumber(np.arange(tile.clumps + 1), tile).tolist() == [0, *numbers.tolist()]
     return found
 
 
-def bands_joined_by_both(bands: Iterable[Edges], diagonal: bool = False) -> JoinedParts:
-    return areas_joined_by_both(join_bands, bands, diagonal)
-
-
-def tiles_joined_by_both(tiles: Iterable[Edges], diagonal: bool = False) -> JoinedParts:
-    return areas_joined_by_both(join_tiles, tiles, diagonal)
-
-
-def sizes_added_by_both(whole: JoinedParts, tables: Sequence[bytes], categories: Sequence[Any]) -> tuple[Any, Any]:
-    """Sizes of areas added up by rcell-join and by numpy, which must agree."""
-    found = sizes_in_parts(whole, tables, categories)
-    expected = np.zeros(whole.areas, dtype=np.int64)
-    for part, table in zip(whole.tiles, tables, strict=True):
+def sizes_added_by_both(whole: joining.Joined, tables: Sequence[bytes], categories: Sequence[Any]) -> tuple[Any, Any]:
+    """Sizes of clumps added up by rcell-join and by numpy, which must agree."""
+    found = joining.sizes(whole, tables, categories)
+    expected = np.zeros(whole.clumps, dtype=np.int64)
+    for tile, table in zip(whole.tiles, tables, strict=True):
         counts = counts_of(table, 1)
-        is_area = counts.combinations[:, 0] > 0  # the others are of null
-        np.add.at(expected, part.looked_up(counts.combinations[is_area, 0]) - 1, counts.cells[is_area])
+        is_clump = counts.combinations[:, 0] > 0  # the others are of null
+        np.add.at(expected, tile.looked_up(counts.combinations[is_clump, 0]) - 1, counts.cells[is_clump])
     assert np.array_equal(found[1], expected)
     return found
 
@@ -90,9 +80,8 @@ def sizes_added_by_both(whole: JoinedParts, tables: Sequence[bytes], categories:
 def both_joiners_agree(monkeypatch: pytest.MonkeyPatch) -> None:
     """Whatever this process and its workers join in a test is joined by both."""
     monkeypatch.setattr(_tasks, "joined", joined_by_both)
-    monkeypatch.setattr(mosaic, "join_bands", bands_joined_by_both)
-    monkeypatch.setattr(mosaic, "join_tiles", tiles_joined_by_both)
-    monkeypatch.setattr(mosaic, "sizes_in_parts", sizes_added_by_both)
+    monkeypatch.setattr(mosaic, "join", clumps_joined_by_both)
+    monkeypatch.setattr(mosaic, "sizes", sizes_added_by_both)
 
 
 @pytest.fixture(scope="session")

@@ -105,9 +105,9 @@ def test_workers_that_die_each_time_are_told(tif: MakeTif, tmp_path: Path, monke
     wrapper.write_text("#!/bin/sh\nkill -9 $PPID\n")
     wrapper.chmod(0o755)
     monkeypatch.setenv("RCELL_JOIN", rcell.joiner())
-    monkeypatch.setenv("RCELL", str(wrapper))  # workers have it; this process starts no program but rcell-join for clump
+    monkeypatch.setenv("RCELL", str(wrapper))  # workers have it; this process starts no program but rcell-join
     with rcell.tiles.open(size=4, scheduler=1, lc=path) as mosaic:
-        with pytest.raises(rcell.tiles.WorkerLost, match="areas: (KilledWorker|no worker for)"):
+        with pytest.raises(rcell.tiles.WorkerLost, match="clump: (KilledWorker|no worker for)"):
             mosaic.clump("lc", tmp_path / "p.tif")
     assert not (tmp_path / "p.tif").exists()
     assert list(tmp_path.glob(".*")) == []

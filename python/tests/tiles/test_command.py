@@ -24,7 +24,7 @@ def test_table(lc: str, tmp_path: Path, scheduler: str, capfd: pytest.CaptureFix
     script.write_text("r.stats -c input=lc\n")
     assert main(["table", str(script), lc, "--scheduler", scheduler, "--size", "2", "--area", "ha", "--percent"]) == 0
     out, err = capfd.readouterr()
-    assert out == "lc,cells,ha,percent\n1,2,0.125,33.333333333333336\n2,3,0.1875,50.0\n3,1,0.0625,16.666666666666668\n"
+    assert out == "lc,cells,area_ha,percent\n1,2,0.125,33.333333333333336\n2,3,0.1875,50.0\n3,1,0.0625,16.666666666666668\n"
     assert err == "rcell: the maps fit into the memory of this machine: rcell.table and rcell.grid are as fast, without tiles\n"
 
 

@@ -33,6 +33,6 @@ def test_each_prints_what_it_shows(module: str, tmp_path: Path, scheduler: str, 
 def test_each_public_name_has_an_example() -> None:
     assert set(rcell.tiles.__all__) >= {"Mosaic", "open"}
     methods = [member for key, member in vars(rcell.tiles.Mosaic).items() if not key.startswith("_")]
-    functions = [joining.merge, joining.edges, joining.join, joining.renumber]
+    functions = [joining.join, joining.renumber, joining.sizes]
     for public in [*(getattr(rcell.tiles, name) for name in rcell.tiles.__all__), *methods, *functions]:
         assert ">>>" in (inspect.getdoc(public) or ""), public

@@ -6,7 +6,7 @@ import pytest
 from hypothesis import given
 from hypothesis import strategies as st
 
-from rcell.tiles._memory import areas_demand, areas_table_demand, grid_demand, places, size_for, sizes_demand, table_demand
+from rcell.tiles._memory import clump_demand, grid_demand, patches_demand, places, size_for, table_demand
 from rcell.tiles._scripts import NO_REACH, Reach
 from rcell.tiles._sheet import Sheet
 
@@ -19,13 +19,11 @@ def test_bytes_grow_with_cells_maps_and_runs() -> None:
     assert table.bytes(1000, 1000) == 165_000_000 + 5_150_000
     assert table.bytes(1000, 1000, runs=0.1) == 165_000_000 + 1_830_000
     assert grid_demand(1, 2, Reach(1, 1, 2, 2)).bytes(998, 996) == 165_000_000 + 13_300_000
-    assert areas_demand(1).bytes(1000, 1000) > areas_demand(1).bytes(1000, 1000, runs=0.2)
-    assert areas_demand(1).bytes(1000, 1000) == 165_000_000 + 13_300_000
-    assert areas_demand(1, number=8).bytes(1000, 1000) == 165_000_000 + 21_000_000
-    assert sizes_demand(1).bytes(1000, 1000) == 165_000_000 + 57_000_000
-    assert sizes_demand(1).bytes(1000, 1000, runs=0.2, areas=0.05) == 165_000_000 + 15_200_000
-    assert areas_table_demand(1).bytes(1000, 1000) == 165_000_000 + 100_300_000
-    assert areas_table_demand(1).bytes(1000, 1000, runs=0.25, areas=0.0625) == 165_000_000 + 10_837_500
+    assert clump_demand(1).bytes(1000, 1000) > clump_demand(1).bytes(1000, 1000, runs=0.2)
+    assert clump_demand(1).bytes(1000, 1000) == 165_000_000 + 13_300_000
+    assert clump_demand(1, number=8).bytes(1000, 1000) == 165_000_000 + 21_000_000
+    assert patches_demand(1).bytes(1000, 1000) == 165_000_000 + 100_300_000
+    assert patches_demand(1).bytes(1000, 1000, runs=0.25, share=0.0625) == 165_000_000 + 10_837_500
 
 
 @pytest.mark.parametrize("memory", [200_000_000, 500_000_000, 3_000_000_000, 10**12])

@@ -92,18 +92,17 @@ def test_tables(tmp_path: Path, scheduler: str, case: tuple[Any, Any, tuple[int,
 
 @some
 @given(case=cases(), diagonal=st.booleans())
-def test_areas(tmp_path: Path, scheduler: str, case: tuple[Any, Any, tuple[int, int]], diagonal: bool) -> None:
+def test_patches(tmp_path: Path, scheduler: str, case: tuple[Any, Any, tuple[int, int]], diagonal: bool) -> None:
     first, second, size = case
-    expected = rcell.areas(rcell.Map(first, nodata=NULL), diagonal=diagonal)
+    expected = whole.clump(first, diagonal)
     with opened(tmp_path, scheduler, first, second, size) as mosaic:
         count = mosaic.clump("a", tmp_path / "p.tif", diagonal)
         patches = mosaic.patches("a", diagonal)
-    found = read_tif(tmp_path / "p.tif")
-    assert np.array_equal(found.filled(0), cells_of(expected).filled(0))
-    assert count == len(patches) == len(expected.table)
+    assert np.array_equal(read_tif(tmp_path / "p.tif").filled(0), expected)
+    assert count == len(patches) == expected.max()
     assert patches["patch"].tolist() == list(range(1, count + 1))
-    assert patches["category"].tolist() == expected.sizes["category"].tolist()
-    assert patches["cells"].tolist() == expected.sizes["cells"].tolist()
+    assert patches["category"].tolist() == [first[expected == patch][0] for patch in patches["patch"]]
+    assert patches["cells"].tolist() == np.bincount(expected.ravel())[1:].tolist()
 
 
 SHAPES = {"comb": whole.comb(23, 21), "comb on its side": whole.comb(23, 21).T, "spiral": whole.spiral(25),
@@ -118,11 +117,11 @@ def test_hard_shapes(tif: MakeTif, tmp_path: Path, scheduler: str, name: str, si
     path = tif("lc", cells, NULL)
     for diagonal in (False, True):
         with rcell.tiles.open(size=size, scheduler=scheduler, lc=path) as mosaic:
-            count = mosaic.clump("lc", tmp_path / "areas.tif", diagonal)
+            count = mosaic.clump("lc", tmp_path / "patches.tif", diagonal)
             sizes = mosaic.patches("lc", diagonal)["cells"].tolist()
         expected = whole.clump(cells, diagonal)
         assert count == expected.max()
-        assert np.array_equal(read_tif(tmp_path / "areas.tif").filled(0), expected)
+        assert np.array_equal(read_tif(tmp_path / "patches.tif").filled(0), expected)
         assert sizes == np.bincount(expected.ravel())[1:].tolist()
 
 
@@ -153,7 +152,7 @@ def test_tables_have_labels_areas_and_percentages(tif: MakeTif, scheduler: str) 
     with rcell.tiles.open(size=9, scheduler=scheduler, lc=path) as mosaic:
         found = mosaic.table(script, area="ha", percent=True)
     assert found.equals(expected)
-    assert list(found.columns) == ["lc", "lc_label", "k", "k_label", "cells", "ha", "percent"] or "k_label" in found.columns
+    assert list(found.columns) == ["lc", "lc_label", "k", "k_label", "cells", "area_ha", "percent"] or "k_label" in found.columns
 
 
 def test_a_reclass_writes_its_labels(tif: MakeTif, tmp_path: Path, scheduler: str) -> None:

@@ -1,14 +1,13 @@
 # SPDX-License-Identifier: Apache-2.0 OR GPL-2.0-or-later
 """Maps of any size: tiles of them go to a Dask cluster, and the answers are those of the undivided map.
 
-What holds of tiles is proved, in the crate `cell_parts` of this project: tables add up, a halo is enough, areas join along
-borders. Each step of this code names its law. Tables and areas are joined by rcell-join, which is proved
-itself, and in Python where there are too many areas or too many tiles for it.
+What holds of tiles is proved, in the crate `cell_parts` of this project: tables add up, a halo is enough, clumps join along
+borders. Each step of this code names its law. Tables are merged and clumps joined by rcell-join, which is proved itself.
 """
 
 from __future__ import annotations
 
-from .._merging import TooManyCells
+from .._counts import TooManyCells
 from ._cluster import ClusterFailed
 from ._engine import WorkerLost
 from .mosaic import Mosaic, NeedlessTiles, TooLittleMemory

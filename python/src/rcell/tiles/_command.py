@@ -1,5 +1,5 @@
 # SPDX-License-Identifier: Apache-2.0 OR GPL-2.0-or-later
-"""`python3 -m rcell tiles`: tables, maps and areas of maps of any size."""
+"""`python3 -m rcell tiles`: tables, maps and patches of maps of any size."""
 
 from __future__ import annotations
 
@@ -65,8 +65,8 @@ def _parser() -> argparse.ArgumentParser:
     table.add_argument("--percent", action="store_true", help="a column of percentages")
     grid = _command(commands, "grid", _grid, "a map as a GeoTIFF")
     grid.add_argument("script", metavar="EXPRESSION", help="NAME = EXPRESSION of r.mapcalc, or a file")
-    clump = _command(commands, "clump", _clump, "the connected areas of a map as a GeoTIFF")
-    patches = _command(commands, "patches", _patches, "the connected areas of a map with their sizes, as CSV")
+    clump = _command(commands, "clump", _clump, "the patches of a map as a GeoTIFF")
+    patches = _command(commands, "patches", _patches, "the patches of a map with their sizes, as CSV")
     for command in (grid, clump):
         command.add_argument("--out", required=True, metavar="PATH", help="the GeoTIFF to write")
     for command in (clump, patches):

@@ -13,7 +13,7 @@ from ._scripts import NO_REACH, Reach
 from ._sheet import Sheet
 from .joining import Rectangle
 
-__all__ = ["areas_demand", "areas_table_demand", "Demand", "grid_demand", "sizes_demand", "table_demand", "places", "size_for"]
+__all__ = ["Demand", "clump_demand", "grid_demand", "patches_demand", "places", "size_for", "table_demand"]
 
 WORKER = 165 * 10**6
 """Bytes of a worker without a tile: Python, Dask, numpy and rasterio, the buffers of GDAL, of pipes and of text."""
@@ -47,10 +47,10 @@ class Demand:
         Bytes a cell of the answer, as it comes from the program.
     after : int
         Bytes a cell when the program has ended.
-    area : int
-        Bytes an area when the program has ended; there are at most as many areas as runs.
+    per_clump : int
+        Bytes a clump when the program has ended; there are at most as many clumps as runs.
     entry : int
-        Bytes an area of a table that the program makes of them, and of its text.
+        Bytes a clump of a table that the program makes of them, and of its text.
     reach : Reach
         The halo.
     """
@@ -60,11 +60,11 @@ class Demand:
     clumps: int = 0
     answer: int = 0
     after: int = 0
-    area: int = 0
+    per_clump: int = 0
     entry: int = 0
     reach: Reach = NO_REACH
 
-    def bytes(self, rows: int, cols: int, runs: float = 1.0, areas: float | None = None) -> int:
+    def bytes(self, rows: int, cols: int, runs: float = 1.0, share: float | None = None) -> int:
         """Bytes that a worker and the program take together, at their peak, for a tile of so many rows and columns.
 
         Parameters
@@ -73,14 +73,14 @@ class Demand:
             Of the tile, without its halo.
         runs : float
             Runs of equal cells side by side, as a part of the cells; 1 is the most that there can be.
-        areas : float, optional
-            Connected areas, as a part of the cells; as many as runs where it is not given.
+        share : float, optional
+            Clumps, as a part of the cells; as many as runs where it is not given.
         """
         cells = (rows + self.reach.up + self.reach.down) * (cols + self.reach.left + self.reach.right)
         program = self.maps * min(CELL, RUN * runs)
-        part = runs if areas is None else areas
+        part = runs if share is None else share
         beside = self.read + program + max(self.answer, self.clumps * CLUMP * runs, self.entry * part)
-        afterwards = self.after + self.area * part
+        afterwards = self.after + self.per_clump * part
         return WORKER + math.ceil(cells * max(beside, afterwards))
 
 
@@ -94,20 +94,14 @@ def grid_demand(read: int, maps: int, reach: Reach) -> Demand:
     return Demand(read, maps, answer=4, after=4 if reach == NO_REACH else 8, reach=reach)
 
 
-def areas_demand(read: int, number: int = 4) -> Demand:
-    """The numbers of areas in int32; then, by a table of them, those of the whole, of 4 bytes in place or of 8."""
-    return Demand(read, maps=2, clumps=1, answer=4, after=read + (4 if number == 4 else 12), area=number)
+def clump_demand(read: int, number: int = 4) -> Demand:
+    """The numbers of clumps in int32; then, by a table of them, those of the full map, of 4 bytes in place or of 8."""
+    return Demand(read, maps=2, clumps=1, answer=4, after=read + (4 if number == 4 else 12), per_clump=number)
 
 
-def sizes_demand(read: int) -> Demand:
-    """The numbers of areas in int32, and again to count them; then of each area its category, cells and number in the
-    whole, with those of tiles that wait to be taken."""
-    return Demand(read, maps=2, clumps=1, answer=4, after=read + 12, area=44)
-
-
-def areas_table_demand(read: int) -> Demand:
-    """A table of the areas and their categories, of 75 bytes an entry, and its text; then the text twice, and its numbers."""
-    return Demand(read, maps=2, clumps=1, after=read, area=60, entry=91)
+def patches_demand(read: int) -> Demand:
+    """A table of the clumps and their categories, of 75 bytes an entry, and its text; then the text twice, and its numbers."""
+    return Demand(read, maps=2, clumps=1, after=read, per_clump=60, entry=91)
 
 
 def size_for(demand: Demand, sheet: Sheet, memory: int, tasks: int) -> tuple[int, int]:

@@ -4,7 +4,7 @@
 from __future__ import annotations
 
 import re
-from collections.abc import Iterable, Iterator
+from collections.abc import Iterator
 from contextlib import contextmanager
 from dataclasses import dataclass, replace
 from typing import Any
@@ -12,26 +12,25 @@ from typing import Any
 import numpy as np
 import numpy.typing as npt
 
+from .._counts import counts_of
 from .._errors import OutOfMemory
-from .._joiner import joined
+from .._joiner import border_of, joined
 from .._maps import ArrayMap, Source
-from .._merging import counts_of
 from .._program import execute, table_text
 from .._region import Region
 from ._scripts import NO_REACH, Assignment, Reach, Reclass, Stats, TileScript
 from ._sheet import MapFile, Sheet
-from .joining import Counts, Edges, Numbering, Rectangle, TileNumbers, edges, first_cells, merge, renumber
+from .joining import Rectangle, TileNumbers, renumber
 
-__all__ = ["TileRun", "TileSizes", "areas_table", "edges_of", "grid_cells", "join_tables", "numbered_cells", "sizes_in_whole", "tile_sizes",
-           "tile_table"]
+__all__ = ["TileRun", "clumps_table", "grid_cells", "join_tables", "numbered_cells", "tile_border", "tile_table"]
 
 Integers = npt.NDArray[Any]
 
 ALL_NULL = re.compile(rb"(?:\* )+[0-9]+\n")
 """The line of a table, as r.stats -c prints it, of the cells that are null in all maps."""
 
-CATEGORY_OF_AREA = re.compile(rb"^([0-9]+) \S+", re.MULTILINE)
-"""What a line of a table of areas and categories begins with."""
+CATEGORY_OF_CLUMP = re.compile(rb"^([0-9]+) \S+", re.MULTILINE)
+"""What a line of a table of clumps and categories begins with."""
 
 
 def with_halo(place: Rectangle, reach: Reach, sheet: Sheet) -> Rectangle:
@@ -143,93 +142,31 @@ def grid_cells(task: TileRun, place: Rectangle) -> Integers:
     return np.ascontiguousarray(inner(cells, place, outer))
 
 
-def clumped(file: MapFile, sheet: Sheet, place: Rectangle, diagonal: bool) -> tuple[Integers, Integers]:
-    """The cells of a tile and the numbers of its areas, 0 where it is null (law `cut_outs_are_tiles`)."""
-    tile = file.read(place, sheet)
-    numbers = made_cells(clump_line(diagonal), {"cells": tile}, "areas")
-    return tile.array, np.maximum(numbers, 0, out=numbers)
-
-
 def clump_line(diagonal: bool) -> str:
     """The line of a script that clumps a tile."""
-    return f"r.clump {'-d ' if diagonal else ''}input=cells output=areas"
+    return f"r.clump {'-d ' if diagonal else ''}input=cells output=clumps"
 
 
-def areas_table(file: MapFile, sheet: Sheet, place: Rectangle, diagonal: bool) -> tuple[bytes, Integers]:
-    """The table of the numbers of a tile's areas, as the program prints it, and the category of each.
+def clumps_table(file: MapFile, sheet: Sheet, place: Rectangle, diagonal: bool) -> tuple[bytes, Integers]:
+    """The table of a tile's clump numbers, as the program prints it, and the category of each clump.
 
-    The program prints a table of numbers and categories, since an area has one category: it is left out of each line.
+    The program prints a table of numbers and categories, since a clump has one category: it is left out of each line.
     """
     maps: dict[str, Source] = {"cells": file.read(place, sheet)}
     with told_of_size(maps):
-        text = table_text(f"{clump_line(diagonal)}\nr.stats -c -n input=areas,cells", maps)
-    return CATEGORY_OF_AREA.sub(rb"\1", text), counts_of(text, 2).combinations[:, 1].astype(np.int32)
+        text = table_text(f"{clump_line(diagonal)}\nr.stats -c -n input=clumps,cells", maps)
+    return CATEGORY_OF_CLUMP.sub(rb"\1", text), counts_of(text, 2).combinations[:, 1].astype(np.int32)
 
 
-def edges_of(file: MapFile, sheet: Sheet, place: Rectangle, diagonal: bool, most_firsts: int = 0) -> Edges:
-    """What a tile gives to the joining; with the first cells of its areas, if these are not more than that."""
-    cells, numbers = clumped(file, sheet, place, diagonal)
-    found = edges(place, cells, numbers)
-    return found if found.areas > most_firsts else replace(found, firsts=first_cells(numbers, found.begun))
+def tile_border(file: MapFile, sheet: Sheet, place: Rectangle, diagonal: bool) -> bytes:
+    """The border of a tile, by which rcell-join joins its clumps to those of other tiles."""
+    tile = replace(file.read(place, sheet), region=place.region)
+    with told_of_size({"cells": tile}):
+        return border_of(tile, diagonal)
 
 
-@dataclass(frozen=True, eq=False)
-class TileSizes:
-    """Areas of a tile by their numbers in the whole.
-
-    Attributes
-    ----------
-    numbers, categories, cells : ndarray, shape (n,)
-        Of the areas that touch no border: each is an area of the whole.
-    touching : Counts
-        Of the others, as a table of (number, category): two of the tile may be one area of the whole.
-    """
-
-    numbers: Integers
-    categories: Integers
-    cells: Integers
-    touching: Counts
-
-
-def tile_sizes(file: MapFile, sheet: Sheet, place: Rectangle, diagonal: bool, tile: TileNumbers) -> TileSizes:
-    """The areas of a tile with their numbers in the whole, their categories and their cells."""
-    categories, sizes = _areas(*clumped(file, sheet, place, diagonal), int(tile.begun[-1]))
-    within = np.ones(len(sizes), dtype=bool)
-    within[0] = False
-    within[tile.touching] = False
-    combinations = np.stack([tile.numbers, categories[tile.touching].astype(np.int64)], axis=1)
-    touching = merge([Counts(combinations, sizes[tile.touching].astype(np.int64))])
-    return TileSizes(renumber(np.flatnonzero(within), tile), categories[within], sizes[within], touching)
-
-
-def _areas(cells: Integers, numbers: Integers, areas: int) -> tuple[Integers, Integers]:
-    """Categories and cells of the areas of a tile, by their numbers in it; at 0 stands what is null."""
-    categories = np.zeros(areas + 1, dtype=np.int32)
-    with np.errstate(invalid="ignore"):  # what is null may have no whole number
-        for some, part in zip(cells, numbers):
-            categories[part] = some
-    return categories, np.bincount(numbers.reshape(-1), minlength=areas + 1).astype(np.int32)
-
-
-def sizes_in_whole(tiles: Iterable[TileSizes], areas: int) -> tuple[Integers, Integers]:
-    """Categories and cells of the areas of the whole, in the order of their numbers.
-
-    The table of a map of numbers and a map of categories is merged from those of its tiles (law `tables_merge`).
-    """
-    categories = np.zeros(areas, dtype=np.int32)
-    cells = np.zeros(areas, dtype=np.int64)
-    touching = []
-    for tile in tiles:
-        categories[tile.numbers - 1] = tile.categories
-        cells[tile.numbers - 1] = tile.cells
-        touching.append(tile.touching)
-    both = merge(touching)
-    categories[both.combinations[:, 0] - 1] = both.combinations[:, 1]
-    cells[both.combinations[:, 0] - 1] = both.cells
-    return categories, cells
-
-
-def numbered_cells(file: MapFile, sheet: Sheet, place: Rectangle, diagonal: bool, tile: Numbering, dtype: str) -> Integers:
-    """The cells of a tile with the numbers of the areas of the whole, 0 where it is null."""
-    _, numbers = clumped(file, sheet, place, diagonal)
+def numbered_cells(file: MapFile, sheet: Sheet, place: Rectangle, diagonal: bool, tile: TileNumbers, dtype: str) -> Integers:
+    """The cells of a tile with the numbers of the clumps of the full map, 0 where it is null."""
+    numbers = made_cells(clump_line(diagonal), {"cells": file.read(place, sheet)}, "clumps")
+    np.maximum(numbers, 0, out=numbers)
     return renumber(numbers, tile, out=numbers if numbers.dtype == dtype else np.empty(numbers.shape, dtype))

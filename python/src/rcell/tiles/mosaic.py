@@ -13,11 +13,11 @@ import numpy as np
 
 from rcell_front.files import is_same_file
 
+from .._counts import Counts, counts_of
 from .._errors import RcellError, Refused
-from .._joiner import find_joiner
+from .._joiner import check_files, find_joiner
 from .._labels import read_labels
 from .._libraries import has
-from .._merging import Counts, counts_of
 from .._program import judge
 from .._region import SIDE_LIMIT
 from .._script import labels_in
@@ -26,17 +26,16 @@ from .._text import NULL
 from . import _tasks
 from ._cluster import SHARE, free_memory
 from ._engine import Engine
-from ._memory import Demand, areas_demand, areas_table_demand, grid_demand, places, size_for, sizes_demand, table_demand
+from ._memory import Demand, clump_demand, grid_demand, patches_demand, places, size_for, table_demand
 from ._output import tile_writer
-from ._parts import MOST_AREAS, JoinedParts, are_bands, are_few, are_parts, join_bands, join_tiles, sizes_in_parts
 from ._scripts import COMMANDS, NO_REACH, Assignment, Clump, Reclass, Statement, Stats, TileScript, spare_name, statements
 from ._sheet import MapFile, Sheet, open_maps
-from .joining import Joined, Rectangle, join
+from .joining import Joined, Rectangle, join, sizes
 
 __all__ = ["Mosaic", "NeedlessTiles", "TooLittleMemory", "open_mosaic"]
 
-NO_AREA = 0
-"""What stands for null in a map of areas, whose numbers begin at 1."""
+NO_CLUMP = 0
+"""What stands for null in a map of clumps, whose numbers begin at 1."""
 
 
 class NeedlessTiles(UserWarning):
@@ -315,10 +314,10 @@ class Mosaic:
                 writer.write(tiles[place], cells)
 
     def clump(self, name: str, path: str | os.PathLike[str], diagonal: bool = False) -> int:
-        """Write the map of the connected areas of a map as a GeoTIFF, 0 where it is null.
+        """Write the map of the patches of a map, its connected areas, as a GeoTIFF, 0 where it is null.
 
         The numbers are those of `r.clump` over the undivided map: from 1, in the order of first cells. The file is of int32,
-        or of int64 where there are more than 2,147,483,647 areas. Each tile is clumped twice, first for the joining and then
+        or of int64 where there are more than 2,147,483,647 patches. Each tile is clumped twice, first for the joining and then
         for its cells: nothing of the size of the map is kept in between.
 
         Parameters
@@ -333,7 +332,7 @@ class Mosaic:
         Returns
         -------
         int
-            How many areas there are.
+            How many patches there are.
 
         Raises
         ------
@@ -343,25 +342,25 @@ class Mosaic:
         --------
         >>> import rcell.tiles
         >>> with rcell.tiles.open(size=2, scheduler=scheduler, lc="lc.tif") as mosaic:
-        ...     mosaic.clump("lc", "areas.tif")
+        ...     mosaic.clump("lc", "patches.tif")
         3
         """
         self._refuse_inputs(path)
         file = self._file(name)
-        # Before they are joined, it is not known how many areas there are: at most as many as cells.
-        demand = areas_demand(file.bytes, 4 if self.sheet.rows * self.sheet.cols < 2**31 else 8)
+        # Before they are joined, it is not known how many clumps there are: at most as many as cells.
+        demand = clump_demand(file.bytes, 4 if self.sheet.rows * self.sheet.cols < 2**31 else 8)
         tiles = self._tiles(demand)
         memory = self._memory(demand, tiles[0])
-        whole = self._joined(file, tiles, diagonal, memory, are_parts(tiles))
-        dtype = "int32" if whole.areas < 2**31 else "int64"
+        whole = self._joined(file, tiles, diagonal, memory)
+        dtype = "int32" if whole.clumps < 2**31 else "int64"
         calls = ((file, self.sheet, place, diagonal, tile, dtype) for place, tile in zip(tiles, whole.tiles))
-        with tile_writer(path, self.sheet, dtype, NO_AREA) as writer, self._engine.tasks("clump", len(tiles)) as tasks:
+        with tile_writer(path, self.sheet, dtype, NO_CLUMP) as writer, self._engine.tasks("clump", len(tiles)) as tasks:
             for at, cells in tasks.stream(_tasks.numbered_cells, calls, memory):
                 writer.write(tiles[at], cells)
-        return whole.areas
+        return whole.clumps
 
     def patches(self, name: str, diagonal: bool = False) -> Any:
-        """The table of the connected areas of a map; the map of areas is never written.
+        """The table of the patches of a map, its connected areas; the map of patches is never written.
 
         Each tile is clumped twice, as by `clump`.
 
@@ -376,7 +375,7 @@ class Mosaic:
         -------
         DataFrame, or a Table where pandas is not installed
             `patch` (the number that r.clump gives in the undivided map, ascending from 1), `category`, `cells`. This process
-            holds it whole: 24 bytes for each area, and up to 100 more while tiles are joined.
+            holds it whole: 24 bytes for each patch, and up to 100 more while the sizes of tiles are added up.
 
         Raises
         ------
@@ -393,54 +392,25 @@ class Mosaic:
         2      3         3      1
         """
         file = self._file(name)
-        demand, tiles, by_program = self._tiles_for_sizes(file)
+        demand = patches_demand(file.bytes)
+        tiles = self._tiles(demand)
         memory = self._memory(demand, tiles[0])
-        whole = self._joined(file, tiles, diagonal, memory, by_program)
-        categories, cells = self._sizes(file, tiles, diagonal, whole, memory)
-        numbers = np.column_stack([np.arange(1, whole.areas + 1), categories])
+        whole = self._joined(file, tiles, diagonal, memory)
+        with self._engine.tasks("patches", len(tiles)) as tasks:
+            calls = ((file, self.sheet, place, diagonal) for place in tiles)
+            parts = sorted(tasks.stream(_tasks.clumps_table, calls, memory), key=lambda part: part[0])
+        categories, cells = sizes(whole, [table for _, (table, _) in parts], [own for _, (_, own) in parts])
+        numbers = np.column_stack([np.arange(1, whole.clumps + 1), categories])
         answer = StatsTable("r.clump", 0, ("patch", "category"), numbers, cells, cell=self.sheet.cell, crs=self.sheet.crs)
         return answer.frame() if has("pandas") else answer
 
-    def _tiles_for_sizes(self, file: MapFile) -> tuple[Demand, list[Rectangle], bool]:
-        """Tiles whose areas are counted, what a task takes of memory, and whether rcell-join adds up what the program prints of them.
-
-        The tables that the program prints take more than the arrays that are added up in Python: where they have no room, or tiles
-        that have room for them would be too many, it is done in Python.
-        """
-        printed = areas_table_demand(file.bytes)
-        if self._size is None or printed.bytes(*self._size_of_tiles(*self._size)) <= self._engine.room().most:
-            tiles = self._tiles(printed)
-            if are_parts(tiles):
-                return printed, tiles, True
-        counted = sizes_demand(file.bytes)
-        return counted, self._tiles(counted), False
-
-    def _joined(self, file: MapFile, tiles: list[Rectangle], diagonal: bool, memory: int, by_program: bool) -> Joined | JoinedParts:
-        """The areas of tiles joined to those of the whole: by rcell-join or, as where they are too many for it, in Python (law
-        `numbers_join`)."""
-        if by_program:
-            find_joiner()  # it is needed at the end, and missed at the beginning
-        bands = are_bands(tiles)
-        most_firsts = MOST_AREAS if by_program and not bands else 0
-        with self._engine.tasks("areas", len(tiles)) as tasks:
-            found = [tasks.ask(_tasks.edges_of, file, self.sheet, place, diagonal, most_firsts, memory=memory) for place in tiles]
-            edges = tasks.take_each(found)
-            if not by_program:
-                return join(edges, diagonal)
-            if bands:
-                return join_bands(edges, diagonal)
-            taken = list(edges)
-        return join_tiles(taken, diagonal) if are_few(taken) else join(taken, diagonal)
-
-    def _sizes(self, file: MapFile, tiles: list[Rectangle], diagonal: bool, whole: Joined | JoinedParts, memory: int) -> tuple[Any, Any]:
-        """Categories and cells of the areas of the whole, in the order of their numbers."""
-        with self._engine.tasks("patches", len(tiles)) as tasks:
-            if isinstance(whole, JoinedParts):
-                calls = ((file, self.sheet, place, diagonal) for place in tiles)
-                parts = sorted(tasks.stream(_tasks.areas_table, calls, memory), key=lambda part: part[0])
-                return sizes_in_parts(whole, [table for _, (table, _) in parts], [categories for _, (_, categories) in parts])
-            numbered = ((file, self.sheet, place, diagonal, tile) for place, tile in zip(tiles, whole.tiles))
-            return _tasks.sizes_in_whole((tile for _, tile in tasks.stream(_tasks.tile_sizes, numbered, memory)), whole.areas)
+    def _joined(self, file: MapFile, tiles: list[Rectangle], diagonal: bool, memory: int) -> Joined:
+        """The clumps of tiles joined to those of the full map by rcell-join."""
+        find_joiner()  # it is needed at the end, and missed at the beginning
+        check_files(len(tiles))
+        with self._engine.tasks("borders", len(tiles)) as tasks:
+            found = [tasks.ask(_tasks.tile_border, file, self.sheet, place, diagonal, memory=memory) for place in tiles]
+            return join(list(tasks.take_each(found)), diagonal)
 
     def _file(self, name: str) -> MapFile:
         if name not in self._files:
