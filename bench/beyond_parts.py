@@ -1,14 +1,13 @@
 #!/usr/bin/env python3
-"""Counts a map of more cells than one run takes by its parts, joins them by rcell-join, and compares with what is known by its making.
+"""Counts a map of more cells than one run takes by its tiles, joins them with rcell-join, and compares with what is known by its making.
 
     beyond_parts.py [--rows N] [--cols N] [--height N] [--width N] [--jobs N] [--rcell PROGRAM] [--program PROGRAM] [--folder F]
 
 The map, 62,000 x 65,000 where no numbers are given, is of blocks of 50 x 52 cells, one of 9 residues each: of the number of the block's
 row less that of its column. Residue 0 is null, the others are categories. So blocks of one category meet at corners alone, and by
-corners each diagonal is an area, whose cells are reckoned without a look at the map. Parts of 1,025 rows cut blocks and diagonals: bands,
-which have all columns, or the tiles of a grid where a width is given. Each part is written, counted and clumped by rcell, its edges
-or sides are taken, and its texts are deleted: what stays of it is small. The map is that of python/bench/beyond.py. Seconds are of the
-processor; it needs Debian's package time.
+corners each diagonal is a clump, whose cells are reckoned without a look at the map. Tiles of 1,025 rows cut blocks and diagonals; they
+have all columns unless a width is given. Each tile is written, counted and clumped by rcell, its border is taken, and its text is
+deleted: what stays of it is small. The map is that of python/bench/beyond.py. Seconds are of the processor; it needs Debian's package time.
 """
 from __future__ import annotations
 
@@ -22,13 +21,12 @@ from dataclasses import dataclass
 
 ROOT = os.path.dirname(os.path.dirname(os.path.abspath(__file__)))
 HEIGHT, WIDTH, RESIDUES = 50, 52, 9
-SCRIPTS = {"table": "r.stats -c input=m", "sizes": "r.clump -d input=m output=a\nr.stats -c input=a",
-           "numbers": "r.clump -d input=m output=a\nr.out.ascii input=a"}
+SCRIPTS = {"table": "r.stats -c input=m", "sizes": "r.clump -d input=m output=a\nr.stats -c input=a"}
 MILLION = 10**6
 
 
 class Costs:
-    """The seconds of each step, of all bands, and the most bytes that one of its processes took."""
+    """The seconds of each step, of all tiles, and the most bytes that one of its processes took."""
 
     def __init__(self, folder: str):
         self.folder, self.steps = folder, {}
@@ -44,8 +42,8 @@ class Costs:
 
 
 @dataclass
-class Part:
-    """Rows and columns from the first to the one behind the last."""
+class Tile:
+    """Rows and columns from the first to the one after the last."""
 
     name: str
     top: int
@@ -54,9 +52,9 @@ class Part:
     right: int
 
 
-def parts_of(given: argparse.Namespace) -> list[Part]:
+def tiles_of(given: argparse.Namespace) -> list[Tile]:
     """Row by row from the top, in each from the left."""
-    return [Part(f"{top:06d}-{left:06d}", top, min(top + given.height, given.rows), left, min(left + given.width, given.cols))
+    return [Tile(f"{top:06d}-{left:06d}", top, min(top + given.height, given.rows), left, min(left + given.width, given.cols))
             for top in range(0, given.rows, given.height) for left in range(0, given.cols, given.width)]
 
 
@@ -66,17 +64,16 @@ def lines(left: int, right: int) -> list[bytes]:
     return [b" ".join(words[(down - col // WIDTH) % RESIDUES] for col in range(left, right)) + b"\n" for down in range(RESIDUES)]
 
 
-def do_part(costs: Costs, given: argparse.Namespace, part: Part) -> None:
-    grid, texts = f"{part.name}.txt", lines(part.left, part.right)
+def do_tile(costs: Costs, given: argparse.Namespace, tile: Tile) -> None:
+    grid, texts = f"{tile.name}.txt", lines(tile.left, tile.right)
     with open(f"{costs.folder}/{grid}", "wb") as file:
-        file.write(b"north: %d\nsouth: %d\neast: %d\nwest: %d\n" % (-part.top, -part.low, part.right, part.left))
-        file.write(b"rows: %d\ncols: %d\n" % (part.low - part.top, part.right - part.left))
-        file.writelines(texts[row // HEIGHT % RESIDUES] for row in range(part.top, part.low))
+        file.write(b"north: %d\nsouth: %d\neast: %d\nwest: %d\n" % (-tile.top, -tile.low, tile.right, tile.left))
+        file.write(b"rows: %d\ncols: %d\n" % (tile.low - tile.top, tile.right - tile.left))
+        file.writelines(texts[row // HEIGHT % RESIDUES] for row in range(tile.top, tile.low))
     for step in SCRIPTS:
-        costs.run(step, [given.rcell, step, f"m={grid}"], f"{part.name}.{step}")
-    costs.run(given.borders, [given.program, given.borders, grid, f"{part.name}.numbers"], f"{part.name}.{given.borders}")
+        costs.run(step, [given.rcell, step, f"m={grid}"], f"{tile.name}.{step}")
+    costs.run("rcell-join border", [given.program, "border", "-d", grid], f"{tile.name}.border")
     os.remove(f"{costs.folder}/{grid}")
-    os.remove(f"{costs.folder}/{part.name}.numbers")
 
 
 def lengths_of(cells: int, side: int) -> list[int]:
@@ -98,15 +95,14 @@ def known_sizes(heights: list[int], widths: list[int]) -> str:
 
 
 def words_given() -> argparse.Namespace:
-    words = argparse.ArgumentParser(description="Counts a map of more cells than one run takes by its parts, and joins them by rcell-join.")
+    words = argparse.ArgumentParser(description="Counts a map of more cells than one run takes by its tiles, and joins them with rcell-join.")
     for name, usual in (("rows", 62_000), ("cols", 65_000), ("height", 1025), ("jobs", 4)):
         words.add_argument(f"--{name}", type=int, default=usual)
-    words.add_argument("--width", type=int, default=None, help="of tiles; without it parts are bands")
+    words.add_argument("--width", type=int, default=None, help="of tiles; all columns without it")
     for name, usual in (("rcell", "rcell"), ("program", "rcell-join")):
         words.add_argument(f"--{name}", type=os.path.abspath, default=f"{ROOT}/bin/{usual}")
-    words.add_argument("--folder", default=None, help="where parts are made")
+    words.add_argument("--folder", default=None, help="where tiles are made")
     given = words.parse_args()
-    given.borders, given.joining = ("sides", "tiles") if given.width else ("edges", "areas")
     given.width = given.width or given.cols
     return given
 
@@ -115,16 +111,16 @@ def main() -> int:
     given = words_given()
     heights, widths = lengths_of(given.rows, HEIGHT), lengths_of(given.cols, WIDTH)
     with tempfile.TemporaryDirectory(prefix="beyond-", dir=given.folder) as folder:
-        costs, parts = Costs(folder), parts_of(given)
+        costs, tiles = Costs(folder), tiles_of(given)
         for step, script in SCRIPTS.items():
             with open(f"{folder}/{step}", "w", encoding="ascii") as file:
                 file.write(script + "\n")
         with concurrent.futures.ThreadPoolExecutor(given.jobs) as pool:
-            list(pool.map(lambda part: do_part(costs, given, part), parts))
-        of = {ending: [f"{part.name}.{ending}" for part in parts] for ending in ("table", given.borders, "sizes")}
+            list(pool.map(lambda tile: do_tile(costs, given, tile), tiles))
+        of = {ending: [f"{tile.name}.{ending}" for tile in tiles] for ending in ("table", "border", "sizes")}
         costs.run("rcell-join tables", [given.program, "tables", *of["table"]], "joined.table")
-        costs.run(f"rcell-join {given.joining} -d", [given.program, given.joining, "-d", *of[given.borders]], "joined")
-        costs.run("rcell-join sizes", [given.program, "sizes", "joined", *of["sizes"]], "joined.sizes")
+        costs.run("rcell-join clumps", [given.program, "clumps", "-d", *of["border"]], "numbering")
+        costs.run("rcell-join sizes", [given.program, "sizes", "numbering", *of["sizes"]], "joined.sizes")
         wrong = 0
         for name, known in (("joined.table", known_table(heights, widths)), ("joined.sizes", known_sizes(heights, widths))):
             with open(f"{folder}/{name}", encoding="ascii") as file:

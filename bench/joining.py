@@ -3,11 +3,12 @@
 
     joining.py [--rounds N] [--short] [--only WORD] [--program PATH] [--write]
 
-Three parts: `tables` of the tables of 2, 64 and 1,000 tiles, each entry in one of them, in some or in all, beside `sort -m` alone and
-beside `sort -m` with an awk program behind it that adds up equal lines; `areas` of the edges of many bands, beside scipy's
-connected_components on the pairs of labels that meet over the cuts; and `sizes`. All are made here, at random and always the same, and the answers of the contenders are compared before they are timed. They
-take turns, and the least processor time (user and system, of all processes of a pipe) of all rounds counts. Memory is the peak of
-the process. Each part is doubled some times, so that the cost of an entry, of a label and of an area can be read down its column.
+Three parts: `tables` of the tables of 2, 64 and 1,000 tiles, each entry in one of them, in some or in all, next to `sort -m` alone and
+next to `sort -m` and awk, which adds up equal lines; `clumps` of the borders of many tiles, next to scipy's connected_components on
+the pairs of clumps that meet over seams; and `sizes`. All are made here, at random and always the same, and the results of the
+contenders are compared before they are timed. They take turns, and the least processor time (user and system, of all processes of a
+pipe) of all rounds counts. Memory is the peak of the process. Each part is doubled some times, so that the cost of an entry, of a
+clump and of a cell can be read down its column. The last rows of `clumps` are 488 tiles of 1,025 x 8,200 cells in 61 rows.
 
 It needs Debian's python3-scipy and time, and is run by Debian's own Python. --short takes inputs of a tenth and one round.
 """
@@ -20,7 +21,7 @@ import subprocess
 import sys
 import tempfile
 from dataclasses import dataclass
-from typing import Any, Callable, Iterator
+from typing import Any, Callable, Iterator, NamedTuple
 
 import numpy as np
 
@@ -29,15 +30,13 @@ ROOT = os.path.dirname(HERE)
 DOCUMENT = f"{ROOT}/bench/RESULTS.md"
 MARKS = ("<!-- The tables of bench/joining.py -->\n", "<!-- End of them -->\n")
 ENVIRONMENT = {"PATH": "/usr/bin:/bin", "LC_ALL": "C"}
-ROW_OF_CATEGORIES = 4  # categories of the cells of an edge: few, so that areas go on in the next band
+ROW_OF_CATEGORIES = 4  # categories of the cells of a side: few, so that clumps go on in the next tile
 LENGTH_OF_A_RUN = 8
 ADDING = "NR == 1 || $1 != before { if (NR > 1) print before, cells; before = $1; cells = 0 } { cells += $2 } END { print before, cells }"
 MEGABYTE = 2**20
-BYTES_OF_THE_PROGRAM = 1_800_000
-BYTES_OF_A_LABEL = 16
+MOST_WITHOUT_CELLS = 8 * 10**6
+BYTES_OF_A_CELL = 48
 BYTES_OF_A_LINE = 32
-BYTES_OF_A_BAND = 8
-BYTES_OF_A_CELL = 8
 
 
 @dataclass
@@ -114,46 +113,73 @@ def time_tables(program: str, folder: str, tiles: int, entries: int, shared: int
 TABLES = ("Tables", "`rcell-join tables`, each entry in one of the tables, in all, or in some four of them.",
           "Tables | entries of all | each in | rcell-join | `sort -m` | ratio | `sort -m \\| awk` | ratio | an entry | memory: rcell-join | `sort -m`")
 
-# Areas
+# Clumps
 
 
 @dataclass
 class Made:
-    """Bands whose edges were written: their paths, the pairs of labels that meet over the cuts, how many labels there are, and how many
-    of them are of areas with cells in the first or the last row of their band."""
+    """Tiles whose borders were written: their paths, the pairs of clumps that meet over seams, how many clumps there are, how many of them
+    have cells on a side of their tile, and how many cells the sides have."""
 
     paths: list[str]
     pairs: str
-    labels: int
-    at_cuts: int
-    columns: int
+    clumps: int
+    on_sides: int
+    cells: int
 
 
-def edge(random: np.random.Generator, columns: int, areas: int) -> tuple[Any, Any]:
-    """A row of cells in runs, and the numbers of their areas, each another one."""
-    runs = -(-columns // LENGTH_OF_A_RUN)
-    numbers = np.sort(random.choice(areas, runs, replace=False)) + 1
+class Side(NamedTuple):
+    """Cells of a side, and the numbers of their clumps."""
+
+    cells: Any
+    numbers: Any
+
+    @property
+    def lines(self) -> list[list[int]]:
+        return [self.cells.tolist(), self.numbers.tolist()]
+
+
+def random_side(random: np.random.Generator, length: int, begun: Any) -> Side:
+    """Cells in runs, each of another clump; a clump of the first row or of a side begins in a row that the side has reached."""
+    runs = -(-length // LENGTH_OF_A_RUN)
+    numbers = np.sort(random.choice(int(begun[0]), runs, replace=False)) + 1
     categories = random.integers(1, ROW_OF_CATEGORIES + 1, runs)
-    return np.repeat(categories, LENGTH_OF_A_RUN)[:columns], np.repeat(numbers, LENGTH_OF_A_RUN)[:columns]
+    return Side(np.repeat(categories, LENGTH_OF_A_RUN)[:length], np.repeat(numbers, LENGTH_OF_A_RUN)[:length])
 
 
-def make_bands(folder: str, bands: int, columns: int, areas: int) -> Made:
-    random = np.random.default_rng(bands + columns)
-    paths, pairs, above, at_cuts = [], [], None, 0
-    for band in range(bands):
-        rows = [*edge(random, columns, areas), *edge(random, columns, areas)]
-        at_cuts += len(np.union1d(rows[1], rows[3]))
-        paths.append(f"{folder}/{band:05d}.edges")
-        with open(paths[-1], "w", encoding="ascii") as file:
-            file.write(f"north: {-band}\nsouth: {-band - 1}\neast: {columns}\nwest: 0\nrows: 5\ncols: {columns}\n")
-            file.writelines(" ".join(map(str, row.tolist())) + "\n" for row in rows)
-            file.write(f"{areas}{' *' * (columns - 1)}\n")
-        if above is not None:
-            meet = above[0] == rows[0]
-            pairs.append(np.unique(np.stack([above[1][meet] - 1 + (band - 1) * areas, rows[1][meet] - 1 + band * areas]), axis=1))
-        above = rows[2:]
+def write_border(path: str, place: tuple[int, int], shape: tuple[int, int], sides: list[Side], begun: list[int]) -> None:
+    (top, left), (rows, cols) = place, shape
+    width = max(rows, cols, 4)
+    lines = [line for side in sides for line in side.lines] + [[rows, cols, sum(begun), 4], begun]
+    with open(path, "w", encoding="ascii") as file:
+        file.write(f"north: {-top}\nsouth: {-top - rows}\neast: {left + cols}\nwest: {left}\nrows: 10\ncols: {width}\n")
+        file.writelines(" ".join(map(str, line)) + " *" * (width - len(line)) + "\n" for line in lines)
+
+
+def meeting(one: Side, first: int, other: Side, second: int) -> Any:
+    """The pairs of clumps, counted through all tiles, that meet over a seam."""
+    alike = one.cells == other.cells
+    return np.unique(np.stack([one.numbers[alike] - 1 + first, other.numbers[alike] - 1 + second]), axis=1)
+
+
+def make_borders(folder: str, grid: tuple[int, int], shape: tuple[int, int], clumps: int) -> Made:
+    """Borders of a grid of tiles of one shape, of so many clumps each, of which half begin in the first row."""
+    random, (rows, cols) = np.random.default_rng(grid[0] + shape[1]), shape
+    begun = [clumps] if rows == 1 else [clumps - clumps // 2, *np.diff(np.linspace(0, clumps // 2, rows).astype(int)).tolist()]
+    paths, pairs, above, on_sides = [], [], {}, 0
+    for row in range(grid[0]):
+        east = None
+        for col in range(grid[1]):
+            base = len(paths) * clumps
+            first, last, west, own_east = (random_side(random, length, begun) for length in (cols, cols, rows, rows))
+            on_sides += len(np.unique(np.concatenate([side.numbers for side in (first, last, west, own_east)])))
+            paths.append(f"{folder}/{row:05d}-{col:03d}.border")
+            write_border(paths[-1], (row * rows, col * cols), shape, [first, last, west, own_east], begun)
+            pairs += [meeting(above[col], base - grid[1] * clumps, first, base)] if row else []
+            pairs += [meeting(east, base - clumps, west, base)] if east else []
+            above[col], east = last, own_east
     np.save(f"{folder}/pairs.npy", np.concatenate(pairs, axis=1))
-    return Made(paths, f"{folder}/pairs.npy", bands * areas, at_cuts, columns)
+    return Made(paths, f"{folder}/pairs.npy", len(paths) * clumps, on_sides, len(paths) * 2 * (rows + cols))
 
 
 UNION = """
@@ -170,14 +196,14 @@ print(count, time.process_time() - begin, resource.getrusage(resource.RUSAGE_SEL
 
 
 def union(made: Made) -> tuple[int, Cost]:
-    """How many areas scipy finds, and what its union alone costs, without the start of Python and the reading of pairs."""
-    words = [sys.executable, "-c", UNION, made.pairs, str(made.labels)]
+    """How many clumps scipy finds, and what its union alone costs, without the start of Python and the reading of pairs."""
+    words = [sys.executable, "-c", UNION, made.pairs, str(made.clumps)]
     count, seconds, memory = subprocess.run(words, check=True, capture_output=True, text=True, env=ENVIRONMENT).stdout.split()
     return int(count), Cost(float(seconds), int(memory))
 
 
 def greatest_number(path: str) -> int:
-    """The greatest number that an areas text tells."""
+    """The greatest number of a numbering."""
     ran = subprocess.run(["awk", "{ n = $4 + $3 - $2; if (n > most) most = n } END { printf \"%d\\n\", most }", path], check=True, capture_output=True)
     return int(ran.stdout)
 
@@ -188,55 +214,48 @@ def lines_of(path: str) -> int:
         return sum(1 for _ in file)
 
 
-def memory_of(made: Made, lines: int) -> int:
-    """What `areas` holds: itself, labels, the stretches of numbers that its text has as lines, counts of the bands, the edges of two."""
-    edges = 2 * 4 * BYTES_OF_A_CELL * made.columns
-    return BYTES_OF_THE_PROGRAM + BYTES_OF_A_LABEL * made.at_cuts + BYTES_OF_A_LINE * lines + BYTES_OF_A_BAND * len(made.paths) + edges
-
-
-def time_areas(program: str, folder: str, bands: int, columns: int, areas: int, rounds: int) -> Iterator[str]:
-    made = make_bands(folder, bands, columns, areas)
-    words = [program, "areas", *made.paths]
-    cost_of([words], f"{folder}/joined")
-    if (found := greatest_number(f"{folder}/joined")) != (expected := union(made)[0]):
-        sys.exit(f"{found} areas by rcell-join, {expected} by scipy")
+def time_clumps(program: str, folder: str, grid: tuple[int, int], shape: tuple[int, int], clumps: int, rounds: int) -> Iterator[str]:
+    made = make_borders(folder, grid, shape, clumps)
+    words = [program, "clumps", *made.paths]
+    cost_of([words], f"{folder}/numbering")
+    if (found := greatest_number(f"{folder}/numbering")) != (expected := union(made)[0]):
+        sys.exit(f"{found} clumps by rcell-join, {expected} by scipy")
     costs = least({"join": lambda: cost_of([words]), "scipy": lambda: union(made)[1]}, rounds)
     join, scipy = costs["join"], costs["scipy"]
     text = sum(os.path.getsize(path) for path in made.paths)
-    formula = memory_of(made, lines_of(f"{folder}/joined"))
-    yield f"{bands:,} x {columns:,} | {made.labels:,} | {made.at_cuts:,} | {megabytes(text)} | {join.seconds:.2f} s | {scipy.seconds:.2f} s | {join.seconds / scipy.seconds:.2f} | " \
-          f"{1e9 * join.seconds / made.labels:.0f} ns | {1e9 * join.seconds / (5 * bands * columns):.0f} ns | {megabytes(join.memory)} | {megabytes(formula)} | " \
-          f"{megabytes(scipy.memory)}"
+    limit = MOST_WITHOUT_CELLS + BYTES_OF_A_CELL * made.cells + BYTES_OF_A_LINE * lines_of(f"{folder}/numbering")
+    yield f"{grid[0]:,} x {grid[1]} of {shape[0]:,} x {shape[1]:,} | {made.clumps:,} | {made.on_sides:,} | {megabytes(text)} | {join.seconds:.2f} s | " \
+          f"{scipy.seconds:.2f} s | {join.seconds / scipy.seconds:.2f} | {1e9 * join.seconds / made.cells:.0f} ns | {megabytes(join.memory)} | " \
+          f"{megabytes(limit)} | {megabytes(scipy.memory)}"
 
 
-AREAS = ("Areas", "`rcell-join areas` of the edges of bands, in runs of 8 cells of four categories, and scipy's union of the same pairs, without "
-         "the reading of texts, the search for pairs and the writing of numbers.",
-         "Bands x columns | areas | at cuts | edges | rcell-join | scipy's union | ratio | an area | a cell of the edges | memory: rcell-join | formula | scipy")
+CLUMPS = ("Clumps", "`rcell-join clumps` of borders, in runs of 8 cells of four categories, and scipy's union of the same pairs, without "
+          "the reading of texts, the search for pairs and the writing of numbers.",
+          "Tiles | clumps | on sides | borders | rcell-join | scipy's union | ratio | a cell of the sides | memory: rcell-join | limit | scipy")
 
 
 # Sizes
 
 
-def time_sizes(program: str, folder: str, bands: int, areas: int, rounds: int) -> Iterator[str]:
-    make_bands(folder, bands, 64, areas)
-    paths = sorted(f"{folder}/{name}" for name in os.listdir(folder) if name.endswith(".edges"))
-    cost_of([[program, "areas", *paths]], f"{folder}/joined")
-    count = greatest_number(f"{folder}/joined")
-    text = "".join(f"{area} {1 + area % 97}\n" for area in range(1, areas + 1))
-    tables = [f"{folder}/{band}.sizes" for band in range(bands)]
+def time_sizes(program: str, folder: str, tiles: int, clumps: int, rounds: int) -> Iterator[str]:
+    made = make_borders(folder, (tiles, 1), (1, 64), clumps)
+    cost_of([[program, "clumps", *made.paths]], f"{folder}/numbering")
+    count = greatest_number(f"{folder}/numbering")
+    text = "".join(f"{clump} {1 + clump % 97}\n" for clump in range(1, clumps + 1))
+    tables = [f"{folder}/{tile}.sizes" for tile in range(tiles)]
     for path in tables:
         with open(path, "w", encoding="ascii") as file:
             file.write(text)
-    words = [program, "sizes", f"{folder}/joined", *tables]
+    words = [program, "sizes", f"{folder}/numbering", *tables]
     cost_of([words], f"{folder}/sizes")
     added = subprocess.run(["awk", "{ cells += $2 } END { printf \"%d %.0f\\n\", NR, cells }", f"{folder}/sizes"], check=True, capture_output=True, text=True)
-    if added.stdout.split() != [str(count), str(bands * sum(1 + area % 97 for area in range(1, areas + 1)))]:
-        sys.exit(f"sizes: {added.stdout}, where {count} areas are")
+    if added.stdout.split() != [str(count), str(tiles * sum(1 + clump % 97 for clump in range(1, clumps + 1)))]:
+        sys.exit(f"sizes: {added.stdout}, where {count} clumps are")
     cost = least({"join": lambda: cost_of([words])}, rounds)["join"]
-    yield f"{bands:,} | {bands * areas:,} | {cost.seconds:.2f} s | {1e9 * cost.seconds / bands / areas:.0f} ns | {megabytes(cost.memory)} | {megabytes(8 * count)}"
+    yield f"{tiles:,} | {tiles * clumps:,} | {cost.seconds:.2f} s | {1e9 * cost.seconds / tiles / clumps:.0f} ns | {megabytes(cost.memory)} | {megabytes(8 * count)}"
 
 
-SIZES = ("Sizes", "`rcell-join sizes`.", "Bands | entries of all tables | rcell-join | an entry | memory | formula")
+SIZES = ("Sizes", "`rcell-join sizes`.", "Tiles | entries of all tables | rcell-join | an entry | memory | formula")
 
 
 def machine() -> str:
@@ -255,10 +274,12 @@ def measured(given: argparse.Namespace) -> Iterator[str]:
     part, rounds = (10, 1) if given.short else (1, given.rounds)
     kinds = [(64, 1, 4), (64, 2, 4), (64, 1, 1), (64, 2, 1), (64, 1, 64), (2, 1, 1), (2, 1, 2), (1000, 1, 1), (1000, 2, 1), (1000, 1, 4)]
     tables = [(tiles, millions * 1_000_000 // part, shared) for tiles, millions, shared in kinds]
-    bands = [(1000 // part, columns, areas) for columns, areas in ((1000, 10_000), (2000, 10_000), (4000, 10_000), (1000, 20_000), (1000, 40_000), (1000, 100_000))]
-    bands[1:1] = [(2000 // part, 1000, 10_000)]
-    sizes = [(100, areas // part) for areas in (50_000, 100_000, 200_000)]
-    for kind, run, inputs in ((TABLES, time_tables, tables), (AREAS, time_areas, bands), (SIZES, time_sizes, sizes)):
+    columns = [(tiles // part, 1) for tiles in (1000, 2000, 1000, 1000, 1000, 1000, 1000)]
+    wide, many = (1000, 1000, 2000, 4000, 1000, 1000, 1000), (10_000, 10_000, 10_000, 10_000, 20_000, 40_000, 100_000)
+    borders = [(grid, (1, cols), clumps) for grid, cols, clumps in zip(columns, wide, many)]
+    borders += [((61, 8), (1025, 8200), clumps) for clumps in (10_000, 1_000_000)] if part == 1 else [((6, 8), (1025, 8200), 10_000)]
+    sizes = [(100, clumps // part) for clumps in (50_000, 100_000, 200_000)]
+    for kind, run, inputs in ((TABLES, time_tables, tables), (CLUMPS, time_clumps, borders), (SIZES, time_sizes, sizes)):
         if given.only and given.only not in kind[0].lower():
             continue
         rows = []

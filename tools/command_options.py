@@ -184,7 +184,8 @@ class TriedJoiner:
             pass
 
     def refusal(self, command, word):
-        files = [EMPTY] * (2 if command == "sizes" else 1)
+        is_only_file = command == "border" and not word.startswith("-")
+        files = [] if is_only_file else [EMPTY] * (2 if command == "sizes" else 1)
         ran = subprocess.run([self.joiner, command, word, *files], cwd=self.folder, capture_output=True, text=True)
         return ran.stderr.strip().removeprefix(f"{JOINER}: ") if ran.returncode else ""
 

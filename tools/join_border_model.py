@@ -2,24 +2,16 @@
 
 It shares no code with the program: a clump of a tile is placed by the row of tiles, the row of the tile in which it begins, the
 column of tiles and its number, and clumps that meet at a seam are walked from one to the other.
-
-    join_border_model.py [--runs N] [--seed N]
-
-tries it on maps at random, cut into one to five rows and columns of tiles of uneven sizes: each cell has the number that it has in
-the full map; and of one border in ten, that none of its proper prefixes is read. The last line is 'N passed, M failed'.
 """
 from __future__ import annotations
 
-import argparse
 import itertools
-import random
-import sys
 from dataclasses import dataclass
 from typing import Iterator, Optional
 
-from join_model import Fault, areas_text, grid_of, pair_fault
+from join_model import Fault
 from model import clumped
-from model_grids import COORDINATE_UNIT, Cell, CellMap, Failing, Region, grid_text
+from model_grids import COORDINATE_UNIT, Cell, CellMap, Failing, Refused, Region, grid_text, read_map
 
 ROWS, SIZE_ROW, COUNTS_ROW, SIZE_CELLS = 10, 8, 9, 4
 JOININGS = {4: False, 8: True}  # whether cells that touch at a corner are joined
@@ -59,11 +51,29 @@ def border_of(connectivity: int, cells: CellMap) -> Border:
     return Border(cells.region, connectivity, lines + columns, begun)
 
 
+def grid_of(name: bytes, given: bytes | Failing) -> CellMap:
+    try:
+        return read_map(name, given)
+    except Refused as fault:
+        raise Fault(name, fault.line, fault.text.encode(), fault.status) from None
+
+
 def border(with_corners: bool, names: list[bytes], given: list[bytes | Failing]) -> bytes:
     return border_of(8 if with_corners else 4, grid_of(names[0], given[0])).text()
 
 
 # Reading
+
+
+def pair_fault(most: int, cell: Cell, number: Cell) -> bytes:
+    """Why a cell and a number do not go together, or nothing."""
+    if cell is None:
+        return b"" if number is None else b"number of a null cell"
+    if number is None:
+        return b"cell without a number"
+    if number < 1:
+        return b"number below 1"
+    return b"number above the count of clumps that begin up to its row" if number > most else b""
 
 
 def judge_line(name: bytes, row: int, most: list[int], cells: list[Cell], numbers: list[Cell]) -> None:
@@ -74,8 +84,7 @@ def judge_line(name: bytes, row: int, most: list[int], cells: list[Cell], number
                 raise Fault(name, 0, b"row %d, column %d: behind the end of a side" % (at + 1, col + 1))
     for col, (largest, cell, number) in enumerate(zip(most, cells, numbers)):
         if wrong := pair_fault(largest, cell, number):
-            text = b"number above the count of clumps that begin up to its row" if wrong.startswith(b"number above") else wrong
-            raise Fault(name, 0, b"row %d, column %d: %s" % (row + 2, col + 1, text))
+            raise Fault(name, 0, b"row %d, column %d: %s" % (row + 2, col + 1, wrong))
 
 
 def size_of(grid: CellMap) -> Optional[tuple[Region, int, int]]:
@@ -126,15 +135,19 @@ def edge_fault(edge: bytes, own: int, other_edge: bytes, other: int) -> bytes:
     return b"" if own == other else b"%s edge %s is not the %s edge %s" % (edge, shown(own), other_edge, shown(other))
 
 
+def size_fault(own: int, what: bytes, other: int) -> bytes:
+    return b"" if own == other else b"%d %s are not the %d" % (own, what, other)
+
+
 def beside_fault(left: Region, tile: Region) -> bytes:
     """Why a tile is not right of another, or nothing."""
-    return (edge_fault(b"west", tile.west, b"east", left.east) or edge_fault(b"north", tile.north, b"north", left.north)
-            or edge_fault(b"south", tile.south, b"south", left.south) or (b"" if tile.rows == left.rows else b"%d rows are not the %d" % (tile.rows, left.rows)))
+    return (edge_fault(b"west", tile.west, b"east", left.east) or size_fault(tile.rows, b"rows", left.rows)
+            or edge_fault(b"north", tile.north, b"north", left.north) or edge_fault(b"south", tile.south, b"south", left.south))
 
 
 def below_fault(above: Region, tile: Region) -> bytes:
-    return (edge_fault(b"north", tile.north, b"south", above.south) or edge_fault(b"west", tile.west, b"west", above.west)
-            or edge_fault(b"east", tile.east, b"east", above.east) or (b"" if tile.cols == above.cols else b"%d columns are not the %d" % (tile.cols, above.cols)))
+    return (edge_fault(b"north", tile.north, b"south", above.south) or size_fault(tile.cols, b"columns", above.cols)
+            or edge_fault(b"west", tile.west, b"west", above.west) or edge_fault(b"east", tile.east, b"east", above.east))
 
 
 @dataclass(frozen=True)
@@ -143,21 +156,32 @@ class Tile:
     border: Border
 
 
+def in_first_row(row: list[Tile], tile: Tile) -> bool:
+    """Whether a tile is right of the last one; if not, it is below the first. If it is neither, it was meant to be below the first if the
+    first tile ends where it begins, and begins elsewhere than the last one ends."""
+    region = tile.border.region
+    beside, below = beside_fault(row[-1].border.region, region), below_fault(row[0].border.region, region)
+    if beside and below:
+        is_below = beside.startswith(b"west") and not below.startswith(b"north")
+        raise Fault(tile.name, 0, b"%s of %s" % ((below, row[0].name) if is_below else (beside, row[-1].name)))
+    return not beside
+
+
+def judge(tile: Tile, other: Tile, wrong: bytes) -> None:
+    if wrong:
+        raise Fault(tile.name, 0, b"%s of %s" % (wrong, other.name))
+
+
 def begins_row(rows: list[list[Tile]], tile: Tile) -> bool:
     """Whether a tile begins the next row of tiles; if not, it is the next of the last one."""
-    if not rows:
-        return True
-    row, above, region = rows[-1], rows[-2] if len(rows) > 1 else [], tile.border.region
-    is_new = len(row) == len(above) if above else region.west == row[0].border.region.west
-    judged = []
+    if len(rows) < 2:
+        return not (rows and in_first_row(rows[0], tile))
+    row, above, region = rows[-1], rows[-2], tile.border.region
+    is_new = len(row) == len(above)
     if not is_new:
-        judged.append((row[-1], beside_fault(row[-1].border.region, region)))
-    if is_new or above:
-        upper = row[0] if is_new else above[len(row)]
-        judged.append((upper, below_fault(upper.border.region, region)))
-    for other, wrong in judged:
-        if wrong:
-            raise Fault(tile.name, 0, b"%s of %s" % (wrong, other.name))
+        judge(tile, row[-1], beside_fault(row[-1].border.region, region))
+    upper = row[0] if is_new else above[len(row)]
+    judge(tile, upper, below_fault(upper.border.region, region))
     return is_new
 
 
@@ -176,8 +200,17 @@ def clumps(with_corners: bool, names: list[bytes], given: list[bytes | Failing])
     grid = [[tile.border for tile in row] for row in rows]
     numbers = numbers_of(grid, with_corners)
     tiles = [(row, col, tile) for row, line in enumerate(grid) for col, tile in enumerate(line)]
-    return areas_text({(at, number): numbers[place_of(row, col, tile, number)] for at, (row, col, tile) in enumerate(tiles, 1)
-                       for number in range(1, sum(tile.begun) + 1)})
+    return b"".join(line for at, (row, col, tile) in enumerate(tiles, 1)
+                    for line in runs_of(at, [numbers[place_of(row, col, tile, number)] for number in range(1, sum(tile.begun) + 1)]))
+
+
+def runs_of(tile: int, numbers: list[int]) -> Iterator[bytes]:
+    """The lines of a tile: runs of clumps whose numbers follow one another, each as long as it can be."""
+    begin = 0
+    for end in range(1, len(numbers) + 1):
+        if end == len(numbers) or numbers[end] != numbers[end - 1] + 1:
+            yield b"%d %d %d %d\n" % (tile, begin + 1, end, numbers[begin])
+            begin = end
 
 
 # Numbers of the full map
@@ -225,82 +258,3 @@ def numbers_of(rows: list[list[Border]], with_corners: bool) -> dict[Place, int]
                 numbers[visited] = number
                 to_visit += near[visited]
     return numbers
-
-
-# Maps at random
-
-
-def random_map(draw: random.Random, rows: int, cols: int) -> CellMap:
-    most, nulls = draw.randint(1, 9), draw.choice([0, 0.1, 0.5])
-    cells: list[list[Cell]] = [[None if draw.random() < nulls else draw.randint(1, most) for _ in range(cols)] for _ in range(rows)]
-    return CellMap(Region(rows * COORDINATE_UNIT, 0, cols * COORDINATE_UNIT, 0, rows, cols), cells)
-
-
-def cut_places(draw: random.Random, length: int) -> list[tuple[int, int]]:
-    cuts = sorted(draw.sample(range(1, length), min(length - 1, draw.randint(0, 4))))
-    return list(zip([0, *cuts], [*cuts, length]))
-
-
-def cut_out(full: CellMap, top: int, bottom: int, left: int, right: int) -> CellMap:
-    height = full.region.rows
-    region = Region((height - top) * COORDINATE_UNIT, (height - bottom) * COORDINATE_UNIT, right * COORDINATE_UNIT, left * COORDINATE_UNIT,
-                    bottom - top, right - left)
-    return CellMap(region, [row[left:right] for row in full.rows[top:bottom]])
-
-
-def difference(draw: random.Random) -> str:
-    """What is wrong with the numbering of a map that was cut, or nothing."""
-    full = random_map(draw, draw.randint(1, 24), draw.randint(1, 24))
-    with_corners = draw.random() < 0.5
-    wanted = clumped(full, with_corners)
-    tiles = [(rows, cols) for rows in cut_places(draw, full.region.rows) for cols in cut_places(draw, full.region.cols)]
-    heights = list(dict.fromkeys(rows for rows, _ in tiles))
-    widths = [cols for rows, cols in tiles if rows == heights[0]]
-    places = [(rows, cols) for rows in heights for cols in widths]
-    parts = [cut_out(full, *rows, *cols) for rows, cols in places]
-    names = [b"t%d" % at for at in range(len(parts))]
-    texts: list[bytes | Failing] = [border(with_corners, [name], [grid_text(part, b"*")]) for name, part in zip(names, parts)]
-    numbering = {}
-    for line in clumps(with_corners, names, texts).splitlines():
-        part, first, last, number = (int(word) for word in line.split())
-        numbering.update({(part, own): number + own - first for own in range(first, last + 1)})
-    for at, ((rows, cols), tile) in enumerate(zip(places, parts), 1):
-        own = clumped(tile, with_corners)
-        for row, col in tile.region.places():
-            number = own.cell(row, col)
-            got = None if number is None else numbering.get((at, number))
-            if got != wanted.cell(rows[0] + row, cols[0] + col):
-                return f"tile {at}, row {row}, column {col}: {got}"
-    return ""
-
-
-def prefix_difference(draw: random.Random) -> str:
-    """Which proper prefix of a border is none the less read, or nothing: the text without its last line feed alone may be."""
-    text = border(draw.random() < 0.5, [b"m"], [grid_text(random_map(draw, draw.randint(1, 12), draw.randint(1, 12)), b"*")])
-    for length in range(len(text)):
-        try:
-            read_border(b"b", text[:length])
-        except Fault:
-            continue
-        if length < len(text) - 1:
-            return f"{length} of {len(text)} bytes are read"
-    return ""
-
-
-def main() -> int:
-    parser = argparse.ArgumentParser()
-    parser.add_argument("--runs", type=int, default=5000)
-    parser.add_argument("--seed", type=int, default=1)
-    given = parser.parse_args()
-    failed = 0
-    for seed in range(given.seed, given.seed + given.runs):
-        wrong = difference(random.Random(seed)) or (prefix_difference(random.Random(seed)) if seed % 10 == 0 else "")
-        failed += bool(wrong)
-        if wrong:
-            print(f"seed {seed}: {wrong}")
-    print(f"{given.runs - failed} passed, {failed} failed")
-    return 1 if failed else 0
-
-
-if __name__ == "__main__":
-    sys.exit(main())

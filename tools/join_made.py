@@ -1,8 +1,8 @@
-"""What rcell-join is tried on: tables at random, maps that are hard to cut, their bands and tiles, and texts that are damaged."""
+"""What rcell-join is tried on: random tables, maps that are hard to cut, their tiles, and texts that are damaged."""
 from __future__ import annotations
 
 import random
-from dataclasses import dataclass, field
+from dataclasses import dataclass
 from typing import Callable
 
 from join_model import NULL_LABEL, Format, Labels
@@ -10,9 +10,10 @@ from model_grids import COORDINATE_UNIT, Cell, CellMap, Region
 
 Rows = list[list[Cell]]
 Named = list[tuple[bytes, bytes]]  # names of files with their texts
-Span = tuple[int, int, int, int]  # rows and columns: the first, and the one behind the last
+Span = tuple[int, int, int, int]  # rows and columns: the first, and the one after the last
 Cells = tuple[tuple[bool, int], ...]  # each with whether it is null first
 
+LARGEST_SIDE, MOST_TILES = 24, 5
 FORMATS = [(Format(), []), (Format(b"|", b"NA"), [b"separator=pipe", b"null_value=NA"]), (Format(b","), [b"separator=,"]),
            (Format(b";", labels=True), [b"-l", b"separator=;"]), (Format(b"|", b"NA", True), [b"separator=pipe", b"-l", b"null_value=NA"])]
 LABELS = [b"", b"forest", b"forest edge", b"17", b"*", b"no data", b"\xc3\xa9t\xc3\xa9", b"\xff\xc3"]
@@ -96,7 +97,7 @@ def labelling(draw: random.Random, whole: CellMap) -> tuple[bytes, list[bytes]]:
 
 
 def comb(rows: int, cols: int) -> Rows:
-    """Teeth that meet in the last row alone: one area, which is many until the last band."""
+    """Teeth that meet in the last row alone: one clump, which is many until the last row of tiles."""
     return [[1 if row == rows - 1 or col % 2 == 0 else 2 for col in range(cols)] for row in range(rows)]
 
 
@@ -135,7 +136,7 @@ SHAPES: dict[str, Callable[[int, int], Rows]] = {
     "diagonals to the left": of_places(lambda row, col: (row + col) % 3 or None),
     "steep diagonals": of_places(lambda row, col: (row - 2 * col) % 5),
     "crossing lines": of_places(lambda row, col: int(row % 4 == 1 or col % 5 == 2)),
-    "one area": of_places(lambda row, col: 2147483647),
+    "one clump": of_places(lambda row, col: 2147483647),
     "null": of_places(lambda row, col: None),
     "rows": of_places(lambda row, col: row % 2),
     "columns": of_places(lambda row, col: None if col % 3 == 2 else col % 3),
@@ -143,22 +144,23 @@ SHAPES: dict[str, Callable[[int, int], Rows]] = {
 
 
 def random_rows(draw: random.Random, rows: int, cols: int) -> Rows:
-    """Cells at random: few categories make large areas, and copies of neighbours longer ones."""
-    kinds: Rows = [[1, 1, 2, None], [1, 2], [0, 1, 2, 3, None], [-2147483647, 2147483647], list(range(9))]
-    some, likeness = draw.choice(kinds), draw.choice([0, 0.4, 0.8])
+    """Random cells of one to nine categories, up to half of them null; copies of neighbours make longer clumps."""
+    kinds: list[Cell] = [*draw.choice([range(1, 10), range(0, 9), range(-4, 5), [-2147483647, 2147483647]])][: draw.randint(1, 9)]
+    nulls, likeness = draw.choice([0, 0, 0.1, 0.5]), draw.choice([0, 0.4, 0.8])
     cells: Rows = []
     for row in range(rows):
         cells.append([])
         for col in range(cols):
             near = [line[at] for line, at in ((cells[max(row - 1, 0)], col), (cells[row], col - 1)) if 0 <= at < len(line)]
-            cells[row].append(draw.choice(near if near and draw.random() < likeness else some))
+            is_like = near and draw.random() < likeness
+            cells[row].append(draw.choice(near) if is_like else None if draw.random() < nulls else draw.choice(kinds))
     return cells
 
 
 def random_map(draw: random.Random) -> CellMap:
-    """A map at random, or a shape that is hard to cut; some have one row or one column."""
-    rows, cols = draw.choice([(1, draw.randint(1, 20)), (draw.randint(1, 20), 1), *[(draw.randint(2, 14), draw.randint(2, 12))] * 8])
-    made = draw.choice(list(SHAPES.values()))(rows, cols) if draw.random() < 0.25 else random_rows(draw, rows, cols)
+    """A random map of up to 24 x 24 cells, or a shape that is hard to cut."""
+    rows, cols = (draw.choice([1, draw.randint(1, LARGEST_SIDE), draw.randint(1, LARGEST_SIDE)]) for _ in range(2))
+    made = draw.choice(list(SHAPES.values()))(rows, cols) if draw.random() < 0.2 else random_rows(draw, rows, cols)
     return in_region(draw, made)
 
 
@@ -172,35 +174,28 @@ def in_region(draw: random.Random, rows: Rows) -> CellMap:
     return CellMap(Region(north, south, east, west, len(rows), len(rows[0])), rows)
 
 
-# Parts
+# Tiles
 
 
 @dataclass(frozen=True)
 class Cut:
-    """A map, and the row behind each of its bands, from the top; or behind each of its rows of tiles, with the column behind each of
-    its columns of tiles, from the left."""
+    """A map, and the row after each row of tiles, from the top, with the column after each column of tiles, from the left."""
 
     whole: CellMap
     ends: list[int]
-    col_ends: list[int] = field(default_factory=list)
+    col_ends: list[int]
 
     @property
     def name(self) -> str:
-        return f"tiles to {self.ends} and {self.col_ends}" if self.col_ends else f"bands to {self.ends}"
-
-    @property
-    def commands(self) -> tuple[bytes, bytes]:
-        """What writes the borders of a part, and what joins them."""
-        return (b"sides", b"tiles") if self.col_ends else (b"edges", b"areas")
+        return f"tiles to {self.ends} and {self.col_ends}"
 
     @property
     def spans(self) -> list[Span]:
-        """The rows and the columns of each part, up to the one behind it, row by row."""
-        cols = self.col_ends or [self.whole.region.cols]
-        return [(*rows, *span) for rows in zip([0, *self.ends], self.ends) for span in zip([0, *cols], cols)]
+        """The rows and the columns of each tile, up to the one after it, row by row."""
+        return [(*rows, *cols) for rows in zip([0, *self.ends], self.ends) for cols in zip([0, *self.col_ends], self.col_ends)]
 
 
-def part_of(whole: CellMap, span: Span) -> CellMap:
+def tile_of(whole: CellMap, span: Span) -> CellMap:
     """Some rows and columns as a map of their own."""
     region, (top, bottom, left, right) = whole.region, span
     height, width = (region.north - region.south) // region.rows, (region.east - region.west) // region.cols
@@ -210,27 +205,19 @@ def part_of(whole: CellMap, span: Span) -> CellMap:
 
 
 def random_ends(draw: random.Random, count: int) -> list[int]:
-    """Cut at random; into single rows or columns in some."""
-    if draw.random() < 0.15:
-        return list(range(1, count + 1))
-    return [*sorted(draw.sample(range(1, count), draw.randint(0, min(count - 1, 6)))), count]
+    """One to five rows or columns of tiles."""
+    return [*sorted(draw.sample(range(1, count), draw.randint(0, min(count, MOST_TILES) - 1))), count]
 
 
 def random_cut(draw: random.Random, whole: CellMap) -> Cut:
-    return Cut(whole, random_ends(draw, whole.region.rows))
+    """A grid of tiles of uneven sizes; in one of four it has one column."""
+    cols = whole.region.cols
+    return Cut(whole, random_ends(draw, whole.region.rows), [cols] if draw.random() < 0.25 else random_ends(draw, cols))
 
 
-def random_grid(draw: random.Random, whole: CellMap) -> Cut:
-    return Cut(whole, random_ends(draw, whole.region.rows), random_ends(draw, whole.region.cols))
-
-
-def every_cut(whole: CellMap) -> list[Cut]:
-    rows = whole.region.rows
-    return [Cut(whole, [row for row in range(1, rows) if chosen >> (row - 1) & 1] + [rows]) for chosen in range(2 ** (rows - 1))]
-
-
-def some_grids(draw: random.Random, whole: CellMap) -> list[Cut]:
-    """Single cells, single columns, halves, and grids at random."""
+def some_cuts(draw: random.Random, whole: CellMap) -> list[Cut]:
+    """Single cells, single columns, single rows, halves, and random cuts."""
     rows, cols = whole.region.rows, whole.region.cols
-    single = Cut(whole, list(range(1, rows + 1)), list(range(1, cols + 1)))
-    return [single, Cut(whole, [rows], single.col_ends), Cut(whole, [rows // 2, rows], [cols // 2, cols]), *(random_grid(draw, whole) for _ in range(4))]
+    all_rows, all_cols = list(range(1, rows + 1)), list(range(1, cols + 1))
+    return [Cut(whole, all_rows, all_cols), Cut(whole, [rows], all_cols), Cut(whole, all_rows, [cols]), Cut(whole, [rows // 2, rows], [cols // 2, cols]),
+            Cut(whole, [rows], [cols]), *(random_cut(draw, whole) for _ in range(5))]

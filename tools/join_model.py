@@ -1,17 +1,17 @@
-"""What rcell-join must write and tell, straight from its definitions, plain and slow: a model of tables, edges, areas and sizes.
+"""What rcell-join tables and rcell-join sizes must write and print, straight from their definitions, plain and slow.
 
-It shares no code with the program and keeps to whole lists: areas are joined by walking from label to label, and sizes are counted
-by number. Grids are read and written by the model of rcell, tools/model_grids.py.
+It shares no code with the program. tools/join_border_model.py is the model of the other two commands; grids are read and written by
+the model of rcell, tools/model_grids.py.
 """
 from __future__ import annotations
 
 from dataclasses import dataclass
-from typing import Iterator, Mapping, Optional
+from typing import Mapping, Optional
 
-from model_grids import Cell, CellMap, Failing, Refused, Region, grid_text, read_map
+from model_grids import Failing
 
 Given = bytes | Failing | None  # what a file gives; None: it cannot be opened
-Reply = tuple[int, bytes, bytes]  # the status, the output and what is told
+Reply = tuple[int, bytes, bytes]  # the status, the output and the message
 
 MOST_BYTES, GREATEST_COUNT, GREATEST_CATEGORY = 4096, 2**64 - 1, 2**31 - 1
 MOST_SIZES = 2**44  # of eight bytes, in the addresses of x86-64
@@ -19,7 +19,7 @@ NULL_LABEL = b"no data"
 
 
 class Fault(Exception):
-    """Why there is no answer: the source, the line and the text that are told, the status, and what is out by then."""
+    """What stops a run: the source, the line and the text of the message, the status, and what was written before."""
 
     def __init__(self, source: bytes, line: int, text: bytes, status: int = 1, output: bytes = b""):
         super().__init__(source, line, text)
@@ -164,146 +164,14 @@ def added(total: int, count: int, name: bytes) -> int:
     return total + count
 
 
-# Edges
-
-EDGE_ROWS = 5
-
-
-@dataclass(frozen=True)
-class Edges:
-    """The sides of a band, its first row and its last, each with the numbers of its areas, and how many areas there are."""
-
-    region: Region
-    first: tuple[list[Cell], list[Cell]]
-    last: tuple[list[Cell], list[Cell]]
-    areas: int
-
-    def text(self) -> bytes:
-        region = Region(self.region.north, self.region.south, self.region.east, self.region.west, EDGE_ROWS, self.region.cols)
-        return grid_text(CellMap(region, [*self.first, *self.last, [self.areas] + [None] * (region.cols - 1)]), b"*")
-
-
-def grid_of(name: bytes, given: bytes | Failing) -> CellMap:
-    try:
-        return read_map(name, given)
-    except Refused as fault:
-        raise Fault(name, fault.line, fault.text.encode(), fault.status) from None
-
-
-def pair_fault(most: int, cell: Cell, number: Cell) -> bytes:
-    """Why a cell and a number do not go together, or nothing."""
-    if cell is None:
-        return b"" if number is None else b"number of a null cell"
-    if number is None:
-        return b"cell without a number"
-    return b"number below 1" if number < 1 else b"number above the count of areas" if number > most else b""
-
-
-def judge_rows(name: bytes, most: int, row: int, cells: list[Cell], numbers: list[Cell]) -> None:
-    """Refuses the first cell and number of two rows that do not go together; the row that is told is counted from 0."""
-    for col, (cell, number) in enumerate(zip(cells, numbers)):
-        if wrong := pair_fault(most, cell, number):
-            raise Fault(name, 0, b"row %d, column %d: %s" % (row + 1, col + 1, wrong))
-
-
-def edges(names: list[bytes], given: list[bytes | Failing]) -> bytes:
-    cells, numbers = (grid_of(name, text) for name, text in zip(names, given))
-    if numbers.region != cells.region:
-        raise Fault(names[1], 0, b"other region")
-    for row, (upper, below) in enumerate(zip(cells.rows, numbers.rows)):
-        judge_rows(names[1], GREATEST_CATEGORY, row, upper, below)
-    greatest = max((number for row in numbers.rows for number in row if number is not None), default=0)
-    return Edges(cells.region, (cells.rows[0], numbers.rows[0]), (cells.rows[-1], numbers.rows[-1]), greatest).text()
-
-
-def edges_of(name: bytes, given: bytes | Failing) -> Edges:
-    grid = grid_of(name, given)
-    if len(grid.rows) != EDGE_ROWS:
-        raise Fault(name, 0, b"not five rows")
-    count, *others = grid.rows[4]
-    if count is None or count < 0 or any(it is not None for it in others):
-        raise Fault(name, 0, b"bad count of areas")
-    for row in (0, 2):
-        judge_rows(name, count, row + 1, grid.rows[row], grid.rows[row + 1])
-    return Edges(grid.region, (grid.rows[0], grid.rows[1]), (grid.rows[2], grid.rows[3]), count)
-
-
-# Areas
-
-Label = tuple[int, int]  # the place of a band and the number of an area in it, both from 1
-Stretch = tuple[int, int, int, int]  # band, first, last, number
-
-
-def meetings(place: int, upper: Edges, lower: Edges, with_corners: bool) -> Iterator[tuple[Label, Label]]:
-    """The areas of the band at a place and of the one below it that meet over the cut between them."""
-    cells, numbers = upper.last
-    for col, (cell, number) in enumerate(zip(*lower.first)):
-        for near in (col - 1, col, col + 1) if with_corners else (col,):
-            if 0 <= near < len(cells) and cell is not None and cells[near] == cell:
-                yield (place, numbers[near]), (place + 1, number)
-
-
-def numbers_of(bands: list[Edges], with_corners: bool) -> dict[Label, int]:
-    """The number in the whole of each area of each band, in order: areas that a chain of meetings joins have one number."""
-    near: dict[Label, list[Label]] = {(place, area): [] for place, band in enumerate(bands, 1) for area in range(1, band.areas + 1)}
-    for place, (upper, lower) in enumerate(zip(bands, bands[1:]), 1):
-        for one, other in meetings(place, upper, lower, with_corners):
-            near[one].append(other)
-            near[other].append(one)
-    numbers: dict[Label, int] = {}
-    areas = 0
-    for label in near:
-        if label not in numbers:
-            areas += 1
-            numbers[label] = areas
-            to_visit = [label]
-            while to_visit:
-                for other in near[to_visit.pop()]:
-                    if other not in numbers:
-                        numbers[other] = areas
-                        to_visit.append(other)
-    return {label: numbers[label] for label in near}
-
-
-def stretches_of(numbers: Mapping[Label, int]) -> list[Stretch]:
-    found: list[Stretch] = []
-    for (band, area), number in numbers.items():
-        if found and found[-1][0] == band and number == found[-1][3] + area - found[-1][1]:
-            found[-1] = (band, found[-1][1], area, found[-1][3])
-        else:
-            found.append((band, area, area, number))
-    return found
-
-
-def areas_text(numbers: Mapping[Label, int]) -> bytes:
-    return b"".join(b"%d %d %d %d\n" % it for it in stretches_of(numbers))
-
-
-def areas(with_corners: bool, names: list[bytes], given: list[bytes | Failing]) -> bytes:
-    bands: list[Edges] = []
-    for name, text in zip(names, given):
-        band = edges_of(name, text)
-        if bands:
-            judge_place(name, bands[-1].region, band.region)
-        bands.append(band)
-    return areas_text(numbers_of(bands, with_corners))
-
-
-def judge_place(name: bytes, above: Region, region: Region) -> None:
-    if (region.cols, region.west, region.east) != (above.cols, above.west, above.east):
-        raise Fault(name, 0, b"other columns")
-    if region.north != above.south:
-        raise Fault(name, 0, b"not below the band before")
-
-
 # Sizes
 
-AREAS_KINDS = {b"bad cell": b"not four numbers", b"bad count": b"not four numbers", b"other number of cells": b"not four numbers",
-               b"combination listed twice": b"areas out of order", b"combination out of order": b"areas out of order"}
+NUMBERING_KINDS = {b"bad cell": b"not four numbers", b"bad count": b"not four numbers", b"other number of cells": b"not four numbers",
+                   b"combination listed twice": b"areas out of order", b"combination out of order": b"areas out of order"}
 
 
-class AreasText:
-    """An areas text that is read line by line: its head is the stretch that was read last, None at its end."""
+class Numbering:
+    """A numbering that is read line by line: its head is the run of clumps that was read last, None at its end."""
 
     def __init__(self, name: bytes, given: bytes | Failing):
         self.name, self.head = name, None
@@ -315,26 +183,26 @@ class AreasText:
 
     @staticmethod
     def of_table(fault: Fault) -> Fault:
-        return Fault(fault.source, fault.line, AREAS_KINDS.get(fault.text, fault.text), fault.status)
+        return Fault(fault.source, fault.line, NUMBERING_KINDS.get(fault.text, fault.text), fault.status)
 
     @property
     def line(self) -> int:
         return self.text.number
 
     def take(self) -> None:
-        """Makes a stretch of the entry that was read."""
+        """Makes a run of the entry that was read."""
         if not self.text.head:
             self.head = None
             return
         cells, number = self.text.head
         if any(is_null or cell < 1 for is_null, cell in cells):
             raise Fault(self.name, self.line, b"not four numbers")
-        band, first, last = (cell for _, cell in cells)
+        tile, first, last = (cell for _, cell in cells)
         if first > last:
             raise Fault(self.name, self.line, b"first area above the last")
-        if first != (self.head[2] + 1 if self.head and self.head[0] == band else 1):
+        if first != (self.head[2] + 1 if self.head and self.head[0] == tile else 1):
             raise Fault(self.name, self.line, b"areas out of order")
-        self.head = (band, first, last, number)
+        self.head = (tile, first, last, number)
 
     def next(self) -> None:
         try:
@@ -344,13 +212,13 @@ class AreasText:
         self.take()
 
 
-def add_stretch(joined: AreasText, table: TableText, sizes: dict[int, int]) -> None:
-    """Reads the areas of a stretch from the table of its band, and adds their sizes."""
-    _, first, last, number = joined.head
-    for area in range(first, last + 1):
-        if not table.head or table.head[0] != ((False, area),):
-            raise Fault(table.name, area, b"other area")
-        place = number + area - first
+def add_run(numbering: Numbering, table: TableText, sizes: dict[int, int]) -> None:
+    """Reads the clumps of a run from the table of their tile, and adds their sizes."""
+    _, first, last, number = numbering.head
+    for clump in range(first, last + 1):
+        if not table.head or table.head[0] != ((False, clump),):
+            raise Fault(table.name, clump, b"other clump")
+        place = number + clump - first
         if place > MOST_SIZES:
             raise Fault(b"sizes", 0, b"no memory", 3)
         sizes[place] = added(sizes.get(place, 0), table.head[1], b"%d" % place)
@@ -363,20 +231,20 @@ def end_table(table: TableText, last: int) -> None:
         table.next()
         last += 1
     if table.head:
-        raise Fault(table.name, last + 1, b"other area")
+        raise Fault(table.name, last + 1, b"other clump")
 
 
 def sizes(form: Format, names: list[bytes], given: list[bytes | Failing]) -> bytes:
-    joined, found = AreasText(names[0], given[0]), dict[int, int]()
-    for band, (name, text) in enumerate(zip(names[1:], given[1:]), 1):
+    numbering, found = Numbering(names[0], given[0]), dict[int, int]()
+    for tile, (name, text) in enumerate(zip(names[1:], given[1:]), 1):
         table, last = TableText(name, text, 1, form), 0
-        while joined.head and joined.head[0] == band:
-            add_stretch(joined, table, found)
-            last = joined.head[2]
-            joined.next()
+        while numbering.head and numbering.head[0] == tile:
+            add_run(numbering, table, found)
+            last = numbering.head[2]
+            numbering.next()
         end_table(table, last)
-    if joined.head:
-        raise Fault(names[0], joined.line, b"band without a table")
+    if numbering.head:
+        raise Fault(names[0], numbering.line, b"tile without a table")
     for number in range(1, max(found, default=0)):
         if number not in found:
             raise Fault(names[0], 0, b"number %d left out" % number)

@@ -1,22 +1,18 @@
-"""What rcell-join answers to its words: the command line of the model, over tools/join_model.py and tools/join_tile_model.py."""
+"""What rcell-join does with its words: the command line of the model, over tools/join_model.py and tools/join_border_model.py."""
 from __future__ import annotations
 
 import re
 from typing import Callable, Mapping
 
-from join_model import Fault, Format, Given, Reply, areas, edges, opened, sizes, tables
-from join_tile_model import sides, tiles
+from join_border_model import border, clumps
+from join_model import Fault, Format, Given, Reply, opened, sizes, tables
 from model_grids import Failing
 
-USAGE = b"usage: rcell-join (tables|edges|areas|sides|tiles|sizes) ..."
-USAGES = {b"tables": b"usage: rcell-join tables [-l] [separator=S] [null_value=N] FILE...", b"edges": b"usage: rcell-join edges MAP NUMBERS",
-          b"areas": b"usage: rcell-join areas [-d] EDGES...",
-          b"sides": b"usage: rcell-join sides MAP NUMBERS", b"tiles": b"usage: rcell-join tiles [-d] SIDES...",
-          b"sizes": b"usage: rcell-join sizes [separator=S] [null_value=N] JOINED TABLE..."}
+USAGE = b"usage: rcell-join (tables|border|clumps|sizes) ..."
+USAGES = {b"tables": b"usage: rcell-join tables [-l] [separator=S] [null_value=N] FILE...", b"border": b"usage: rcell-join border [-d] MAP",
+          b"clumps": b"usage: rcell-join clumps [-d] BORDER...", b"sizes": b"usage: rcell-join sizes [separator=S] [null_value=N] NUMBERING TABLE..."}
 VISIBLE = re.compile(rb"[!-~]{1,64}")
 SEPARATORS = {b"pipe": b"|", b"comma": b",", b"space": b" ", b"tab": b"\t"}
-WRITERS: dict[bytes, Callable[[list[bytes], list[bytes | Failing]], bytes]] = {b"edges": edges, b"sides": sides}
-JOINERS: dict[bytes, Callable[[bool, list[bytes], list[bytes | Failing]], bytes]] = {b"areas": areas, b"tiles": tiles}
 
 
 def misuse(text: bytes) -> Fault:
@@ -28,7 +24,7 @@ def is_option(word: bytes) -> bool:
 
 
 def is_wrong(key: bytes, value: bytes) -> bool:
-    """Whether the value of an option is one that r.stats refuses, too."""
+    """Whether r.stats also rejects the value of an option."""
     if key == b"null_value":
         return not VISIBLE.fullmatch(value)
     return value not in SEPARATORS and not (len(value) == 1 and VISIBLE.fullmatch(value))
@@ -72,19 +68,15 @@ def output_of(words: list[bytes], files: Mapping[bytes, Given]) -> bytes:
         return with_options(tables, 1, usage, [word for word in behind if word != b"-l"], files, b"-l" in behind)
     if command == b"sizes":
         return with_options(sizes, 2, usage, behind, files)
-    if command in WRITERS:
-        names, is_wrong = behind, len(behind) != 2
-    else:
-        names = [word for word in behind if word != b"-d"]
-        is_wrong = not names
-    if is_wrong or any(word.startswith(b"-") for word in names):
+    names = [word for word in behind if word != b"-d"]
+    if not names or any(word.startswith(b"-") for word in names) or command == b"border" and len(names) > 1:
         raise misuse(usage)
-    given = opened(names, files)
-    return WRITERS[command](names, given) if command in WRITERS else JOINERS[command](b"-d" in behind, names, given)
+    join = border if command == b"border" else clumps
+    return join(b"-d" in behind, names, opened(names, files))
 
 
 def answer(words: list[bytes], files: Mapping[bytes, Given]) -> Reply:
-    """What rcell-join answers to words, of files by their names."""
+    """The status, the output and the message of rcell-join with these words, over files by their names."""
     try:
         return 0, output_of(words, files), b""
     except Fault as fault:

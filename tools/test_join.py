@@ -1,13 +1,17 @@
 #!/usr/bin/env python3
 """Runs rcell-join beside a plain model of it, and beside rcell over maps that are not cut.
 
-    test_join.py [CLANG] [--program PROGRAM] [--rcell PROGRAM] [--runs N] [--seed N]
+    test_join.py [CLANG] [--program PROGRAM] [--rcell PROGRAM] [--runs N] [--maps N] [--seed N]
 
-Of each command named cases; tables at random, short and long ones, with labels and without; maps cut into bands, each clumped by
-rcell, whose joined numbers and sizes must be those of the undivided map, cell by cell: hard shapes by every cut, random ones by cuts
-at random; the same of maps cut into grids of tiles; tables with labels of bands, whose joined text must be that of the undivided
-map; and damaged texts. Some reads move few bytes, and each growth and each write is refused in turn. CLANG compiles what refuses
-growths and cuts reads; without it these parts are left out. The last line is 'N passed, M failed'.
+- named cases of each command, with each message;
+- N random sets of tables, short and long, with labels and without;
+- N random maps and some that are hard to cut, each cut into a grid of tiles: tables, numbers and sizes that are joined must be those
+  of the full map, cell by cell; tables with labels; and sets of texts of which one is damaged;
+- borders that are cut short, outputs that take few bytes, closed outputs; each growth of memory refused in turn, and each read that
+  fails or ends once.
+
+Some reads move few bytes. CLANG compiles what refuses growths and stops reads; without it these parts are left out. The last line is
+'N passed, M failed'.
 """
 from __future__ import annotations
 
@@ -18,12 +22,12 @@ import resource
 import subprocess
 import sys
 import tempfile
-from typing import IO, Any, Mapping
+from typing import IO, Any, Iterator, Mapping
 
 import cases
+import join_border_cases
 import join_cases
 import join_made
-import join_tile_cases
 import join_words
 from join_made import Cut, Named
 from join_model import Reply
@@ -31,14 +35,15 @@ from model_grids import CellMap, Failing, grid_text, read_map
 
 ROOT = os.path.dirname(os.path.dirname(os.path.abspath(__file__)))
 PIECES = [1, 2, 3, 5, 7, 8, 13, 16, 31, 64, 255, 4095]
+READS = [0, 7]  # bytes that a read moves where reads are stopped; 0: as many as are asked for
+FIRST_FILE = 3  # the descriptor of the first file that the program opens
 LONG_IN = 200  # one run of so many is of long texts
-RUNS_A_MAP = 12  # one map at random for so many runs of tables
-DAMAGES = 4  # so many texts of a map are damaged, one after another
+LABELS_IN = 4  # one map of so many has tables with labels, too
 SECONDS = 120
-SCRIPT = b"".join(b"r.clump %sinput=m output=%s\nr.out.ascii input=%s\nr.stats -c input=%s\n" % (flag, name, name, name)
-                  for flag, name in ((b"", b"e"), (b"-d ", b"d")))
 HEADER_LINES = 6
-NAMED = [*join_cases.named_cases(), *join_tile_cases.named_cases()]
+NAMED = [*join_cases.named_cases(), *join_border_cases.named_cases()]
+# A run of each command whose growths, reads and writes are stopped one after another.
+STOPPED = ("two tables", "labels of two maps", "border of a wide tile", "clumps of tiles", "sizes")
 
 
 class Runner:
@@ -62,25 +67,21 @@ class Runner:
         self.lay_out(files)
         return self.run(words, **more)
 
-    def clumped(self, grid: CellMap) -> list[tuple[bytes, bytes]]:
-        """Of each adjacency the numbers of the areas of a map as a grid, and their table."""
-        status, output, told = self.run_rcell(grid)
+    def output_of_rcell(self, grid: CellMap, script: bytes) -> bytes:
+        self.lay_out({b"m.txt": grid_text(grid, b"*"), b"script": script})
+        status, output, message = self.run([b"script", b"m=m.txt"], program=self.rcell)
         if status:
-            raise RuntimeError(told)
-        found, lines = [], output.splitlines(keepends=True)
-        for _ in (False, True):
-            numbers, lines = lines[: HEADER_LINES + grid.region.rows], lines[HEADER_LINES + grid.region.rows :]
-            entries = len({word for row in numbers[HEADER_LINES:] for word in row.split()})
-            table, lines = lines[:entries], lines[entries:]
-            found.append((b"".join(numbers), b"".join(table)))
-        return found
+            raise RuntimeError(message)
+        return output
 
-    def run_rcell(self, grid: CellMap) -> Reply:
-        return self.answer_of_rcell({b"m.txt": grid_text(grid, b"*"), b"script": SCRIPT})
-
-    def answer_of_rcell(self, files: Mapping[bytes, bytes]) -> Reply:
-        self.lay_out(files)
-        return self.run([b"script", b"m=m.txt"], program=self.rcell)
+    def answers_of_rcell(self, grid: CellMap, with_corners: bool) -> tuple[bytes, bytes, bytes]:
+        """The table of a map, the grid of its clump numbers and their table."""
+        flag = b"-d " if with_corners else b""
+        output = self.output_of_rcell(grid, b"r.stats -c input=m\nr.clump %sinput=m output=p\nr.out.ascii input=p\nr.stats -c input=p\n" % flag)
+        begin = output.index(b"north:")
+        lines = output[begin:].splitlines(keepends=True)
+        end = HEADER_LINES + grid.region.rows
+        return output[:begin], b"".join(lines[:end]), b"".join(lines[end:])
 
 
 class Count:
@@ -123,156 +124,163 @@ def try_tables(runner: Runner, count: Count, shims: Mapping[str, str], seed: int
 
 
 def try_labels(runner: Runner, count: Count, shims: Mapping[str, str], seed: int) -> None:
-    """Tables with labels of the bands of a map, joined, are the table of the undivided map."""
+    """Merged tables with labels of the tiles of a map are the table of the full map."""
     draw = random.Random(seed)
     cut = join_made.random_cut(draw, join_made.random_map(draw))
     script, options = join_made.labelling(draw, cut.whole)
-
-    def table(grid: CellMap) -> bytes:
-        status, output, told = runner.answer_of_rcell({b"m.txt": grid_text(grid, b"*"), b"script": script})
-        if status:
-            raise RuntimeError(told)
-        return output
-
-    files = {b"t%d" % place: table(join_made.part_of(cut.whole, span)) for place, span in enumerate(cut.spans)}
+    files = {b"t%d" % place: runner.output_of_rcell(join_made.tile_of(cut.whole, span), script) for place, span in enumerate(cut.spans)}
     words = [b"tables", *options, *files]
     got = runner.answer(words, files, **reads_of_pieces(draw, shims))
-    wrong = difference(got, (0, table(cut.whole), b"")) or difference(join_words.answer(words, files), got)
+    wrong = difference(got, (0, runner.output_of_rcell(cut.whole, script), b"")) or difference(join_words.answer(words, files), got)
     count.add(f"labels {seed}, {cut.name}", wrong)
 
 
-# Maps by bands and by tiles
+# Maps by tiles
 
 
-class Parts:
-    """The texts of the parts of a map, each made once: of each adjacency the numbers, the table, and the borders by the program."""
+class Tiles:
+    """The tiles of a map: their maps, what rcell computes of each, and their borders."""
 
-    def __init__(self, runner: Runner, draw: random.Random, shims: Mapping[str, str]):
-        self.runner, self.draw, self.shims = runner, draw, shims
-        self.made: dict[tuple[bytes, join_made.Span], list[tuple[bytes, bytes, bytes]]] = {}
+    def __init__(self, runner: Runner, draw: random.Random, shims: Mapping[str, str], cut: Cut, with_corners: bool):
+        self.runner, self.draw, self.shims, self.cut, self.flag = runner, draw, shims, cut, [b"-d"] * with_corners
         self.wrong = ""
+        self.maps = [join_made.tile_of(cut.whole, span) for span in cut.spans]
+        answers = [runner.answers_of_rcell(tile, with_corners) for tile in self.maps]
+        self.tables = self.named(b"t", [table for table, _, _ in answers])
+        self.numbers = [numbers for _, numbers, _ in answers]
+        self.sizes = self.named(b"s", [sizes for _, _, sizes in answers])
+        self.borders = self.named(b"b", [self.answer([b"border", *self.flag, b"m"], {b"m": grid_text(tile, b"*")})[1] for tile in self.maps])
+
+    @staticmethod
+    def named(letter: bytes, texts: list[bytes]) -> dict[bytes, bytes]:
+        return {letter + b"%d" % place: text for place, text in enumerate(texts)}
 
     def answer(self, words: list[bytes], files: Mapping[bytes, bytes]) -> Reply:
-        """What the program answers, which must be what the model does."""
+        """The reply of the program, which must be the model's."""
         got = self.runner.answer(words, files, **reads_of_pieces(self.draw, self.shims))
         self.wrong = self.wrong or difference(got, join_words.answer(words, files))
         return got
 
-    def of(self, cut: Cut, span: join_made.Span) -> list[tuple[bytes, bytes, bytes]]:
-        command = cut.commands[0]
-        if (command, span) not in self.made:
-            part = join_made.part_of(cut.whole, span)
-            cells, found = grid_text(part, b"*"), []
-            for numbers, table in self.runner.clumped(part):
-                _, borders, _ = self.answer([command, b"map", b"numbers"], {b"map": cells, b"numbers": numbers})
-                found.append((numbers, table, borders))
-            self.made[command, span] = found
-        return self.made[command, span]
+    def numbering(self) -> bytes:
+        return self.answer([b"clumps", *self.flag, *self.borders], self.borders)[1]
 
 
-def numbers_told(text: bytes) -> dict[tuple[int, int], int]:
-    """The number in the whole of each area of each part, by an areas text."""
-    lines = [tuple(map(int, line.split())) for line in text.splitlines()]
-    return {(part, area): number + area - first for part, first, last, number in lines for area in range(first, last + 1)}
+def full_numbers(numbering: bytes) -> dict[tuple[int, int], int]:
+    """The number in the full map of each clump of each tile, by a numbering."""
+    lines = [tuple(map(int, line.split())) for line in numbering.splitlines()]
+    return {(tile, clump): number + clump - first for tile, first, last, number in lines for clump in range(first, last + 1)}
 
 
-def wrong_cells(joined: bytes, cut: Cut, numbers: list[bytes], whole: bytes) -> str:
-    """Where the numbers of parts, by an areas text, are not those of the undivided map."""
-    told, wanted = numbers_told(joined), read_map(b"whole", whole).rows
+def wrong_cells(numbering: bytes, tiles: Tiles, whole: bytes) -> str:
+    """Where the numbers of tiles, by a numbering, are not those of the full map."""
+    numbers, wanted = full_numbers(numbering), read_map(b"whole", whole).rows
     rows = [list(row) for row in wanted]
-    for part, ((top, bottom, left, right), text) in enumerate(zip(cut.spans, numbers), 1):
+    for tile, ((top, bottom, left, right), text) in enumerate(zip(tiles.cut.spans, tiles.numbers), 1):
         for row, cells in zip(rows[top:bottom], read_map(b"numbers", text).rows):
-            row[left:right] = [told[part, cell] if cell else None for cell in cells]
-    return "" if rows == wanted else f"other numbers: {joined!r} of {numbers}, and not {whole!r}"
+            row[left:right] = [numbers.get((tile, cell)) if cell else None for cell in cells]
+    return "" if rows == wanted else f"other numbers: {numbering!r}, and not those of {whole!r}"
 
 
-def files_of_cut(parts: Parts, cut: Cut, adjacency: int) -> tuple[Named, Named, list[bytes]]:
-    """Names and texts of borders and of tables, and the texts of numbers."""
-    texts = [parts.of(cut, span)[adjacency] for span in cut.spans]
-    borders = [(b"e%d" % place, text) for place, (_, _, text) in enumerate(texts)]
-    return borders, [(b"t%d" % place, table) for place, (_, table, _) in enumerate(texts)], [numbers for numbers, _, _ in texts]
+def wrong_join(tiles: Tiles, with_corners: bool) -> str:
+    """What of a map that was cut is not as in the full map: its table, its numbers or their sizes."""
+    table, numbers, sizes = tiles.runner.answers_of_rcell(tiles.cut.whole, with_corners)
+    numbering = tiles.numbering()
+    merged = tiles.answer([b"tables", *tiles.tables], tiles.tables)
+    added = tiles.answer([b"sizes", b"numbering", *tiles.sizes], {b"numbering": numbering, **tiles.sizes})
+    without_null = b"".join(line for line in sizes.splitlines(keepends=True) if not line.startswith(b"*"))
+    wrong = tiles.wrong or difference(merged, (0, table, b"")) or wrong_cells(numbering, tiles, numbers)
+    return wrong or difference(added, (0, without_null, b""))
 
 
-def joining_words(cut: Cut, adjacency: int, borders: Named) -> list[bytes]:
-    return [cut.commands[1], *[b"-d"] * adjacency, *dict(borders)]
-
-
-def wrong_join(parts: Parts, cut: Cut, adjacency: int, whole: tuple[bytes, bytes]) -> str:
-    """What is wrong with the areas of a cut, by edges (0) or by corners (1), beside the undivided map."""
-    borders, tables, numbers = files_of_cut(parts, cut, adjacency)
-    status, joined, told = parts.answer(joining_words(cut, adjacency, borders), dict(borders))
-    if status or parts.wrong:
-        return parts.wrong or f"{status} {told}"
-    of_numbers = b"".join(line for line in whole[1].splitlines(keepends=True) if not line.startswith(b"*"))
-    got = parts.answer([b"sizes", b"joined", *dict(tables)], {b"joined": joined, **dict(tables)})
-    return parts.wrong or wrong_cells(joined, cut, numbers, whole[0]) or difference(got, (0, of_numbers, b""))
-
-
-def try_cuts(runner: Runner, count: Count, shims: Mapping[str, str], name: str, draw: random.Random, cuts: list[Cut]) -> Parts:
-    parts, whole = Parts(runner, draw, shims), runner.clumped(cuts[0].whole)
-    for cut in cuts:
-        for adjacency in (0, 1):
-            wrong = wrong_join(parts, cut, adjacency, whole[adjacency])
-            count.add(f"{name}, {cut.name}, {('edges', 'corners')[adjacency]}", wrong)
-    return parts
+def try_cut(runner: Runner, count: Count, shims: Mapping[str, str], name: str, draw: random.Random, cut: Cut, with_corners: bool) -> Tiles:
+    tiles = Tiles(runner, draw, shims, cut, with_corners)
+    count.add(f"{name}, {cut.name}, {'corners' if with_corners else 'edges'}", wrong_join(tiles, with_corners))
+    return tiles
 
 
 def try_random_map(runner: Runner, count: Count, shims: Mapping[str, str], seed: int) -> None:
     draw = random.Random(seed)
-    whole = join_made.random_map(draw)
-    cuts = [join_made.random_cut(draw, whole), join_made.random_grid(draw, whole)]
-    parts = try_cuts(runner, count, shims, f"map {seed}", draw, cuts)
-    for place in range(DAMAGES):
-        words, files = damaged_texts(parts, draw, cuts[place % 2])
-        count.add(f"map {seed}, damage {place}", difference(runner.answer(words, files), join_words.answer(words, files)))
+    cut = join_made.random_cut(draw, join_made.random_map(draw))
+    tiles = try_cut(runner, count, shims, f"map {seed}", draw, cut, draw.random() < 0.5)
+    words, files = damaged_texts(tiles, draw)
+    count.add(f"map {seed}, damaged", difference(runner.answer(words, files), join_words.answer(words, files)))
 
 
-def damaged_texts(parts: Parts, draw: random.Random, cut: Cut) -> tuple[list[bytes], dict[bytes, bytes]]:
+def damaged_texts(tiles: Tiles, draw: random.Random) -> tuple[list[bytes], dict[bytes, bytes]]:
     """Words and files of which one is damaged, is another's, or is there twice."""
-    writes, joins = cut.commands
-    adjacency, command = draw.randrange(2), draw.choice([writes, joins, joins, b"sizes", b"sizes"])
-    borders, tables, numbers = files_of_cut(parts, cut, adjacency)
-    if command == writes:
-        place = draw.randrange(len(numbers))
-        cells = grid_text(join_made.part_of(cut.whole, cut.spans[place]), b"*")
-        files: Named = [(b"map", cells), (b"numbers", numbers[place])]
-    elif command == joins:
-        files = borders
-    else:
-        files = [(b"joined", join_words.answer(joining_words(cut, adjacency, borders), dict(borders))[1]), *tables]
+    command = draw.choice([b"border", b"clumps", b"clumps", b"clumps", b"sizes", b"sizes"])
+    files: Named = [*tiles.borders.items()]
+    if command == b"border":
+        files = [(b"map", grid_text(draw.choice(tiles.maps), b"*"))]
+    elif command == b"sizes":
+        files = [(b"numbering", join_words.answer([b"clumps", *tiles.flag, *tiles.borders], tiles.borders)[1]), *tiles.sizes.items()]
     names, texts = [name for name, _ in files], [text for _, text in files]
     at, other, kind = draw.randrange(len(files)), draw.randrange(len(files)), draw.randrange(8)
     if kind == 0:
         texts[at], texts[other] = texts[other], texts[at]
-    elif kind == 1 and command != writes:
+    elif kind == 1 and command != b"border":
         names.insert(at, names[other])
         texts.insert(at, texts[other])
     elif kind == 2 and len(files) > 2:
         del names[at], texts[at]
+    elif kind == 3 and command == b"clumps":
+        texts[at] = join_words.answer([b"border", *[b"-d"][len(tiles.flag) :], b"m"], {b"m": grid_text(tiles.maps[at], b"*")})[1]
     else:
         texts[at] = join_made.damaged(draw, texts[at])
-    return [command, *[b"-d"] * (adjacency * (command == joins)), *names], dict(zip(names, texts))
+    return [command, *(tiles.flag if command != b"sizes" else []), *names], dict(zip(names, texts))
 
 
-def try_maps(runner: Runner, count: Count, shims: Mapping[str, str], seeds: range) -> None:
+def hard_cuts() -> Iterator[tuple[str, random.Random, Cut]]:
+    """Maps that are hard to cut: each shape by many cuts, and larger ones by one or two."""
     for name, shape in join_made.SHAPES.items():
         draw = random.Random(name)
         whole = join_made.in_region(draw, shape(5, 7))
-        try_cuts(runner, count, shims, name, draw, join_made.every_cut(whole) + join_made.some_grids(draw, whole))
-    for seed in seeds:
-        try_random_map(runner, count, shims, seed)
-        try_labels(runner, count, shims, seed)
+        yield from ((name, draw, cut) for cut in join_made.some_cuts(draw, whole))
     for name, rows, cols in (("comb", 120, 401), ("spiral", 161, 150), ("checkerboard", 150, 201)):
         draw = random.Random(name)
         whole = join_made.in_region(draw, join_made.SHAPES[name](rows, cols))
-        ends, col_ends = [1, 2, 50, 51, rows - 1, rows], [1, 75, 76, cols]
-        try_cuts(runner, count, shims, f"long {name}", draw, [Cut(whole, ends), Cut(whole, ends, col_ends)])
+        for col_ends in ([cols], [1, 75, 76, cols]):
+            yield f"long {name}", draw, Cut(whole, [1, 2, 50, 51, rows - 1, rows], col_ends)
     draw = random.Random(1)
     noise = join_made.in_region(draw, [[draw.randrange(3) or None for _ in range(300)] for _ in range(200)])
-    try_cuts(runner, count, shims, "noise", draw, [Cut(noise, list(range(10, 201, 10))), Cut(noise, [60, 130, 200], [70, 71, 150, 300])])
+    yield "noise", draw, Cut(noise, list(range(10, 201, 10)), [300])
+    yield "noise", draw, Cut(noise, [60, 130, 200], [70, 71, 150, 300])
 
 
-# Refusals of the system
+def try_maps(runner: Runner, count: Count, shims: Mapping[str, str], seeds: range) -> None:
+    for name, draw, cut in hard_cuts():
+        for with_corners in (False, True):
+            try_cut(runner, count, shims, name, draw, cut, with_corners)
+    for seed in seeds:
+        try_random_map(runner, count, shims, seed)
+        if seed % LABELS_IN == 0:
+            try_labels(runner, count, shims, seed)
+
+
+# Texts that are cut short, and what the system refuses
+
+
+def wrong_prefix(runner: Runner, text: bytes) -> str:
+    """What is wrong where a border is cut short: only its last line feed may be missing."""
+    for length in range(len(text)):
+        files = {b"b": text[:length]}
+        got = runner.answer([b"clumps", b"b"], files)
+        if got[0] != (0 if length == len(text) - 1 else 1) or got != join_words.answer([b"clumps", b"b"], files):
+            return f"{length} bytes of a border: {got}"
+    return ""
+
+
+def closed(runner: Runner, words: list[bytes], files: Mapping[bytes, bytes]) -> str:
+    """What is wrong where standard output is a pipe that nobody reads, or a full device."""
+    runner.lay_out(files)
+    reading, writing = os.pipe()
+    os.close(reading)
+    with os.fdopen(writing, "wb") as pipe, open("/dev/full", "wb") as full:
+        for output in (pipe, full):
+            status, _, message = runner.run(words, stdout=output)
+            if (status, message) != (4, b"rcell-join: output:0: write failed after 0 bytes\n"):
+                return f"{output.name}: {status} {message!r}"
+    return ""
 
 
 def limited(runner: Runner, words: list[bytes], files: Mapping[bytes, bytes], wanted: bytes) -> str:
@@ -293,7 +301,7 @@ def limited(runner: Runner, words: list[bytes], files: Mapping[bytes, bytes], wa
 
 
 def growths_refused(runner: Runner, words: list[bytes], files: Mapping[bytes, bytes], wanted: bytes, shim: str) -> str:
-    """What is wrong where growth 1, 2, .. is refused: that is told, and of tables whole lines are out, of all else nothing."""
+    """What is wrong where growth 1, 2, .. is refused: the message says so, and nothing is written but whole lines of tables."""
     runner.lay_out(files)
     counted, fronts = f"{runner.room}/count", {b""}
     if words[0] == b"tables":
@@ -310,36 +318,67 @@ def growths_refused(runner: Runner, words: list[bytes], files: Mapping[bytes, by
     return "no run ended without a refusal"
 
 
+def stopped_as(names: list[bytes], files: Mapping[bytes, bytes], shim_counts: str, fails: bool) -> Mapping[bytes, bytes | Failing]:
+    """The files, of which the one whose read was stopped fails or ends where that was."""
+    with open(shim_counts, encoding="ascii") as file:
+        _, before, stopped, *_ = map(int, file.read().split())
+    if stopped < 0:
+        return files
+    name = names[stopped - FIRST_FILE]
+    return {**files, name: Failing(files[name][:before]) if fails else files[name][:before]}
+
+
+def wrong_reads(runner: Runner, words: list[bytes], names: list[bytes], files: Mapping[bytes, bytes], shim: str) -> str:
+    """What is wrong where read 1, 2, .. fails, for good or once only, or ends once: a source is not asked again."""
+    runner.lay_out(files)
+    counts = f"{runner.room}/reads"
+    for piece in READS:
+        for how in ({"READ_FAILS": 1}, {"READ_FAILS": 1, "READ_ONCE": 1}, {"READ_ENDS": 1}):
+            for at in range(1, 10000):
+                more = {name: str(number if name == "READ_ONCE" else at) for name, number in how.items()}
+                got = runner.run(words, LD_PRELOAD=shim, DEVICE_COUNTS=counts, READ_PIECE=str(piece), **more)
+                stopped = stopped_as(names, files, counts, "READ_FAILS" in how)
+                wanted = join_words.answer(words, stopped)
+                if got != wanted:
+                    return f"with {more}, {piece or 'all'} bytes a read: {difference(got, wanted)}"
+                if stopped is files:
+                    break
+    return ""
+
+
 def try_refusals(runner: Runner, count: Count, shims: Mapping[str, str]) -> None:
     named = {name: (words, files) for name, words, files, _ in NAMED}
-    three = {b"a": b"1 2 3\n1 * 4\n2 2 2\n", b"b": b"0 1 9\n1 2 1\n", b"c": b""}
-    two = {b"a": b"1;forest;3\n2;;2\n", b"b": b"1;forest;9\n*;no data;1\n"}
-    runs = {"tables": ([b"tables", *three], three), "tables with labels": ([b"tables", b"-l", b"separator=;", *two], two), **{name: named[name] for name in ("edges of a band", "areas by edges", "sides of a tile", "tiles by edges", "sizes")}}
-    for name, (words, files) in runs.items():
+    for name in STOPPED:
+        words, given = named[name]
+        files = {path: text for path, text in given.items() if path in words}
         wanted = join_words.answer(words, files)[1]
         count.add(f"{name}, outputs of each size", limited(runner, words, files, wanted))
+        count.add(f"{name}, closed outputs", closed(runner, words, files))
         if shims:
+            names = [word for word in words if word in files]
             count.add(f"{name}, each growth refused", growths_refused(runner, words, files, wanted, shims["refuse"]))
+            count.add(f"{name}, each read stopped", wrong_reads(runner, words, names, files, shims["devices"]))
+    count.add("borders cut short", wrong_prefix(runner, join_border_cases.TILES[b"a"]))
 
 
 def main() -> int:
-    words = argparse.ArgumentParser(description="Runs rcell-join beside a plain model of it.")
+    words = argparse.ArgumentParser(description="Runs rcell-join beside a plain model of it, and beside rcell over maps that are not cut.")
     words.add_argument("clang", nargs="?")
     words.add_argument("--program", default=f"{ROOT}/bin/rcell-join")
     words.add_argument("--rcell", default=f"{ROOT}/bin/rcell")
-    words.add_argument("--runs", type=int, default=2000)
+    words.add_argument("--runs", type=int, default=2000, help="sets of tables")
+    words.add_argument("--maps", type=int, default=350, help="random maps")
     words.add_argument("--seed", type=int, default=1)
     given, count = words.parse_args(), Count()
-    seeds = range(given.seed, given.seed + given.runs)
     with tempfile.TemporaryDirectory(prefix="rcell-join-") as room:
         runner = Runner(os.path.abspath(given.program), os.path.abspath(given.rcell), room)
         shims = {name: f"{room}/{name}.so" for name in ("refuse", "devices")} if given.clang else {}
         for name, shim in shims.items():
             cases.build_shim(given.clang, shim, name)
         try_named(runner, count)
-        for seed in seeds:
+        for seed in range(given.seed, given.seed + given.runs):
             try_tables(runner, count, shims, seed)
-        try_maps(runner, count, shims, seeds[: -(-given.runs // RUNS_A_MAP)])
+        try_maps(runner, count, shims, range(given.seed, given.seed + given.maps))
         try_refusals(runner, count, shims)
     print(f"{count.passed} passed, {count.failed} failed")
     return 1 if count.failed else 0
