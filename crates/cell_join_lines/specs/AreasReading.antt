@@ -1,5 +1,5 @@
--- How an areas text is read: the stretches of its lines up to the first fault. A line is that of an entry of a table of three
--- columns, band, first and last, whose count is the number.
+-- How a numbering is read: the runs of its lines up to the first fault. A line is that of an entry of a table of three
+-- columns, tile, first and last, whose count is the number.
 use Rattle.std.specs.Prelude.{ℕ, ◌+◌, ◌==◌, nat_lt, Bool, pos, negsuc, slice_index_or, List, [], ◌∷◌, Option, Some, None, Result, Ok, Err, true, false, if◌then◌else◌, codes}
 use Rattle.std.specs.Option.{option_map}
 use Rattle.cell_core_values.specs.Letters.{byte}
@@ -18,11 +18,11 @@ use Rattle.cell_join_lines.specs.declared.areas_fault.AreasFault.{AreasFault}
 use Rattle.cell_join_lines.specs.declared.areas_fault.AreasKind.{AreasKind}
 use Rattle.cell_join_lines.specs.declared.areas_fault.AreasKind.TheVariants as areas_kinds
 
--- four fields with a space between two; null is no field of an areas text
+-- four fields with a space between two; null is no field of a numbering
 abbrev pub areas_format : FormatValue
 areas_format = record { separator = byte (codes " "); null_text = codes "*"; labels = false; counts = true }
 
--- what a fault of a table of three columns is of an areas text
+-- what a fault of a table of three columns is of a numbering
 abbrev pub areas_kind : TableKind → AreasKind
 areas_kind table_kind.BadCell = areas_kinds.NotNumbers
 areas_kind table_kind.BadCount = areas_kinds.NotNumbers
@@ -56,30 +56,30 @@ number_of_cell (Some (pos n)) = if nat_lt 0 n then Some n else None
 abbrev pub number_in_column : Combination → ℕ → Option ℕ
 number_in_column cells place = number_of_cell (slice_index_or cells place None)
 
--- a stretch of numbers that may be
+-- a run of numbers that may be
 abbrev pub stretch_if : (band first last : Option ℕ) → ℕ → Result Stretch AreasKind
 stretch_if None first last number = Err areas_kinds.NotNumbers
 stretch_if (Some band) None last number = Err areas_kinds.NotNumbers
 stretch_if (Some band) (Some first) None number = Err areas_kinds.NotNumbers
 stretch_if (Some band) (Some first) (Some last) number = Ok (record { band = band; first = first; last = last; number = number })
 
--- the stretch that an entry spells
+-- the run that an entry spells
 abbrev pub stretch_of_entry : Combination × ℕ → Result Stretch AreasKind
 stretch_of_entry entry = stretch_if (number_in_column entry.0 0) (number_in_column entry.0 1) (number_in_column entry.0 2) entry.1
 
--- the first area of a band comes next, or the area behind those of another stretch of it
+-- the first clump of a tile comes next, or the clump behind those of another run of it
 abbrev pub comes_next : Option Stretch → Stretch → Bool
 comes_next None s = s.first == 1
 comes_next (Some before) s = if before.band == s.band then s.first == before.last + 1 else s.first == 1
 
--- a stretch behind another one, if there is one
+-- a run behind another one, if there is one
 abbrev pub in_sequence : Option Stretch → Stretch → Result Stretch AreasKind
 in_sequence before s = if nat_lt s.last s.first then Err areas_kinds.Reversed else (if comes_next before s then Ok s else Err areas_kinds.NotNext)
 
 abbrev pub next_stretch : Option Stretch → Combination × ℕ → Result Stretch AreasKind
 next_stretch before entry = stretch_of_entry entry >>= in_sequence before
 
--- what an areas text is read as: the stretches before its first fault, and that fault
+-- what a numbering is read as: the runs before its first fault, and that fault
 pub record AreasReading : Type 0 where
   pub stretches : List Stretch
   pub fault : Option AreasFault
@@ -92,16 +92,16 @@ areas_ended = record { stretches = []; fault = None }
 abbrev pub areas_stopped : ℕ → AreasKind → AreasReading
 areas_stopped line kind = record { stretches = []; fault = Some (record { line = line; kind = kind }) }
 
--- a stretch, and then what else is read
+-- a run, and then what else is read
 abbrev pub with_stretch : Stretch → AreasReading → AreasReading
 with_stretch s others = record { stretches = s ∷ others.stretches; fault = others.fault }
 
--- a stretch or a fault, and what is read after the stretch
+-- a run or a fault, and what is read after the run
 abbrev pub then_stretches : ℕ → Result Stretch AreasKind → (Stretch → AreasReading) → AreasReading
 then_stretches line (Err kind) more = areas_stopped line kind
 then_stretches line (Ok s) more = with_stretch s (more s)
 
--- entries, from this line on, behind a stretch, if there is one, and the fault behind them
+-- entries, from this line on, behind a run, if there is one, and the fault behind them
 abbrev pub stretches_read : ℕ → Option Stretch → Pairs → Option TableFault → AreasReading
 stretches_read line before [] fault = record { stretches = []; fault = option_map areas_fault fault }
 stretches_read line before (entry ∷ entries) fault = then_stretches line (next_stretch before entry) (λ s. stretches_read (line_after line) (Some s) entries fault)

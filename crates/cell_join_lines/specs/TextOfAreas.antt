@@ -1,4 +1,4 @@
--- What an areas text is still read as, its head first.
+-- What a numbering is still read as, its head first.
 use Rattle.std.specs.Prelude.{ℕ, Bool, false, Option, Some, None, Result, Ok, Err}
 use Rattle.std.specs.Option.{option_map}
 use Rattle.cell_core_devices.specs.Asking.{Heard}
@@ -7,7 +7,7 @@ use Rattle.cell_join_lines.specs.declared.stretch.Stretch.{Stretch}
 use Rattle.cell_join_lines.specs.declared.areas_fault.AreasFault.{AreasFault}
 use Rattle.cell_join_lines.specs.AreasReading.{AreasReading, areas_ended, areas_read, is_read_areas, with_stretch}
 
--- the stretch that was read last, the number of the line behind it, what is read behind it as a table, where that is known, and
+-- the run that was read last, the number of the line behind it, what is read behind it as a table, where that is known, and
 -- what was heard of the source
 pub record AreasTextValue : Type 0 where
   pub head : Option Stretch

@@ -1,4 +1,4 @@
-//! Why a text is no areas text.
+//! Why a text is no numbering.
 
 ghost use Rattle.std.specs.Prelude.{◌≡◌};
 ghost use Rattle.cell_join_lines.specs.AreasReading.{areas_kind, is_read_areas};
@@ -7,18 +7,18 @@ ghost use Rattle.cell_join_lines.specs.SourceLines.{is_read_fault};
 use crate::table_fault::TableKind;
 use thiserror::Error;
 
-/// What is wrong with an areas text.
+/// What is wrong with a numbering.
 #[derive(Clone, Copy, Debug, PartialEq, Eq, Error)]
 pub enum AreasKind {
     /// Other than four numbers as they are printed, of which the first three are from 1 to 2147483647, and the last is from 1 to
     /// 2^64 - 1.
     #[error("not four numbers")]
     NotNumbers,
-    /// A first area that is above the last.
-    #[error("first area above the last")]
+    /// A first clump that is above the last.
+    #[error("first clump above the last")]
     Reversed,
-    /// A band or an area that does not come next: one is left out, stands twice or too late.
-    #[error("areas out of order")]
+    /// A tile or a clump that does not come next: one is left out, comes twice or too late.
+    #[error("clumps out of order")]
     NotNext,
     /// A line of more bytes than the text of a table may have.
     #[error("line too long")]
@@ -42,7 +42,7 @@ pub struct AreasFault {
     pub kind: AreasKind,
 }
 
-// What a fault of a table of three columns is of an areas text.
+// What a fault of a table of three columns is of a numbering.
 pub(crate) fn areas_kind(kind: TableKind) -> AreasKind
     ensures value { result ≡ areas_kind kind }
     ensures read { is_read_areas result ≡ is_read_fault kind }

@@ -1,4 +1,4 @@
-//! The areas text read.
+//! The numbering read.
 
 ghost use Rattle.std.specs.Prelude.{◌≡◌, ◌≢◌, ◌-◌, None, IfErr, IfOk, IfSome, OnOk, Ok, Err, option_map, slice_index_or};
 ghost use Rattle.cell_core_devices.specs.Asking.{hears, heard_first};
@@ -47,7 +47,7 @@ fn number_in_column(cells: &[Cell], place: usize) -> Option<u64>
     }
 }
 
-// The stretch that an entry spells.
+// The run that an entry spells.
 fn stretch_of(combo: &Combo, number: u64) -> Result<Stretch, AreasKind>
     ensures { result ≡ stretch_of_entry (combo.now, number) }
 {
@@ -69,7 +69,7 @@ fn stretch_of(combo: &Combo, number: u64) -> Result<Stretch, AreasKind>
     })
 }
 
-// Whether a stretch begins where the one before it says.
+// Whether a run begins where the one before it says.
 fn comes_next(before: Option<Stretch>, stretch: Stretch) -> bool
     ensures { result ≡ comes_next before stretch }
 {
@@ -79,7 +79,7 @@ fn comes_next(before: Option<Stretch>, stretch: Stretch) -> bool
     }
 }
 
-// A stretch behind another one, if there is one.
+// A run behind another one, if there is one.
 fn in_sequence(before: Option<Stretch>, stretch: Stretch) -> Result<Stretch, AreasKind>
     ensures { result ≡ in_sequence before stretch }
 {
@@ -92,7 +92,7 @@ fn in_sequence(before: Option<Stretch>, stretch: Stretch) -> Result<Stretch, Are
     Err(AreasKind::NotNext)
 }
 
-// The stretch that an entry spells behind another one; None where there is no entry.
+// The run that an entry spells behind another one; None where there is no entry.
 fn stretch_of_head(
     before: Option<Stretch>,
     head: &Option<(Combo, u64)>,
@@ -111,7 +111,7 @@ fn stretch_of_head(
     }
 }
 
-// What a fault of a table is of an areas text.
+// What a fault of a table is of a numbering.
 fn of_table(fault: TableFault) -> AreasFault
     ensures value { result ≡ areas_fault fault }
     ensures read { is_read_areas result.kind ≡ is_read_fault fault.kind }
@@ -122,7 +122,7 @@ fn of_table(fault: TableFault) -> AreasFault
     }
 }
 
-/// An areas text that is read as it goes: the stretch that was read last, and what is to come behind it.
+/// A numbering that is read as it goes: the run that was read last, and what is to come behind it.
 #[derive(Drop)]
 pub struct AreasText<R: Source> {
     text: TableText<R>,
@@ -146,7 +146,7 @@ impl<R: Source> Model for AreasText<R> {
 }
 
 impl<R: Source> AreasText<R> {
-    /// A text of which the first stretch was read. It takes the memory of a block and a line.
+    /// A text of which the first run was read. It takes the memory of a block and a line.
     ///
     /// # Errors
     ///
@@ -178,21 +178,21 @@ impl<R: Source> AreasText<R> {
         }
     }
 
-    /// The stretch that was read last, or None at the end of the text.
+    /// The run that was read last, or None at the end of the text.
     pub fn stretch(&self) -> Option<Stretch>
         ensures { result ≡ self.now.head }
     {
         self.head
     }
 
-    /// The number of the line of the stretch that was read last.
+    /// The number of the line of the run that was read last.
     pub fn stretch_line(&self) -> u64
         ensures { result ≡ self.now.line - 1 }
     {
         self.line.saturating_sub(1)
     }
 
-    /// Reads the next stretch.
+    /// Reads the next run.
     ///
     /// # Errors
     ///

@@ -1,17 +1,17 @@
-//! Areas of a band whose numbers in the whole follow one another.
+//! Clumps of a tile whose numbers in the whole follow one another.
 
 ghost use Rattle.std.specs.Prelude.{◌≡◌, ◌==◌, ◌+◌};
 
-/// The areas from one to another of a band, which in the whole have a number, the one after it, and so on.
+/// The clumps from one to another of a tile, which in the whole have a number, the one after it, and so on.
 #[derive(Clone, Copy, Debug, PartialEq, Eq)]
 pub struct Stretch {
-    /// The place of the band, counted from 1.
+    /// The place of the tile, counted from 1.
     pub band: u64,
-    /// The number of the first area in its band, counted from 1.
+    /// The number of the first clump in its tile, counted from 1.
     pub first: u64,
-    /// The number of the last area in its band.
+    /// The number of the last clump in its tile.
     pub last: u64,
-    /// The number of the first area in the whole.
+    /// The number of the first clump in the whole.
     pub number: u64,
 }
 

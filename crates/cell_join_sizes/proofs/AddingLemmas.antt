@@ -11,7 +11,7 @@ use Rattle.cell_join_lines.specs.LineReading.{TableReading, reading_of}
 use Rattle.cell_join_lines.specs.declared.stretch.Stretch.{Stretch}
 use Rattle.cell_join_lines.specs.AreasReading.{AreasReading, areas_ended, areas_reading_of}
 use Rattle.cell_join_lines.specs.AreasText.{numbers_told, stretch_numbers}
-use Rattle.cell_join_lines.specs.TextOfAreas.{AreasTextValue, areas_from, areas_from_head}
+use Rattle.cell_join_sizes.specs.parts.Held.{HeldValue, held_from, held_from_head}
 use Rattle.cell_join_sizes.specs.Sizes.{size_of_area}
 use Rattle.cell_join_tables.specs.JoinedTexts.{Give}
 use Rattle.cell_join_sizes.specs.SizeTexts.{AreTablesOfBands, BandSizes, HasSums, HaveSizes, IsTableOfBand, sizes_of_parts, stretches_of_parts}
@@ -43,8 +43,8 @@ no-others [] e = refl
 no-others (one ∷ others) e = cc
 
 module _ {R : Type 0} (coming : R → Option Coming) (format : FormatValue) (text : Coming) (texts : List Coming) where
-  pub added-none : (sources : List R) (areas : AreasTextValue) → Give coming sources texts
-      → Some (areas_reading_of text) ≡ areas_from areas
+  pub added-none : (sources : List R) (areas : HeldValue) → Give coming sources texts
+      → Some (areas_reading_of text) ≡ held_from areas
       → areas.line ≡ 2 → HasAddedTables coming format text texts areas sources 0 []
   added-none sources areas give opened line = record {
     others = texts;
@@ -54,14 +54,14 @@ module _ {R : Type 0} (coming : R → Option Coming) (format : FormatValue) (tex
     parts = [];
     count = refl;
     listed = tt;
-    told = opened ∙ sym (stretches-none (areas_from areas));
+    told = opened ∙ sym (stretches-none (held_from areas));
     areas_line = line;
     tallies = tallies-none [];
   }
 
-  pub added-more : (source : R) (left all : List R) (areas after : AreasTextValue) (place : ℕ) (old new : List ℕ)
+  pub added-more : (source : R) (left all : List R) (areas after : HeldValue) (place : ℕ) (old new : List ℕ)
       → all ≡ source ∷ left → HasAddedTables coming format text texts areas all place old
-      → HasReadBand (place + 1) areas.line after.line (areas_from areas) (areas_from after)
+      → HasReadBand (place + 1) areas.line after.line (held_from areas) (held_from after)
       (option_map (reading_of format 1) (coming source)) old new
       → HasAddedTables coming format text texts after left (place + 1) new
   added-more source left all areas after place old new is so band = by so.others
@@ -88,8 +88,8 @@ module _ {R : Type 0} (coming : R → Option Coming) (format : FormatValue) (tex
             listed = tables-push 1 so.parts so.first band.part reading so.listed
                 (subst (λ (b : ℕ). IsTableOfBand b band.part reading) (omega (arith, so.count)) listed);
             told = so.told ∙ ap (option_map (with_stretches (stretches_of_parts so.parts))) band.told
-                ∙ stretches-both (stretches_of_parts so.parts) band.part.stretches (areas_from after)
-                ∙ ap (λ (l : List Stretch). option_map (with_stretches l) (areas_from after))
+                ∙ stretches-both (stretches_of_parts so.parts) band.part.stretches (held_from after)
+                ∙ ap (λ (l : List Stretch). option_map (with_stretches l) (held_from after))
                 (sym (flat-push (λ (part : BandSizes). part.stretches) so.parts band.part));
             areas_line =
                 let long = ap (λ (l : List Stretch). length l)
@@ -107,7 +107,7 @@ module _ {R : Type 0} (coming : R → Option Coming) (format : FormatValue) (tex
                 (sym (flat-push (λ (part : BandSizes). part.sizes) so.parts band.part)) together);
           }
 
-  module _ (left : List R) (areas : AreasTextValue) (place : ℕ) (sizes : List ℕ) (none : left ≡ [])
+  module _ (left : List R) (areas : HeldValue) (place : ℕ) (sizes : List ℕ) (none : left ≡ [])
       (ended : areas.head ≡ None) (so : HasAddedTables coming format text texts areas left place sizes) where
     pub all-listed : AreTablesOfBands 1 so.parts (map (reading_of format 1) texts)
     all-listed =
@@ -117,14 +117,12 @@ module _ {R : Type 0} (coming : R → Option Coming) (format : FormatValue) (tex
         subst (AreTablesOfBands 1 so.parts) (sym readings) so.listed
 
     pub all-told : areas_reading_of text ≡ record { stretches = stretches_of_parts so.parts; fault = None }
-    all-told = by areas.rest (so.told ∙ ap (λ (head : Option Stretch). option_map
-        (with_stretches (stretches_of_parts so.parts)) (areas_from_head areas head)) ended)
+    all-told = by (so.told ∙ ap (λ (head : Option Stretch). option_map (with_stretches (stretches_of_parts so.parts))
+        (held_from_head areas head)) ended)
       where
-        by : (rest : Option TableReading) → Some (areas_reading_of text) ≡ option_map
-            (with_stretches (stretches_of_parts so.parts)) (option_map (λ (r : TableReading). areas_ended) rest)
+        by : Some (areas_reading_of text) ≡ option_map (with_stretches (stretches_of_parts so.parts)) (Some areas_ended)
             → areas_reading_of text ≡ record { stretches = stretches_of_parts so.parts; fault = None }
-        by None e = cc
-        by (Some r) e =
+        by e =
             let same : areas_reading_of text ≡ record { stretches = stretches_of_parts so.parts ++ []; fault = None }
             = cc in
             same ∙ ap (λ (l : List Stretch). record { stretches = l; fault = None })

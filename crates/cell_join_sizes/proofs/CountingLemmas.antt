@@ -1,4 +1,4 @@
--- A table read entry by entry beside the stretches of its band.
+-- A table read entry by entry beside the runs of its tile.
 use Rattle.std.proofs.Common.{◌≡◌, ℕ, ◌+◌, ◌^◌, ◌<◌, ◌≤◌, List, [], ◌∷◌, ◌++◌, length, take, drop, Option, Some, None, false, refl, ap, sym, ◌∙◌, subst, zero, suc, arith, add-one, append-nil, append_assoc, length-append, length-drop, option_map}
 use Rattle.std.specs.Prelude.{IfSome, is_some}
 use Rattle.std.specs.List.{range_with_len}
@@ -15,7 +15,7 @@ use Rattle.cell_join_lines.specs.TextReading.{TextValue, reading_behind, reading
 use Rattle.cell_join_lines.specs.declared.stretch.Stretch.{Stretch}
 use Rattle.cell_join_lines.specs.AreasReading.{AreasReading, areas_read, with_stretch}
 use Rattle.cell_join_lines.specs.AreasText.{numbers_told, stretch_numbers}
-use Rattle.cell_join_lines.specs.TextOfAreas.{AreasTextValue, areas_behind, areas_from, areas_from_head}
+use Rattle.cell_join_sizes.specs.parts.Held.{HeldValue, held_behind, held_from, held_from_head}
 use Rattle.cell_join_sizes.specs.SizeTexts.{IsTableOfBand, entries_of_areas, number_entries, stretch_areas}
 use Rattle.cell_join_sizes.specs.parts.Tally.{Tallies}
 use Rattle.cell_join_sizes.specs.parts.Counting.{HasCountedAreas, HasCountedBand, HasReadBand, IsHeadOfNull, IsLeftOver, area_entry, with_entries, with_stretches}
@@ -49,18 +49,9 @@ head-none format text is = subst (λ (head : Option (Combination × ℕ)). IfSom
     by None = tt
     by (Some c) = refl
 
-pub stretch-first : (text : AreasTextValue) (s : Stretch) → text.head ≡ Some s
-    → areas_from text ≡ option_map (with_stretches (s ∷ [])) (areas_behind text)
-stretch-first text s is =
-    ap (areas_from_head text) is ∙ by text.rest
-    ∙ ap (λ (head : Option Stretch). option_map (with_stretches (s ∷ []))
-    (option_map (areas_read text.line head) text.rest)) (sym is)
-  where
-    by : (rest : Option TableReading) → option_map (λ (r : TableReading). with_stretch s
-        (areas_read text.line (Some s) r)) rest
-        ≡ option_map (with_stretches (s ∷ [])) (option_map (areas_read text.line (Some s)) rest)
-    by None = refl
-    by (Some r) = refl
+pub stretch-first : (text : HeldValue) (s : Stretch) → text.head ≡ Some s
+    → held_from text ≡ option_map (with_stretches (s ∷ [])) (held_behind text)
+stretch-first text s is = ap (held_from_head text) is
 
 -- ---- one list behind another
 
@@ -174,11 +165,11 @@ band-none band start areas table old less = record {
   tallies = tallies-none old;
 }
 
-pub band-more : (band line start now : ℕ) (areas : Option AreasReading) (mid : AreasTextValue)
+pub band-more : (band line start now : ℕ) (areas : Option AreasReading) (mid : HeldValue)
     (after : Option AreasReading) (table between left : Option TableReading) (old added new : List ℕ) (s : Stretch)
-    → HasCountedBand band line start mid.line areas (areas_from mid) table between old added → mid.head ≡ Some s
+    → HasCountedBand band line start mid.line areas (held_from mid) table between old added → mid.head ≡ Some s
     → s.band ≡ band → s.first ≡ line → s.first ≤ s.last
-    → HasCountedAreas s.first s.number (stretch_areas s) between left added new → areas_behind mid ≡ after
+    → HasCountedAreas s.first s.number (stretch_areas s) between left added new → held_behind mid ≡ after
     → now ≡ line_after mid.line
     → HasCountedBand band (s.last + 1) start now areas after table left old new
 band-more band line start now areas mid after table between left old added new s so head own first most counted next

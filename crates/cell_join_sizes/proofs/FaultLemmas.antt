@@ -9,11 +9,11 @@ use Rattle.cell_join_lines.specs.LineReading.{TableReading, reading_of}
 use Rattle.cell_join_lines.specs.declared.stretch.Stretch.{Stretch}
 use Rattle.cell_join_lines.specs.AreasReading.{AreasReading, areas_reading_of}
 use Rattle.cell_join_lines.specs.AreasText.{numbers_told, stretch_numbers}
-use Rattle.cell_join_lines.specs.TextOfAreas.{AreasTextValue, areas_behind, areas_from}
+use Rattle.cell_join_sizes.specs.parts.Held.{HeldValue, held_behind, held_from}
 use Rattle.cell_join_sizes.specs.SizeTexts.{AreTablesOfBands, BandSizes, sizes_of_parts, stretches_of_parts}
 use Rattle.cell_join_sizes.specs.SizeFaults.{HasNoTable, IsFirstSizesFault, IsSizesFault, first_number}
 use Rattle.cell_join_sizes.specs.declared.size_fault.SizesFault.{SizesFault}
-use Rattle.cell_join_sizes.specs.declared.size_fault.SizesFault.TheVariants.{Areas, NumberLeftOut, NoTable, Table, OtherArea, TooGreat, TooLong, Memory, Write}
+use Rattle.cell_join_sizes.specs.declared.size_fault.SizesFault.TheVariants.{Areas, NumberBeyond, NumberLeftOut, NoTable, Table, OtherArea, TooGreat, TooLong, Memory, Write}
 use Rattle.cell_join_sizes.specs.parts.Counting.{HasAddedTables, with_stretches}
 use Rattle.cell_join_sizes.specs.parts.Stops.{HasStoppedInBand, IsBandStart}
 use Rattle.cell_join_sizes.specs.parts.Tally.{Tallies}
@@ -30,7 +30,8 @@ as-many band (part ∷ parts) (reading ∷ readings) are = omega (arith, as-many
 
 of-first : (areas : AreasReading) (tables : List TableReading) (fault : SizesFault)
     → IsFirstSizesFault areas tables fault → IsSizesFault areas tables fault
-of-first areas tables (Areas fault) is = inr is
+of-first areas tables (Areas fault) is = absurd is.wrong
+of-first areas tables (NumberBeyond line) is = absurd is.wrong
 of-first areas tables (NumberLeftOut number) is = absurd is.wrong
 of-first areas tables (NoTable line) is = absurd is.wrong
 of-first areas tables (Table table fault) is = is
@@ -47,14 +48,14 @@ module _ {R : Type 0} (coming : R → Option Coming) (format : FormatValue) (tex
   abbrev tables : List TableReading
   tables = map (reading_of format 1) texts
 
-  pub first-fault : (source : R) (left all : List R) (areas : AreasTextValue) (place : ℕ) (old : List ℕ)
+  pub first-fault : (source : R) (left all : List R) (areas : HeldValue) (place : ℕ) (old : List ℕ)
       (fault : SizesFault)
       → all ≡ source ∷ left → HasAddedTables coming format text texts areas all place old
-      → IfSome (areas_from areas) (λ a. IfSome (option_map (reading_of format 1) (coming source))
+      → IfSome (held_from areas) (λ a. IfSome (option_map (reading_of format 1) (coming source))
       (λ reading. HasStoppedInBand place areas.line a reading old fault))
       → IsSizesFault whole tables fault
   first-fault source left all areas place old fault is so stop =
-      by so.others (sym (ap (map coming) is) ∙ so.give) so.readings (areas_from areas) so.told stop
+      by so.others (sym (ap (map coming) is) ∙ so.give) so.readings (held_from areas) so.told stop
     where
       at-one : (others : List Coming) (one : Coming) (a : AreasReading)
           → tables ≡ so.first ++ (reading_of format 1 one ∷ map (reading_of format 1) others)
@@ -124,7 +125,7 @@ module _ {R : Type 0} (coming : R → Option Coming) (format : FormatValue) (tex
           (subst (λ (o : Option TableReading). IfSome o (λ reading. HasStoppedInBand place areas.line a reading old
           fault)) (ap (option_map (reading_of format 1)) here) stop))
 
-  pub no-table : (left : List R) (areas : AreasTextValue) (place : ℕ) (sizes : List ℕ) (line : ℕ) → left ≡ []
+  pub no-table : (left : List R) (areas : HeldValue) (place : ℕ) (sizes : List ℕ) (line : ℕ) → left ≡ []
       → is_some areas.head ≡ true
       → HasAddedTables coming format text texts areas left place sizes → IfSome areas.head (IsBandStart place)
       → line ≡ areas.line - 1 → HasNoTable whole tables line
@@ -162,5 +163,5 @@ module _ {R : Type 0} (coming : R → Option Coming) (format : FormatValue) (tex
           → HasNoTable whole tables line
       by None is some start = cc
       by (Some s) is some start =
-          at-one s (areas_behind areas) start.2 (so.told ∙ ap
+          at-one s (held_behind areas) start.2 (so.told ∙ ap
           (option_map (with_stretches (stretches_of_parts so.parts))) (stretch-first areas s is))

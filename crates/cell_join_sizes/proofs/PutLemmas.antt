@@ -11,7 +11,7 @@ use Rattle.cell_join_sizes.specs.SizeFaults.{IsSizesFault}
 use Rattle.cell_join_sizes.specs.SizeTexts.{HasSizesPrefix, HasStopped, HasWrittenSizes, HaveSizes, number_entries}
 use Rattle.cell_join_sizes.specs.parts.Counting.{HasPutSizes}
 use Rattle.cell_join_sizes.specs.declared.size_fault.SizesFault.{SizesFault}
-use Rattle.cell_join_sizes.specs.declared.size_fault.SizesFault.TheVariants.{Areas, NumberLeftOut, NoTable, Table, OtherArea, TooGreat, TooLong, Memory, Write}
+use Rattle.cell_join_sizes.specs.declared.size_fault.SizesFault.TheVariants.{Areas, NumberBeyond, NumberLeftOut, NoTable, Table, OtherArea, TooGreat, TooLong, Memory, Write}
 
 no-rest : (failed : Bool) (held rest : List ℕ) → failed ≡ false → IsRest failed held rest → held ≡ [] → rest ≡ []
 no-rest false held rest good is none = sym is ∙ none
@@ -98,6 +98,7 @@ pub put-none : (format : FormatValue) (areas : AreasReading) (tables : List Tabl
     (fault : SizesFault) → fault ≢ Write
     → HasStopped format areas tables before before 0 fault
 put-none format areas tables before (Areas fault) not = (refl, refl)
+put-none format areas tables before (NumberBeyond line) not = (refl, refl)
 put-none format areas tables before (NumberLeftOut number) not = (refl, refl)
 put-none format areas tables before (NoTable line) not = (refl, refl)
 put-none format areas tables before (Table table fault) not = (refl, refl)

@@ -13,13 +13,13 @@ use Rattle.cell_join_lines.specs.declared.table_fault.TableKind.TheVariants as t
 use Rattle.cell_join_lines.specs.declared.stretch.Stretch.{Stretch}
 use Rattle.cell_join_lines.specs.AreasReading.{AreasReading, areas_ended, areas_read, areas_stopped, with_stretch}
 use Rattle.cell_join_lines.specs.AreasText.{numbers_told}
-use Rattle.cell_join_lines.specs.TextOfAreas.{AreasTextValue, areas_behind, areas_from, areas_from_head}
+use Rattle.cell_join_sizes.specs.parts.Held.{HeldValue, held_behind, held_from, held_from_head}
 use Rattle.cell_join_lines.specs.declared.areas_fault.AreasFault.{AreasFault}
 use Rattle.cell_join_lines.specs.declared.areas_fault.AreasKind.TheVariants as areas_kinds
 use Rattle.cell_join_sizes.specs.SizeTexts.{entries_of_areas, number_entries, stretch_areas}
 use Rattle.cell_join_sizes.specs.SizeFaults.{AreOfNextStretch, IsBandOver, IsEntryOf, IsFaultAt, IsOtherEntry, IsReadOn, IsTooLong, ReadingPlace}
 use Rattle.cell_join_sizes.specs.declared.size_fault.SizesFault.{SizesFault}
-use Rattle.cell_join_sizes.specs.declared.size_fault.SizesFault.TheVariants.{Areas, NumberLeftOut, NoTable, Table, OtherArea, TooGreat, TooLong, Memory, Write}
+use Rattle.cell_join_sizes.specs.declared.size_fault.SizesFault.TheVariants.{Areas, NumberBeyond, NumberLeftOut, NoTable, Table, OtherArea, TooGreat, TooLong, Memory, Write}
 use Rattle.cell_join_sizes.specs.declared.tally.TallyFault.{TallyFault}
 use Rattle.cell_join_sizes.specs.declared.tally.TallyFault.TheVariants as tally_faults
 use Rattle.cell_join_sizes.specs.parts.Counting.{HasCountedAreas, HasCountedBand, IsHeadOfNull, IsHeadOfOther, area_entry, with_entries, with_stretches}
@@ -31,54 +31,24 @@ use Rattle.cell_join_sizes.proofs.TallyLemmas.{tallies-then}
 
 -- ---- what is read from a head on
 
-pub areas-on : (text : AreasTextValue) (a : AreasReading) → areas_from text ≡ Some a → IsReadOn a.stretches a.fault
-areas-on text a is = by text.head text.rest is
+pub areas-on : (text : HeldValue) (a : AreasReading) → held_from text ≡ Some a → IsReadOn a.stretches a.fault
+areas-on text a is = by text.head is
   where
-    by : (head : Option Stretch) (rest : Option TableReading)
-        → areas_from_head (record { head = head; line = text.line; rest = rest; heard = text.heard }) head ≡ Some a
-        → IsReadOn a.stretches a.fault
-    by None None is = cc
-    by (Some s) None is = cc
-    by None (Some r) is = let same : areas_ended ≡ a = cc in subst
-        (λ (q : AreasReading). IsReadOn q.stretches q.fault) same refl
-    by (Some s) (Some r) is = let same : with_stretch s (areas_read text.line (Some s) r) ≡ a = cc in subst
-        (λ (q : AreasReading). IsReadOn q.stretches q.fault) same tt
+    by : (head : Option Stretch) → held_from_head text head ≡ Some a → IsReadOn a.stretches a.fault
+    by None is = (let same : areas_ended ≡ a = cc in subst (λ (q : AreasReading). IsReadOn q.stretches q.fault) same refl)
+    by (Some s) is = (let same : record { stretches = s ∷ text.left; fault = None } ≡ a = cc in
+        subst (λ (q : AreasReading). IsReadOn q.stretches q.fault) same tt)
 
-pub over-of : (band : ℕ) (text : AreasTextValue) (a : AreasReading) → areas_from text ≡ Some a
+pub over-of : (band : ℕ) (text : HeldValue) (a : AreasReading) → held_from text ≡ Some a
     → IfSome text.head (λ s. s.band ≢ band) → IsBandOver band a.stretches a.fault
-over-of band text a is not = by text.head text.rest is not
+over-of band text a is not = by text.head is not
   where
-    by : (head : Option Stretch) (rest : Option TableReading)
-        → areas_from_head (record { head = head; line = text.line; rest = rest; heard = text.heard }) head ≡ Some a
-        → IfSome head (λ s. s.band ≢ band) → IsBandOver band a.stretches a.fault
-    by None None is not = cc
-    by (Some s) None is not = cc
-    by None (Some r) is not = let same : areas_ended ≡ a = cc in subst
-        (λ (q : AreasReading). IsBandOver band q.stretches q.fault) same refl
-    by (Some s) (Some r) is not = let same : with_stretch s (areas_read text.line (Some s) r) ≡ a = cc in subst
-        (λ (q : AreasReading). IsBandOver band q.stretches q.fault) same not
-
-pub table-on : (format : FormatValue) (text : TextValue) (r : TableReading) → reading_from format text ≡ Some r
-    → IsReadOn r.entries r.fault
-table-on format text r is = by text.head text.coming is
-  where
-    by : (head : Option (Combination × ℕ)) (coming : Option Coming)
-        → reading_from_head format (record {
-          width = text.width;
-          head = head;
-          line = text.line;
-          number = text.number;
-          coming = coming;
-          heard = text.heard;
-        }) head ≡ Some r
-        → IsReadOn r.entries r.fault
-    by None None is = cc
-    by (Some entry) None is = cc
-    by None (Some c) is = let same : ended ≡ r = cc in subst (λ (q : TableReading). IsReadOn q.entries q.fault) same
-        refl
-    by (Some entry) (Some c) is =
-        let same : with_entry entry (reading_of_rest format text.width text.number (Some entry.0) c) ≡ r = cc in
-        subst (λ (q : TableReading). IsReadOn q.entries q.fault) same tt
+    by : (head : Option Stretch) → held_from_head text head ≡ Some a → IfSome head (λ s. s.band ≢ band)
+        → IsBandOver band a.stretches a.fault
+    by None is not = (let same : areas_ended ≡ a = cc in
+        subst (λ (q : AreasReading). IsBandOver band q.stretches q.fault) same refl)
+    by (Some s) is not = (let same : record { stretches = s ∷ text.left; fault = None } ≡ a = cc in
+        subst (λ (q : AreasReading). IsBandOver band q.stretches q.fault) same not)
 
 pub other-entry : (format : FormatValue) (text : TextValue) (area : ℕ) (r : TableReading)
     → reading_from format text ≡ Some r → IsHeadOfOther area text.head → IsOtherEntry area r.entries r.fault
@@ -179,6 +149,7 @@ pub table-fault : (place : ReadingPlace) (fault : TableFault) (told : SizesFault
     → TellsTableFault place.table fault told → IsReadOn place.areas.stretches place.areas.fault
     → (fault.kind ≢ table_kinds.Memory → place.left ≡ stopped fault.line fault.kind) → IsFaultAt place told
 table-fault place fault (Areas at) tells on is = absurd tells
+table-fault place fault (NumberBeyond line) tells on is = absurd tells
 table-fault place fault (NumberLeftOut number) tells on is = absurd tells
 table-fault place fault (NoTable line) tells on is = absurd tells
 table-fault place fault (Table table at) tells on is =
@@ -196,33 +167,12 @@ table-fault place fault TooLong tells on is = absurd tells
 table-fault place fault Memory tells on is = tt
 table-fault place fault Write tells on is = absurd tells
 
--- the next line of the areas text has a fault
-pub areas-fault : (place : ReadingPlace) (fault : AreasFault) (told : SizesFault) → TellsAreasFault fault told
-    → place.counted ≡ [] → IsReadOn place.left.entries place.left.fault
-    → (fault.kind ≢ areas_kinds.Memory → place.areas ≡ areas_stopped fault.line fault.kind) → IsFaultAt place told
-areas-fault place fault (Areas at) tells none on is =
-    let same = is tells.1 in
-    record {
-      all = ap (λ (a : AreasReading). a.stretches) same;
-      fault_is = ap (λ (a : AreasReading). a.fault) same ∙ ap (λ (f : AreasFault). Some f) (sym tells.0);
-      none = none;
-      on = on;
-    }
-areas-fault place fault (NumberLeftOut number) tells none on is = absurd tells
-areas-fault place fault (NoTable line) tells none on is = absurd tells
-areas-fault place fault (Table table at) tells none on is = absurd tells
-areas-fault place fault (OtherArea table line) tells none on is = absurd tells
-areas-fault place fault (TooGreat number) tells none on is = absurd tells
-areas-fault place fault TooLong tells none on is = absurd tells
-areas-fault place fault Memory tells none on is = tt
-areas-fault place fault Write tells none on is = absurd tells
-
 -- ---- within a band
 
--- the next stretch is s, and its first areas are counted
-pub stopped-in-next : (place band line start : ℕ) (areas : Option AreasReading) (mid : AreasTextValue)
+-- the next run is s, and its first clumps are counted
+pub stopped-in-next : (place band line start : ℕ) (areas : Option AreasReading) (mid : HeldValue)
     (table between : Option TableReading) (old added : List ℕ) (s : Stretch) (fault : SizesFault)
-    → HasCountedBand band line start mid.line areas (areas_from mid) table between old added → mid.head ≡ Some s
+    → HasCountedBand band line start mid.line areas (held_from mid) table between old added → mid.head ≡ Some s
     → s.band ≡ band → band ≡ place + 1 → s.first ≡ line
     → IfSome between (λ reading. HasStoppedInStretch place s reading added fault)
     → IfSome areas (λ text. IfSome table (λ reading. HasStoppedInBand place start text reading old fault))
@@ -231,9 +181,9 @@ stopped-in-next place band line start areas mid table between old added s fault 
     (λ reading. HasStoppedInBand place start text reading old fault)))
     (sym (so.told ∙ ap (option_map (with_stretches so.part.stretches)) (stretch-first mid s head)))
     (subst (λ (o : Option TableReading). IfSome (option_map (with_stretches so.part.stretches)
-    (option_map (with_stretches (s ∷ [])) (areas_behind mid)))
+    (option_map (with_stretches (s ∷ [])) (held_behind mid)))
     (λ text. IfSome o (λ reading. HasStoppedInBand place start text reading old fault))) (sym so.reads)
-    (by (areas_behind mid) between stop))
+    (by (held_behind mid) between stop))
   where
     by : (behind : Option AreasReading) (o : Option TableReading)
         → IfSome o (λ reading. HasStoppedInStretch place s reading added fault)
@@ -267,7 +217,7 @@ stopped-in-next place band line start areas mid table between old added s fault 
         begun [] few = tt
         begun (size ∷ counted) few = (own ∙ is, few)
 
--- no area of the next stretch is counted
+-- no clump of the next run is counted
 pub stopped-behind : (place band line start now : ℕ) (areas after : Option AreasReading)
     (table left : Option TableReading) (old sizes : List ℕ) (fault : SizesFault)
     → HasCountedBand band line start now areas after table left old sizes → band ≡ place + 1
@@ -417,16 +367,16 @@ pub mapped : {A B : Type 0} (f : A → B) (o : Option A) (P : B → Type 0) → 
 mapped f None P is = tt
 mapped f (Some x) P is = is
 
-pub stopped-at-end : (place line start : ℕ) (areas : Option AreasReading) (after : AreasTextValue)
+pub stopped-at-end : (place line start : ℕ) (areas : Option AreasReading) (after : HeldValue)
     (source table left : Option TableReading) (old sizes : List ℕ) (fault : SizesFault)
-    → source ≡ table → HasCountedBand (place + 1) line start after.line areas (areas_from after) table left old sizes
+    → source ≡ table → HasCountedBand (place + 1) line start after.line areas (held_from after) table left old sizes
     → IfSome after.head (IsBandStart (place + 1))
     → IfSome left (λ reading. HasStoppedAtEnd place line reading fault)
     → IfSome areas (λ text. IfSome source (λ reading. HasStoppedInBand place start text reading old fault))
 stopped-at-end place line start areas after source table left old sizes fault is so begins stop =
     subst (λ (o : Option TableReading). IfSome areas (λ text. IfSome o
     (λ reading. HasStoppedInBand place start text reading old fault))) (sym is)
-    (stopped-behind place (place + 1) line start after.line areas (areas_from after) table left old sizes fault so refl
+    (stopped-behind place (place + 1) line start after.line areas (held_from after) table left old sizes fault so refl
     (λ a r told_is left_is. subst (λ (o : Option TableReading). IfSome o
     (λ reading. HasStoppedAtEnd place line reading fault)) left_is stop
     a (after.line - 1) sizes (over-of (place + 1) after a told_is

@@ -1,5 +1,5 @@
--- Why sizes are not added up: the areas text and the tables are read side by side, and the first that is wrong is told.
-use Rattle.std.specs.Prelude.{ℕ, pos, ◌≡◌, ◌≢◌, ◌+◌, ◌-◌, ◌^◌, ◌<◌, ◌≤◌, ◌⊎◌, min, List, [], ◌∷◌, ◌++◌, length, slice_index, All, Option, Some, None}
+-- Why sizes are not added up: the numbering is read, then it and the tables side by side, and the first that is wrong is told.
+use Rattle.std.specs.Prelude.{ℕ, pos, ◌≡◌, ◌≢◌, ◌+◌, ◌-◌, ◌^◌, ◌<◌, ◌≤◌, ◌⊎◌, min, List, [], ◌∷◌, ◌++◌, length, slice_get, slice_index, sum_by, All, Option, Some, None}
 use Rattle.std.specs.List.{Contains, range_with_len}
 use Rattle.cell_stats_combinations.specs.Combinations.{Combination}
 use Rattle.cell_stats.specs.CategoryTables.{Pairs}
@@ -11,12 +11,12 @@ use Rattle.cell_join_lines.specs.declared.stretch.Stretch.{Stretch}
 use Rattle.cell_join_lines.specs.declared.areas_fault.AreasFault.{AreasFault}
 use Rattle.cell_join_sizes.specs.SizeTexts.{AreTablesOfBands, BandSizes, HasSums, IsNullEntry, entries_of_areas, number_entries, sizes_of_parts, stretch_areas, stretches_of_parts}
 use Rattle.cell_join_sizes.specs.declared.size_fault.SizesFault.{SizesFault}
-use Rattle.cell_join_sizes.specs.declared.size_fault.SizesFault.TheVariants.{Areas, NumberLeftOut, NoTable, Table, OtherArea, TooGreat, TooLong, Memory, Write}
+use Rattle.cell_join_sizes.specs.declared.size_fault.SizesFault.TheVariants.{Areas, NumberBeyond, NumberLeftOut, NoTable, Table, OtherArea, TooGreat, TooLong, Memory, Write}
 
 -- ---- how far they are read
 
--- what of the areas text is not counted yet, from this line on; what of the table in a place is not counted yet, from this line on;
--- the sizes of the areas that are counted of the next stretch; and the sizes in the whole of all that are counted
+-- what of the numbering is not counted yet, from this line on; what of the table in a place is not counted yet, from this line on;
+-- the sizes of the clumps that are counted of the next run; and the sizes in the whole of all that are counted
 pub record ReadingPlace : Type 0 where
   pub areas : AreasReading
   pub areas_line : ℕ
@@ -26,11 +26,11 @@ pub record ReadingPlace : Type 0 where
   pub counted : List ℕ
   pub sizes : List ℕ
 
--- the line of an areas text behind so many; from 2^64 - 2 on they are not told apart
+-- the line of a numbering behind so many; from 2^64 - 2 on they are not told apart
 abbrev pub areas_line_behind : ℕ → ℕ
 areas_line_behind count = min (count + 1) (2 ^ 64 - 2)
 
--- the first area of the next stretch, and its number
+-- the first clump of the next run, and its number
 abbrev pub first_area : List Stretch → ℕ
 first_area [] = 0
 first_area (s ∷ stretches) = s.first
@@ -39,14 +39,14 @@ abbrev pub first_number : List Stretch → ℕ
 first_number [] = 0
 first_number (s ∷ stretches) = s.number
 
--- so many areas of the next stretch, which is of this band, or none
+-- so many clumps of the next run, which is of this tile, or none
 abbrev pub AreOfNextStretch : ℕ → List ℕ → List Stretch → Type 0
 AreOfNextStretch band [] stretches = Unit {0}
 AreOfNextStretch band (size ∷ counted) [] = ⊥
 AreOfNextStretch band (size ∷ counted) (s ∷ stretches) = (s.band ≡ band) × (length (size ∷ counted) ≤ stretch_areas s)
 
--- up to here nothing is wrong: the tables before are those of their bands, this one begins with the entries of the areas of stretches
--- of its band, and of the first areas of the next; and the sizes of all of these are added up by the numbers that the text tells
+-- up to here nothing is wrong: the tables before are those of their tiles, this one begins with the entries of the clumps of runs
+-- of its tile, and of the first clumps of the next; and the sizes of all of these are added up by the numbers that the text tells
 pub record AreReadTo (areas : AreasReading) (tables : List TableReading) (place : ReadingPlace) : Type 0 where
   pub before : List TableReading
   pub table : TableReading
@@ -75,17 +75,17 @@ abbrev pub IsReadOn : {X F : Type 0} → List X → Option F → Type 0
 IsReadOn [] fault = fault ≡ None
 IsReadOn (x ∷ xs) fault = Unit {0}
 
--- the next area of the band, and its number in the whole
+-- the next clump of the tile, and its number in the whole
 abbrev pub IsNextArea : (band count : ℕ) → List Stretch → (area number : ℕ) → Type 0
 IsNextArea band count [] area number = ⊥
 IsNextArea band count (s ∷ stretches) area number = (s.band ≡ band) × (count < stretch_areas s) × (area ≡ s.first + count) × (number ≡ s.number + count)
 
--- no area of the band comes next: the text ends here, or goes on with another band
+-- no clump of the tile comes next: the text ends here, or goes on with another tile
 abbrev pub IsBandOver : ℕ → List Stretch → Option AreasFault → Type 0
 IsBandOver band [] fault = fault ≡ None
 IsBandOver band (s ∷ stretches) fault = s.band ≢ band
 
--- the entry of an area comes next, with this size
+-- the entry of a clump comes next, with this size
 abbrev pub IsEntryOf : (area size : ℕ) → Pairs → Type 0
 IsEntryOf area size [] = ⊥
 IsEntryOf area size (entry ∷ entries) = entry ≡ (Some (pos area) ∷ [], size)
@@ -97,7 +97,7 @@ IsOtherEntry area (entry ∷ entries) fault = entry.0 ≢ Some (pos area) ∷ []
 
 -- ---- what is wrong there
 
--- the table does not go on with the entry of the next area
+-- the table does not go on with the entry of the next clump
 pub record HasOtherArea (place : ReadingPlace) (line : ℕ) : Type 0 where
   pub area : ℕ
   pub number : ℕ
@@ -105,7 +105,7 @@ pub record HasOtherArea (place : ReadingPlace) (line : ℕ) : Type 0 where
   pub other : IsOtherEntry area place.left.entries place.left.fault
   pub at : line ≡ place.table_line
 
--- all areas of the band are counted, and the table has an entry more, which is not the one of null behind them
+-- all clumps of the tile are counted, and the table has an entry more, which is not the one of null behind them
 pub record HasEntryMore (place : ReadingPlace) (line : ℕ) : Type 0 where
   pub over : IsBandOver (place.table + 1) place.areas.stretches place.areas.fault
   pub none : place.counted ≡ []
@@ -117,20 +117,13 @@ pub record HasEntryMore (place : ReadingPlace) (line : ℕ) : Type 0 where
   pub most : nulls ≡ [] → entry.0 ≢ None ∷ []
   pub at : line ≡ place.table_line + length nulls
 
--- the next line of the table has a fault, or that behind the entry of null where all areas of the band are counted
+-- the next line of the table has a fault, or that behind the entry of null where all clumps of the tile are counted
 pub record HasTableFault (place : ReadingPlace) (fault : TableFault) : Type 0 where
   pub on : IsReadOn place.areas.stretches place.areas.fault
   pub fault_is : place.left.fault ≡ Some fault
   pub behind : (place.left.entries ≡ []) ⊎ (IsNullEntry place.left.entries × IsBandOver (place.table + 1) place.areas.stretches place.areas.fault × place.counted ≡ [])
 
--- all stretches are counted, and the next line of the areas text has a fault
-pub record HasAreasFault (place : ReadingPlace) (fault : AreasFault) : Type 0 where
-  pub all : place.areas.stretches ≡ []
-  pub fault_is : place.areas.fault ≡ Some fault
-  pub none : place.counted ≡ []
-  pub on : IsReadOn place.left.entries place.left.fault
-
--- the next area has its entry, but with its size that of its number comes to 2^64 or more
+-- the next clump has its entry, but with its size that of its number comes to 2^64 or more
 pub record HasSumTooGreat (place : ReadingPlace) (number : ℕ) : Type 0 where
   pub area : ℕ
   pub next : IsNextArea (place.table + 1) (length place.counted) place.areas.stretches area number
@@ -139,13 +132,14 @@ pub record HasSumTooGreat (place : ReadingPlace) (number : ℕ) : Type 0 where
   pub one : (0 < number) × (number ≤ length place.sizes)
   pub great : 2 ^ 64 ≤ slice_index place.sizes (number - 1) + size
 
--- the next stretch reaches area 2^64 - 2, or 2^64 - 3 lines of the areas text or more are before it
+-- the next run reaches clump 2^64 - 2, or 2^64 - 3 lines of the numbering or more are before it
 abbrev pub IsTooLong : List Stretch → ℕ → Type 0
 IsTooLong [] line = line ≡ 2 ^ 64 - 2
 IsTooLong (s ∷ stretches) line = (2 ^ 64 - 2 ≤ s.last) ⊎ (line ≡ 2 ^ 64 - 2)
 
 abbrev pub IsFaultAt : ReadingPlace → SizesFault → Type 0
-IsFaultAt place (Areas fault) = HasAreasFault place fault
+IsFaultAt place (Areas fault) = ⊥
+IsFaultAt place (NumberBeyond line) = ⊥
 IsFaultAt place (NumberLeftOut number) = ⊥
 IsFaultAt place (NoTable line) = ⊥
 IsFaultAt place (Table table fault) = (table ≡ place.table) × HasTableFault place fault
@@ -163,12 +157,8 @@ pub record IsFirstSizesFault (areas : AreasReading) (tables : List TableReading)
   pub read : AreReadTo areas tables place
   pub wrong : IsFaultAt place fault
 
--- the areas text has a fault on its first line, before any table is read
-abbrev pub HasFaultOnFirstLine : AreasReading → AreasFault → Type 0
-HasFaultOnFirstLine areas fault = (areas.stretches ≡ []) × (areas.fault ≡ Some fault)
-
--- all tables are those of their bands, behind which these stretches of the areas text are left; and the sizes of all areas of
--- these bands are added up by the numbers that the text tells
+-- all tables are those of their tiles, behind which these runs of the numbering are left; and the sizes of all clumps of
+-- these tiles are added up by the numbers that the text tells
 pub record AreAllRead (areas : AreasReading) (tables : List TableReading) (left : List Stretch) : Type 0 where
   pub parts : List BandSizes
   pub good : AreTablesOfBands 1 parts tables
@@ -176,7 +166,7 @@ pub record AreAllRead (areas : AreasReading) (tables : List TableReading) (left 
   pub sizes : List ℕ
   pub sums : HasSums (numbers_told (stretches_of_parts parts)) (sizes_of_parts parts) sizes
 
--- all tables are read, and the areas text goes on with a stretch of another band than the last of them
+-- all tables are read, and the numbering goes on with a run of another tile than the last of them
 pub record HasNoTable (areas : AreasReading) (tables : List TableReading) (line : ℕ) : Type 0 where
   pub stretch : Stretch
   pub others : List Stretch
@@ -184,7 +174,7 @@ pub record HasNoTable (areas : AreasReading) (tables : List TableReading) (line 
   pub other : 0 < length tables → stretch.band ≢ length tables
   pub at : line ≡ areas_line_behind (length (stretches_of_parts read.parts))
 
--- all tables are read, and the areas text ends there; this number, below the greatest, is that of no area, and each before it of one
+-- all tables are read, and the numbering ends there; this number, below the greatest, is that of no clump, and each before it of one
 pub record HasNumberLeftOut (areas : AreasReading) (tables : List TableReading) (number : ℕ) : Type 0 where
   pub read : AreAllRead areas tables []
   pub ended : areas.fault ≡ None
@@ -192,9 +182,27 @@ pub record HasNumberLeftOut (areas : AreasReading) (tables : List TableReading) 
   pub none : Contains (numbers_told areas.stretches) number → ⊥
   pub before : (n : ℕ) → 0 < n → n < number → Contains (numbers_told areas.stretches) n
 
+-- how many clumps runs list
+abbrev pub listed_count : List Stretch → ℕ
+listed_count stretches = sum_by stretch_areas stretches
+
+-- the number of the last clump of a run
+abbrev pub last_number : Stretch → ℕ
+last_number s = s.number + (s.last - s.first)
+
+-- the run of this line tells a number above the count of all clumps that are listed, and none before it does
+pub record IsLineBeyond (stretches : List Stretch) (line : ℕ) : Type 0 where
+  pub place : ℕ
+  pub stretch : Stretch
+  pub at : slice_get stretches place ≡ Some stretch
+  pub line_is : line ≡ place + 1
+  pub beyond : listed_count stretches < last_number stretch
+  pub before : (i : ℕ) (other : Stretch) → i < place → slice_get stretches i ≡ Some other → last_number other ≤ listed_count stretches
+
 -- why sizes are not added up; of being out of memory and of a failed write nothing is said of the texts
 abbrev pub IsSizesFault : AreasReading → List TableReading → SizesFault → Type 0
-IsSizesFault areas tables (Areas fault) = HasFaultOnFirstLine areas fault ⊎ IsFirstSizesFault areas tables (Areas fault)
+IsSizesFault areas tables (Areas fault) = areas.fault ≡ Some fault
+IsSizesFault areas tables (NumberBeyond line) = (areas.fault ≡ None) × IsLineBeyond areas.stretches line
 IsSizesFault areas tables (NumberLeftOut number) = HasNumberLeftOut areas tables number
 IsSizesFault areas tables (NoTable line) = HasNoTable areas tables line
 IsSizesFault areas tables (Table table fault) = IsFirstSizesFault areas tables (Table table fault)

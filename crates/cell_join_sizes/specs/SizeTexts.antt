@@ -1,4 +1,4 @@
--- An areas text and the tables of the numbers of its bands: how their lines go together, and what is written of them.
+-- A numbering and the tables of the numbers of its tiles: how their lines go together, and what is written of them.
 use Rattle.std.specs.Prelude.{ℕ, pos, ◌≡◌, ◌+◌, ◌-◌, ◌<◌, ◌≤◌, List, [], ◌∷◌, ◌++◌, length, take, drop, flat_map, All, Option, Some, None}
 use Rattle.std.specs.List.{Contains}
 use Rattle.cell_stats.specs.CategoryTables.{Pairs}
@@ -10,20 +10,20 @@ use Rattle.cell_join_lines.specs.TableLines.{entries_text}
 use Rattle.cell_join_sizes.specs.Sizes.{AddUp}
 use Rattle.cell_join_lines.specs.declared.stretch.Stretch.{Stretch}
 use Rattle.cell_join_sizes.specs.declared.size_fault.SizesFault.{SizesFault}
-use Rattle.cell_join_sizes.specs.declared.size_fault.SizesFault.TheVariants.{Areas, NumberLeftOut, NoTable, Table, OtherArea, TooGreat, TooLong, Memory, Write}
+use Rattle.cell_join_sizes.specs.declared.size_fault.SizesFault.TheVariants.{Areas, NumberBeyond, NumberLeftOut, NoTable, Table, OtherArea, TooGreat, TooLong, Memory, Write}
 use Rattle.cell_join_lines.specs.AreasReading.{AreasReading}
 use Rattle.cell_join_lines.specs.AreasText.{numbers_told}
 
--- entries of numbers from one on, with the sizes of their areas
+-- entries of numbers from one on, with the sizes of their clumps
 abbrev pub number_entries : ℕ → List ℕ → Pairs
 number_entries n [] = []
 number_entries n (size ∷ sizes) = (Some (pos n) ∷ [], size) ∷ number_entries (n + 1) sizes
 
--- how many areas a stretch has
+-- how many clumps a run has
 abbrev pub stretch_areas : Stretch → ℕ
 stretch_areas s = s.last + 1 - s.first
 
--- the entries of the areas of stretches, with their sizes in order
+-- the entries of the clumps of runs, with their sizes in order
 abbrev pub entries_of_areas : List Stretch → List ℕ → Pairs
 entries_of_areas [] sizes = []
 entries_of_areas (s ∷ stretches) sizes =
@@ -35,12 +35,12 @@ IsNullEntry [] = Unit {0}
 IsNullEntry (entry ∷ []) = entry.0 ≡ None ∷ []
 IsNullEntry (entry ∷ next ∷ entries) = ⊥
 
--- the stretches of a band, and the sizes of its areas
+-- the runs of a tile, and the sizes of its clumps
 pub record BandSizes : Type 0 where
   pub stretches : List Stretch
   pub sizes : List ℕ
 
--- a table, to its end, of the areas of the band in this place and of no others, and of null
+-- a table, to its end, of the clumps of the tile in this place and of no others, and of null
 pub record IsTableOfBand (band : ℕ) (part : BandSizes) (reading : TableReading) : Type 0 where
   pub own : All (λ (s : Stretch). s.band ≡ band) part.stretches
   pub many : length part.sizes ≡ length (numbers_told part.stretches)
@@ -49,14 +49,14 @@ pub record IsTableOfBand (band : ℕ) (part : BandSizes) (reading : TableReading
   pub lists : reading.entries ≡ entries_of_areas part.stretches part.sizes ++ nulls
   pub whole : reading.fault ≡ None
 
--- the stretches of all bands, and the sizes of all their areas
+-- the runs of all tiles, and the sizes of all their clumps
 abbrev pub stretches_of_parts : List BandSizes → List Stretch
 stretches_of_parts parts = flat_map (λ (part : BandSizes). part.stretches) parts
 
 abbrev pub sizes_of_parts : List BandSizes → List ℕ
 sizes_of_parts parts = flat_map (λ (part : BandSizes). part.sizes) parts
 
--- tables of bands, of which the first has this place
+-- tables of tiles, of which the first has this place
 abbrev pub AreTablesOfBands : ℕ → List BandSizes → List TableReading → Type 0
 AreTablesOfBands band [] [] = Unit {0}
 AreTablesOfBands band (part ∷ parts) (reading ∷ readings) = IsTableOfBand band part reading × AreTablesOfBands (band + 1) parts readings
@@ -74,7 +74,7 @@ pub record HasTally (numbers sizes whole : List ℕ) : Type 0 where
   pub sums : HasSums numbers sizes whole
   pub each : (n : ℕ) → n < length whole → Contains numbers (n + 1)
 
--- an areas text to its end, and a table for each of its bands: the sizes of the areas of all bands, added up by the numbers that the text
+-- a numbering to its end, and a table for each of its tiles: the sizes of the clumps of all tiles, added up by the numbers that the text
 -- tells, each up to the greatest
 pub record HaveSizes (areas : AreasReading) (tables : List TableReading) (sizes : List ℕ) : Type 0 where
   pub whole : areas.fault ≡ None
@@ -107,6 +107,7 @@ NothingWritten before now written = (now ≡ before) × (written ≡ 0)
 -- what was written where not all sizes are
 abbrev pub HasStopped : FormatValue → AreasReading → List TableReading → Option (List ℕ) → Option (List ℕ) → ℕ → SizesFault → Type 0
 HasStopped format areas tables before now written (Areas fault) = NothingWritten before now written
+HasStopped format areas tables before now written (NumberBeyond line) = NothingWritten before now written
 HasStopped format areas tables before now written (NumberLeftOut number) = NothingWritten before now written
 HasStopped format areas tables before now written (NoTable line) = NothingWritten before now written
 HasStopped format areas tables before now written (Table table fault) = NothingWritten before now written

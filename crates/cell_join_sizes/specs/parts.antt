@@ -1,4 +1,5 @@
--- Sizes added one by one, beside the stretches of a band, and where that stopped.
+-- Sizes added one by one, beside the runs of a tile, and where that stopped.
 pub mod Counting
+pub mod Held
 pub mod Stops
 pub mod Tally

@@ -1,4 +1,4 @@
-//! The sizes of areas printed as the table of their numbers.
+//! The sizes of clumps printed as the table of their numbers.
 
 ghost use Rattle.std.specs.Prelude.{◌∷◌, [], Some, decimal, pos};
 ghost use Rattle.cell_core_devices.specs.Blocks.{Appends};
@@ -17,7 +17,7 @@ fn write_number<W: Sink>(out: &mut W, block: &mut OutputBlock, number: u64)
     block.push(out, Buffer::new().format(number).as_bytes());
 }
 
-// Writes the line of an area.
+// Writes the line of a clump.
 fn write_size<W: Sink>(
     out: &mut W,
     block: &mut OutputBlock,

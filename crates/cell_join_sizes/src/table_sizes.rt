@@ -1,4 +1,4 @@
-//! Sizes of the areas of the whole map, of an areas text and the tables of the numbers of bands.
+//! Sizes of the clumps of the whole map, of a numbering and the tables of the numbers of tiles.
 
 ghost use Rattle.std.specs.Prelude.{◌≡◌, ◌≢◌, ◌+◌, ◌-◌, ◌<◌, ◌≤◌, ◌^◌, ◌∷◌, [], ℕ, List, None, Some, IfErr, IfOk, IfSome, MatchOption, OnOk, map, pos, option_map, false, true};
 ghost use Rattle.cell_core_devices.specs.Blocks.{Appends};
@@ -7,12 +7,13 @@ ghost use Rattle.cell_join_tables.specs.JoinedTexts.{Give};
 ghost use Rattle.cell_join_lines.specs.LineReading.{reading_of};
 ghost use Rattle.cell_join_lines.specs.TextReading.{reading_from};
 ghost use Rattle.cell_join_lines.specs.AreasReading.{areas_reading_of};
-ghost use Rattle.cell_join_lines.specs.TextOfAreas.{areas_from};
+ghost use Rattle.cell_join_sizes.specs.parts.Held.{held_from};
 ghost use Rattle.cell_join_sizes.specs.SizeTexts.{HasStopped, HasWrittenSizes, HaveSizes, stretch_areas};
 ghost use Rattle.cell_join_sizes.specs.SizeFaults.{IsSizesFault};
 ghost use Rattle.cell_join_sizes.specs.parts.Counting.{HasCountedAreas, HasCountedBand, HasPutSizes, HasReadBand, IsHeadOfNull, IsHeadOfOther, IsLeftOver, area_entry};
 ghost use Rattle.cell_join_sizes.specs.parts.Stops.{HasStoppedAtEnd, HasStoppedInBand, HasStoppedInStretch, IsBandStart, TellsAreasFault, TellsTableFault, TellsTallyFault};
 
+use crate::held_numbering::HeldNumbering;
 use crate::size_fault::SizesFault;
 use crate::size_lines::write_sizes;
 use crate::tally::{TallyFault, add_size, first_without_size};
@@ -20,7 +21,6 @@ use cell_core::block::OutputBlock;
 use cell_core::sink::Sink;
 use cell_core::source::Source;
 use cell_join_lines::areas_fault::{AreasFault, AreasKind};
-use cell_join_lines::reading::AreasText;
 use cell_join_lines::stretch::Stretch;
 use cell_join_lines::table_fault::{TableFault, TableKind};
 use cell_join_lines::text::TableText;
@@ -37,7 +37,7 @@ pub struct SizesOutcome {
     pub fault: Option<SizesFault>,
 }
 
-// The fault of an areas text.
+// The fault of a numbering.
 fn of_areas(fault: AreasFault) -> SizesFault
     ensures { TellsAreasFault fault result }
 {
@@ -81,7 +81,7 @@ fn number_of(combo: &Combo) -> Option<u64>
     }
 }
 
-// The size of an area, where the head is its entry.
+// The size of a clump, where the head is its entry.
 fn size_of(head: &Option<(Combo, u64)>, area: u64) -> Option<u64>
     ensures { MatchOption result (IsHeadOfOther area head.now)
         (λ size. head.now ≡ Some (area_entry area size)) }
@@ -106,7 +106,7 @@ fn is_null(head: &Option<(Combo, u64)>) -> bool
     }
 }
 
-// Reads the areas of a stretch from the table of the band in a place, and adds their sizes.
+// Reads the clumps of a run from the table of the tile in a place, and adds their sizes.
 fn add_stretch<R: Source>(
     alloc: Global,
     format: &Format,
@@ -150,13 +150,13 @@ fn add_stretch<R: Source>(
     Err(SizesFault::TooLong)
 }
 
-// Reads the stretches of a band, and their areas from its table. Returns the number of the line behind the areas.
-fn add_stretches<A: Source, R: Source>(
+// Reads the runs of a tile, and their clumps from its table. Returns the number of the line behind the clumps.
+fn add_stretches<R: Source>(
     alloc: Global,
     format: &Format,
     place: usize,
     band: u64,
-    areas: &mut AreasText<A>,
+    areas: &mut HeldNumbering,
     table: &mut TableText<R>,
     sizes: &mut Vec<u64>,
 ) -> Result<u64, SizesFault>
@@ -164,12 +164,12 @@ fn add_stretches<A: Source, R: Source>(
     requires lines { areas.old.line < 2 ^ 64 }
     requires start { IfSome areas.old.head (IsBandStart place) }
     ensures counted { IfOk result (λ line. HasCountedBand band line areas.old.line areas.new.line
-        (areas_from areas.old) (areas_from areas.new)
+        (held_from areas.old) (held_from areas.new)
         (reading_from format.now table.old) (reading_from format.now table.new)
         sizes.old.items sizes.new.items) }
     ensures over { OnOk result (IfSome areas.new.head (IsBandStart band)) }
     ensures short { IfOk result (λ line. line + 1 < 2 ^ 64) }
-    ensures stopped { IfErr result (λ fault. IfSome (areas_from areas.old) (λ text. IfSome
+    ensures stopped { IfErr result (λ fault. IfSome (held_from areas.old) (λ text. IfSome
         (reading_from format.now table.old) (λ reading. HasStoppedInBand place areas.old.line
         text reading sizes.old.items fault))) }
     ensures unwritten { IfErr result (λ fault. fault ≢ SizesFault.Write) }
@@ -184,9 +184,7 @@ fn add_stretches<A: Source, R: Source>(
         }
         add_stretch(alloc, format, stretch, place, table, sizes)?;
         line = stretch.last.saturating_add(1);
-        if let Err(fault) = areas.next(alloc) {
-            return Err(of_areas(fault));
-        }
+        areas.next();
     }
     Err(SizesFault::TooLong)
 }
@@ -221,12 +219,12 @@ fn end_table<R: Source>(
     Ok(())
 }
 
-// Reads the stretches of the band in a place, and its table.
-fn add_band<A: Source, R: Source + Drop>(
+// Reads the runs of the tile in a place, and its table.
+fn add_band<R: Source + Drop>(
     alloc: Global,
     format: &Format,
     place: usize,
-    areas: &mut AreasText<A>,
+    areas: &mut HeldNumbering,
     source: R,
     sizes: &mut Vec<u64>,
 ) -> Result<(), SizesFault>
@@ -234,11 +232,11 @@ fn add_band<A: Source, R: Source + Drop>(
     requires lines { areas.old.line < 2 ^ 64 }
     requires start { IfSome areas.old.head (IsBandStart place) }
     ensures band { OnOk result (HasReadBand (place + 1) areas.old.line areas.new.line
-        (areas_from areas.old) (areas_from areas.new)
+        (held_from areas.old) (held_from areas.new)
         (option_map (reading_of format.now 1) (R.coming source))
         sizes.old.items sizes.new.items) }
     ensures over { OnOk result (IfSome areas.new.head (IsBandStart (place + 1))) }
-    ensures stopped { IfErr result (λ fault. IfSome (areas_from areas.old) (λ text. IfSome
+    ensures stopped { IfErr result (λ fault. IfSome (held_from areas.old) (λ text. IfSome
         (option_map (reading_of format.now 1) (R.coming source)) (λ reading. HasStoppedInBand
         place areas.old.line text reading sizes.old.items fault))) }
     ensures unwritten { IfErr result (λ fault. fault ≢ SizesFault.Write) }
@@ -253,7 +251,7 @@ fn add_band<A: Source, R: Source + Drop>(
     Ok(())
 }
 
-// The sizes of all areas of the whole.
+// The sizes of all clumps of the whole.
 fn add_tables<R: Source + Drop>(
     alloc: Global,
     format: &Format,
@@ -270,10 +268,13 @@ fn add_tables<R: Source + Drop>(
         → IsSizesFault (areas_reading_of text) (map (reading_of format.now 1) texts) fault) }
     ensures unwritten { IfErr result (λ fault. fault ≢ SizesFault.Write) }
 {
-    let mut text = match AreasText::begin(alloc, areas) {
+    let mut text = match HeldNumbering::read(alloc, areas) {
         Ok(text) => text,
         Err(fault) => return Err(of_areas(fault)),
     };
+    if let Some(line) = text.line_beyond() {
+        return Err(SizesFault::NumberBeyond { line });
+    }
     let mut sizes = Vec::new(alloc);
     let mut place = 0;
     for source in tables {
@@ -324,13 +325,14 @@ fn put_sizes<W: Sink>(out: &mut W, format: &Format, sizes: &[u64]) -> SizesOutco
     }
 }
 
-/// Adds up the sizes of the areas of bands by the numbers that an areas text tells, and writes a line for each number, from
-/// 1 on, with the size of its area in the whole: the table of the numbers of the undivided map, without null.
+/// Adds up the sizes of the clumps of tiles by the numbers that a numbering tells, and writes a line for each number, from
+/// 1 on, with the size of its clump in the whole: the table of the numbers of the undivided map, without null.
 ///
-/// The tables are of the numbers of the bands, in order, each with its counts; an entry of null is passed over. The numbers may
-/// come in any order. Eight bytes of memory are taken for each number up to the greatest, and a block for the areas text and for
-/// the table that is read. Nothing is written before all is read, and whether a number is left out is seen then. The sink is
-/// flushed once at the end, unless it refused a put.
+/// The tables are of the numbers of the tiles, in order, each with its counts; an entry of null is passed over. The numbers may
+/// come in any order. The numbering is read first, 32 bytes of memory for each of its lines, and a number above the count of clumps
+/// that it lists is refused then; eight bytes are taken for each number up to the greatest, and a block for the table that is read.
+/// Nothing is written before all is read, and whether a number is left out is seen then. The sink is flushed once at the end, unless
+/// it refused a put.
 pub fn join_table_sizes<R: Source + Drop, W: Sink>(
     alloc: Global,
     format: &Format,
@@ -338,7 +340,7 @@ pub fn join_table_sizes<R: Source + Drop, W: Sink>(
     tables: Vec<R>,
     out: &mut W,
 ) -> SizesOutcome
-    // Without a fault the areas text is one to its end, each table is that of the areas of its band, and the sink has taken
+    // Without a fault the numbering is one to its end, each table is that of the clumps of its tile, and the sink has taken
     // exactly the lines of the sums.
     ensures joined { (text : Coming) (texts : List Coming) → R.coming areas ≡ Some text
         → Give R.coming tables.items texts → result.fault ≡ None
@@ -349,7 +351,7 @@ pub fn join_table_sizes<R: Source + Drop, W: Sink>(
         → Give R.coming tables.items texts → IfSome result.fault
         (HasStopped format.now (areas_reading_of text) (map (reading_of format.now 1) texts)
         (W.taken out.old) (W.taken out.new) result.written) }
-    // A fault is the first that is met where the areas text and the tables are read side by side.
+    // A fault is that of the numbering, or the first that is met where it and the tables are read side by side.
     ensures fault { (text : Coming) (texts : List Coming) → R.coming areas ≡ Some text
         → Give R.coming tables.items texts → IfSome result.fault
         (IsSizesFault (areas_reading_of text) (map (reading_of format.now 1) texts)) }

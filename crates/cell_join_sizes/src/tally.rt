@@ -12,7 +12,7 @@ pub(crate) enum TallyFault {
     Memory,
 }
 
-// Puts the size of a number behind those of others, the number by its place, counted from 0. Places between have 0: no area
+// Puts the size of a number behind those of others, the number by its place, counted from 0. Places between have 0: no clump
 // has had their numbers so far.
 fn put_size(sizes: &mut Vec<u64>, place: usize, size: u64) -> Result<(), TallyFault>
     requires { length sizes.old.items ≤ place }
@@ -29,7 +29,7 @@ fn put_size(sizes: &mut Vec<u64>, place: usize, size: u64) -> Result<(), TallyFa
     }
 }
 
-// Adds a size to that of the area of a number. For 0 there is no place: an areas text tells numbers from 1 on.
+// Adds a size to that of the clump of a number. For 0 there is no place: a numbering tells numbers from 1 on.
 pub(crate) fn add_size(sizes: &mut Vec<u64>, number: u64, size: u64) -> Result<(), TallyFault>
     ensures ok { OnOk result (Tallies sizes.old.items (number ∷ []) (size ∷ []) sizes.new.items) }
     ensures err { IfErr result (IsTallyFault sizes.old.items number size) }

@@ -1,4 +1,4 @@
--- The table of the numbers of a band is that of the entries of its stretches.
+-- The table of the numbers of a tile is that of the entries of its runs.
 use Rattle.std.proofs.Common.{◌≡◌, ℕ, zero, suc, pos, ◌+◌, ◌-◌, ◌≤◌, ◌==◌, List, [], ◌∷◌, ◌++◌, length, map, take, drop}
 use Rattle.std.proofs.Common.{Bool, true, false, cond, Some, None, refl, ap, sym, ◌∙◌, arith, length-append}
 use Rattle.std.proofs.Common.{length-drop}
@@ -42,7 +42,7 @@ number-parts n k m sizes few next =
 abbrev IsOf : ℕ → Stretch → Type 0
 IsOf band s = s.band ≡ band
 
--- stretches of a band, whose areas from the first on have these sizes
+-- runs of a tile, whose clumps from the first on have these sizes
 record AreOfBand (band first : ℕ) (sizes : List ℕ) (stretches : List Stretch) : Type 0 where
   own : All (λ (s : Stretch). s.band ≡ band) stretches
   many : length sizes ≡ length (numbers_told stretches)

@@ -36,7 +36,7 @@ use Rattle.cell_join_sizes_law.proofs.WholeLemmas.{has-size, parts-list}
 
 -- ---- the table of a part
 
--- a clumped map that is counted lists the sizes of its areas
+-- a clumped map that is counted lists the sizes of its clumps
 pub lists : (j : Joining) (m numbered : Grid) → IsClumping j m numbered → IsFilled m.region m.rows → (areas : ℕ)
     → HasAreas j m areas → (skip : Skip) (table : Pairs)
     → IsTable skip (cells_of numbered m.region.rows m.region.cols) table → Lists skip areas table

@@ -1,4 +1,4 @@
--- The table of a clump map lists the sizes of its areas.
+-- The table of a clump map lists the sizes of its clumps.
 use Rattle.std.proofs.Common.{◌≡◌, ℕ, zero, suc, pos, negsuc, ◌+◌, ◌-◌, ◌<◌, ◌≤◌, ◌↔◌, map, [], ◌∷◌, ◌++◌, List}
 use Rattle.std.proofs.Common.{length, get_or, Some, None, IsSome, Bool, true, false, cond, refl, ap, sym, ◌∙◌}
 use Rattle.std.proofs.Common.{subst, arith, ⊎_elim}
@@ -177,7 +177,7 @@ module _ (j : Joining) (m numbers : Grid) (is : IsClumping j m numbers) (areas :
   size-is : (i k : ℕ) → i < areas → 1 + i ≡ k → get_or sizes i 0 ≡ count_of (Some (pos k) ∷ []) cells
   size-is i k within e = get_or-map-range_with_len (size_of_number numbers rows cols) 1 areas i k 0 within e
 
-  -- an area has a cell
+  -- a clump has a cell
   some-cells : (k : ℕ) → 1 ≤ k → k ≤ areas → 0 < count_of (Some (pos k) ∷ []) cells
   some-cells k least most =
       let occurs = (numbers_count_areas j m numbers is has.0 has.1 k).1 (least, omega (arith, most, has.2)) in

@@ -1,16 +1,17 @@
--- Where an areas text and tables have sizes, they are read side by side as these say, and nothing else is met.
+-- Where a numbering and tables have sizes, they are read side by side as these say, and nothing else is met.
 use Rattle.std.proofs.Common.{◌≡◌, ◌≢◌, ℕ, zero, suc, pos, ◌+◌, ◌-◌, ◌^◌, ◌<◌, ◌≤◌, ◌==◌, List, [], ◌∷◌, ◌++◌, length}
 use Rattle.std.proofs.Common.{map, take, drop, Bool, true, false, cond, Option, Some, None, refl, ap}
 use Rattle.std.proofs.Common.{sym, ◌∙◌, subst, arith, append-nil, append_assoc, length-append, length-drop, inl}
 use Rattle.std.proofs.Common.{inr}
-use Rattle.std.specs.Prelude.{All, Result, Ok, Err, nat_lt, if◌then◌else◌}
+use Rattle.std.specs.Prelude.{All, Result, Ok, Err, nat_lt, slice_get, sum_by, ◌&&◌, if◌then◌else◌}
 use Rattle.std.specs.List.{Contains, range_with_len}
 use Rattle.std.proofs.lemmas.Bool.{ltb-false}
-use Rattle.std.proofs.lemmas.Bool.Decides.{Decides-eqb}
+use Rattle.std.proofs.lemmas.Bool.Decides.{Decides-eqb, nat_tests}
 use Rattle.std.proofs.lemmas.List.{take-append-drop}
-use Rattle.std.proofs.lemmas.List.Concat.{flat_map-append}
-use Rattle.std.proofs.lemmas.List.Elements.{All-contains, All-get_or, All-head, All-tail}
-use Rattle.std.proofs.lemmas.List.FromFn.{length-range_with_len}
+use Rattle.std.proofs.lemmas.List.Concat.{flat_map-append, length-flat_map}
+use Rattle.std.proofs.lemmas.List.Elements.{All-contains, All-get_or, All-head, All-tail, Contains-append_left, Contains-append_right}
+use Rattle.std.proofs.lemmas.List.FromFn.{get_or-range_with_len, length-range_with_len}
+use Rattle.std.proofs.lemmas.List.Sums.{sum_by-cons}
 use Rattle.cell_stats_combinations.specs.Combinations.{Combination}
 use Rattle.cell_stats.specs.CategoryTables.{Pairs}
 use Rattle.cell_join_lines.specs.LineReading.{TableReading, line_after, reading_of}
@@ -27,24 +28,24 @@ use Rattle.cell_join_lines.specs.declared.areas_fault.AreasFault.{AreasFault}
 use Rattle.cell_join_lines.specs.declared.areas_fault.AreasKind.{AreasKind}
 use Rattle.cell_join_lines.specs.declared.areas_fault.AreasKind.TheVariants as areas_kinds
 use Rattle.cell_core_text.specs.Answers.{◌>>=◌}
-use Rattle.cell_join_sizes.specs.SizeFaults.{AreReadTo, HasAreasFault, HasEntryMore, HasNoTable, HasNumberLeftOut}
+use Rattle.cell_join_sizes.specs.SizeFaults.{AreReadTo, HasEntryMore, IsLineBeyond, last_number, HasNoTable, HasNumberLeftOut}
 use Rattle.cell_join_sizes.specs.SizeFaults.{HasOtherArea, HasSumTooGreat, HasTableFault, IsBandOver, IsEntryOf}
 use Rattle.cell_join_sizes.specs.SizeFaults.{IsNextArea, IsOtherEntry, IsSizesFault}
 use Rattle.cell_join_sizes.specs.SizeFaults.{ReadingPlace, first_area, first_number}
 use Rattle.cell_join_sizes.specs.declared.size_fault.SizesFault.{SizesFault}
-use Rattle.cell_join_sizes.specs.declared.size_fault.SizesFault.TheVariants.{Areas, NumberLeftOut, NoTable, Table}
+use Rattle.cell_join_sizes.specs.declared.size_fault.SizesFault.TheVariants.{Areas, NumberBeyond, NumberLeftOut, NoTable, Table}
 use Rattle.cell_join_sizes.specs.declared.size_fault.SizesFault.TheVariants.{OtherArea, TooGreat, TooLong, Memory}
 use Rattle.cell_join_sizes.specs.declared.size_fault.SizesFault.TheVariants.{Write}
 use Rattle.cell_join_sizes.specs.parts.Counting.{area_entry}
 use Rattle.cell_join_sizes.proofs.TallyLemmas.{size-behind}
 use Rattle.cell_join_sizes_law.specs.RightTexts.{IsOfNoText, RightTextsAreAddedUp}
 
--- stretches that have areas
+-- runs that have clumps
 abbrev pub AreForward : List Stretch → Type 0
 AreForward [] = Unit {0}
 AreForward (s ∷ stretches) = (s.first ≤ s.last) × AreForward stretches
 
--- stretches of which the first is of another band
+-- runs of which the first is of another tile
 abbrev IsOtherBand : ℕ → List Stretch → Type 0
 IsOtherBand band [] = Unit {0}
 IsOtherBand band (s ∷ stretches) = s.band ≢ band
@@ -53,9 +54,101 @@ forward-behind : (before after : List Stretch) → AreForward (before ++ after) 
 forward-behind [] after is = is
 forward-behind (s ∷ before) after is = forward-behind before after is.1
 
+-- ---- the numbers that stretches tell
+
+-- the number of the last clump of a run is told
+last-told : (stretches : List Stretch) (place : ℕ) (s : Stretch) → AreForward stretches → slice_get stretches place ≡ Some s
+    → Contains (numbers_told stretches) (last_number s)
+last-told [] place s on at = cc
+last-told (t ∷ stretches) zero s on at =
+    let same : t ≡ s = cc in
+    let forward : s.first ≤ s.last = subst (λ (u : Stretch). u.first ≤ u.last) same on.0 in
+    let own : Contains (stretch_numbers s) (last_number s) = (
+      s.last - s.first,
+      omega (arith, length-range_with_len s.number (s.last + 1 - s.first), forward),
+      get_or-range_with_len s.number (s.last + 1 - s.first) (s.last - s.first) (last_number s) (omega (arith, forward)),
+    ) in
+    Contains-append_left (stretch_numbers t) (numbers_told stretches) (last_number s)
+    (subst (λ (u : Stretch). Contains (stretch_numbers u) (last_number s)) (sym same) own)
+last-told (t ∷ stretches) (suc place) s on at = Contains-append_right (stretch_numbers t) (numbers_told stretches) (last_number s)
+    (last-told stretches place s on.1 at)
+
+same-counts : (stretches : List Stretch) → sum_by (λ (s : Stretch). length (stretch_numbers s)) stretches ≡ sum_by stretch_areas stretches
+same-counts [] = refl
+same-counts (s ∷ stretches) = omega (
+  arith,
+  sum_by-cons (λ (t : Stretch). length (stretch_numbers t)) s stretches,
+  sum_by-cons stretch_areas s stretches,
+  length-range_with_len s.number (s.last + 1 - s.first),
+  same-counts stretches,
+)
+
+-- how many of the numbers are among the first so many
+abbrev up_to : ℕ → List ℕ → ℕ
+up_to n numbers = sum_by (λ k. cond (nat_lt 0 k && nat_lt k (n + 1)) 1 0) numbers
+
+abbrev equal_to : ℕ → List ℕ → ℕ
+equal_to n numbers = sum_by (λ k. cond (k == n) 1 0) numbers
+
+some-equal : (n : ℕ) (numbers : List ℕ) → Contains numbers n → 0 < equal_to n numbers
+some-equal n [] at = absurd (omega (arith, at.1))
+some-equal n (k ∷ numbers) (zero, within, is) = omega (
+  arith,
+  sum_by-cons (λ j. cond (j == n) 1 0) k numbers,
+  ap {B = ℕ} (λ (t : Bool). cond t 1 0) ((Decides-eqb k n).1 is),
+)
+some-equal n (k ∷ numbers) (suc i, within, is) = omega (
+  arith,
+  sum_by-cons (λ j. cond (j == n) 1 0) k numbers,
+  some-equal n numbers (i, omega (arith, within), is),
+)
+
+one-more : (n k : ℕ) → cond (nat_lt 0 k && nat_lt k (n + 1 + 1)) 1 0 ≡ cond (nat_lt 0 k && nat_lt k (n + 1)) 1 0 + cond (k == n + 1) 1 0
+one-more n k = grind (arith, nat_tests)
+
+more-up-to : (n : ℕ) (numbers : List ℕ) → up_to (n + 1) numbers ≡ up_to n numbers + equal_to (n + 1) numbers
+more-up-to n [] = refl
+more-up-to n (k ∷ numbers) = omega (
+  arith,
+  sum_by-cons (λ j. cond (nat_lt 0 j && nat_lt j (n + 1 + 1)) 1 0) k numbers,
+  sum_by-cons (λ j. cond (nat_lt 0 j && nat_lt j (n + 1)) 1 0) k numbers,
+  sum_by-cons (λ j. cond (j == n + 1) 1 0) k numbers,
+  one-more n k,
+  more-up-to n numbers,
+)
+
+at-most : (t : Bool) → cond t 1 0 ≤ 1
+at-most true = omega arith
+at-most false = omega arith
+
+few-up-to : (n : ℕ) (numbers : List ℕ) → up_to n numbers ≤ length numbers
+few-up-to n [] = omega arith
+few-up-to n (k ∷ numbers) = omega (
+  arith,
+  sum_by-cons (λ j. cond (nat_lt 0 j && nat_lt j (n + 1)) 1 0) k numbers,
+  at-most (nat_lt 0 k && nat_lt k (n + 1)),
+  few-up-to n numbers,
+)
+
+all-up-to : (count : ℕ) (numbers : List ℕ) → ((n : ℕ) → n < count → Contains numbers (n + 1)) → count ≤ up_to count numbers
+all-up-to zero numbers all = omega arith
+all-up-to (suc count) numbers all =
+    let one : suc count ≡ count + 1 = omega arith in
+    omega (
+      arith,
+      all-up-to count numbers (λ n less. all n (omega (arith, less))),
+      some-equal (count + 1) numbers (all count (omega arith)),
+      more-up-to count numbers,
+      ap (λ n. up_to n numbers) one,
+    )
+
+-- numbers of which there are as many as these, each of them
+all-fit : (count : ℕ) (numbers : List ℕ) → ((n : ℕ) → n < count → Contains numbers (n + 1)) → count ≤ length numbers
+all-fit count numbers all = omega (arith, all-up-to count numbers all, few-up-to count numbers)
+
 -- ---- entries of areas, one list behind another
 
--- entries of fewer areas, and then others
+-- entries of fewer clumps, and then others
 record IsCutAt (a : ℕ) (xs ys : List ℕ) (rest others : Pairs) : Type 0 where
   more : List ℕ
   all : ys ≡ xs ++ more
@@ -83,7 +176,7 @@ many-first s stretches =
     length-append (stretch_numbers s) (numbers_told stretches)
     ∙ ap (λ (k : ℕ). k + length (numbers_told stretches)) (length-range_with_len s.number (stretch_areas s))
 
--- those of fewer stretches
+-- those of fewer runs
 record AreCutAt (stretches : List Stretch) (xs ys : List ℕ) (more : List Stretch) (rest others : Pairs) : Type 0 where
   sizes : List ℕ
   all : ys ≡ xs ++ sizes
@@ -141,7 +234,7 @@ cut-areas (s ∷ stretches) xs ys more rest others many all is =
     no-length [] e = refl
     no-length (x ∷ l) e = absurd (omega arith)
 
--- the entries of areas begin with one that is not of null
+-- the entries of clumps begin with one that is not of null
 no-areas : (more : List Stretch) (sizes : List ℕ) (nulls others : Pairs) → AreForward more
     → length sizes ≡ length (numbers_told more) → IsNullEntry nulls
     → nulls ≡ entries_of_areas more sizes ++ others → more ≡ []
@@ -295,7 +388,7 @@ forward-front : (before after : List Stretch) → AreForward (before ++ after) �
 forward-front [] after is = tt
 forward-front (s ∷ before) after is = (is.0, forward-front before after is.1)
 
--- what is still to come of the band: its stretches, their sizes, and an entry of null or none
+-- what is still to come of the tile: its runs, their sizes, and an entry of null or none
 record IsToCome (place : ReadingPlace) (table : TableReading) (counted all : List ℕ) : Type 0 where
   more : List Stretch
   behind : List Stretch
@@ -313,7 +406,7 @@ record IsToCome (place : ReadingPlace) (table : TableReading) (counted all : Lis
   later : List ℕ
   in_all : all ≡ counted ++ (sizes ++ later)
 
--- the entry of the next area is there, with its size
+-- the entry of the next clump is there, with its size
 record HasNext (place : ReadingPlace) (area : ℕ) (to_come : List ℕ) : Type 0 where
   size : ℕ
   entry : IsEntryOf area size place.left.entries
@@ -465,11 +558,6 @@ module _ (areas : AreasReading) (tables : List TableReading) (sizes : List ℕ) 
 
   -- ---- what is not met
 
-  no-areas-fault : (place : ReadingPlace) (fault : AreasFault) → AreReadTo areas tables place
-      → HasAreasFault place fault → ⊥
-  no-areas-fault place fault read is = let none : None ≡ Some fault = sym have.whole ∙ read.areas_end
-      ∙ is.fault_is in cc
-
   no-table-fault : (place : ReadingPlace) (fault : TableFault) → AreReadTo areas tables place
       → HasTableFault place fault → ⊥
   no-table-fault place fault read is = let none : None ≡ Some fault = sym (at-place place read).whole ∙ read.table_end
@@ -524,6 +612,22 @@ module _ (areas : AreasReading) (tables : List TableReading) (sizes : List ℕ) 
                 ∙ sym (append_assoc (numbers_told (stretches_before read))
                 (range_with_len s.number (length place.counted)) (number ∷ (cut.more ++ numbers_told stretches)));
           }
+
+  -- each number up to the greatest is told, so that none is above the count
+  no-line-beyond : (line : ℕ) → IsLineBeyond areas.stretches line → ⊥
+  no-line-beyond line is =
+      let numbers = numbers_told areas.stretches in
+      let told = last-told areas.stretches is.place is.stretch forward is.at in
+      let low : last_number is.stretch ≤ length sizes = (All-contains (λ (n : ℕ). (0 < n) × (n ≤ length sizes)) numbers
+      (last_number is.stretch) have.tally.sums.within told).1 in
+      omega (
+        arith,
+        is.beyond,
+        low,
+        all-fit (length sizes) numbers have.tally.each,
+        length-flat_map stretch_numbers areas.stretches,
+        same-counts areas.stretches,
+      )
 
   no-number-left-out : (number : ℕ) → HasNumberLeftOut areas tables number → ⊥
   no-number-left-out number is =
@@ -583,8 +687,8 @@ module _ (areas : AreasReading) (tables : List TableReading) (sizes : List ℕ) 
 
   no-text : All (λ size. size < 2 ^ 64) sizes → (fault : SizesFault)
       → IsSizesFault areas tables fault → IsOfNoText fault
-  no-text fit (Areas fault) (inl once) = let none : None ≡ Some fault = sym have.whole ∙ once.1 in cc
-  no-text fit (Areas fault) (inr is) = no-areas-fault is.place fault is.read is.wrong
+  no-text fit (Areas fault) is = let none : None ≡ Some fault = sym have.whole ∙ is in cc
+  no-text fit (NumberBeyond line) is = no-line-beyond line is.1
   no-text fit (NumberLeftOut number) is = no-number-left-out number is
   no-text fit (NoTable line) is = no-table-left line is
   no-text fit (Table table fault) is = no-table-fault is.place fault is.read is.wrong.1

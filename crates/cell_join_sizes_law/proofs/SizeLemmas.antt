@@ -71,7 +71,7 @@ count-either t u (x ∷ cells) apart =
 
 -- ---- cells of a band, by their numbers in the whole
 
--- a cell has a number of the band, from one on, that stands for this one in the whole
+-- a cell has a number of the tile, from one on, that stands for this one in the whole
 abbrev stands_for : ℕ → List ℕ → (from count : ℕ) → Combination → Bool
 stands_for n [] from count x = false
 stands_for n (number ∷ numbers) from zero x = false
@@ -173,7 +173,7 @@ stands-apart n number numbers from count x here = by (stands_for n numbers (from
         number-of : {a b : ℕ} → Some (pos a) ∷ [] ≡ Some (pos b) ∷ [] → a ≡ b
         number-of e = ap (λ (k : Combination). number-in (first-cell k)) e
 
--- the cells that stand for a number are as many as those of its areas
+-- the cells that stand for a number are as many as those of its clumps
 count-first : (n number from : ℕ) (cells : List Combination) →
     count_by (λ x. n == number && eq_by_cmp combination_cmp (Some (pos from) ∷ []) x) cells
     ≡ size_for n number (count_of (Some (pos from) ∷ []) cells)
@@ -242,7 +242,7 @@ module _ (j : Joining) (m numbers_map : Grid) (is : IsClumping j m numbers_map) 
       (λ e. equal-itself (Some (pos n) ∷ []) (d ∷ []) (ap (λ (x : CellValue). x ∷ [])
       (sym (same_there ∙ there-stands c (stands-only n numbers 1 areas (c ∷ []) e)))))
 
-  -- so a tile has as many of its cells as its areas of that number have
+  -- so a tile has as many of its cells as its clumps of that number have
   pub tile-count : (rows cols : ℕ) →
       count_of (Some (pos n) ∷ []) (cells_of (renumbered numbers numbers_map) rows cols)
       ≡ size_of_area n numbers (sizes_of_areas areas numbers_map rows cols)

@@ -131,7 +131,7 @@ module _ (j : Joining) (whole numbered : Grid) (is : IsClumping j whole numbered
 
 -- ---- the sizes that were added up
 
--- they are added up by the numbers of all areas
+-- they are added up by the numbers of all clumps
 pub tally-of : (areas numbers : List ℕ) → length numbers ≡ sum areas → (tables : List Pairs) (sizes : List ℕ)
     → HaveSizes (record { stretches = stretches_of areas numbers; fault = None }) (map table_read tables) sizes
     → HasTally numbers (flat_map listed_sizes tables) sizes
@@ -193,7 +193,7 @@ module _ (j : Joining) (whole numbered : Grid) (is : IsClumping j whole numbered
 
 -- ---- no number is left out
 
--- each number from 1 to the count of areas has a cell in the whole, and so a size
+-- each number from 1 to the count of clumps has a cell in the whole, and so a size
 pub has-size : (j : Joining) (whole numbered : Grid) → IsClumping j whole numbered → IsFilled whole.region whole.rows
     → (areas : ℕ) → HasAreas j whole areas → (numbers sizes : List ℕ)
     → ((n : ℕ) → 0 < n

@@ -13,7 +13,7 @@ use Rattle.cell_cats_law.specs.AreaLaw.{cells_of}
 use Rattle.cell_join_numbers.specs.Labelled.{HasAreas}
 use Rattle.cell_join_sizes_law.specs.SizeLaw.{sizes_of_areas}
 
--- the entries of numbers from one on, with the sizes of their areas
+-- the entries of numbers from one on, with the sizes of their clumps
 abbrev pub entries_from : ℕ → List ℕ → Pairs
 entries_from n [] = []
 entries_from n (size ∷ sizes) = (Some (pos n) ∷ [], size) ∷ entries_from (n + 1) sizes
@@ -23,11 +23,11 @@ abbrev pub entry_of_null : Skip → ℕ → Pairs
 entry_of_null skip zero = []
 entry_of_null skip (suc n) = if is_left_out skip (None ∷ []) then [] else (None ∷ [], suc n) ∷ []
 
--- the entries of areas of these sizes, numbered from 1 on, and after them that of null
+-- the entries of clumps of these sizes, numbered from 1 on, and after them that of null
 abbrev pub number_table : Skip → List ℕ → ℕ → Pairs
 number_table skip sizes nulls = entries_from 1 sizes ++ entry_of_null skip nulls
 
--- the table of a clump map is that of the sizes of its areas
+-- the table of a clump map is that of the sizes of its clumps
 abbrev pub NumbersAreListed : Type 0
 NumbersAreListed = (j : Joining) (m numbers : Grid) → IsClumping j m numbers → IsFilled m.region m.rows
     → (areas : ℕ) → HasAreas j m areas → (skip : Skip) (table : Pairs)

@@ -7,11 +7,12 @@ use Rattle.cell_join_lines.specs.AreasReading.{areas_reading_of}
 use Rattle.cell_join_sizes.specs.SizeTexts.{HaveSizes}
 use Rattle.cell_join_sizes.specs.SizeFaults.{IsSizesFault}
 use Rattle.cell_join_sizes.specs.declared.size_fault.SizesFault.{SizesFault}
-use Rattle.cell_join_sizes.specs.declared.size_fault.SizesFault.TheVariants.{Areas, NumberLeftOut, NoTable, Table, OtherArea, TooGreat, TooLong, Memory, Write}
+use Rattle.cell_join_sizes.specs.declared.size_fault.SizesFault.TheVariants.{Areas, NumberBeyond, NumberLeftOut, NoTable, Table, OtherArea, TooGreat, TooLong, Memory, Write}
 
 -- a fault for which no text is to blame
 abbrev pub IsOfNoText : SizesFault → Type 0
 IsOfNoText (Areas fault) = ⊥
+IsOfNoText (NumberBeyond line) = ⊥
 IsOfNoText (NumberLeftOut number) = ⊥
 IsOfNoText (NoTable line) = ⊥
 IsOfNoText (Table table fault) = ⊥
@@ -21,7 +22,7 @@ IsOfNoText TooLong = Unit {0}
 IsOfNoText Memory = Unit {0}
 IsOfNoText Write = Unit {0}
 
--- where an areas text and tables have sizes that fit in 64 bits, no fault is that of a text
+-- where a numbering and tables have sizes that fit in 64 bits, no fault is that of a text
 abbrev pub RightTextsAreAddedUp : Type 0
 RightTextsAreAddedUp = (format : FormatValue) (text : Coming) (texts : List Coming) (sizes : List ℕ)
     → HaveSizes (areas_reading_of text) (map (reading_of format 1) texts) sizes

@@ -1,4 +1,4 @@
--- Sizes, and tables of the numbers, of the areas of tiles that have each cell of a map once.
+-- Sizes, and tables of the numbers, of the clumps of tiles that have each cell of a map once.
 use Rattle.std.specs.Prelude.{ℕ, pos, ◌-◌, ◌≡◌, ◌↔◌, List, [], ◌∷◌, map, flat_map, length, All, Some, None, sum_by}
 use Rattle.std.specs.Prelude.{slice_index}
 use Rattle.std.specs.List.{AllZip}
@@ -16,7 +16,7 @@ use Rattle.cell_join_sizes.specs.Sizes.{AddUp}
 use Rattle.cell_join_sizes_law.specs.SizeLaw.{sizes_of_areas}
 use Rattle.cell_join_sizes_law.specs.NumberTables.{number_table, listed_sizes}
 
--- a tile with the numbers of its areas, and the number in the whole of each of them
+-- a tile with the numbers of its clumps, and the number in the whole of each of them
 pub record JoinedTile : Type 0 where
   pub numbered : Numbered
   pub there : List ℕ
@@ -24,7 +24,7 @@ pub record JoinedTile : Type 0 where
 abbrev pub place_of_tile : JoinedTile → Rectangle
 place_of_tile t = t.numbered.tile.place
 
--- so many areas, and each cell has in the whole the number that stands there for its own
+-- so many clumps, and each cell has in the whole the number that stands there for its own
 pub record IsJoinedTile (j : Joining) (whole : Grid) (t : JoinedTile) : Type 0 where
   pub cells : IsTile whole t.numbered.tile
   pub clumping : IsClumping j t.numbered.tile.map t.numbered.numbers
@@ -41,12 +41,12 @@ pub record AreJoinedTiles (j : Joining) (whole : Grid) (rows cols : ℕ) (tiles 
 abbrev pub numbers_of_tiles : List JoinedTile → List ℕ
 numbers_of_tiles tiles = flat_map (λ t. t.there) tiles
 
--- the sizes of the areas of a tile
+-- the sizes of the clumps of a tile
 abbrev pub sizes_of_tile : JoinedTile → List ℕ
 sizes_of_tile t =
     sizes_of_areas (length t.there) t.numbered.numbers (place_of_tile t).rows (place_of_tile t).cols
 
--- added up, they are the sizes of the areas of the whole
+-- added up, they are the sizes of the clumps of the whole
 abbrev pub TileSizesCountCells : Type 0
 TileSizesCountCells = (j : Joining) (whole : Grid) (rows cols : ℕ) (tiles : List JoinedTile)
     → AreJoinedTiles j whole rows cols tiles → (numbered : Grid) → IsClumping j whole numbered

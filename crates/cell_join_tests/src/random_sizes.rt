@@ -1,4 +1,4 @@
-//! Random bands: the sizes of their areas beside a plain count.
+//! Random tiles: the sizes of their clumps beside a plain count.
 
 use crate::sizes::{ROOM, join_to};
 use cell_core::memory::Memory;
@@ -7,19 +7,22 @@ use itoa::Buffer;
 use std::alloc::{AllocGlobal, Global};
 use std::test::Fail;
 
-// How many bands a map has at most.
+// How many tiles a map has at most.
 const BANDS: u64 = 6;
 
-// How many stretches a band has at most.
+// How many runs a tile has at most.
 const STRETCHES: u64 = 3;
 
-// The greatest number that a stretch begins with.
+// The greatest number that a run begins with.
 const NUMBERS: u64 = 5;
 
-// The texts of bands, and the sizes of the areas of the whole, by their numbers: 0 where a number is left out.
+// The texts of tiles, how many clumps they have, the greatest number of each line of the numbering, and the sizes of the clumps of the
+// whole, by their numbers: 0 where a number is left out.
 #[derive(Drop)]
 struct Bands {
     areas: Vec<u8>,
+    count: u64,
+    greatest: Vec<u64>,
     tables: Vec<Vec<u8>>,
     sizes: Vec<u64>,
 }
@@ -44,7 +47,7 @@ fn push_line(text: &mut Vec<u8>, numbers: &[u64]) -> Result<(), Memory> {
     Ok(())
 }
 
-// A size more of the area of a number.
+// A size more of the clump of a number.
 fn count(sizes: &mut Vec<u64>, number: u64, size: u64) -> Result<(), Memory> {
     for _ in sizes.len() as u64..number {
         sizes.push(0)?;
@@ -55,7 +58,7 @@ fn count(sizes: &mut Vec<u64>, number: u64, size: u64) -> Result<(), Memory> {
     Ok(())
 }
 
-// So many areas of a band from one on, with numbers from one on.
+// So many clumps of a tile from one on, with numbers from one on.
 fn push_areas(
     seed: &mut u64,
     table: &mut Vec<u8>,
@@ -72,7 +75,7 @@ fn push_areas(
     Ok(())
 }
 
-// A band in a place, of stretches of up to three areas, with numbers at random.
+// A tile in a place, of runs of up to three clumps, with numbers at random.
 fn push_band(alloc: Global, seed: &mut u64, band: u64, bands: &mut Bands) -> Result<(), Memory> {
     let mut table = Vec::new(alloc);
     let mut area = 1u64;
@@ -84,6 +87,10 @@ fn push_band(alloc: Global, seed: &mut u64, band: u64, bands: &mut Bands) -> Res
             &mut bands.areas,
             &[band, area, behind.saturating_sub(1), number],
         )?;
+        bands.count = bands.count.saturating_add(areas);
+        bands
+            .greatest
+            .push(number.saturating_add(areas).saturating_sub(1))?;
         push_areas(seed, &mut table, &mut bands.sizes, area, number, areas)?;
         area = behind;
     }
@@ -98,6 +105,8 @@ fn push_band(alloc: Global, seed: &mut u64, band: u64, bands: &mut Bands) -> Res
 fn bands_by(alloc: Global, mut seed: u64) -> Result<Bands, Memory> {
     let mut bands = Bands {
         areas: Vec::new(alloc),
+        count: 0,
+        greatest: Vec::new(alloc),
         tables: Vec::new(alloc),
         sizes: Vec::new(alloc),
     };
@@ -107,8 +116,14 @@ fn bands_by(alloc: Global, mut seed: u64) -> Result<Bands, Memory> {
     Ok(bands)
 }
 
-// The first number without a size.
-fn left_out(sizes: &[u64]) -> Option<SizesFault> {
+// The first line with a number above the count of clumps, or the first number without a size.
+fn fault_of(count: u64, greatest: &[u64], sizes: &[u64]) -> Option<SizesFault> {
+    for (place, number) in greatest.iter().enumerate() {
+        if *number > count {
+            let line = (place as u64).saturating_add(1);
+            return Some(SizesFault::NumberBeyond { line });
+        }
+    }
     for (place, size) in sizes.iter().enumerate() {
         if *size == 0 {
             let number = (place as u64).saturating_add(1);
@@ -143,7 +158,7 @@ fn random_bands_have_the_sizes_that_are_counted(rt: HostRuntime) -> Result<(), F
         let bands = bands_by(alloc, seed)?;
         let tables = slices_of(alloc, &bands.tables)?;
         let joined = join_to(alloc, &bands.areas, &tables, ROOM)?;
-        let fault = left_out(&bands.sizes);
+        let fault = fault_of(bands.count, &bands.greatest, &bands.sizes);
         assert_eq!(rt; joined.outcome.fault, fault, "seed {seed}");
         let lines = match fault {
             Some(_) => Vec::new(alloc),

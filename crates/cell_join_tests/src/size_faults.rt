@@ -16,6 +16,10 @@ fn of_table(table: usize, line: u64, kind: TableKind) -> SizesFault {
     SizesFault::Table { table, fault }
 }
 
+fn beyond(line: u64) -> SizesFault {
+    SizesFault::NumberBeyond { line }
+}
+
 fn not_numbers(line: u64) -> SizesFault {
     SizesFault::Areas(AreasFault {
         line,
@@ -46,21 +50,23 @@ fn tables_of_other_bands_are_refused(rt: HostRuntime) -> Result<(), Fail> {
     Ok(())
 }
 
-// A number that no memory has a place for is told as want of memory.
+// The numbering is read first: a number above the count of its clumps is refused before any table is read.
 #[test]
 fn numbers_are_refused(rt: HostRuntime) -> Result<(), Fail> {
-    let cases: [(&[u8], SizesFault); 5] = [
+    let cases: [(&[u8], SizesFault); 7] = [
         (
             b"1 1 2 1\n2 1 2 4\n2 3 3 1\n",
             SizesFault::NumberLeftOut { number: 3 },
         ),
         (
-            b"1 1 2 5\n2 1 3 2\n",
+            b"1 1 2 4\n2 1 3 2\n",
             SizesFault::NumberLeftOut { number: 1 },
         ),
-        (b"1 1 2 1\n2 1 3 18446744073709551615\n", SizesFault::Memory),
-        (b"1 1 2 1\n2 1 3 18446744073709551613\n", SizesFault::Memory),
-        (b"1 1 2 1\n2 1 3 1152921504606846976\n", SizesFault::Memory),
+        (b"1 1 2 5\n2 1 3 2\n", beyond(1)),
+        (b"1 1 2 1\n2 1 3 4\n", beyond(2)),
+        (b"1 1 2 1\n2 1 3 18446744073709551615\n", beyond(2)),
+        (b"1 1 2 1\n2 1 3 18446744073709551613\n", beyond(2)),
+        (b"1 1 1 300000000\n", beyond(1)),
     ];
     for (areas, fault) in cases {
         let joined = join_to(rt.alloc(), areas, &[FIRST, SECOND], ROOM)?;
@@ -74,7 +80,7 @@ fn numbers_are_refused(rt: HostRuntime) -> Result<(), Fail> {
 fn the_first_fault_of_the_texts_is_told(rt: HostRuntime) -> Result<(), Fail> {
     let two: &[u8] = b"1 5\n2 7\nx\n";
     let great: &[u8] = b"1 1\n2 18446744073709551615\n";
-    let cases: [(&[u8], &[&[u8]], SizesFault); 7] = [
+    let cases: [(&[u8], &[&[u8]], SizesFault); 8] = [
         (
             AREAS,
             &[great, b"1 1\n2 1\n3 1\n"],
@@ -92,7 +98,8 @@ fn the_first_fault_of_the_texts_is_told(rt: HostRuntime) -> Result<(), Fail> {
             &[b"1 5\n2 7\n* 3\n5 1\n", SECOND],
             of_table(0, 4, TableKind::OutOfOrder),
         ),
-        (b"1 1 2 1\nx\n", &[two], of_table(0, 3, TableKind::BadCount)),
+        (b"1 1 2 1\nx\n", &[two], not_numbers(2)),
+        (b"1 1 2 1\n", &[two], of_table(0, 3, TableKind::BadCount)),
         (b"1 1 1 1\nx\n", &[two], not_numbers(2)),
     ];
     for (areas, tables, fault) in cases {

@@ -34,7 +34,7 @@ fn sources_of(alloc: Global, texts: &[&[u8]]) -> Result<Vec<MemorySource>, Memor
     Ok(sources)
 }
 
-/// The sizes of an areas text and of tables, to a sink of so much room.
+/// The sizes of a numbering and of tables, to a sink of so much room.
 pub(crate) fn join_to(
     alloc: Global,
     areas: &[u8],

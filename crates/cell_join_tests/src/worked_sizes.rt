@@ -1,11 +1,11 @@
-//! Two bands, of two areas and of three: in the whole the second of the first is one area with the first of the other, and the first
+//! Two tiles, of two clumps and of three: in the whole the second of the first is one clump with the first of the other, and the first
 //! with its last.
 
 use crate::sizes::{ROOM, join_to};
 use cell_join_sizes::size_fault::SizesFault;
 use std::test::Fail;
 
-/// The areas text of these bands.
+/// The numbering of these tiles.
 pub(crate) const AREAS: &[u8] = b"1 1 2 1\n2 1 2 2\n2 3 3 1\n";
 
 /// The table of the first.
@@ -16,8 +16,8 @@ pub(crate) const SECOND: &[u8] = b"1 20\n2 30\n3 40\n";
 
 const SIZES: &[u8] = b"1 45\n2 27\n3 30\n";
 
-// With a null where there was none and the other way round, with bands behind these that have no areas, with numbers downwards, and
-// without bands.
+// With a null where there was none and the other way round, with tiles behind these that have no clumps, with numbers downwards, and
+// without tiles.
 #[test]
 fn sizes_are_added_up(rt: HostRuntime) -> Result<(), Fail> {
     let cases: [(&[u8], &[&[u8]], &[u8]); 5] = [

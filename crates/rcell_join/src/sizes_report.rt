@@ -24,6 +24,7 @@ impl fmt::Display for SizesText {
                 let kind = fault.kind;
                 write!(f, "{kind}")
             }
+            SizesFault::NumberBeyond { .. } => f.write_str("number above the count of clumps"),
             SizesFault::NumberLeftOut { number } => write!(f, "number {number} left out"),
             SizesFault::NoTable { .. } => f.write_str("tile without a table"),
             SizesFault::Table { table: _, fault } => {
@@ -48,6 +49,7 @@ fn sizes_place<'a>(numbering: &'a str, tables: &[&'a str], fault: SizesFault) ->
             let status = numbering_kind_status(fault.kind);
             on_line(numbering, fault.line, status)
         }
+        SizesFault::NumberBeyond { line } => on_line(numbering, line, 1),
         SizesFault::NumberLeftOut { .. } => whole(numbering, 1),
         SizesFault::NoTable { line } => on_line(numbering, line, 1),
         SizesFault::Table { table, fault } => {

@@ -19,7 +19,7 @@ use Rattle.cell_join_tables_law.specs.WrittenAreas.{AreReadable}
 use Rattle.cell_join_sizes.specs.SizeFaults.{IsFirstSizesFault, IsSizesFault, IsTooLong}
 use Rattle.cell_join_sizes.specs.SizeTexts.{HaveSizes, stretches_of_parts}
 use Rattle.cell_join_sizes.specs.declared.size_fault.SizesFault.{SizesFault}
-use Rattle.cell_join_sizes.specs.declared.size_fault.SizesFault.TheVariants.{Areas, NumberLeftOut, NoTable, Table}
+use Rattle.cell_join_sizes.specs.declared.size_fault.SizesFault.TheVariants.{Areas, NumberBeyond, NumberLeftOut, NoTable, Table}
 use Rattle.cell_join_sizes.specs.declared.size_fault.SizesFault.TheVariants.{OtherArea, TooGreat, TooLong, Memory}
 use Rattle.cell_join_sizes.specs.declared.size_fault.SizesFault.TheVariants.{Write}
 use Rattle.cell_join_sizes_law.specs.ExistingSizes.{HaveSizesUpTo}
@@ -130,6 +130,7 @@ added-up format text texts counts numbers tables cells reads lists are have few 
     by : (fault : SizesFault) → IsSizesFault (areas_reading_of text) (map (reading_of format 1) texts) fault
         → IsOfNoText fault → (fault ≡ Memory) ⊎ (fault ≡ Write)
     by (Areas fault) is none = absurd none
+    by (NumberBeyond line) is none = absurd none
     by (NumberLeftOut number) is none = absurd none
     by (NoTable line) is none = absurd none
     by (Table table fault) is none = absurd none

@@ -1,11 +1,11 @@
--- The stretch of an entry that may be.
+-- The run of an entry that may be.
 use Rattle.std.specs.Prelude.{ℕ, Option, Some, None, Result, Ok, Err}
 use Rattle.cell_stats_combinations.specs.Combinations.{Combination}
 use Rattle.cell_join_lines.specs.declared.stretch.Stretch.{Stretch}
 use Rattle.cell_join_lines.specs.declared.areas_fault.AreasKind.{AreasKind}
 use Rattle.cell_join_lines.specs.AreasReading.{next_stretch}
 
--- a stretch, if there is one
+-- a run, if there is one
 abbrev pub head_if : Result Stretch AreasKind → Result (Option Stretch) AreasKind
 head_if (Ok s) = Ok (Some s)
 head_if (Err kind) = Err kind

@@ -1,4 +1,4 @@
--- A table read beside the stretches of its band.
+-- A table read beside the runs of its tile.
 use Rattle.std.specs.Prelude.{ℕ, pos, ◌≡◌, ◌≢◌, ◌++◌, ◌+◌, true, List, [], ◌∷◌, length, map, All, Option, Some, None, IfSome, false}
 use Rattle.std.specs.Option.{option_map}
 use Rattle.std.specs.List.{range_with_len}
@@ -15,7 +15,7 @@ use Rattle.cell_join_sizes.specs.declared.size_fault.SizesFault.TheVariants.{Wri
 use Rattle.cell_join_lines.specs.declared.stretch.Stretch.{Stretch}
 use Rattle.cell_join_lines.specs.AreasReading.{AreasReading, areas_reading_of}
 use Rattle.cell_join_lines.specs.AreasText.{numbers_told}
-use Rattle.cell_join_lines.specs.TextOfAreas.{AreasTextValue, areas_from}
+use Rattle.cell_join_sizes.specs.parts.Held.{HeldValue, held_from}
 use Rattle.cell_join_sizes.specs.parts.Stops.{lines_behind}
 use Rattle.cell_join_sizes.specs.SizeTexts.{AreTablesOfBands, BandSizes, IsNullEntry, IsTableOfBand, entries_of_areas, number_entries, sizes_of_parts, stretches_of_parts}
 use Rattle.cell_join_sizes.specs.parts.Tally.{Tallies}
@@ -24,22 +24,22 @@ use Rattle.cell_join_sizes.specs.parts.Tally.{Tallies}
 abbrev pub with_entries : Pairs → TableReading → TableReading
 with_entries entries others = record { entries = entries ++ others.entries; fault = others.fault }
 
--- stretches, and then what else is read
+-- runs, and then what else is read
 abbrev pub with_stretches : List Stretch → AreasReading → AreasReading
 with_stretches stretches others = record { stretches = stretches ++ others.stretches; fault = others.fault }
 
--- the entry of an area, with its size
+-- the entry of a clump, with its size
 abbrev pub area_entry : ℕ → ℕ → Combination × ℕ
 area_entry area size = (Some (pos area) ∷ [], size)
 
--- so many areas from one on were read from a table, and their sizes added to those of numbers from one on
+-- so many clumps from one on were read from a table, and their sizes added to those of numbers from one on
 pub record HasCountedAreas (first number count : ℕ) (table left : Option TableReading) (old new : List ℕ) : Type 0 where
   pub sizes : List ℕ
   pub many : length sizes ≡ count
   pub reads : table ≡ option_map (with_entries (number_entries first sizes)) left
   pub tallies : Tallies old (range_with_len number count) sizes new
 
--- a head other than the entry of an area, or none
+-- a head other than the entry of a clump, or none
 abbrev pub IsHeadOfOther : ℕ → Option (Combination × ℕ) → Type 0
 IsHeadOfOther area None = Unit {0}
 IsHeadOfOther area (Some entry) = entry.0 ≢ Some (pos area) ∷ []
@@ -49,7 +49,7 @@ abbrev pub IsHeadOfNull : Option (Combination × ℕ) → Type 0
 IsHeadOfNull None = ⊥
 IsHeadOfNull (Some entry) = entry.0 ≡ None ∷ []
 
--- the stretches of a band were read, from a line to another, and its areas from a table up to this line
+-- the runs of a tile were read, from a line to another, and its clumps from a table up to this line
 pub record HasCountedBand (band line start now : ℕ) (areas after : Option AreasReading) (table left : Option TableReading) (old new : List ℕ) : Type 0 where
   pub part : BandSizes
   pub own : All (λ (s : Stretch). s.band ≡ band) part.stretches
@@ -82,8 +82,8 @@ pub record HasPutSizes (format : FormatValue) (sizes : List ℕ) (before now : O
   pub all : fault ≡ None → (rest ≡ []) × (faults ≡ after_flush start false)
   pub write : IfSome fault (λ f. (f ≡ Write) × (has_failed faults ≡ true))
 
--- the tables before those that are left were read, and all areas of their bands
-pub record HasAddedTables {R : Type 0} (coming : R → Option Coming) (format : FormatValue) (text : Coming) (texts : List Coming) (areas : AreasTextValue) (left : List R) (place : ℕ) (sizes : List ℕ) : Type 0 where
+-- the tables before those that are left were read, and all clumps of their tiles
+pub record HasAddedTables {R : Type 0} (coming : R → Option Coming) (format : FormatValue) (text : Coming) (texts : List Coming) (areas : HeldValue) (left : List R) (place : ℕ) (sizes : List ℕ) : Type 0 where
   pub others : List Coming
   pub give : Give coming left others
   pub first : List TableReading
@@ -91,6 +91,6 @@ pub record HasAddedTables {R : Type 0} (coming : R → Option Coming) (format : 
   pub parts : List BandSizes
   pub count : length parts ≡ place
   pub listed : AreTablesOfBands 1 parts first
-  pub told : Some (areas_reading_of text) ≡ option_map (with_stretches (stretches_of_parts parts)) (areas_from areas)
+  pub told : Some (areas_reading_of text) ≡ option_map (with_stretches (stretches_of_parts parts)) (held_from areas)
   pub areas_line : areas.line ≡ lines_behind 2 (length (stretches_of_parts parts))
   pub tallies : Tallies [] (numbers_told (stretches_of_parts parts)) (sizes_of_parts parts) sizes

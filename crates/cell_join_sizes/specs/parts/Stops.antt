@@ -1,4 +1,4 @@
--- Where counting stopped: within a stretch, within a band, at the end of a table.
+-- Where counting stopped: within a run, within a tile, at the end of a table.
 use Rattle.std.specs.Prelude.{ℕ, ◌≡◌, ◌≢◌, ◌+◌, ◌-◌, ◌^◌, ◌<◌, ◌≤◌, min, List, [], ◌++◌, length, All}
 use Rattle.std.specs.List.{range_with_len}
 use Rattle.cell_join_lines.specs.LineReading.{TableReading}
@@ -12,7 +12,7 @@ use Rattle.cell_join_lines.specs.declared.areas_fault.AreasKind.TheVariants as a
 use Rattle.cell_join_sizes.specs.SizeTexts.{BandSizes, entries_of_areas, number_entries, stretch_areas}
 use Rattle.cell_join_sizes.specs.SizeFaults.{AreOfNextStretch, IsBandOver, IsFaultAt, ReadingPlace, first_area, first_number}
 use Rattle.cell_join_sizes.specs.declared.size_fault.SizesFault.{SizesFault}
-use Rattle.cell_join_sizes.specs.declared.size_fault.SizesFault.TheVariants.{Areas, NumberLeftOut, NoTable, Table, OtherArea, TooGreat, TooLong, Memory, Write}
+use Rattle.cell_join_sizes.specs.declared.size_fault.SizesFault.TheVariants.{Areas, NumberBeyond, NumberLeftOut, NoTable, Table, OtherArea, TooGreat, TooLong, Memory, Write}
 use Rattle.cell_join_sizes.specs.declared.tally.TallyFault.{TallyFault}
 use Rattle.cell_join_sizes.specs.declared.tally.TallyFault.TheVariants as tally_faults
 use Rattle.cell_join_sizes.specs.parts.Tally.{Tallies}
@@ -21,6 +21,7 @@ use Rattle.cell_join_sizes.specs.parts.Tally.{Tallies}
 
 abbrev pub TellsAreasFault : AreasFault → SizesFault → Type 0
 TellsAreasFault fault (Areas told) = (told ≡ fault) × (fault.kind ≢ areas_kinds.Memory)
+TellsAreasFault fault (NumberBeyond line) = ⊥
 TellsAreasFault fault (NumberLeftOut number) = ⊥
 TellsAreasFault fault (NoTable line) = ⊥
 TellsAreasFault fault (Table table told) = ⊥
@@ -32,6 +33,7 @@ TellsAreasFault fault Write = ⊥
 
 abbrev pub TellsTableFault : ℕ → TableFault → SizesFault → Type 0
 TellsTableFault place fault (Areas told) = ⊥
+TellsTableFault place fault (NumberBeyond line) = ⊥
 TellsTableFault place fault (NumberLeftOut number) = ⊥
 TellsTableFault place fault (NoTable line) = ⊥
 TellsTableFault place fault (Table table told) = (table ≡ place) × (told ≡ fault) × (fault.kind ≢ table_kinds.Memory)
@@ -47,17 +49,17 @@ TellsTallyFault number tally_faults.Memory told = told ≡ Memory
 
 -- ---- what the next stretch is
 
--- at the start of the band behind so many
+-- at the start of the tile behind so many
 abbrev pub IsBandStart : ℕ → Stretch → Type 0
 IsBandStart bands s = (s.first ≡ 1) × (s.first ≤ s.last) × (0 < bands → s.band ≢ bands)
 
--- behind the areas of a band up to that of this line
+-- behind the clumps of a tile up to that of this line
 abbrev pub IsNextIn : (band line : ℕ) → Stretch → Type 0
 IsNextIn band line s = (s.first ≤ s.last) × (s.band ≡ band → s.first ≡ line) × (s.band ≢ band → s.first ≡ 1)
 
 -- ---- where it stopped
 
--- so many lines of an areas text behind one; from 2^64 - 1 on they are not told apart
+-- so many lines of a numbering behind one; from 2^64 - 1 on they are not told apart
 abbrev pub lines_behind : (start count : ℕ) → ℕ
 lines_behind start count = min (start + count) (2 ^ 64 - 1)
 
@@ -72,7 +74,7 @@ place_in_stretch table line s counted left sizes others = record {
   sizes = sizes;
 }
 
--- within a stretch, of which the first areas are counted
+-- within a run, of which the first clumps are counted
 pub record HasStoppedInStretch (place : ℕ) (s : Stretch) (table : TableReading) (old : List ℕ) (fault : SizesFault) : Type 0 where
   pub counted : List ℕ
   pub few : length counted ≤ stretch_areas s
@@ -83,7 +85,7 @@ pub record HasStoppedInStretch (place : ℕ) (s : Stretch) (table : TableReading
   pub tallies : Tallies old (range_with_len s.number (length counted)) counted sizes
   pub wrong : (line : ℕ) (others : AreasReading) → IsFaultAt (place_in_stretch place line s counted left sizes others) fault
 
--- within a band, of which the first stretches are counted, and the first areas of the next
+-- within a tile, of which the first runs are counted, and the first clumps of the next
 pub record HasStoppedInBand (place start : ℕ) (areas : AreasReading) (table : TableReading) (old : List ℕ) (fault : SizesFault) : Type 0 where
   pub at : ReadingPlace
   pub own_table : at.table ≡ place
@@ -111,7 +113,7 @@ place_at_end table line areas areas_line left sizes = record {
   sizes = sizes;
 }
 
--- behind all areas of a band
+-- behind all clumps of a tile
 abbrev pub HasStoppedAtEnd : (place line : ℕ) → TableReading → SizesFault → Type 0
 HasStoppedAtEnd place line table fault = (areas : AreasReading) (areas_line : ℕ) (sizes : List ℕ) → IsBandOver (place + 1) areas.stretches areas.fault
     → IsFaultAt (place_at_end place line areas areas_line table sizes) fault

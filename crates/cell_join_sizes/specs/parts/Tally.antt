@@ -1,4 +1,4 @@
--- Sizes of the areas of bands added up by their numbers in the whole.
+-- Sizes of the clumps of tiles added up by their numbers in the whole.
 use Rattle.std.specs.Prelude.{ℕ, ◌≡◌, ◌+◌, ◌-◌, ◌^◌, ◌<◌, ◌≤◌, List, ◌++◌, length, slice_index}
 use Rattle.cell_join_sizes.specs.SizeTexts.{HasSums}
 use Rattle.cell_join_sizes.specs.declared.tally.TallyFault.{TallyFault}
