@@ -1,5 +1,5 @@
 #!/bin/sh
-# Builds the package for R, with the static program in it: build.sh [FOLDER], dist/ if it is not given.
+# Builds the package for R, with the static program in it and its vignette: build.sh [FOLDER], dist/ if it is not given.
 set -eu
 cd "$(dirname "$0")/.."
 dist=${1:-dist}
@@ -14,7 +14,7 @@ install -m 644 LICENSE.md "$inst/COPYRIGHTS"
 sed -i "s/^Version: .*/Version: $version/" "$room/source/rcell/DESCRIPTION"
 # R warns of a program in a package unless it is declared.
 echo inst/bin/rcell > "$room/source/rcell/BinaryFiles"
-(cd "$room/source" && R CMD build --no-build-vignettes rcell > build.log 2>&1) || { cat "$room/source/build.log" >&2; exit 1; }
+(cd "$room/source" && R CMD build rcell > build.log 2>&1) || { cat "$room/source/build.log" >&2; exit 1; }
 # R notes who packed it and when.
 tar -C "$room" -xzf "$room/source/rcell_$version.tar.gz"
 sed -i "s/^Packaged: .*/Packaged: $(date -u -d "@$SOURCE_DATE_EPOCH" '+%Y-%m-%d %H:%M:%S UTC'); the Nibzoqel authors/" "$room/rcell/DESCRIPTION"

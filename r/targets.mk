@@ -5,11 +5,10 @@
 .PHONY: r r-package r-speed
 
 r-package: static
-	@sh tools/debian.sh r-base-core
+	@sh tools/debian.sh -f r/packages.txt
 	@sh r/build.sh dist
 
 r: r-package
-	@sh tools/debian.sh -f r/packages.txt
 	@sh r/check.sh
 
 r-speed: bin/rcell
