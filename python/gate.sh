@@ -1,5 +1,6 @@
 #!/bin/sh
-# What the gate runs of the Python package, on bin/rcell: the tests that need numpy alone, and those of rasters and files at the edge.
+# What the gate runs of the Python package, on bin/rcell: the tests that need numpy alone, of rasters and files at the edge, and of the seven
+# calls and rcell-gis beside their peers.
 # The last line is 'N passed, M failed, K skipped'.
 cd "$(dirname "$0")/.." || exit 1
 room=$(mktemp -d) || exit 1
@@ -18,12 +19,13 @@ elif ! has numpy; then
     skip python 'numpy is not installed' python3-numpy
 else
     add 'with numpy alone' "$python" tests/gate.py
-    if has 'pytest, hypothesis, rasterio, osgeo, pandas, xarray, dask'; then
+    if has 'pytest, hypothesis, rasterio, osgeo, pandas, xarray, dask, pyproj, fiona, geopandas, matplotlib, numpydoc, scipy' && command -v grass > /dev/null; then
         add 'at the edge' "$python" tests/gate.py tests/test_edge.py tests/test_edge_files.py
+        add 'the seven calls' "$python" tests/gate.py tests/test_last_mile.py tests/test_shell.py tests/test_grass.py
         add 'random rasters' "$python" tools/random_rasters.py --count 300
     else
         # shellcheck disable=SC2046
-        skip python/edge 'pytest or a library of rasters is not installed' $(grep -v '^#' packages.txt)
+        skip python/edge 'pytest, GRASS or a library of rasters is not installed' $(grep -v '^#' packages.txt)
     fi
 fi
 closing

@@ -5,7 +5,7 @@
 
 Each figure is seconds of the processor (user and system, all processes), the smallest of the rounds. The maps are the patchy land cover,
 its zones and a second year as GeoTIFF, made by speed.py, and the land cover again in degrees. `program` is rcell alone, on the grids
-and the script that the package sends it, its output thrown away; `reading` is rasterio's read of the GeoTIFFs. A call may cost at
+and the script that the package sends it (for align, which sends none, a table of the map), its output thrown away; `reading` is rasterio's read of the GeoTIFFs. A call may cost at
 most the reading and twice the program. With --show the table is printed and no file is written.
 """
 
@@ -155,12 +155,14 @@ def lines_of(maps: Maps, folder: str, rounds: int) -> list[str]:
     for name, (paths, call, (peer, by_peer)) in calls_of(maps).items():
         recorder = Recorder(folder)
         recorder.record(call)
+        if not recorder.words:  # alignment does not run the program: what a table of the map takes stands in its place
+            recorder.record(lambda: rcell.composition(maps["land"]))
         reading = functools.partial(read, *paths)
         found = by_turns({"answer": call, "program": recorder.program, "reading": reading, "peer": by_peer}, 10**9, rounds)
         most = found["reading"] + SHARE * found["program"]
         told = f"{found['peer']:.2f} ({peer})" if peer else ""
-        share = f"{found['answer'] / most:.2f}" if recorder.words else f"{found['answer'] / found['reading']:.2f} of reading"
-        lines.append(f"| {name} | {found['answer']:.2f} | {found['reading']:.2f} | {found['program']:.2f} | {share} | {told} |")
+        share = found["answer"] / most
+        lines.append(f"| {name} | {found['answer']:.2f} | {found['reading']:.2f} | {found['program']:.2f} | {share:.2f} | {told} |")
         print(lines[-1], flush=True)
     return lines
 

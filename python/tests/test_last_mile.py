@@ -2,6 +2,7 @@
 
 from __future__ import annotations
 
+import inspect
 import json
 import math
 import pathlib
@@ -350,6 +351,8 @@ def test_align_by_whole_cells(raster: Write) -> None:
     text = path.replace("big.tif", "frame.txt")
     rcell.grid("", "m", m=frame).write(text)
     assert rcell.align(text, to=path, crs=UTM).aligned == (-1, -2, 12, 0, 0)
+    far = rcell.align(rcell.Map(LAND, (25.0, 0, 100_000.0, 0, -25.0, 100_000.0), UTM), to=path)
+    assert far.aligned == (-216000, 16000, 0, 0, 12) and np.ma.getmaskarray(far.array).all()
 
 
 def test_align_by_the_nearest_cell() -> None:
@@ -458,9 +461,7 @@ def test_colours_and_flags_come_through(tmp_path: pathlib.Path, raster: Write) -
 
 
 def test_tables_read_back(tmp_path: pathlib.Path) -> None:
-    from rcell._composition import composition_of
-
-    table = composition_of(land(), None, "ha", {1: 'a "quoted", b', 2: "p|q", 3: "c"}, None, None, True, None)
+    table = inspect.unwrap(rcell.composition)(land(), labels={1: 'a "quoted", b', 2: "p|q", 3: "c"}, null=True)
     assert table.csv().splitlines()[:2] == ["class,label,cells,area_ha,percent", '1,"a ""quoted"", b",5,0.3125,45.45454545454545']
     assert table.csv().splitlines()[-1] == ",,1,0.0625,"
     assert json.loads(table.json())[-1] == {"class": None, "label": "", "cells": 1, "area_ha": 0.0625, "percent": None}

@@ -15,12 +15,11 @@ from ._libraries import need
 from ._maps import Aligned, Map, Source, source_of
 from ._masked import data_of, mask_of, masked
 from ._region import Region, Shift
-from ._text import NULL
+from ._text import Cells, Mask
 from ._texts import TextMap
 
 __all__ = ["align"]
 
-Indexes = NDArray[np.int64]
 # By how much of a cell a centre may be north or west of the border of two cells and still be in the southern or eastern one.
 _ON_BORDER = 1e-6
 _BLOCK = 1 << 20
@@ -79,69 +78,67 @@ def align(map: Any, to: Any, resample: str | None = None, *, crs: Any = None) ->
     return Map(made, place, known, None, source.labels, source.colors, aligned)
 
 
-def _cells_of(source: Source) -> tuple[NDArray[np.int32], NDArray[np.bool_]]:
+def _cells_of(source: Source) -> tuple[Cells, Mask]:
     """The cells of a map, and which of them are null."""
     if isinstance(source, TextMap):
         [grid] = grids_of(run_of("", {"map": source}), ["map"])
         return data_of(grid.array), mask_of(grid.array)
-    cells, null, row = np.empty(source.region.shape, np.int32), np.zeros(source.region.shape, np.bool_), 0
-    for block in source.blocks():
-        rows = slice(row, row + len(block.cells))
-        cells[rows] = block.cells
-        if source.nodata is not None:
-            null[rows] = block.cells == source.nodata
-        if block.null is not None:
-            null[rows] |= block.null
-        row = rows.stop
+    blocks = list(source.blocks())
+    cells = np.concatenate([block.cells for block in blocks])
+    null = np.zeros(cells.shape, np.bool_) if source.nodata is None else cells == source.nodata
+    if any(block.null is not None for block in blocks):
+        null |= np.concatenate([np.zeros(block.cells.shape, np.bool_) if block.null is None else block.null for block in blocks])
     return cells, null
 
 
-def _shifted(source: Source, like: Source, cells: NDArray[np.int32], null: NDArray[np.bool_], resample: str | None) -> tuple[Any, Aligned]:
+def _shifted(source: Source, like: Source, cells: Cells, null: Mask, resample: str | None) -> tuple[Any, Aligned]:
     """Whole rows and columns, or those in which the centres of the new ones are."""
     shift = Shift.between(source.transform, like.transform, like.region.shape)
     if resample is None and not shift.is_whole:
         raise OtherRegion("map", f'{shift.told("to")}: resample="nearest" takes the nearest cell')
-    down, across = (np.floor(centres + _ON_BORDER).astype(np.int64) for centres in shift.centres())
-    rows, cols = source.region.shape
-    inside = ((down >= 0) & (down < rows))[:, None] & ((across >= 0) & (across < cols))
-    at = np.ix_(np.clip(down, 0, rows - 1), np.clip(across, 0, cols - 1))
-    often_rows, often_cols = (np.bincount(found[(found >= 0) & (found < size)], minlength=size) for found, size in ((down, rows), (across, cols)))
-    often = np.minimum(often_rows, 2)[:, None] * np.minimum(often_cols, 2)
-    return _result(cells[at], null[at] | ~inside), _account(shift.rows, shift.cols, often, null)
+    places = [np.floor(centres + _ON_BORDER).astype(np.int64) for centres in shift.centres()]
+    inside = [(found >= 0) & (found < size) for found, size in zip(places, cells.shape)]
+    (rows, cols), (to_rows, to_cols) = ([_run(found) for found in sides] for sides in ([at[kept] for at, kept in zip(places, inside)], map(np.flatnonzero, inside)))
+    made, is_null = np.zeros(like.region.shape, cells.dtype), np.ones(like.region.shape, np.bool_)
+    made[to_rows, to_cols], is_null[to_rows, to_cols] = cells[rows][:, cols], null[rows][:, cols]
+    often = [np.bincount(at[kept], minlength=size) for at, kept, size in zip(places, inside, cells.shape)]
+    used, once = (np.count_nonzero(~null[often[0] >= 1 if many else often[0] == 1], axis=0)[often[1] >= 1 if many else often[1] == 1].sum() for many in (True, False))
+    lost = null.size - np.count_nonzero(null) - used
+    return masked(made, is_null), Aligned(shift.rows, shift.cols, int(used), int(used - once), int(lost))
 
 
-def _projected(source: Source, like: Source, cells: NDArray[np.int32], null: NDArray[np.bool_]) -> tuple[Any, Aligned]:
+def _run(places: NDArray[np.int64]) -> Any:
+    """Ascending places as a slice, if none is left out or repeated: that is many times faster."""
+    if not places.size:
+        return slice(0, 0)
+    return slice(int(places[0]), int(places[-1]) + 1) if places[-1] - places[0] + 1 == places.size else places
+
+
+def _projected(source: Source, like: Source, cells: Cells, null: Mask) -> tuple[Any, Aligned]:
     """The cells in which the centres of the new ones are, in the reference system of the map."""
     pyproj = need("pyproj", "gis", "to align maps of two reference systems")
-    change = pyproj.Transformer.from_crs(*(pyproj.CRS.from_user_input(crs.to_wkt() if hasattr(crs, "to_wkt") else crs) for crs in (like.crs, source.crs)), always_xy=True)
+    systems = (pyproj.CRS.from_user_input(crs.to_wkt() if hasattr(crs, "to_wkt") else crs) for crs in (like.crs, source.crs))
+    change = pyproj.Transformer.from_crs(*systems, always_xy=True)
     width, _, west, _, height, north = source.transform
-    made, often = np.full(like.region.shape, NULL, np.int32), np.zeros(cells.size, np.int64)
-    step, (rows, cols) = max(1, _BLOCK // like.region.cols), source.region.shape
+    made, is_null = np.zeros(like.region.shape, cells.dtype), np.ones(like.region.shape, np.bool_)
+    often, step, (rows, cols) = np.zeros(cells.size, np.int64), max(1, _BLOCK // like.region.cols), cells.shape
     for row in range(0, like.region.rows, step):
-        x, y = change.transform(*_centres(like, row, min(step, like.region.rows - row)))
-        with np.errstate(invalid="ignore"):
-            down, across = np.floor((y - north) / height + _ON_BORDER), np.floor((x - west) / width + _ON_BORDER)
-            inside = (down >= 0) & (down < rows) & (across >= 0) & (across < cols)
+        part = slice(row, min(row + step, like.region.rows))
+        x, y = change.transform(*_centres(like, part))
+        down, across = np.floor((y - north) / height + _ON_BORDER), np.floor((x - west) / width + _ON_BORDER)
+        inside = (down >= 0) & (down < rows) & (across >= 0) & (across < cols)
         at = down[inside].astype(np.int64) * cols + across[inside].astype(np.int64)
-        made[row : row + step][inside] = np.where(null.reshape(-1)[at], NULL, cells.reshape(-1)[at])
+        made[part][inside], is_null[part][inside] = cells.reshape(-1)[at], null.reshape(-1)[at]
         often += np.bincount(at, minlength=cells.size)
     if not often.any():
         raise BadMap("map", "has no cell in the extent of `to`")
-    return _result(made, made == NULL), _account(None, None, often.reshape(cells.shape), null)
+    often = np.where(null.reshape(-1), 0, often)
+    used = np.count_nonzero(often)
+    return masked(made, is_null), Aligned(None, None, used, np.count_nonzero(often > 1), null.size - np.count_nonzero(null) - used)
 
 
-def _centres(like: Source, row: int, rows: int) -> list[NDArray[np.float64]]:
+def _centres(like: Source, rows: slice) -> list[NDArray[np.float64]]:
     """The coordinates of the centres of some rows."""
     width, _, west, _, height, north = like.transform
-    x, y = west + width * (np.arange(like.region.cols) + 0.5), north + height * (np.arange(row, row + rows) + 0.5)
+    x, y = west + width * (np.arange(like.region.cols) + 0.5), north + height * (np.arange(rows.start, rows.stop) + 0.5)
     return list(np.meshgrid(x, y))
-
-
-def _result(cells: NDArray[np.int32], null: NDArray[np.bool_]) -> Any:
-    return masked(np.where(null, np.int32(0), cells), null)
-
-
-def _account(rows: float | None, cols: float | None, often: NDArray[Any], null: NDArray[np.bool_]) -> Aligned:
-    """What was done, by how often each cell of the map is used."""
-    used = (often > 0) & ~null
-    return Aligned(rows, cols, int(used.sum()), int((used & (often > 1)).sum()), int((~null).sum() - used.sum()))

@@ -4,13 +4,14 @@
 from __future__ import annotations
 
 import numbers
-from typing import Any, Iterable, Mapping, Sequence
+from typing import Any, Iterable, Mapping
 
 import numpy as np
 from numpy.typing import NDArray
 
-from ._counting import Counts, Maps, class_column, label_columns
+from ._counting import Counts, Maps, label_columns
 from ._errors import Refused
+from ._legends import labels_of
 from ._measure import Measure
 from ._table import Column, Table
 
@@ -25,30 +26,26 @@ class Change:
 
     Parameters
     ----------
-    pairs : list of Counts
-        The classes of the earlier and of the later map, for each pair of years.
-    years : list of int, optional
-    labels : list of mapping
-        The labels of each map.
-    legend : any
-        The legend that was given, or None.
-    measure : Measure
+    tables : mapping of str to Table
+        `table`, `matrix` and `summary`.
+    keys : int
+        How many columns of the matrix come before its areas.
+    classes : list of int, optional
+        The classes of the other columns, if they have no labels.
 
     Examples
     --------
     >>> import numpy as np, rcell
-    >>> found = rcell.change(np.array([[1, 1, 2]]), np.array([[1, 2, 2]]), area=None)
+    >>> found = rcell.change(np.array([[1, 1, 2]]), np.array([[1, 2, 2]]), area="m2")
     >>> found.matrix
-    to    1  2
-    from      
-    1     1  1
-    2     0  1
+    to      1    2
+    from          
+    1     1.0  1.0
+    2     0.0  1.0
     """
 
-    def __init__(
-        self, pairs: list[Counts], years: Sequence[int] | None, labels: list[Mapping[int, str]], legend: Any, measure: Measure
-    ) -> None:
-        self._pairs, self._years, self._labels, self._legend, self._measure = pairs, years, labels, legend, measure
+    def __init__(self, tables: Mapping[str, Table], keys: int, classes: list[int] | None = None) -> None:
+        self.tables, self._keys, self._classes = tables, keys, classes
 
     @property
     def table(self) -> Any:
@@ -63,27 +60,24 @@ class Change:
         1     1   2      1      1.0  33.333333
         2     2   2      1      1.0  33.333333
         """
-        return self.long().answer()
+        return self.tables["table"].answer()
 
     @property
     def matrix(self) -> Any:
-        """The areas, or without areas the cells, as a matrix: a row for each class before, a column for each class after.
+        """The areas, or without areas the cells: a row for each class before, a column for each class after.
 
         Examples
         --------
         >>> import numpy as np, rcell
-        >>> rcell.change(np.array([[1, 1, 2]]), np.array([[1, 2, 2]]), area="m2").matrix
-        to      1    2
-        from          
-        1     1.0  1.0
-        2     0.0  1.0
+        >>> rcell.change(np.array([[1, 1, 2]]), np.array([[1, 2, 2]]), area=None).matrix.loc[1, 2]
+        1
         """
-        wide = self.wide().answer()
+        wide = self.tables["matrix"].answer()
         if isinstance(wide, Table):
             return wide
-        wide = wide.set_index(list(wide.columns[: 1 if self._years is None else 3]))
-        if not any(self._labels):
-            wide.columns = [int(name) for name in wide.columns]
+        wide = wide.set_index(list(wide.columns[: self._keys]))
+        if self._classes is not None:
+            wide.columns = self._classes
         return wide.rename_axis(columns="to")
 
     @property
@@ -98,104 +92,66 @@ class Change:
         >>> rcell.change(np.array([[1, 1, 2]]), np.array([[1, 2, 2]]), area="m2").summary.iloc[0, 1:].tolist()
         [2.0, 1.0, 0.0, 1.0, -1.0, 0.0, 1.0]
         """
-        return self.short().answer()
+        return self.tables["summary"].answer()
 
-    def long(self) -> Table:
-        """Return the table as a Table.
 
-        Returns
-        -------
-        Table
-            A row for each change that occurs.
+class _Pairs:
+    """The counts of each pair of years, with what is needed to arrange them."""
 
-        Examples
-        --------
-        >>> import numpy as np, rcell
-        >>> rcell.change(np.array([[1, 1]]), np.array([[1, 2]]), area=None).long().rows
-        [(1, 1, 1, 50.0), (1, 2, 1, 50.0)]
-        """
-        found = [(pair, pair.cells * 100.0 / max(int(pair.cells.sum()), 1)) for pair in self._pairs]
-        classes = np.concatenate([pair.classes for pair, _ in found])
-        columns = self._years_of([len(pair.cells) for pair, _ in found])
+    def __init__(self, pairs: list[Counts], years: list[int] | None, labels: list[Mapping[int, str]], is_legend: bool, measure: Measure) -> None:
+        self.pairs, self.labels, self._measure = pairs, labels, measure
+        self._years, self._is_legend, self._by_row = years, is_legend, measure.by_row is not None
+
+    def table(self) -> Table:
+        """A row for each change that occurs."""
+        classes = np.concatenate([pair.classes for pair in self.pairs])
+        columns = self._years_of([pair.cells.size for pair in self.pairs])
         for place, name in enumerate(("from", "to")):
-            texts = [self._texts(name, at + place, pair.classes[:, place]) for at, (pair, _) in enumerate(found)]
-            columns += [class_column(name, classes[:, place]), *_joined(texts)]
-        together = Counts(
-            classes,
-            np.concatenate([pair.cells for pair, _ in found]),
-            None if found[0][0].area is None else np.concatenate([pair.area for pair, _ in found if pair.area is not None]),
-        )
-        return Table(columns + together.columns(self._measure, np.concatenate([percent for _, percent in found])))
+            texts = [self._texts(f"{name}_label", pair.classes[:, place], self.labels[at + place]) for at, pair in enumerate(self.pairs)]
+            columns += [Column(name, "class", classes[:, place]), *_joined(texts)]
+        area = None if self._measure.unit is None else np.concatenate([pair.measured() for pair in self.pairs])
+        together = Counts(classes, np.concatenate([pair.cells for pair in self.pairs]), area)
+        percent = [pair.cells * 100.0 / max(int(pair.cells.sum()), 1) for pair in self.pairs]
+        return Table(columns + together.columns(self._measure, np.concatenate(percent)))
 
-    def wide(self) -> Table:
-        """Return the matrix as a Table, the classes before in its first column.
-
-        Returns
-        -------
-        Table
-            A row for each class before, a column for each class after.
-
-        Examples
-        --------
-        >>> import numpy as np, rcell
-        >>> rcell.change(np.array([[1, 1]]), np.array([[1, 2]]), area=None).wide().rows
-        [(1, 1, 1)]
-        """
-        after = np.unique(np.concatenate([pair.classes[:, 1] for pair in self._pairs]))
-        kept = [(np.unique(pair.classes[:, 0], return_inverse=True), pair) for pair in self._pairs]
-        blocks = []
-        for (before, at), pair in kept:
+    def matrix(self) -> tuple[Table, list[int]]:
+        """A row for each class before, a column for each class after; and these classes."""
+        after = np.unique(np.concatenate([pair.classes[:, 1] for pair in self.pairs]))
+        first, blocks, names = list[Numbers](), list[Numbers](), list[str]()
+        for pair, labels in zip(self.pairs, self.labels):
+            before, at = np.unique(pair.classes[:, 0], return_inverse=True)
             values = np.zeros((before.size, after.size), pair.measured().dtype)
             values[at, np.searchsorted(after, pair.classes[:, 1])] = pair.measured()
-            blocks.append(values)
-        values = np.concatenate(blocks)
-        kind: Any = "count" if values.dtype.kind == "i" else "measure"
-        head = class_column("from", np.concatenate([before for (before, _), _ in kept]))
-        if any(self._labels):
-            head = Column("from", "label", [name for at, ((before, _), _) in enumerate(kept) for name in _names(before, self._labels[at])])
-        columns = [*self._years_of([before.size for (before, _), _ in kept]), head]
-        titles = _names(after, {code: text for labels in self._labels[1:] for code, text in labels.items()})
-        return Table(columns + [Column(title, kind, values[:, place]) for place, title in enumerate(titles)])
+            first, blocks, names = [*first, before], [*blocks, values], [*names, *_names(before, labels)]
+        kind: Any = "count" if self._measure.unit is None else "measure"
+        head = Column("from", "label", names) if any(self.labels) else Column("from", "class", np.concatenate(first))
+        titles = _names(after, {code: text for labels in self.labels[1:] for code, text in labels.items()})
+        rest = [Column(title, kind, values) for title, values in zip(titles, np.concatenate(blocks).T)]
+        return Table([*self._years_of([before.size for before in first]), head, *rest]), after.tolist()
 
-    def short(self) -> Table:
-        """Return the summary as a Table.
-
-        Returns
-        -------
-        Table
-            A row for each class.
-
-        Examples
-        --------
-        >>> import numpy as np, rcell
-        >>> rcell.change(np.array([[1, 1]]), np.array([[1, 2]]), area=None).short().rows
-        [(1, 2, 1, 0, 1, -1, 0, 1), (2, 0, 1, 1, 0, 1, 0, 0)]
-        """
-        by_row = self._measure.by_row is not None
-        summed = [_summed(pair, pair.measured() if by_row else pair.cells) for pair in self._pairs]
-        classes = np.concatenate([found for found, _ in summed])
-        texts = [self._texts("label", at, found, {**self._labels[at], **self._labels[at + 1]}) for at, (found, _) in enumerate(summed)]
-        columns = [*self._years_of([found.size for found, _ in summed]), class_column("class", classes), *_joined(texts)]
+    def summary(self) -> Table:
+        """A row for each class."""
+        summed = [_summed(pair, pair.measured() if self._by_row else pair.cells) for pair in self.pairs]
+        texts = [self._texts("label", found, {**self.labels[at], **self.labels[at + 1]}) for at, (found, _) in enumerate(summed)]
+        classes = Column("class", "class", np.concatenate([found for found, _ in summed]))
         values = np.concatenate([numbers for _, numbers in summed], axis=1)
-        kind: Any = "count"
-        if self._measure.unit is not None:
-            kind, values = "measure", values if by_row else self._measure.area(values)
-        return Table(columns + [Column(f"{part}_{self._measure.column}", kind, values[at]) for at, part in enumerate(_PARTS)])
+        kind: Any = "count" if self._measure.unit is None else "measure"
+        if self._measure.unit is not None and not self._by_row:
+            values = self._measure.area(values)
+        measures = [Column(f"{part}_{self._measure.column}", kind, values[at]) for at, part in enumerate(_PARTS)]
+        return Table([*self._years_of([found.size for found, _ in summed]), classes, *_joined(texts), *measures])
 
     def _years_of(self, often: list[int]) -> list[Column]:
         """The columns of years, for so many rows of each pair."""
         if self._years is None:
             return []
         years = np.array(self._years, np.int64)
-        return [class_column("year_from", np.repeat(years[:-1], often)), class_column("year_to", np.repeat(years[1:], often))]
+        return [Column("year_from", "class", np.repeat(years[:-1], often)), Column("year_to", "class", np.repeat(years[1:], often))]
 
-    def _texts(self, name: str, at: int, classes: Numbers, labels: Mapping[int, str] | None = None) -> list[Column]:
-        """The column of labels of a pair of years, if any map has labels."""
-        if not any(self._labels):
-            return []
-        labels = self._labels[at] if labels is None else labels
-        title = name if name == "label" else f"{name}_label"
-        return label_columns(title, classes, labels, self._legend, name) or [Column(title, "label", [""] * classes.size)]
+    def _texts(self, title: str, classes: Numbers, labels: Mapping[int, str]) -> list[Column]:
+        """The column of the labels of a pair of years, if any map has labels."""
+        made = label_columns(title, classes, labels, self._is_legend, title.removesuffix("_label"))
+        return made or ([Column(title, "label", [""] * classes.size)] if any(self.labels) else [])
 
 
 def _names(classes: Numbers, labels: Mapping[int, str]) -> list[str]:
@@ -274,8 +230,11 @@ def change(
     maps = Maps(given, crs)
     measure = maps.measure(area)
     names = list(maps.sources)
-    pairs = maps.counts(list(zip(names, names[1:])), measure)
-    return Change(pairs, told, [maps.labels(name, labels) for name in names], labels, measure)
+    own = [maps.sources[name].labels if labels is None else labels_of(labels) for name in names]
+    pairs = _Pairs(maps.counts(list(zip(names, names[1:])), measure), told, own, labels is not None, measure)
+    matrix, classes = pairs.matrix()
+    tables = {"table": pairs.table(), "matrix": matrix, "summary": pairs.summary()}
+    return Change(tables, 1 if told is None else 3, None if any(own) else classes)
 
 
 def _checked(years: Iterable[int] | None, maps: int) -> list[int] | None:

@@ -8,15 +8,16 @@ from typing import Any, Mapping
 import numpy as np
 from numpy.typing import NDArray
 
-from ._counting import Counts, Maps, class_column, label_columns, places_of
+from ._counting import Counts, Maps, places_of
 from ._errors import Refused
 from ._maps import named_once
-from ._table import Column, Table
+from ._table import Column, Table, framed
 from ._text import NULL
 
-__all__ = ["composition", "composition_of", "cross", "cross_of"]
+__all__ = ["composition", "cross"]
 
 
+@framed
 def composition(
     map: Any,
     zones: Any = None,
@@ -27,7 +28,7 @@ def composition(
     zone_field: str | None = None,
     null: bool = False,
     crs: Any = None,
-) -> Any:
+) -> Table:
     """Count the cells of each class of a map, with areas and percentages, in all of it or by zone.
 
     Parameters
@@ -67,24 +68,15 @@ def composition(
     1      2  water      3      3.0  50.000000
     2      3   town      1      1.0  16.666667
     """
-    return composition_of(map, zones, area, labels, zone_labels, zone_field, null, crs).answer()
-
-
-def composition_of(
-    map: Any, zones: Any, area: str | None, labels: Any, zone_labels: Any, zone_field: str | None, null: bool, crs: Any
-) -> Table:
-    """Return the table of `composition`."""
     maps = Maps({"map": map}, crs, zones, zone_field)
     measure = maps.measure(area)
     names = ["map"] if zones is None else ["zones", "map"]
     found = maps.counts([names], measure, null)[0]
     if zones is not None:
         found = found.where(found.classes[:, 0] != NULL)
-    classes = found.classes[:, -1]
-    columns = [class_column("class", classes), *label_columns("label", classes, maps.labels("map", labels), labels, "map")]
+    columns = maps.columns("class", found.classes[:, -1], "map", labels, "label")
     if zones is not None:
-        ids = found.classes[:, 0]
-        columns[:0] = [class_column("zone", ids), *label_columns("zone_label", ids, maps.labels("zones", zone_labels), zone_labels, "zones")]
+        columns[:0] = maps.columns("zone", found.classes[:, 0], "zones", zone_labels)
     return Table(columns + found.columns(measure, _percent(found, found.classes[:, :-1])))
 
 
@@ -98,6 +90,7 @@ def _percent(found: Counts, groups: NDArray[np.int64]) -> NDArray[np.float64]:
     return np.where(counted == 0, np.nan, found.cells * 100.0 / np.maximum(totals, 1))
 
 
+@framed
 def cross(
     maps: Mapping[str, Any] | None = None,
     /,
@@ -107,7 +100,7 @@ def cross(
     null: bool = False,
     crs: Any = None,
     **named: Any,
-) -> Any:
+) -> Table:
     """Count how often the classes of several maps occur together, with areas and percentages.
 
     Parameters
@@ -146,20 +139,14 @@ def cross(
     1  1  8      1      1.0  33.333333
     2  2  8      1      1.0  33.333333
     """
-    return cross_of(named_once(maps, named), area, labels, null, crs).answer()
-
-
-def cross_of(given: Mapping[str, Any], area: str | None, labels: Any, null: bool, crs: Any) -> Table:
-    """Return the table of `cross`."""
+    given = named_once(maps, named)
     legends = {} if labels is None else labels
-    unknown = [name for name in legends if name not in given] if isinstance(legends, Mapping) else [legends]
-    if unknown:
+    if not isinstance(legends, Mapping) or set(legends) - set(given):
         raise Refused(f"labels= of a cross table are by the names of its maps, as {{{next(iter(given), 'a')!r}: \"legend.csv\"}}", status=2)
-    maps = Maps(given, crs)
-    measure = maps.measure(area)
-    found = maps.counts([list(maps.sources)], measure, null)[0]
+    crossed = Maps(given, crs)
+    measure = crossed.measure(area)
+    found = crossed.counts([list(given)], measure, null)[0]
     columns: list[Column] = []
-    for place, name in enumerate(maps.sources):
-        classes, legend = found.classes[:, place], legends.get(name)
-        columns += [class_column(name, classes), *label_columns(f"{name}_label", classes, maps.labels(name, legend), legend, name)]
+    for place, name in enumerate(given):
+        columns += crossed.columns(name, found.classes[:, place], name, legends.get(name))
     return Table(columns + found.columns(measure, _percent(found, found.classes[:, :0])))

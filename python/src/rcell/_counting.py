@@ -19,7 +19,7 @@ from ._table import Column
 from ._text import NULL
 from ._zones import zones_of
 
-__all__ = ["Counts", "Maps", "class_column", "label_columns", "places_of"]
+__all__ = ["Counts", "Maps", "label_columns", "places_of"]
 
 # An r.stats takes so many maps; in degrees the number of the row is one of them.
 MOST_MAPS = 16
@@ -102,9 +102,10 @@ class Maps:
             lines.append(f"r.stats {flags} input={','.join([*rows, *names])}")
         return [counts_of(values, measure) for values in self.tables("\n".join(lines))]
 
-    def labels(self, name: str, legend: Any = None) -> Mapping[int, str]:
-        """Return the labels of a map: a legend if there is one, else its own labels."""
-        return labels_of(legend) if legend is not None else self.sources[name].labels
+    def columns(self, title: str, classes: Integers, name: str, legend: Any = None, label: str = "{}_label") -> list[Column]:
+        """Return the column of classes of a map, and the column of their labels if there are some: a legend, or its own."""
+        labels = self.sources[name].labels if legend is None else labels_of(legend)
+        return [Column(title, "class", classes), *label_columns(label.format(title), classes, labels, legend is not None, name)]
 
 
 def counts_of(values: Integers, measure: Measure) -> Counts:
@@ -131,18 +132,12 @@ def places_of(ordered: Integers) -> NDArray[np.intp]:
     return np.concatenate([[0], np.flatnonzero(differs) + 1])
 
 
-def class_column(name: str, classes: Integers) -> Column:
-    """Return a column of classes, of which -2147483648 is missing."""
-    return Column(name, "class", classes)
-
-
-def label_columns(name: str, classes: Integers, labels: Mapping[int, str], legend: Any = None, of: str = "") -> list[Column]:
+def label_columns(title: str, classes: Integers, labels: Mapping[int, str], is_legend: bool, name: str) -> list[Column]:
     """Return the column of the labels of classes, if there are labels; warn if a legend lacks some."""
     if not labels:
         return []
-    if legend is not None:
-        lacking = sorted(set(classes.tolist()) - set(labels) - {NULL})
-        if lacking:
-            more = f", and {len(lacking) - _SHOWN} more" if len(lacking) > _SHOWN else ""
-            warnings.warn(f"labels: no label for {', '.join(map(str, lacking[:_SHOWN]))}{more} of {of or name}", stacklevel=4)
-    return [Column(name, "label", [labels.get(code, "") for code in classes.tolist()])]
+    lacking = sorted(set(np.unique(classes).tolist()) - set(labels) - {NULL}) if is_legend else []
+    if lacking:
+        more = f", and {len(lacking) - _SHOWN} more" if len(lacking) > _SHOWN else ""
+        warnings.warn(f"labels: no label for {', '.join(map(str, lacking[:_SHOWN]))}{more} of {name}", stacklevel=5)
+    return [Column(title, "label", [labels.get(code, "") for code in classes.tolist()])]

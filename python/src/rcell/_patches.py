@@ -10,13 +10,13 @@ from typing import Any, Iterable
 import numpy as np
 from numpy.typing import NDArray
 
-from ._counting import Maps, class_column, label_columns, places_of
+from ._counting import Maps, places_of
 from ._errors import Refused
 from ._measure import Measure, metres
-from ._table import Column, Table
+from ._table import Column, Table, framed
 from ._text import NULL
 
-__all__ = ["check_connectivity", "patches", "patches_of"]
+__all__ = ["check_connectivity", "patches"]
 
 MOST_CORE_DEPTH = 20
 # A cell has up to two ends (sides to the north and south) and up to two flanks (to the west and east) that leave its patch.
@@ -25,6 +25,7 @@ _FLANK = 3
 Integers = NDArray[np.int64]
 
 
+@framed
 def patches(
     map: Any,
     connectivity: int = 4,
@@ -38,7 +39,7 @@ def patches(
     zone_labels: Any = None,
     zone_field: str | None = None,
     crs: Any = None,
-) -> Any:
+) -> Table:
     """List the patches of a map: its connected cells of one class, as r.clump numbers them.
 
     Parameters
@@ -85,29 +86,6 @@ def patches(
     1      2      7      1    100.0         40.0
     2      3      5      1    100.0         40.0
     """
-    return patches_of(map, connectivity, area, zones, classes, least, core_depth, labels, zone_labels, zone_field, crs).answer()
-
-
-def check_connectivity(connectivity: Any) -> None:
-    """Raise Refused unless a connectivity is 4 or 8."""
-    if connectivity not in (4, 8) or isinstance(connectivity, bool):
-        raise Refused(f"connectivity= is 4 or 8, not {connectivity!r}", status=2)
-
-
-def patches_of(
-    map: Any,
-    connectivity: int,
-    area: str | None,
-    zones: Any,
-    classes: Iterable[int] | None,
-    least: int | None,
-    core_depth: int,
-    labels: Any,
-    zone_labels: Any,
-    zone_field: str | None,
-    crs: Any,
-) -> Table:
-    """Return the table of `patches`."""
     check_connectivity(connectivity)
     if not (isinstance(core_depth, numbers.Integral) and 1 <= core_depth <= MOST_CORE_DEPTH):
         raise Refused(f"core_depth= is from 1 to {MOST_CORE_DEPTH}, not {core_depth!r}", status=2)
@@ -120,15 +98,19 @@ def patches_of(
     tables = maps.tables(_script(connectivity, listed, core_depth, zones is not None, by_row))
     sides, core, by_rows, by_cols = tables[:4]
     found = _Patches(sides, least or 0)
-    columns = [class_column("patch", found.numbers), class_column("class", found.classes)]
-    columns += [*label_columns("label", found.classes, maps.labels("map", labels), labels, "map"), Column("cells", "count", found.cells)]
+    columns = [Column("patch", "class", found.numbers), *maps.columns("class", found.classes, "map", labels, "label"), Column("cells", "count", found.cells)]
     columns += _areas(found, measure, by_rows if by_row else None, core)
     columns.insert(-1, Column("perimeter_m", "measure", found.perimeter(maps.first.transform, metres(maps.crs))))
     columns += found.extents(by_rows, by_cols, maps.first.transform)
     if zones is not None:
-        ids = found.zones(tables[4])
-        columns += [class_column("zone", ids), *label_columns("zone_label", ids, maps.labels("zones", zone_labels), zone_labels, "zones")]
+        columns += maps.columns("zone", found.zones(tables[4]), "zones", zone_labels)
     return Table(columns)
+
+
+def check_connectivity(connectivity: Any) -> None:
+    """Raise Refused unless a connectivity is 4 or 8."""
+    if connectivity not in (4, 8) or isinstance(connectivity, bool):
+        raise Refused(f"connectivity= is 4 or 8, not {connectivity!r}", status=2)
 
 
 def _script(connectivity: int, classes: list[int] | None, core_depth: int, has_zones: bool, by_row: bool) -> str:

@@ -389,7 +389,7 @@ class Shift:
     def told(self, name: str) -> str:
         """Return what is in the way of taking whole cells."""
         if self.has_other_cells:
-            mine, its = (f"{height:.10g} x {width:.10g}" for height, width in self.sizes)
+            mine, its = (f"{width:.10g} x {height:.10g}" for height, width in self.sizes)
             return f"cells of {mine}, and those of `{name}` are {its}"
         return f"shifted by {self.rows:.10g} rows and {self.cols:.10g} columns, not by whole cells"
 

@@ -10,6 +10,7 @@ import os
 import shlex
 import sys
 import warnings
+from inspect import unwrap
 from typing import Any, Callable, Iterable, Iterator, NoReturn, Sequence
 
 import numpy as np
@@ -19,7 +20,7 @@ from rcell_front.files import Output, end_on_signals, is_same_file, open_standar
 from ._align import align
 from ._answers import outputs_with, run_of
 from ._change import change
-from ._composition import composition_of, cross_of
+from ._composition import composition, cross
 from ._crs import UNITS_OF_AREA
 from ._errors import Killed, OtherCrs, OtherRegion, RcellError, Refused, WriteFailed
 from ._files import replacing, told_of, write_beside
@@ -27,10 +28,10 @@ from ._grid import Grid
 from ._libraries import need
 from ._majority import SIZES, majority
 from ._masked import masked
-from ._patches import patches_of
+from ._patches import patches
 from ._table import Column, StatsTable, Table
 from ._version import __version__
-from ._zonal import zonal_of
+from ._zonal import zonal
 
 __all__ = ["emit", "main", "refuse_inputs", "script_of"]
 
@@ -61,78 +62,14 @@ def _words() -> argparse.ArgumentParser:
     words = _Parser(prog=NAME, description=__doc__, epilog=EPILOG, formatter_class=argparse.RawDescriptionHelpFormatter)
     words.add_argument("--version", action="version", version=f"{NAME} {__version__}")
     commands = words.add_subparsers(dest="command", required=True, metavar="COMMAND", parser_class=_Parser)
-    _add_tables(commands)
-    for name, run, told in (("majority", _majority, "the most frequent class of the square around each cell"), ("align", _align, "a map on the grid of another one")):
-        command = _command(commands, name, run, told)
-        command.add_argument("map", metavar="MAP")
-        command.add_argument("target", metavar="OUT.tif")
-        if name == "majority":
-            command.add_argument("--size", type=int, default=3, metavar="N", help=f"rows and columns of the square: odd, {SIZES[0]} to {SIZES[-1]}")
-            command.add_argument("--fill", action="store_true", help="gives null cells a class as well")
-        else:
-            command.add_argument("--to", required=True, metavar="OTHER", help="the map whose grid it gets")
-            command.add_argument("--resample", metavar="nearest", help="takes the nearest cell if the grids are not apart by whole cells")
-            command.add_argument("--format", choices=list(FORMATS), help="of the account of used and lost cells")
-    script = _command(commands, "run", _run, "a script: its tables on standard output, its maps in files")
-    script.add_argument("script", metavar="SCRIPT", help='a file, `-`, or a line, as "r.stats -c input=lc"')
-    script.add_argument("maps", metavar="NAME=MAP", nargs="+")
-    script.add_argument("--out", metavar="NAME=FILE", action="append", default=[], help="a map, and a .tif, .txt or picture for it; may be given again")
-    script.add_argument("--format", choices=list(FORMATS), help="of tables; csv if not given")
+    for name, (run, told, kinds, options) in COMMANDS.items():
+        parser = commands.add_parser(name, help=told, description=f"Writes {told}.")
+        parser.set_defaults(run=run, area="none")
+        for words_of in (*(OPTIONS[kind] for kind in kinds.split()), options, OPTIONS["crs"]):
+            for option, settings in words_of.items():
+                parser.add_argument(option, **settings)
     commands.add_parser("tiles", help="maps that are larger than the memory", add_help=False)
     return words
-
-
-def _add_tables(commands: Any) -> None:
-    composition = _table_command(commands, "composition", _composition, "the cells, area and percentage of each class, in all or by zone")
-    composition.add_argument("map", metavar="MAP")
-    composition.add_argument("--null", action="store_true", help="adds the cells that are null")
-    cross = _table_command(commands, "cross", _cross, "how often the classes of several maps occur together", zones=False)
-    cross.add_argument("maps", metavar="NAME=MAP", nargs="+")
-    cross.add_argument("--labels", metavar="NAME=LEGEND", action="append", default=[], help="a legend for a map; may be given again")
-    cross.add_argument("--null", action="store_true", help="adds combinations with null")
-    changed = _table_command(commands, "change", _change, "what became of each class between two or more years", zones=False)
-    changed.add_argument("maps", metavar="MAP", nargs="+", help="two maps or more, in the order of their years")
-    changed.add_argument("--labels", metavar="LEGEND", help="of all maps")
-    changed.add_argument("--years", type=_wholes, metavar="YEAR,..", help="one for each map")
-    changed.add_argument("--table", choices=["table", "matrix", "summary"], default="table", help="a row for each change, a matrix, or gains and losses by class")
-    patches = _table_command(commands, "patches", _patches, "the patches of a map")
-    patches.add_argument("map", metavar="MAP")
-    patches.add_argument("--connectivity", type=int, choices=[4, 8], default=4, help="8: cells that share a corner are of one patch as well")
-    patches.add_argument("--classes", type=_wholes, metavar="CLASS,..", help="patches of these classes alone")
-    patches.add_argument("--least", type=int, metavar="CELLS", help="patches of so many cells or more alone")
-    patches.add_argument("--core-depth", type=int, default=1, metavar="N", help="steps from the border of a patch to its core")
-    zonal = _table_command(commands, "zonal", _zonal, "sums, means, quantiles by zone", labels=False, zones=False, area=False)
-    zonal.add_argument("map", metavar="VALUES")
-    zonal.add_argument("zones", metavar="ZONES")
-    zonal.add_argument("--quantiles", default="0.5", metavar="Q,..", help="from 0 to 1")
-    _add_zone_words(zonal)
-
-
-def _command(commands: Any, name: str, run: Callable[[argparse.Namespace], None], told: str) -> argparse.ArgumentParser:
-    parser: argparse.ArgumentParser = commands.add_parser(name, help=told, description=f"Writes {told}.")
-    parser.set_defaults(run=run)
-    parser.add_argument("--crs", metavar="EPSG:CODE", help="the coordinate reference system of maps that have none")
-    return parser
-
-
-def _table_command(
-    commands: Any, name: str, run: Callable[[argparse.Namespace], None], told: str, labels: bool = True, zones: bool = True, area: bool = True
-) -> argparse.ArgumentParser:
-    parser = _command(commands, name, run, told)
-    if area:
-        parser.add_argument("--area", choices=[*UNITS_OF_AREA, "none"], default="ha", help="the unit of areas; ha if not given")
-    if zones:
-        parser.add_argument("--labels", metavar="LEGEND", help="the labels of the classes")
-        parser.add_argument("--zones", metavar="ZONES", help="a map, or polygons")
-        _add_zone_words(parser)
-    parser.add_argument("--format", choices=list(FORMATS), help="csv if not given, unless the name of the file says otherwise")
-    parser.add_argument("--out", metavar="FILE", help="a file in place of standard output")
-    return parser
-
-
-def _add_zone_words(parser: argparse.ArgumentParser) -> None:
-    parser.add_argument("--zone-field", metavar="FIELD", help="the field of polygons that has the ids or names of the zones")
-    parser.add_argument("--zone-labels", metavar="LEGEND", help="the labels of the zones")
 
 
 def _wholes(text: str) -> list[int]:
@@ -160,25 +97,25 @@ def _pairs(words: Sequence[str]) -> dict[str, str]:
 
 def _composition(words: argparse.Namespace) -> None:
     words.given = {"map": words.map, **({"zones": words.zones} if words.zones else {})}
-    _put(words, composition_of(words.map, words.zones, _unit(words), words.labels, words.zone_labels, words.zone_field, words.null, words.crs))
+    _put(words, unwrap(composition)(words.map, area=_unit(words), null=words.null, **_options(words, "zones labels zone_labels zone_field crs")))
 
 
 def _cross(words: argparse.Namespace) -> None:
     words.given = _pairs(words.maps)
-    _put(words, cross_of(words.given, _unit(words), _pairs(words.labels), words.null, words.crs))
+    _put(words, unwrap(cross)(words.given, area=_unit(words), labels=_pairs(words.labels), null=words.null, crs=words.crs))
 
 
 def _change(words: argparse.Namespace) -> None:
     names = ("before", "after") if len(words.maps) == 2 else [f"map_{at + 1}" for at in range(len(words.maps))]
     words.given = dict(zip(names, words.maps))
     found = change(words.maps, years=words.years, area=_unit(words), labels=words.labels, crs=words.crs)
-    _put(words, {"table": found.long, "matrix": found.wide, "summary": found.short}[words.table]())
+    _put(words, found.tables[words.table])
 
 
 def _patches(words: argparse.Namespace) -> None:
     words.given = {"map": words.map, **({"zones": words.zones} if words.zones else {})}
-    rest = (words.classes, words.least, words.core_depth, words.labels, words.zone_labels, words.zone_field, words.crs)
-    _put(words, patches_of(words.map, words.connectivity, _unit(words), words.zones, *rest))
+    rest = _options(words, "connectivity zones classes least core_depth labels zone_labels zone_field crs")
+    _put(words, unwrap(patches)(words.map, area=_unit(words), **rest))
 
 
 def _zonal(words: argparse.Namespace) -> None:
@@ -187,7 +124,7 @@ def _zonal(words: argparse.Namespace) -> None:
         quantiles = [float(word) for word in words.quantiles.split(",")]
     except ValueError:
         raise Refused(f"--quantiles are numbers from 0 to 1, not {words.quantiles}", status=_COMMAND_LINE) from None
-    _put(words, zonal_of(words.map, words.zones, quantiles, words.zone_field, words.zone_labels, words.crs))
+    _put(words, unwrap(zonal)(words.map, words.zones, quantiles, **_options(words, "zone_field zone_labels crs")))
 
 
 def _majority(words: argparse.Namespace) -> None:
@@ -201,7 +138,7 @@ def _align(words: argparse.Namespace) -> None:
     def made() -> list[Grid]:
         found = align(words.map, words.to, words.resample, crs=words.crs)
         source, words.account = found.source("map"), found.aligned
-        array = masked(source.array, np.zeros(source.array.shape, np.bool_) if source.null is None else source.null)
+        array = masked(source.array.astype(np.int32), np.zeros(source.array.shape, np.bool_) if source.null is None else source.null)
         return [Grid("map", array, source.region, source.transform, source.crs, source.labels, colors=source.colors)]
 
     _write_maps([words.target], words.given.values(), made)
@@ -246,6 +183,10 @@ def _draw(grid: Grid, path: str) -> None:
         axes.figure.savefig(beside, bbox_inches="tight", dpi=150)
 
 
+def _options(words: argparse.Namespace, names: str) -> dict[str, Any]:
+    return {name: getattr(words, name) for name in names.split()}
+
+
 def _unit(words: argparse.Namespace) -> str | None:
     return None if words.area == "none" else str(words.area)
 
@@ -259,6 +200,91 @@ def _put(words: argparse.Namespace, table: Table) -> None:
         return
     refuse_inputs([words.out], words.given.values())
     write_beside(words.out, text.encode("utf-8", "surrogateescape"))
+
+
+# The commands with what they write, the options that several have, and their own.
+
+OPTIONS: dict[str, dict[str, dict[str, Any]]] = {
+    "map": {"map": {"metavar": "MAP"}},
+    "target": {"target": {"metavar": "OUT.tif"}},
+    "format": {"--format": {"choices": list(FORMATS), "help": "csv if not given, unless the name of the file says otherwise"}},
+    "out": {"--out": {"metavar": "FILE", "help": "a file in place of standard output"}},
+    "area": {"--area": {"choices": [*UNITS_OF_AREA, "none"], "default": "ha", "help": "the unit of areas; ha if not given"}},
+    "labels": {"--labels": {"metavar": "LEGEND", "help": "the labels of the classes"}},
+    "null": {"--null": {"action": "store_true", "help": "adds what is null"}},
+    "zones": {"--zones": {"metavar": "ZONES", "help": "a map, or polygons"}},
+    "field": {
+        "--zone-field": {"metavar": "FIELD", "help": "the field of polygons that has the ids or names of the zones"},
+        "--zone-labels": {"metavar": "LEGEND", "help": "the labels of the zones"},
+    },
+    "crs": {"--crs": {"metavar": "EPSG:CODE", "help": "the coordinate reference system of maps that have none"}},
+}
+_AGAIN = {"action": "append", "default": []}
+_NAMED = {"maps": {"metavar": "NAME=MAP", "nargs": "+"}}
+COMMANDS: dict[str, tuple[Callable[[argparse.Namespace], None], str, str, dict[str, dict[str, Any]]]] = {
+    "composition": (_composition, "the cells, area and percentage of each class, in all or by zone", "map area labels zones field null format out", {}),
+    "cross": (
+        _cross,
+        "how often the classes of several maps occur together",
+        "area null format out",
+        {**_NAMED, "--labels": {"metavar": "NAME=LEGEND", "help": "a legend for a map; may be given again", **_AGAIN}},
+    ),
+    "change": (
+        _change,
+        "what became of each class between two or more years",
+        "area labels format out",
+        {
+            "maps": {"metavar": "MAP", "nargs": "+", "help": "two maps or more, in the order of their years"},
+            "--years": {"type": _wholes, "metavar": "YEAR,..", "help": "one for each map"},
+            "--table": {"choices": ["table", "matrix", "summary"], "default": "table", "help": "a row for each change, a matrix, or gains and losses by class"},
+        },
+    ),
+    "patches": (
+        _patches,
+        "the patches of a map",
+        "map area labels zones field format out",
+        {
+            "--connectivity": {"type": int, "choices": [4, 8], "default": 4, "help": "8: cells that share a corner are of one patch as well"},
+            "--classes": {"type": _wholes, "metavar": "CLASS,..", "help": "patches of these classes alone"},
+            "--least": {"type": int, "metavar": "CELLS", "help": "patches of so many cells or more alone"},
+            "--core-depth": {"type": int, "default": 1, "metavar": "N", "help": "steps from the border of a patch to its core"},
+        },
+    ),
+    "zonal": (
+        _zonal,
+        "sums, means and quantiles by zone",
+        "field format out",
+        {"map": {"metavar": "VALUES"}, "zones": {"metavar": "ZONES"}, "--quantiles": {"default": "0.5", "metavar": "Q,..", "help": "from 0 to 1"}},
+    ),
+    "majority": (
+        _majority,
+        "the most frequent class of the square around each cell",
+        "map target",
+        {
+            "--size": {"type": int, "default": 3, "metavar": "N", "help": f"rows and columns of the square: odd, {SIZES[0]} to {SIZES[-1]}"},
+            "--fill": {"action": "store_true", "help": "gives null cells a class as well"},
+        },
+    ),
+    "align": (
+        _align,
+        "a map on the grid of another one, and an account of used and lost cells",
+        "map target format",
+        {
+            "--to": {"required": True, "metavar": "OTHER", "help": "the map whose grid it gets"},
+            "--resample": {"metavar": "nearest", "help": "takes the nearest cell if the grids are not apart by whole cells"},
+        },
+    ),
+    "run": (
+        _run,
+        "the tables of a script on standard output, and its maps in files",
+        "format",
+        {
+            "script": {"metavar": "SCRIPT", "help": 'a file, `-`, or a line, as "r.stats -c input=lc"'},
+            **_NAMED,
+            "--out": {"metavar": "NAME=FILE", "help": "a map, and a .tif, .txt or picture for it; may be given again", **_AGAIN},
+        },
+    ),
+}
 
 
 # What the command line of tiles uses as well

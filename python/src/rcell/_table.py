@@ -9,8 +9,8 @@ import io
 import json
 from collections import Counter
 from dataclasses import dataclass, field, replace
-from functools import cached_property
-from typing import Any, Iterable, Iterator, Literal, Mapping, NamedTuple
+from functools import cached_property, wraps
+from typing import Any, Callable, Iterable, Iterator, Literal, Mapping, NamedTuple, ParamSpec
 
 import numpy as np
 from numpy.typing import NDArray
@@ -20,9 +20,10 @@ from ._errors import Refused
 from ._libraries import has, need
 from ._text import NULL
 
-__all__ = ["Column", "Pivot", "StatsTable", "Table", "shortest"]
+__all__ = ["Column", "Pivot", "StatsTable", "Table", "framed", "shortest"]
 
 Value = int | float | str | None
+Words = ParamSpec("Words")
 # Rows that a notebook shows.
 SHOWN_ROWS = 20
 
@@ -434,6 +435,16 @@ class StatsTable(Table):
         matrix = self.pivot()
         first, second = (pandas.Index(_axis(names), name=name) for names, name in zip(matrix[:2], self.maps))
         return pandas.DataFrame(matrix.values, first, second)
+
+
+def framed(make: Callable[Words, Table]) -> Callable[Words, Any]:
+    """Return a call that returns its table as a DataFrame, if pandas is installed; `inspect.unwrap` has the one of the Table."""
+
+    @wraps(make)
+    def call(*words: Words.args, **named: Words.kwargs) -> Any:
+        return make(*words, **named).answer()
+
+    return call
 
 
 def _named_once(columns: Iterable[Column]) -> list[Column]:

@@ -9,16 +9,17 @@ from typing import Any, Iterable
 import numpy as np
 from numpy.typing import NDArray
 
-from ._counting import Maps, class_column, label_columns, places_of
+from ._counting import Maps, places_of
 from ._errors import Refused
-from ._table import Column, Table
+from ._table import Column, Table, framed
 
-__all__ = ["zonal", "zonal_of"]
+__all__ = ["zonal"]
 
 Integers = NDArray[np.int64]
 Floats = NDArray[np.float64]
 
 
+@framed
 def zonal(
     values: Any,
     zones: Any,
@@ -27,7 +28,7 @@ def zonal(
     zone_field: str | None = None,
     zone_labels: Any = None,
     crs: Any = None,
-) -> Any:
+) -> Table:
     """Compute statistics of the values of a map of whole numbers by zone.
 
     Parameters
@@ -64,17 +65,11 @@ def zonal(
     0     1      2  827  413.5      412      415      2.25  413.5
     1     2      1  420  420.0      420      420      0.00  420.0
     """
-    return zonal_of(values, zones, quantiles, zone_field, zone_labels, crs).answer()
-
-
-def zonal_of(values: Any, zones: Any, quantiles: Iterable[float], zone_field: str | None, zone_labels: Any, crs: Any) -> Table:
-    """Return the table of `zonal`."""
     asked = [(_title(quantile), float(quantile)) for quantile in quantiles]
     maps = Maps({"values": values}, crs, zones, zone_field)
     entries = maps.tables("r.stats -c -n input=zones,values")[0]
     first = places_of(entries[:, 0])
-    ids = entries[first, 0]
-    columns = [class_column("zone", ids), *label_columns("zone_label", ids, maps.labels("zones", zone_labels), zone_labels, "zones")]
+    columns = maps.columns("zone", entries[first, 0], "zones", zone_labels)
     return Table(columns + _moments(entries[:, 1], entries[:, 2], first) + _quantiles(entries[:, 1], entries[:, 2], first, asked))
 
 
