@@ -110,6 +110,9 @@ def of_labels() -> Iterator[Case]:
     yield "a folder as a table with labels", [*join[:3], b"."], {b".": FOLDER}, told(b".", 1, b"read failed", 4)
 
 
+BEYOND = b"number above the count of clumps"
+
+
 def of_sizes() -> Iterator[Case]:
     joined, join = b"1 1 4 1\n2 1 2 1\n2 3 3 5\n3 1 1 6\n", [b"sizes", b"j", b"a", b"b", b"c"]
     files = {b"j": joined, b"a": b"1 2\n2 2\n3 2\n4 1\n* 1\n", b"b": b"1 1\n2 2\n3 1\n", b"c": b"1 1\n* 3\n"}
@@ -123,17 +126,18 @@ def of_sizes() -> Iterator[Case]:
     for text, line, wrong in ((b"not four numbers", 1, b"1 1 1\n"), (b"not four numbers", 1, b"1 1 1 1 1\n"), (b"not four numbers", 2, b"1 1 4 1\n2 1 x 1\n"),
                               (b"not four numbers", 1, b"* 1 1 1\n"), (b"not four numbers", 1, b"1 0 1 1\n"), (b"not four numbers", 1, b"1 1 -1 1\n"),
                               (b"not four numbers", 1, b"1 1 1 0\n"), (b"not four numbers", 1, b"1 1 1 01\n"), (b"not four numbers", 1, b"\n"),
-                              (b"not four numbers", 1, b"1 1 1 18446744073709551616\n"), (b"first area above the last", 2, b"1 1 4 1\n2 2 1 5\n"),
-                              (b"areas out of order", 1, b"1 2 4 1\n"), (b"areas out of order", 2, b"1 1 2 1\n1 4 4 3\n"), (b"areas out of order", 3, joined[:16] + b"1 5 5 3\n"),
-                              (b"areas out of order", 2, b"1 1 4 1\n1 1 4 1\n"), (b"areas out of order", 2, b"1 1 4 1\n2 2 3 1\n"),
+                              (b"not four numbers", 1, b"1 1 1 18446744073709551616\n"), (b"first clump above the last", 2, b"1 1 4 1\n2 2 1 5\n"),
+                              (b"clumps out of order", 1, b"1 2 4 1\n"), (b"clumps out of order", 2, b"1 1 2 1\n1 4 4 3\n"), (b"clumps out of order", 3, joined[:16] + b"1 5 5 3\n"),
+                              (b"clumps out of order", 2, b"1 1 4 1\n1 1 4 1\n"), (b"clumps out of order", 2, b"1 1 4 1\n2 2 3 1\n"),
                               (b"line too long", 2, b"1 1 4 1\n" + b"2" * 4097 + b"\n"), (b"line cut off", 4, joined[:-1]),
-                              (b"number 1 left out", 0, b"1 1 4 2\n2 1 3 2\n3 1 1 2\n"), (b"number 5 left out", 0, b"1 1 4 1\n2 1 2 6\n2 3 3 9\n3 1 1 1\n"),
-                              (b"number 4 left out", 0, joined.replace(b"1 1 4 1", b"1 1 3 1\n1 4 4 5")), (b"number 6 left out", 0, joined.replace(b"3 1 1 6", b"3 1 1 9000")),
+                              (b"number 1 left out", 0, b"1 1 4 2\n2 1 3 2\n3 1 1 2\n"), (b"number 5 left out", 0, b"1 1 4 1\n2 1 2 6\n2 3 3 8\n3 1 1 1\n"),
+                              (b"number 4 left out", 0, joined.replace(b"1 1 4 1", b"1 1 3 1\n1 4 4 5")), (b"number 6 left out", 0, joined.replace(b"3 1 1 6", b"3 1 1 8")),
+                              (BEYOND, 4, joined.replace(b"3 1 1 6", b"3 1 1 9")), (BEYOND, 3, b"1 1 4 1\n2 1 2 6\n2 3 3 9\n3 1 1 1\n"),
+                              (BEYOND, 1, b"1 1 1 300000000\n"), (BEYOND, 3, b"1 1 4 1\n2 1 2 1\n2 3 3 18446744073709551615\n"),
+                              (BEYOND, 2, b"1 1 4 1\n2 1 3 18446744073709551614\n"),
                               (b"tile without a table", 5, joined.replace(b"3 1 1 6", b"3 1 1 9") + b"4 1 1 7\n"),
                               (b"tile without a table", 5, joined + b"4 1 1 7\n")):
         yield f"{text.decode()}, line {line} of {wrong[:40]!r}", join, {**files, b"j": wrong}, told(b"j", line, text)
-    for place, wrong in ((2**64 - 1, b"1 1 4 1\n2 1 2 1\n2 3 3 18446744073709551615\n"), (2**64, b"1 1 4 1\n2 1 3 18446744073709551614\n"), (2**60, b"1 1 4 1152921504606846976\n")):
-        yield f"a clump of number {place}", join, {**files, b"j": wrong}, told(b"sizes", 0, b"no memory", 3)
     yield "numbers in any order", join, {**files, b"j": b"1 1 2 5\n1 3 4 2\n2 1 1 6\n2 2 3 3\n3 1 1 1\n"}, (0, b"1 1\n2 2\n3 3\n4 1\n5 2\n6 3\n", b"")
     yield "numbers from the greatest down", join[:4], {b"j": b"1 1 1 5\n1 2 2 4\n2 1 1 3\n2 2 2 2\n2 3 3 1\n", b"a": b"1 7\n2 8\n", b"b": files[b"b"]}, (0, b"1 1\n2 2\n3 1\n4 8\n5 7\n", b"")
     for text, line, wrong in ((b"bad cell", 2, b"1 1\nx 2\n3 1\n"), (b"bad count", 1, b"1 0\n"), (b"other number of cells", 1, b"1 1 1\n"), (b"other number of cells", 2, b"1 1\n2 1 1\n"),

@@ -14,7 +14,6 @@ Given = bytes | Failing | None  # what a file gives; None: it cannot be opened
 Reply = tuple[int, bytes, bytes]  # the status, the output and the message
 
 MOST_BYTES, GREATEST_COUNT, GREATEST_CATEGORY = 4096, 2**64 - 1, 2**31 - 1
-MOST_SIZES = 2**44  # of eight bytes, in the addresses of x86-64
 NULL_LABEL = b"no data"
 
 
@@ -167,7 +166,7 @@ def added(total: int, count: int, name: bytes) -> int:
 # Sizes
 
 NUMBERING_KINDS = {b"bad cell": b"not four numbers", b"bad count": b"not four numbers", b"other number of cells": b"not four numbers",
-                   b"combination listed twice": b"areas out of order", b"combination out of order": b"areas out of order"}
+                   b"combination listed twice": b"clumps out of order", b"combination out of order": b"clumps out of order"}
 
 
 class Numbering:
@@ -199,9 +198,9 @@ class Numbering:
             raise Fault(self.name, self.line, b"not four numbers")
         tile, first, last = (cell for _, cell in cells)
         if first > last:
-            raise Fault(self.name, self.line, b"first area above the last")
+            raise Fault(self.name, self.line, b"first clump above the last")
         if first != (self.head[2] + 1 if self.head and self.head[0] == tile else 1):
-            raise Fault(self.name, self.line, b"areas out of order")
+            raise Fault(self.name, self.line, b"clumps out of order")
         self.head = (tile, first, last, number)
 
     def next(self) -> None:
@@ -212,15 +211,29 @@ class Numbering:
         self.take()
 
 
-def add_run(numbering: Numbering, table: TableText, sizes: dict[int, int]) -> None:
+Run = tuple[int, int, int, int]  # tile, first and last clump, number of the first
+
+
+def runs_of_numbering(name: bytes, given: bytes | Failing) -> list[Run]:
+    """All runs of a numbering, whose numbers are at most as many as it has clumps."""
+    numbering, runs = Numbering(name, given), list[Run]()
+    while numbering.head:
+        runs.append(numbering.head)
+        numbering.next()
+    count = sum(last - first + 1 for _, first, last, _ in runs)
+    for line, (_, first, last, number) in enumerate(runs, 1):
+        if number + last - first > count:
+            raise Fault(name, line, b"number above the count of clumps")
+    return runs
+
+
+def add_run(run: Run, table: TableText, sizes: dict[int, int]) -> None:
     """Reads the clumps of a run from the table of their tile, and adds their sizes."""
-    _, first, last, number = numbering.head
+    _, first, last, number = run
     for clump in range(first, last + 1):
         if not table.head or table.head[0] != ((False, clump),):
             raise Fault(table.name, clump, b"other clump")
         place = number + clump - first
-        if place > MOST_SIZES:
-            raise Fault(b"sizes", 0, b"no memory", 3)
         sizes[place] = added(sizes.get(place, 0), table.head[1], b"%d" % place)
         table.next()
 
@@ -235,16 +248,16 @@ def end_table(table: TableText, last: int) -> None:
 
 
 def sizes(form: Format, names: list[bytes], given: list[bytes | Failing]) -> bytes:
-    numbering, found = Numbering(names[0], given[0]), dict[int, int]()
+    runs, at, found = runs_of_numbering(names[0], given[0]), 0, dict[int, int]()
     for tile, (name, text) in enumerate(zip(names[1:], given[1:]), 1):
         table, last = TableText(name, text, 1, form), 0
-        while numbering.head and numbering.head[0] == tile:
-            add_run(numbering, table, found)
-            last = numbering.head[2]
-            numbering.next()
+        while at < len(runs) and runs[at][0] == tile:
+            add_run(runs[at], table, found)
+            last = runs[at][2]
+            at += 1
         end_table(table, last)
-    if numbering.head:
-        raise Fault(names[0], numbering.line, b"tile without a table")
+    if at < len(runs):
+        raise Fault(names[0], at + 1, b"tile without a table")
     for number in range(1, max(found, default=0)):
         if number not in found:
             raise Fault(names[0], 0, b"number %d left out" % number)
