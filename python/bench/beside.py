@@ -42,7 +42,7 @@ class Task(NamedTuple):
 
 TASKS = [
     Task("areas by edges", "r.clump input=lc output=x", 0, "edges", lambda mosaic, out: mosaic.clump("lc", out)),
-    Task("areas by corners", "r.clump -d input=lc output=x", 0, "corners", lambda mosaic, out: mosaic.clump("lc", out, diagonal=True)),
+    Task("areas by corners", "r.clump -d input=lc output=x", 0, "corners", lambda mosaic, out: mosaic.clump("lc", out, connectivity=8)),
     Task("sum of nine offsets", f"r.mapcalc x = {SUM}", NULL, "total", lambda mosaic, out: mosaic.grid(f"x = {SUM}", out)),
     Task("nmode over 3x3", f"r.mapcalc x = {NMODE}", NULL, "modes", lambda mosaic, out: mosaic.grid(f"x = {NMODE}", out)),
 ]
@@ -101,7 +101,7 @@ def _answer(task: Task, path: Path, folder: Path, sizes: list[int], workers: int
             areas, figures = measured(mosaic, lambda: task.tiled(mosaic, out))
             row.append(_told(_same(cells, out, task.null), figures))
             if task.is_of_areas and has_sizes:
-                patches, figures = measured(mosaic, lambda: mosaic.patches("lc", diagonal="corners" in task.name))
+                patches, figures = measured(mosaic, lambda: mosaic.patches("lc", connectivity=8 if "corners" in task.name else 4))
                 is_equal = len(patches) == areas and np.array_equal(patches["cells"].to_numpy(np.int64), _sizes_of(cells, areas))
                 of_sizes.append(_told(is_equal, figures))
     yield [*row, _beside_grass(task, folder / f"{task.grass}.tif", out, areas)]

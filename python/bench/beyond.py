@@ -90,7 +90,7 @@ class Known(NamedTuple):
 
 def patches(diagonal: bool) -> Callable[[Mosaic], Any]:
     """The table of the connected areas."""
-    return lambda mosaic: mosaic.patches("made", diagonal)
+    return lambda mosaic: mosaic.patches("made", 8 if diagonal else 4)
 
 
 TASKS: dict[str, tuple[str, Callable[[Mosaic], Any]]] = {
@@ -108,7 +108,7 @@ def is_as_known(task: str, answer: Any, known: Known) -> bool:
         return found == known.table()
     expected = known.corners() if task == "corners" else known.edges()
     is_numbered = np.array_equal(answer["patch"].to_numpy(np.int64), np.arange(1, len(expected) + 1))
-    return is_numbered and np.array_equal(answer[["category", "cells"]].to_numpy(np.int64), expected)
+    return is_numbered and np.array_equal(answer[["class", "cells"]].to_numpy(np.int64), expected)
 
 
 def main() -> None:

@@ -101,8 +101,8 @@ def of_shapes(given: Settings) -> list[str]:
         for diagonal in (False, True):
             expected = undivided(path, f"r.clump {'-d ' if diagonal else ''}input=lc output=x")[0]
             with rcell.tiles.open(size=size, scheduler=given.workers, lc=str(path)) as mosaic:
-                areas = mosaic.clump("lc", out, diagonal)
-                sizes = mosaic.patches("lc", diagonal)["cells"].to_numpy(np.int64)
+                areas = mosaic.clump("lc", out, 8 if diagonal else 4)
+                sizes = mosaic.patches("lc", 8 if diagonal else 4)["cells"].to_numpy(np.int64)
             with rasterio.open(out) as dataset:
                 is_equal = np.array_equal(dataset.read(1), expected) and np.array_equal(sizes, np.bincount(expected.reshape(-1))[1:])
             found.append(f"{areas:,}: {'equal' if is_equal else '**different**'}, sizes too")

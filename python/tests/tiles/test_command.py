@@ -42,8 +42,8 @@ def test_grid_clump_and_patches(lc: str, tmp_path: Path, scheduler: str, capfd: 
     assert main(["clump", lc, "--out", out, *where]) == 0
     assert read_tif(out).tolist() == [[1, 1, 2], [3, 2, 2]]
     assert capfd.readouterr().out == "3\n"
-    assert main(["patches", "-d", lc, *where]) == 0
-    assert capfd.readouterr().out == "patch,category,cells\n1,1,2\n2,2,3\n3,3,1\n"
+    assert main(["patches", "--connectivity", "8", lc, *where]) == 0
+    assert capfd.readouterr().out == "patch,class,cells\n1,1,2\n2,2,3\n3,3,1\n"
 
 
 def test_statuses(lc: str, tmp_path: Path, scheduler: str, capfd: pytest.CaptureFixture[str]) -> None:

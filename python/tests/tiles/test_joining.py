@@ -109,12 +109,12 @@ CELLS = np.random.default_rng(5).choice([1, 1, 2, 3, 200], (23, 17))
 def test_a_mosaic(tif: MakeTif, tmp_path: Any, scheduler: str, dtype: Any, diagonal: bool, size: tuple[int, int]) -> None:
     expected = whole.clump(np.where(CELLS == 200, whole.NULL_CELL, CELLS).astype(np.int32), diagonal)
     with rcell.tiles.open(size=size, scheduler=scheduler, map=tif("map", CELLS.astype(dtype), nodata=200)) as opened:
-        patches = opened.patches("map", diagonal=diagonal)
-        assert opened.clump("map", tmp_path / "patches.tif", diagonal) == expected.max()
+        patches = opened.patches("map", connectivity=8 if diagonal else 4)
+        assert opened.clump("map", tmp_path / "patches.tif", 8 if diagonal else 4) == expected.max()
     assert np.array_equal(read_tif(tmp_path / "patches.tif").filled(0), expected)
     assert patches["patch"].tolist() == list(range(1, expected.max() + 1))
     assert patches["cells"].tolist() == np.bincount(expected.ravel())[1:].tolist()
-    assert patches["category"].tolist() == [CELLS[expected == clump][0] for clump in patches["patch"]]
+    assert patches["class"].tolist() == [CELLS[expected == clump][0] for clump in patches["patch"]]
 
 
 def test_a_tile_whose_table_has_no_room_is_refused(tif: MakeTif, scheduler: str, monkeypatch: pytest.MonkeyPatch) -> None:

@@ -96,12 +96,12 @@ def test_patches(tmp_path: Path, scheduler: str, case: tuple[Any, Any, tuple[int
     first, second, size = case
     expected = whole.clump(first, diagonal)
     with opened(tmp_path, scheduler, first, second, size) as mosaic:
-        count = mosaic.clump("a", tmp_path / "p.tif", diagonal)
-        patches = mosaic.patches("a", diagonal)
+        count = mosaic.clump("a", tmp_path / "p.tif", 8 if diagonal else 4)
+        patches = mosaic.patches("a", 8 if diagonal else 4)
     assert np.array_equal(read_tif(tmp_path / "p.tif").filled(0), expected)
     assert count == len(patches) == expected.max()
     assert patches["patch"].tolist() == list(range(1, count + 1))
-    assert patches["category"].tolist() == [first[expected == patch][0] for patch in patches["patch"]]
+    assert patches["class"].tolist() == [first[expected == patch][0] for patch in patches["patch"]]
     assert patches["cells"].tolist() == np.bincount(expected.ravel())[1:].tolist()
 
 
@@ -117,8 +117,8 @@ def test_hard_shapes(tif: MakeTif, tmp_path: Path, scheduler: str, name: str, si
     path = tif("lc", cells, NULL)
     for diagonal in (False, True):
         with rcell.tiles.open(size=size, scheduler=scheduler, lc=path) as mosaic:
-            count = mosaic.clump("lc", tmp_path / "patches.tif", diagonal)
-            sizes = mosaic.patches("lc", diagonal)["cells"].tolist()
+            count = mosaic.clump("lc", tmp_path / "patches.tif", 8 if diagonal else 4)
+            sizes = mosaic.patches("lc", 8 if diagonal else 4)["cells"].tolist()
         expected = whole.clump(cells, diagonal)
         assert count == expected.max()
         assert np.array_equal(read_tif(tmp_path / "patches.tif").filled(0), expected)

@@ -70,7 +70,7 @@ def _parser() -> argparse.ArgumentParser:
     for command in (grid, clump):
         command.add_argument("--out", required=True, metavar="PATH", help="the GeoTIFF to write")
     for command in (clump, patches):
-        command.add_argument("-d", "--diagonal", action="store_true", help="cells that touch at a corner are connected")
+        command.add_argument("--connectivity", type=int, choices=[4, 8], default=4, help="8: cells that share a corner are connected as well")
     for command in (table, grid):
         command.add_argument("maps", nargs="+", type=_named, metavar="NAME=PATH", help="maps, by their names")
     for command in (clump, patches):
@@ -112,12 +112,12 @@ def _grid(mosaic: Mosaic, given: argparse.Namespace) -> None:
 
 def _clump(mosaic: Mosaic, given: argparse.Namespace) -> None:
     [name] = mosaic.names
-    emit(f"{mosaic.clump(name, given.out, given.diagonal)}\n")
+    emit(f"{mosaic.clump(name, given.out, given.connectivity)}\n")
 
 
 def _patches(mosaic: Mosaic, given: argparse.Namespace) -> None:
     [name] = mosaic.names
-    _print(mosaic.patches(name, given.diagonal))
+    _print(mosaic.patches(name, given.connectivity))
 
 
 def _print(table: Any) -> None:

@@ -18,6 +18,7 @@ from .._errors import RcellError, Refused
 from .._joiner import check_files, find_joiner
 from .._labels import read_labels
 from .._libraries import has
+from .._patches import check_connectivity
 from .._program import judge
 from .._region import SIDE_LIMIT
 from .._script import labels_in
@@ -313,7 +314,7 @@ class Mosaic:
             for place, cells in tasks.stream(_tasks.grid_cells, ((shared, tile) for tile in tiles), memory):
                 writer.write(tiles[place], cells)
 
-    def clump(self, name: str, path: str | os.PathLike[str], diagonal: bool = False) -> int:
+    def clump(self, name: str, path: str | os.PathLike[str], connectivity: int = 4) -> int:
         """Write the map of the patches of a map, its connected areas, as a GeoTIFF, 0 where it is null.
 
         The numbers are those of `r.clump` over the undivided map: from 1, in the order of first cells. The file is of int32,
@@ -326,8 +327,8 @@ class Mosaic:
             One of the maps.
         path : str or path
             The GeoTIFF to write, as `grid` does.
-        diagonal : bool
-            Whether cells that touch at a corner are connected.
+        connectivity : {4, 8}
+            4 connects cells that share an edge, 8 also those that share a corner.
 
         Returns
         -------
@@ -345,21 +346,22 @@ class Mosaic:
         ...     mosaic.clump("lc", "patches.tif")
         3
         """
+        check_connectivity(connectivity)
         self._refuse_inputs(path)
         file = self._file(name)
         # Before they are joined, it is not known how many clumps there are: at most as many as cells.
         demand = clump_demand(file.bytes, 4 if self.sheet.rows * self.sheet.cols < 2**31 else 8)
         tiles = self._tiles(demand)
         memory = self._memory(demand, tiles[0])
-        whole = self._joined(file, tiles, diagonal, memory)
+        whole = self._joined(file, tiles, connectivity == 8, memory)
         dtype = "int32" if whole.clumps < 2**31 else "int64"
-        calls = ((file, self.sheet, place, diagonal, tile, dtype) for place, tile in zip(tiles, whole.tiles))
+        calls = ((file, self.sheet, place, connectivity == 8, tile, dtype) for place, tile in zip(tiles, whole.tiles))
         with tile_writer(path, self.sheet, dtype, NO_CLUMP) as writer, self._engine.tasks("clump", len(tiles)) as tasks:
             for at, cells in tasks.stream(_tasks.numbered_cells, calls, memory):
                 writer.write(tiles[at], cells)
         return whole.clumps
 
-    def patches(self, name: str, diagonal: bool = False) -> Any:
+    def patches(self, name: str, connectivity: int = 4) -> Any:
         """The table of the patches of a map, its connected areas; the map of patches is never written.
 
         Each tile is clumped twice, as by `clump`.
@@ -368,13 +370,13 @@ class Mosaic:
         ----------
         name : str
             One of the maps.
-        diagonal : bool
-            Whether cells that touch at a corner are connected.
+        connectivity : {4, 8}
+            4 connects cells that share an edge, 8 also those that share a corner.
 
         Returns
         -------
         DataFrame, or a Table where pandas is not installed
-            `patch` (the number that r.clump gives in the undivided map, ascending from 1), `category`, `cells`. This process
+            `patch` (the number that r.clump gives in the undivided map, ascending from 1), `class`, `cells`. This process
             holds it whole: 24 bytes for each patch, and up to 100 more while the sizes of tiles are added up.
 
         Raises
@@ -386,22 +388,23 @@ class Mosaic:
         >>> import rcell.tiles
         >>> with rcell.tiles.open(size=2, scheduler=scheduler, lc="lc.tif") as mosaic:
         ...     print(mosaic.patches("lc"))
-           patch  category  cells
-        0      1         1      2
-        1      2         2      3
-        2      3         3      1
+           patch  class  cells
+        0      1      1      2
+        1      2      2      3
+        2      3      3      1
         """
+        check_connectivity(connectivity)
         file = self._file(name)
         demand = patches_demand(file.bytes)
         tiles = self._tiles(demand)
         memory = self._memory(demand, tiles[0])
-        whole = self._joined(file, tiles, diagonal, memory)
+        whole = self._joined(file, tiles, connectivity == 8, memory)
         with self._engine.tasks("patches", len(tiles)) as tasks:
-            calls = ((file, self.sheet, place, diagonal) for place in tiles)
+            calls = ((file, self.sheet, place, connectivity == 8) for place in tiles)
             parts = sorted(tasks.stream(_tasks.clumps_table, calls, memory), key=lambda part: part[0])
         categories, cells = sizes(whole, [table for _, (table, _) in parts], [own for _, (_, own) in parts])
         numbers = np.column_stack([np.arange(1, whole.clumps + 1), categories])
-        answer = StatsTable("r.clump", 0, ("patch", "category"), numbers, cells, cell=self.sheet.cell, crs=self.sheet.crs)
+        answer = StatsTable("r.clump", 0, ("patch", "class"), numbers, cells, cell=self.sheet.cell, crs=self.sheet.crs)
         return answer.frame() if has("pandas") else answer
 
     def _joined(self, file: MapFile, tiles: list[Rectangle], diagonal: bool, memory: int) -> Joined:
