@@ -15,6 +15,6 @@ if [ -z "$missing" ]; then
     check 'the study in R Markdown' sh -c 'cd examples && Rscript --no-save --no-restore --no-site-file ../r/study.R'
 else
     # shellcheck disable=SC2046
-    skip -n 205 r "$missing is not installed" $(grep -v '^#' r/packages.txt)
+    skip -n 281 r "$missing is not installed" $(grep -v '^#' r/packages.txt)
 fi
 closing

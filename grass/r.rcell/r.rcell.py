@@ -223,6 +223,7 @@ class Request:
         statements, is_closed = statements_of(script)
         everything = b"\n".join([body, *names, *(label for pairs in labels.values() for _category, label in pairs)])
         self.mark = unused(b"--rcell-%d--", everything)
+        self.names = [name.decode(errors="replace") for name in names]
         nothing = unused(b"_nothing_%d", everything)
         self.grids = {name: unused(b"_cells_%d_%%d" % at, everything).decode() for at, name in enumerate(labels)}
         before = b"".join(self.rules(name, pairs) for name, pairs in labels.items())
@@ -265,7 +266,17 @@ class Request:
         place = int(column[1]) - 1 if column else bad[1] if bad else None
         caret = "" if place is None else "    " + " " * len(self.lines[own - 1][:place].decode(errors="replace")) + "^\n"
         word = ": " + bad[0].decode(errors="replace") if bad else ""
-        return Stopped("rcell: script:%d: %s%s" % (own, text, word), "    %s\n%s" % (shown, caret))
+        return Stopped("rcell: script:%d: %s%s" % (own, text, word), "    %s\n%s%s" % (shown, caret, self.advice(own, text)))
+
+    def advice(self, line, text):
+        """A line that says what to write instead, if rcell's package for Python is installed."""
+        try:
+            from rcell_front.mending import advice
+
+            instead = advice(b"\n".join(self.lines), self.names, line, COLUMN.sub("", text))[1]
+        except Exception:  # advice must not hide the message
+            return ""
+        return "    try: %s\n" % instead if instead else ""
 
 
 # Cells as text
@@ -759,7 +770,7 @@ def done(options, flags):
         outputs = look_up_outputs(asked, statements, inputs)
     except Stopped:
         # What seems to make no map may be misspelled.
-        judge(Request(given, given, [], {}, [], b""), [it.name for it in inputs])
+        judge(Request(given, given, [it.name.encode() for it in inputs], {}, [], b""), [it.name for it in inputs])
         raise
     region = look_up_region()
     if not outputs and not any(it.command in (b"r.stats", b"r.out.ascii") for it in statements):

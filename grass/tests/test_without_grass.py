@@ -188,6 +188,12 @@ class Streams(unittest.TestCase):
         self.assertEqual(str(caught.exception), "rcell: script:1: bad byte at column 11")
         self.assertEqual(caught.exception.beneath, '    r.mapcalc "x = a * 2"\n              ^\n')
 
+    def test_advice_comes_from_the_package_for_python(self):
+        asked = request(b"r.stats -cn a", ["a"])
+        with mock.patch.dict(sys.modules), mock.patch.object(sys, "path", [os.path.join(HERE, "../../python/src"), *sys.path]):
+            beneath = asked.stopped("rcell: script:1: bad option").beneath
+        self.assertEqual(beneath, "    r.stats -cn a\n                ^\n    try: r.stats -cn input=a\n")
+
     def test_messages_of_other_places(self):
         asked = request(b"r.stats -c input=a\n", ["a"], {"a": [(b"1", b"one")]})
         self.assertEqual(str(asked.stopped("rcell: _cells_0_1:0: no memory")), "rcell: a:0: no memory")
