@@ -313,7 +313,7 @@ class CellWords:
         has_null = int(categories[0] == NULL)
         found = categories[has_null:].tolist()
         if max((len(str(category)) for category in found[:1] + found[-1:]), default=0) > self.width:
-            raise Stopped(_("A raster map has categories beyond the range that r.info tells; r.support -s mends it"))
+            raise Stopped(_("A raster map has categories beyond the range that r.info reports; r.support -s repairs it"))
         table = self.table(found)
         return (table, (places - 1) % len(table)) if has_null else (table, places)
 

@@ -137,7 +137,7 @@ def test_labels_with_and_without_gdal(raster: Write, monkeypatch: pytest.MonkeyP
         pytest.importorskip("osgeo")
         _labels.write_labels(path, labels)
     else:
-        with pytest.warns(UserWarning, match="labels stand in .*map.tif.aux.xml"):
+        with pytest.warns(UserWarning, match="labels are in .*map.tif.aux.xml"):
             _labels.write_labels(path, labels)
     assert _labels.read_labels(path, 1) == labels
     monkeypatch.undo()

@@ -212,7 +212,7 @@ class Programs(unittest.TestCase):
             "j.find_program = lambda: '/nowhere/rcell'\ntry: j.find_joiner()\nexcept p.MissingProgram as e: print(e)"
         )
         ran = subprocess.run([sys.executable, "-c", code], env={"PATH": "/nowhere", "PYTHONPATH": os.pathsep.join(sys.path)}, capture_output=True, text=True)
-        told = "the program rcell-join was not found: neither in the environment variable RCELL_JOIN, nor beside rcell, nor on the path\n"
+        told = "the program rcell-join was not found: neither in the environment variable RCELL_JOIN, nor next to rcell, nor on the path\n"
         self.assertEqual(ran.stdout, told, ran.stderr)
 
     def test_missing_and_wrong(self) -> None:

@@ -71,7 +71,7 @@ class ReadingTest(InRoom):
         told: list[str] = []
         for _ in raster.blocks(told.append):
             pass
-        self.assertEqual(told, ["lc: floats of 32 bits are not exact beyond 16777216, and the map has greater cells"])
+        self.assertEqual(told, ["lc: floats of 32 bits are not exact beyond 16777216, and the map has larger values"])
 
     def test_places_that_are_refused(self) -> None:
         turned = made.write(self.path("turned.tif"), CELLS, transform=(0, 1, 0.5, 0, 0.5, -1))

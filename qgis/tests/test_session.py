@@ -107,7 +107,7 @@ class TableTest(InSession):
     def test_floats_beyond_their_exactness_are_warned_of(self) -> None:
         path = made.write(self.path("far.tif"), [[2**24 + 2, 1]], gdal.GDT_Float32)
         self.run_("cross", INPUT=[path], OUTPUT="TEMPORARY_OUTPUT")
-        self.assertIn("warning: far: floats of 32 bits are not exact beyond 16777216, and the map has greater cells", self.log.told)
+        self.assertIn("warning: far: floats of 32 bits are not exact beyond 16777216, and the map has larger values", self.log.told)
 
 
 class RefusalsTest(InSession):

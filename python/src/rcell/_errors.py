@@ -24,7 +24,7 @@ __all__ = [
 _CAUSES = {
     4: "the processor is older than x86-64-v2, which the program needs",
     9: "too little memory, or someone ended it",
-    11: "too little room for its stack (ulimit -s), or a fault of the program",
+    11: "too little room for its stack (ulimit -s), or a bug in the program",
 }
 _COLUMN = re.compile(r" at column (\d+)$")
 

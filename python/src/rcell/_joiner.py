@@ -59,7 +59,7 @@ def find_joiner(program: str | os.PathLike[str] | None = None) -> str:
     """
     path = os.fspath(program) if program is not None else os.environ.get("RCELL_JOIN") or _found()
     if not path:
-        raise MissingProgram("the program rcell-join was not found: neither in the environment variable RCELL_JOIN, nor beside rcell, nor on the path")
+        raise MissingProgram("the program rcell-join was not found: neither in the environment variable RCELL_JOIN, nor next to rcell, nor on the path")
     return known_after(_probe, os.path.abspath(path))
 
 

@@ -255,4 +255,4 @@ def _write_beside(path: str, labels: Mapping[int, str]) -> None:
             ElementTree.SubElement(row, "F").text = str(category)
             ElementTree.SubElement(row, "F").text = label
     ElementTree.ElementTree(root).write(path + ".aux.xml", encoding="utf-8")
-    warnings.warn(f"GDAL's Python is not installed: the labels stand in {path}.aux.xml, which GDAL reads", stacklevel=4)
+    warnings.warn(f"GDAL's Python is not installed: the labels are in {path}.aux.xml, which GDAL reads", stacklevel=4)

@@ -131,7 +131,7 @@ def checked(name: str, cells: Cells, null: Mask | None, nodata: float | None, fi
     if null is not None and null.any():
         cells = np.where(null, cells.dtype.type(0), cells)
     if cells.dtype == np.float32 and cells.size and np.abs(cells).max() > _EXACT_FLOAT32:
-        warnings.warn(f"{name}: floats of 32 bits are not exact beyond {_EXACT_FLOAT32}, and the map has greater cells", stacklevel=2)
+        warnings.warn(f"{name}: floats of 32 bits are not exact beyond {_EXACT_FLOAT32}, and the map has larger values", stacklevel=2)
     return Block(cells if cells.dtype == np.int32 else cells.astype(np.int32), null)
 
 

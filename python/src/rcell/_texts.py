@@ -163,4 +163,4 @@ def _refused_region(name: str, path: str, is_file: bool) -> Region:
 
     if is_file:
         execute("", {name: TextMap(name, path, Region.of_cells(1, 1))})
-    raise BadMap(name, f"{path}: a header that is not that of a grid")
+    raise BadMap(name, f"{path}: this is not the header of a grid")

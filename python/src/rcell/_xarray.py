@@ -168,7 +168,7 @@ def _spacing(name: str, coordinate: Any, told: tuple[float, float] | None) -> tu
         if np.abs(edge + step * (np.arange(count) + 0.5) - centres).max() <= abs(step) * _TOLERANCE:
             return edge, step
     if count == 1:
-        raise BadMap(name, f"one cell along {coordinate.name}: how large it is, is not told; give rcell.Map(array.values, region)")
+        raise BadMap(name, f"one cell along {coordinate.name}: its size is unknown; give rcell.Map(array.values, region)")
     step = (centres[-1] - centres[0]) / (count - 1)
     off = np.abs(centres[0] + step * np.arange(count) - centres)
     if step == 0 or off.max() > abs(step) * _TOLERANCE:
@@ -205,7 +205,7 @@ def data_array_of(array: MaskedCells, region: Region, transform: Transform, crs:
 
     Null is -2147483648, which `_FillValue` says.
     """
-    xarray = need("xarray", "xarray", "to answer a DataArray")
+    xarray = need("xarray", "xarray", "to return a DataArray")
     a, _, c, _, e, f = transform
     attributes: dict[str, Any] = {"_FillValue": np.int32(NULL)}
     if labels:

@@ -37,7 +37,7 @@ def mosaic_of(scheduler: str, size: int = 16, **maps: Any) -> rcell.tiles.Mosaic
     ("r.stats -c input=lc\nr.stats -c input=lc", "2 lines of r.stats, where one is needed", 0),
     ("r.stats -1 input=lc", "-1 lists cells, of which there is no table to merge", 1),
     ("r.clump input=lc output=p\nr.stats -c input=p",
-     "areas go on outside of a tile: Mosaic.clump writes them, Mosaic.patches counts them", 1),
+     "patches continue outside a tile: Mosaic.clump writes them, Mosaic.patches counts them", 1),
     ("r.mapcalc x = lc[0,1]\nr.stats -c input=" + ",".join(["x"] * 16),
      "16 maps, where an expression with offsets leaves room for 15 when it is done by tiles", 2),
 ])
@@ -55,7 +55,7 @@ def test_scripts_of_tables_are_refused(tif: MakeTif, scheduler: str, script: str
     ("lc = lc", "map exists"),
     ("r.mapcalc x = lc\nr.stats -c input=x", "the last line does not make a map by r.mapcalc or r.reclass"),
     ("r.clump input=lc output=x", "the last line does not make a map by r.mapcalc or r.reclass"),
-    ("r.clump input=lc output=p\nr.mapcalc x = p", "areas go on outside of a tile: Mosaic.clump writes them, Mosaic.patches counts them"),
+    ("r.clump input=lc output=p\nr.mapcalc x = p", "patches continue outside a tile: Mosaic.clump writes them, Mosaic.patches counts them"),
 ])
 def test_scripts_of_grids_are_refused(tif: MakeTif, tmp_path: Path, scheduler: str, script: str, text: str) -> None:
     with mosaic_of(scheduler, lc=tif("lc", CELLS)) as mosaic, pytest.raises(rcell.Refused) as refusal:

@@ -209,7 +209,7 @@ class RcellAlgorithm(QgsProcessingAlgorithm):
 
     def add_labels(self) -> None:
         """A legend in a file."""
-        title = tr("Labels of classes: a CSV file with value,label, or a style (empty: those of the layer)")
+        title = tr("Labels of classes: a CSV file with value,label, or a style (empty: the labels of the layer)")
         self.addParameter(QgsProcessingParameterFile("LABELS", title, optional=True, fileFilter="Legends (*.csv *.qml)"))
 
     def add_zones(self, is_optional: bool = True) -> None:
@@ -217,7 +217,7 @@ class RcellAlgorithm(QgsProcessingAlgorithm):
         kinds = [QgsProcessing.TypeRaster, QgsProcessing.TypeVectorPolygon]
         self.addParameter(QgsProcessingParameterMapLayer("ZONES", tr("Zones: a raster, or polygons"), None, is_optional, kinds))
         self.addParameter(QgsProcessingParameterString("ZONE_FIELD", tr("Field of the polygons that has the zones"), optional=True))
-        title = tr("Labels of zones: a CSV file with value,label, or a style (empty: those of the layer)")
+        title = tr("Labels of zones: a CSV file with value,label, or a style (empty: the labels of the layer)")
         self.addParameter(QgsProcessingParameterFile("ZONE_LABELS", title, optional=True, fileFilter="Legends (*.csv *.qml)"))
 
     def add_table(self, title: str = "", name: str = "OUTPUT", is_optional: bool = False) -> None:

@@ -34,8 +34,8 @@ class ReclassAlgorithm(RcellAlgorithm):
             "is not named above, and <code>* = *</code> keeps it. Lines that begin with <code>#</code> are notes.</p>"
         )),
         QT_TRANSLATE_NOOP("rcell", (
-            "<p>The result has its labels as category names in the file and a legend that says how many cells and hectares "
-            "each class has. The legend stands beside the file as .qml, too.</p>"
+            "<p>The result has its labels as category names in the file, and a legend with the cells and hectares of each "
+            "class. The legend is also written next to the file, as .qml.</p>"
         )),
     )
 

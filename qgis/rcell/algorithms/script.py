@@ -53,12 +53,12 @@ class ScriptAlgorithm(RcellAlgorithm):
             "output=ponds<br>r.stats -c -n input=ponds,zone</code></p>"
         )),
         QT_TRANSLATE_NOOP("rcell", (
-            "<p>The map is the one that is named, or the only one that the script makes; the table is that of its only "
-            "<code>r.stats</code>. The folder has all that the script writes: a table for each <code>r.stats</code>, called "
-            "by its line, a GeoTIFF for each <code>r.out.ascii</code>.</p>"
+            "<p>The map output is the map that you name, or the only one that the script makes. The table output is the only "
+            "<code>r.stats</code>. The folder gets everything that the script writes: a table for each <code>r.stats</code>, "
+            "named after its line, and a GeoTIFF for each <code>r.out.ascii</code>.</p>"
         )),
         QT_TRANSLATE_NOOP("rcell", (
-            "<p>Where a line is refused the log shows it with a mark under the place. Numbers are whole and never wrap or "
+            "<p>If a line is rejected, the log shows it with a mark under the place. Numbers are whole, and never wrap or "
             "round.</p>"
         )),
     )

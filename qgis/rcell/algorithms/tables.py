@@ -165,8 +165,8 @@ class ZonalAlgorithm(RcellAlgorithm):
     TAGS = ("zonal statistics", "mean", "median", "quantile", "sum", "r.stats.zonal", "raster layer zonal statistics")
     HELP = (
         QT_TRANSLATE_NOOP("rcell", (
-            "<p>Zones without a value have no row. The variance is that of the population; quantiles between two values are "
-            "interpolated. The columns of quantiles are called after their percentages, as q50 and q2_5.</p>"
+            "<p>Zones without a value have no row. The variance is the population variance; quantiles between two values "
+            "are interpolated. The columns of quantiles are named after their percentages, as q50 and q2_5.</p>"
         )),
         _ZONES,
     )

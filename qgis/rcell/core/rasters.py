@@ -263,7 +263,7 @@ class Raster:
         if null is not None:
             cells = np.where(null, cells.dtype.type(0), cells)
         if warn is not None and cells.dtype == np.float32 and cells.size and np.abs(cells).max() > _EXACT_FLOAT32:
-            warn(f"{self.name}: floats of 32 bits are not exact beyond {_EXACT_FLOAT32}, and the map has greater cells")
+            warn(f"{self.name}: floats of 32 bits are not exact beyond {_EXACT_FLOAT32}, and the map has larger values")
         return cells if cells.dtype == np.int32 else cells.astype(np.int32), null
 
 

@@ -261,7 +261,7 @@ all_cells <- function(source, program = NULL) {
 }
 
 warn_of_floats <- function(name) {
-  warning(sprintf("%s: floats of 32 bits are not exact beyond 16777216, and the map has greater cells", name), call. = FALSE)
+  warning(sprintf("%s: floats of 32 bits are not exact beyond 16777216, and the map has larger values", name), call. = FALSE)
   FALSE
 }
 

@@ -457,7 +457,7 @@ class Mosaic:
         run = TileScript.of(found, self._files)
         for statement in run.statements:
             if isinstance(statement, Clump):
-                raise refused(script, statement, "areas go on outside of a tile: Mosaic.clump writes them, Mosaic.patches counts them")
+                raise refused(script, statement, "patches continue outside a tile: Mosaic.clump writes them, Mosaic.patches counts them")
         files = tuple(file for name, file in self._files.items() if name in run.maps)
         taken = {*self._files, run.row, run.col, *(statement.output for statement in found if hasattr(statement, "output"))}
         return _tasks.TileRun(self.sheet, files, run, spare_name("inside", taken))
