@@ -457,6 +457,26 @@ def test_colours_and_flags_come_through(tmp_path: pathlib.Path, raster: Write) -
     assert [tuple(round(255 * part) for part in handle.get_facecolor()[:3]) for handle in handles][0] == (1, 2, 3)
 
 
+def test_an_attribute_table_has_labels_and_colours(raster: Write) -> None:
+    gdal = pytest.importorskip("osgeo.gdal")
+    path = raster(LAND, nodata=0)
+    table = gdal.RasterAttributeTable()
+    for name, kind, usage in (("Value", gdal.GFT_Integer, gdal.GFU_MinMax), ("Class", gdal.GFT_String, gdal.GFU_Name)):
+        table.CreateColumn(name, kind, usage)
+    for name, usage in (("R", gdal.GFU_Red), ("G", gdal.GFU_Green), ("B", gdal.GFU_Blue)):
+        table.CreateColumn(name, gdal.GFT_Integer, usage)
+    table.SetRowCount(3)
+    for row, (code, label) in enumerate(NAMES.items()):
+        table.SetValueAsInt(row, 0, code)
+        table.SetValueAsString(row, 1, label)
+        table.SetValueAsInt(row, 2, 16 * code)
+    dataset = gdal.Open(path, gdal.GA_Update)
+    dataset.GetRasterBand(1).SetDefaultRAT(table)
+    del dataset
+    assert rcell.composition(path)["label"].tolist() == list(NAMES.values())
+    assert rcell.majority(path).colors == {1: "#100000", 2: "#200000", 3: "#300000"}
+
+
 # Without pandas
 
 

@@ -26,6 +26,7 @@ NAMES_LIMIT = 1 << 16
 _INTEGER, _TEXT = 0, 2
 _USAGE_NAME, _USAGE_VALUE = 2, 5
 _VALUE_USAGES = (_USAGE_VALUE, 3)
+_USAGES_RGB = (6, 7, 8)
 
 
 def read_labels(path: str, band: int) -> dict[int, str]:
@@ -43,7 +44,7 @@ def read_legend(path: str, dataset: Any, band: int) -> Legend:
     """Return the labels and colours of a band of an open raster.
 
     Labels are category names, the names of an attribute table, CF's `flag_meanings`, or a style of QGIS next to the raster;
-    colours are from a colour table, or from the style.
+    colours are from a colour table, an attribute table, or the style.
     """
     style = Legend({}, {})
     beside = os.path.splitext(path)[0] + ".qml"
@@ -52,7 +53,7 @@ def read_legend(path: str, dataset: Any, band: int) -> Legend:
             style = legend_of_qml(beside)
     tags = dataset.tags(band)
     labels = read_labels(path, band) or flags_of(tags.get("flag_values"), tags.get("flag_meanings")) or style.labels
-    return Legend(labels, _color_table(dataset, band, labels) or style.colors)
+    return Legend(labels, _color_table(dataset, band, labels) or _attribute_colors(path, band) or style.colors)
 
 
 def flags_of(values: Any, meanings: Any) -> dict[int, str]:
@@ -75,6 +76,28 @@ def _color_table(dataset: Any, band: int, labels: Mapping[int, str]) -> dict[int
     except ValueError:
         return {}
     return {code: "#%02x%02x%02x" % rgba[:3] for code, rgba in table.items() if code in labels or any(rgba[:3])}
+
+
+def _attribute_colors(path: str, band: int) -> dict[int, str]:
+    """The colours of an attribute table that GDAL's Python can read."""
+    if not has("osgeo"):
+        return {}
+    gdal = need("osgeo.gdal", "gis", "to read colours")
+    with _Exceptions(gdal):
+        try:
+            opened = gdal.Open(path)  # the table is gone when the dataset is
+        except RuntimeError:
+            return {}
+        table = opened.GetRasterBand(band).GetDefaultRAT()
+    if table is None:
+        return {}
+    places = range(table.GetColumnCount())
+    usages = [table.GetUsageOfCol(at) for at in places]
+    value = _columns(usages, [table.GetNameOfCol(at) for at in places])[0]
+    if value is None or not set(_USAGES_RGB) <= set(usages):
+        return {}
+    columns = [usages.index(usage) for usage in _USAGES_RGB]
+    return {table.GetValueAsInt(row, value): "#" + bytes(table.GetValueAsInt(row, at) & 255 for at in columns).hex() for row in range(table.GetRowCount())}
 
 
 def write_labels(path: str, labels: Mapping[int, str]) -> str | None:
