@@ -14,9 +14,11 @@ install -m 644 LICENSE.md "$inst/COPYRIGHTS"
 sed -i "s/^Version: .*/Version: $version/" "$room/source/rcell/DESCRIPTION"
 # R warns of a program in a package unless it is declared.
 echo inst/bin/rcell > "$room/source/rcell/BinaryFiles"
-(cd "$room/source" && R CMD build rcell > build.log 2>&1) || { cat "$room/source/build.log" >&2; exit 1; }
+(cd "$room/source" && env -u RCELL LC_ALL=C.UTF-8 LANGUAGE=en TZ=UTC R CMD build rcell > build.log 2>&1) || { cat "$room/source/build.log" >&2; exit 1; }
 # R notes who packed it and when.
 tar -C "$room" -xzf "$room/source/rcell_$version.tar.gz"
 sed -i "s/^Packaged: .*/Packaged: $(date -u -d "@$SOURCE_DATE_EPOCH" '+%Y-%m-%d %H:%M:%S UTC'); the Nibzoqel authors/" "$room/rcell/DESCRIPTION"
+# The page of the vignette loads nothing from a network.
+sed -i '/<\(link\|script\)[^>]*https:/d' "$room/rcell/inst/doc/land-cover.html"
 pack rcell "$dist/rcell_$version.tar.gz"
 echo "dist: rcell_$version.tar.gz, the package for R"
