@@ -180,7 +180,7 @@ def main() -> None:
     head = ["| answer | s | reading s | program s | share of reading + 2 program | peer s |", "|---|---|---|---|---|---|"]
     if not settings.show:
         told = f"{side * side:,} cells; seconds of the processor, the least of {settings.rounds} rounds in which each had its turn; {load()}."
-        put("The seven answers", "\n".join([told, "", *head, *lines]) + "\n")
+        put("The seven calls", "\n".join([told, "", *head, *lines]) + "\n")
 
 
 if __name__ == "__main__":
