@@ -12,7 +12,6 @@ if [ -z "$missing" ]; then
     check 'the package is installed' R CMD INSTALL --no-docs --no-byte-compile --no-test-load --library="$room/library" r/rcell
     export RCELL="$PWD/bin/rcell" R_LIBS="$room/library" LC_ALL=C.UTF-8
     add 'tests of the package' Rscript --no-save --no-restore --no-site-file r/gate.R r/rcell/inst/tinytest
-    check 'the study in R Markdown' sh -c 'cd examples && Rscript --no-save --no-restore --no-site-file ../r/study.R'
 else
     # shellcheck disable=SC2046
     skip -n 281 r "$missing is not installed" $(grep -v '^#' r/packages.txt)
