@@ -24,9 +24,9 @@ python-speed: bin/rcell
 
 SIDE = 8192
 python-tiles: bin/rcell
-	@sh tools/debian.sh python3-rasterio python3-pandas python3-distributed python3-scipy python3-psutil python3-tqdm python3-cryptography
+	@sh tools/debian.sh python3-rasterio python3-pandas python3-distributed python3-psutil python3-tqdm python3-cryptography
 	$(PYTHON_SOURCES) python/bench/tiles.py --side $(SIDE) --write workers memory joining
 
 python-beyond: bin/rcell
-	@sh tools/debian.sh python3-rasterio python3-pandas python3-distributed python3-scipy python3-psutil python3-tqdm python3-cryptography
+	@sh tools/debian.sh python3-rasterio python3-pandas python3-distributed python3-psutil python3-tqdm python3-cryptography
 	$(PYTHON_SOURCES) python/bench/beyond.py --write
