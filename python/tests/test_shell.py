@@ -89,6 +89,19 @@ def test_scripts(raster: Write, capfdbinary: Any, tmp_path: pathlib.Path) -> Non
     assert sorted(os.listdir(tmp_path)) == ["k.png", "k.tif", "lc.txt", "map.tif", "script"]
 
 
+def test_maps_are_written_all_or_none(tmp_path: Any, capsys: Any) -> None:
+    path = str(tmp_path / "lc.tif")
+    rcell.grid("", "lc", lc=np.array([[1, 2], [2, 2]])).write(path)
+    kept = tmp_path / "k.txt"
+    kept.write_text("old")
+    words = ["run", "r.clump input=lc output=k", f"lc={path}", "--out", f"k={kept}", "--out", "lc=/nowhere/lc.tif"]
+    assert main(words) == 4
+    assert capsys.readouterr().err == "rcell-gis: /nowhere/lc.tif cannot be written: No such file or directory\n"
+    assert kept.read_text() == "old" and sorted(os.listdir(tmp_path)) == ["k.txt", "lc.tif"]
+    assert main([*words[:-1], f"lc={tmp_path}/lc.txt"]) == 0
+    assert kept.read_text().endswith("1 2\n2 2\n")
+
+
 @pytest.mark.parametrize(
     ("words", "status", "told"),
     [

@@ -163,24 +163,26 @@ def _run(words: argparse.Namespace) -> None:
 
 
 def _write_maps(targets: list[str], inputs: Iterable[str], make: Callable[[], list[Grid]]) -> None:
-    """Write maps to files, unless one of these is an input, or of a form that is not known."""
+    """Write maps to files, all or none, unless one of these is an input, or of a form that is not known."""
     for path in targets:
         if not path.lower().endswith((".tif", ".tiff", ".txt", *_PICTURES)):
             raise Refused(f"{path}: a map is written as .tif, .tiff, .txt or a picture ({', '.join(_PICTURES)})", status=_COMMAND_LINE)
     refuse_inputs(targets, inputs)
-    for grid, path in zip(make(), targets):
-        if path.lower().endswith(_PICTURES):
-            _draw(grid, path)
-        else:
-            grid.write(path)
+    grids = make()
+    with contextlib.ExitStack() as files:  # each takes its name at the end
+        parts = [files.enter_context(replacing(path)) for path in targets]
+        for grid, path, part in zip(grids, targets, parts):
+            try:
+                _draw(grid, part) if path.lower().endswith(_PICTURES) else grid.write(part)
+            except WriteFailed as error:
+                raise WriteFailed(str(error).replace(part, path)) from None
 
 
 def _draw(grid: Grid, path: str) -> None:
-    """A map with its legend as a picture, of the form that the name of the file says."""
+    """Draw a map with its legend, in the form that the name of the file says."""
     need("matplotlib", "plot", "to draw a map").use("Agg")
-    axes = grid.plot()
-    with replacing(path) as beside, told_of(path):
-        axes.figure.savefig(beside, bbox_inches="tight", dpi=150)
+    with told_of(path):
+        grid.plot().figure.savefig(path, bbox_inches="tight", dpi=150)
 
 
 def _options(words: argparse.Namespace, names: str) -> dict[str, Any]:
