@@ -116,10 +116,13 @@ def copied(turned, module):
     return re.sub(r"^(specs|proofs)\.(?=\w+\.)", r"\1.turned_", module)
 
 
-def lay_out(law, room):
+def lay_out(turned, room):
     """Makes room a copy of the sources in which nothing is turned, with the libraries that checks built."""
+    law = turned.law
     names = all_below(law)
-    lines = [f"{name}:{' '.join(['', *below()[name]])}\n" for name in below() if name in names]
+    # The modules that are put into the crate of laws name the libraries of their own crate.
+    listed = {**below(), law: list(dict.fromkeys(below()[law] + below()[turned.crate]))}
+    lines = [f"{name}:{' '.join(['', *listed[name]])}\n" for name in below() if name in names]
     (room / "crates.txt").write_text("".join(lines), encoding="utf-8")
     for name in names:
         for folder in ("src", "specs", "proofs") + (("out/rlib",) if name != law else ()):
@@ -163,7 +166,7 @@ def put_into_law(turned, room, pairs):
 
 def proved(turned, room, pairs):
     """The laws that prove where those pairs are replaced."""
-    lay_out(turned.law, room)
+    lay_out(turned, room)
     put_into_law(turned, room, pairs)
     folder = room / "crates" / turned.law
     done = subprocess.run(["rt", "check", "--allow-holes"], cwd=folder, capture_output=True, text=True, check=False)

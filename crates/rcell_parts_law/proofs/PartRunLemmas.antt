@@ -7,16 +7,19 @@ use Rattle.cell_core.specs.Grid.{Grid}
 use Rattle.cell_core.specs.Shelf.{ShelfValue}
 use Rattle.cell_stats.specs.CategoryTables.{table_of}
 use Rattle.cell_stats.specs.TableText.{table_text, printed_pairs, cell_lines}
+use Rattle.cell_join_tables_law.specs.LabelledParts.{JoinLabelledTo}
 use Rattle.cell_join_tables_law.specs.PrintedParts.{JoinTo, text_of_maps, text_of_part}
 use Rattle.cell_join_tables_law.proofs.JoinedPartLemmas.{joined-as-one, printed-parts-join}
+use Rattle.cell_join_tables_law.proofs.LabelledPartLemmas.{labelled-as-one, labelled-parts-join}
 use Rattle.rcell_script.specs.declared.statement.Statement.{Statement}
 use Rattle.rcell_script_commands.specs.declared.command.StatsOptions.{StatsOptions}
 use Rattle.rcell.specs.Output.{IsOutput, combinations_of, command_text, format_of, stats_text}
-use Rattle.rcell_parts_law.specs.PartRuns.{PartRun, PrintsTable, IsRunOf, JoinedRunsAreOneRun}
+use Rattle.rcell_parts_law.specs.LabelledRuns.{JoinedLabelledRunsAreOneRun, LabelledRunsOfPartsJoin}
+use Rattle.rcell_parts_law.specs.PartRuns.{PartRun, PrintsWholeTable, IsRunOf, JoinedRunsAreOneRun}
 use Rattle.rcell_parts_law.specs.PartRuns.{RunsOfPartsJoin, part_of, coming_of}
 
 module _ (statement : Statement) (places : List ℕ) (options : StatsOptions)
-    (prints : PrintsTable statement places options) where
+    (prints : PrintsWholeTable statement places options) where
   -- a text of maps in a region of so many rows and columns
   abbrev pub printed : (rows cols : ℕ) → List Grid → List ℕ
   printed rows cols maps = text_of_maps (format_of options) options.skip places rows cols maps
@@ -58,9 +61,9 @@ pub runs-of-parts-join : RunsOfPartsJoin
 runs-of-parts-join statement places options prints whole runs are text output =
     let format = format_of options in
     let print = text_of_part format options.skip places in
-    subst (λ texts. JoinTo format texts text) (runs-printed statement places options prints runs are.outputs)
+    subst (λ texts. JoinTo format texts text) (runs-printed statement places options prints.whole runs are.outputs)
     (subst (λ t. JoinTo format (map print (map part_of runs)) t)
-    (sym (output-printed statement places options prints whole text output))
+    (sym (output-printed statement places options prints.whole whole text output))
     (printed-parts-join format places prints.readable whole.region.rows whole.region.cols whole.maps
     (map part_of runs) are.parts are.cells are.small options.skip))
 
@@ -68,3 +71,18 @@ pub joined-runs-are-one-run : JoinedRunsAreOneRun
 joined-runs-are-one-run statement places options prints whole runs are text output =
     joined-as-one (format_of options) (map coming_of runs) text
     (runs-of-parts-join statement places options prints whole runs are text output)
+
+pub labelled-runs-of-parts-join : LabelledRunsOfPartsJoin
+labelled-runs-of-parts-join statement places options prints whole most readable runs are labels text output =
+    let format = format_of options in
+    let print = text_of_part format options.skip places in
+    subst (λ texts. JoinLabelledTo format texts text) (runs-printed statement places options prints runs are.outputs)
+    (subst (λ t. JoinLabelledTo format (map print (map part_of runs)) t)
+    (sym (output-printed statement places options prints whole text output))
+    (labelled-parts-join format places whole.region.rows whole.region.cols whole.maps most readable (map part_of runs)
+    are.parts labels are.cells are.small options.skip))
+
+pub joined-labelled-runs-are-one-run : JoinedLabelledRunsAreOneRun
+joined-labelled-runs-are-one-run statement places options prints whole most readable runs are labels text output =
+    labelled-as-one (format_of options) (map coming_of runs) text
+    (labelled-runs-of-parts-join statement places options prints whole most readable runs are labels text output)

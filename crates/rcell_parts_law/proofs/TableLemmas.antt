@@ -95,10 +95,10 @@ module _ (shelf : ShelfValue) (place n : ℕ) (joining : Joining) (target : List
   two-counted clump stats clumps prints text after
       (next, (rest, (step, ((end, (nothing, (stay, ((empty, left), is_rest)))), is)))) =
       let made = subst (λ (c : Command). IsShelfAfter shelf c next) clumps step in
-      let same : end ≡ next = subst (λ (c : Command). IsShelfAfter next c end) prints.command stay in
+      let same : end ≡ next = subst (λ (c : Command). IsShelfAfter next c end) prints.whole.command stay in
       let region = next.region in
       let tail : rest ≡ text_of_maps (format_of options) options.skip (n ∷ []) region.rows region.cols next.maps =
-      output-printed stats (n ∷ []) options prints next rest
+      output-printed stats (n ∷ []) options prints.whole next rest
       (after, (end, (nothing, (stay, ((empty, left), is_rest))))) in
       let all : text ≡ rest = is ∙ ap (λ (c : Command). command_text shelf c ++ rest) clumps in
       counted made.0 text after (slice_get shelf.maps place) refl made.1.0 (left ∙ same ∙ made.1.1)

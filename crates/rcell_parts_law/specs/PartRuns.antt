@@ -13,13 +13,17 @@ use Rattle.rcell_script_commands.specs.declared.command.Command.TheVariants.{Sta
 use Rattle.rcell_script_commands.specs.declared.command.StatsOptions.{StatsOptions}
 use Rattle.rcell.specs.Output.{IsOutput, format_of}
 
--- the statement is r.stats of the maps in these places and prints a whole table: no line for each cell, no rest after a
--- combination, and lines that can be read back
-pub record PrintsTable (statement : Statement) (places : List ℕ) (options : StatsOptions) : Type 0 where
+-- the statement is r.stats of the maps in these places and prints a whole table: no line for each cell, and no rest after a
+-- combination
+pub record PrintsWholeTable (statement : Statement) (places : List ℕ) (options : StatsOptions) : Type 0 where
   pub command : statement.command ≡ Stats places options
-  pub readable : CanBeReadBack (format_of options) places
   pub table : options.cells ≡ false
   pub all : options.after ≡ None
+
+-- and its lines have no labels and can be read back
+pub record PrintsTable (statement : Statement) (places : List ℕ) (options : StatsOptions) : Type 0 where
+  pub whole : PrintsWholeTable statement places options
+  pub readable : CanBeReadBack (format_of options) places
 
 -- a run over a shelf that stands for a rectangle of others, and what it wrote
 pub record PartRun : Type 0 where

@@ -2,6 +2,7 @@
 
 ghost use Rattle.rcell_parts_law.specs.ClumpRuns.{OneRunHasTheseNumbers, ScriptsOfTilesNumber};
 ghost use Rattle.rcell_parts_law.specs.GridSizes.{GridSizesExist, NoNumberOfTilesIsLeftOut, SizesOfTheGrid};
+ghost use Rattle.rcell_parts_law.specs.LabelledRuns.{JoinedLabelledRunsAreOneRun, LabelledRunsOfPartsJoin};
 ghost use Rattle.rcell_parts_law.specs.PartRuns.{JoinedRunsAreOneRun, RunsOfPartsJoin};
 ghost use Rattle.rcell_parts_law.specs.ScriptRuns.{ScriptRunsAreOneRun, ScriptsOfPartsJoin};
 ghost use Rattle.rcell_parts_law.specs.SizedRuns.{SizesAreThoseOfTheGrid, TablesOfTilesAreAddedUp};
@@ -19,6 +20,16 @@ pub fn runs_of_parts_join()
 /// If these outputs are joined without an error, the result is the output over the full maps, byte for byte.
 pub fn joined_runs_are_one_run()
     ensures { JoinedRunsAreOneRun }
+{}
+
+/// The same of `r.stats -c -l`, if the parts have the labels of the full maps.
+pub fn labelled_runs_of_parts_join()
+    ensures { LabelledRunsOfPartsJoin }
+{}
+
+/// If these outputs are joined without an error, the result is the output over the full maps, byte for byte.
+pub fn joined_labelled_runs_are_one_run()
+    ensures { JoinedLabelledRunsAreOneRun }
 {}
 
 /// The same of scripts: a script of one statement `r.stats -c` is run over the grids of each part, and the outputs join to the
