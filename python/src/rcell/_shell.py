@@ -24,6 +24,7 @@ from ._composition import composition, cross
 from ._crs import UNITS_OF_AREA
 from ._errors import Killed, OtherCrs, OtherRegion, RcellError, Refused, WriteFailed
 from ._files import replacing, told_of, write_beside
+from ._geotiff import write_geotiff
 from ._grid import Grid
 from ._libraries import need
 from ._majority import SIZES, majority
@@ -173,16 +174,21 @@ def _write_maps(targets: list[str], inputs: Iterable[str], make: Callable[[], li
         parts = [files.enter_context(replacing(path)) for path in targets]
         for grid, path, part in zip(grids, targets, parts):
             try:
-                _draw(grid, part) if path.lower().endswith(_PICTURES) else grid.write(part)
+                _write_map(grid, part, os.path.splitext(path)[1].lower())
             except WriteFailed as error:
                 raise WriteFailed(str(error).replace(part, path)) from None
 
 
-def _draw(grid: Grid, path: str) -> None:
-    """Draw a map with its legend, in the form that the name of the file says."""
-    need("matplotlib", "plot", "to draw a map").use("Agg")
-    with told_of(path):
-        grid.plot().figure.savefig(path, bbox_inches="tight", dpi=150)
+def _write_map(grid: Grid, path: str, ending: str) -> None:
+    """Write a map in the form of an ending, which the path need not have: links are followed."""
+    if ending == ".txt":
+        write_beside(path, grid.text())
+    elif ending in _PICTURES:
+        need("matplotlib", "plot", "to draw a map").use("Agg")
+        with told_of(path):
+            grid.plot().figure.savefig(path, format=ending[1:], bbox_inches="tight", dpi=150)
+    else:
+        write_geotiff(grid, path)
 
 
 def _options(words: argparse.Namespace, names: str) -> dict[str, Any]:
