@@ -31,8 +31,10 @@ from qgis.PyQt.QtGui import QFont
 from qgis.PyQt.QtWidgets import QApplication
 from qgis.utils import iface
 
+import rcell
+
 ROOM = os.environ["RCELL_QGIS_ROOM"]
-MODEL = os.path.join(os.path.dirname(os.path.abspath(__file__)), "rcell/examples/patches_of_grouped_classes.model3")
+MODEL = os.path.join(os.path.dirname(rcell.__file__), "examples/patches_of_grouped_classes.model3")
 
 
 def wait(seconds: float) -> None:
@@ -74,7 +76,7 @@ def draw_result(country: QgsRasterLayer) -> None:
     layout.initializeDefaults()
     layout.pageCollection().page(0).setPageSize(QgsLayoutSize(240, 120, QgsUnitTypes.LayoutMillimeters))
     title = QgsLayoutItemLabel(layout)
-    title.setText("Connected areas of one country, of at least 250 cells of 16 km")
+    title.setText("Patches of one country with at least 250 cells of 16 km")
     title.setFont(QFont("DejaVu Sans", 12))
     put(layout, title, 5, 3, 230, 8)
     picture = QgsLayoutItemMap(layout)
@@ -91,7 +93,7 @@ def draw_result(country: QgsRasterLayer) -> None:
     legend.model().rootGroup().clear()
     node = legend.model().rootGroup().addLayer(areas)
     # The first entry of a raster is its band.
-    QgsMapLayerLegendUtils.setLegendNodeOrder(node, list(range(1, 1 + found["AREAS"])))
+    QgsMapLayerLegendUtils.setLegendNodeOrder(node, list(range(1, 1 + found["PATCHES"])))
     legend.model().refreshLayerLegend(node)
     for style in (QgsLegendStyle.Subgroup, QgsLegendStyle.SymbolLabel):
         legend.setStyleFont(style, QFont("DejaVu Sans", 8))
