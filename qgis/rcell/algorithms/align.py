@@ -77,7 +77,7 @@ class AlignAlgorithm(RcellAlgorithm):
         resample = self.parameterAsEnumString(parameters, "RESAMPLE", context)
         made, aligned = align(program, self.rasters[0], self.rasters[1], "" if resample == RESAMPLINGS[0] else resample, watch)
         facts = asdict(aligned)
-        feedback.pushInfo(", ".join(f"{name}: {value:g}" for name, value in facts.items() if value is not None))
+        feedback.pushInfo(", ".join(f"{name}: {value:.15g}" for name, value in facts.items() if value is not None))
         classes = [(category, made.labels.get(category, str(category))) for category in made.counts()]
         path = self.put_map(parameters, context, made, classes, feedback, like=self.rasters[1])
         return {"OUTPUT": path, **{name.upper(): value for name, value in facts.items()}}
