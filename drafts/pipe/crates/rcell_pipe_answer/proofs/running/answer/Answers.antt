@@ -1,0 +1,11 @@
+use Rattle.std.proofs.Common.{◌≡◌}
+use Rattle.rcell_pipe_answer.proofs.running.answer.Goals as goal
+
+pub returns : goal.returns
+returns g c = λ before start text appended. record {
+  wrote = c.finish-wrote.result;
+  fault_is = c.outcome_of.ensures.fault;
+  status = c.outcome_of.ensures.status;
+  whole = λ wrote. c.finish-wrote.ensures.whole wrote before start text appended;
+  fails = λ failed. c.finish-wrote.ensures.fails failed before start text appended;
+}
