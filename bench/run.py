@@ -376,7 +376,10 @@ def grass_tables(wanted):
         path = grid_file(kind, seed, side)
         if os.path.exists(path):
             say(f"beside GRASS: {title}")
-            seconds = lambda words, environment: measure(words, environment=environment)[0]
+
+            def seconds(words, environment):
+                return measure(words, environment=environment)[0]
+
             rows = beside_grass.table(path, cells_of(path), os.path.abspath(wanted.program), ROUNDS_OF_GRASS, seconds)
             yield from lines_of(title, beside_grass.HEAD, rows)
 

@@ -20,12 +20,6 @@ check 'the programs of the wheel' test "$(python3 -c 'import rcell; print(rcell.
 check 'types of the package' $types python/pyproject.toml python/src python/tools
 check 'types of the benchmarks' env MYPYPATH=python/bench $types python/pyproject.toml python/bench/*.py
 check 'types of the tests' sh -c 'cd "$1" && shift && exec "$@"' sh "$room" $types pyproject.toml tests
-if command -v ruff > /dev/null; then
-    check ruff ruff check python
-else
-    echo 'python: ruff is not installed (Debian 12 has none), and pyflakes is run in its place'
-    check pyflakes python3 -m pyflakes python
-fi
 add documents python3 python/tools/documents.py
 add 'random rasters' python3 python/tools/random_rasters.py --count 2000
 closing

@@ -20,7 +20,6 @@ if command -v mypy > /dev/null; then
 else
     skip qgis/types 'mypy is not installed' mypy
 fi
-if command -v ruff > /dev/null; then check ruff ruff check --no-cache qgis bench/qgis.py; else skip qgis/ruff 'ruff is not installed'; fi
 for tests in 'test_core_*.py' test_session.py whole_answers.py whole_process.py whole_window.py whole_document.py; do
     add "$tests" "$python" qgis/tests/gate.py "$tests"
 done

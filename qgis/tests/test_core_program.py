@@ -17,7 +17,7 @@ from unittest import mock
 
 import asked
 import made
-from rcell.core import answers, program
+from rcell.core import program
 from rcell.core.errors import Cancelled, Killed, MissingProgram, WrongProgram
 from rcell.core.rasters import Raster
 

@@ -24,6 +24,7 @@ import rules  # noqa: E402  (the path above has to be set first)
 
 HERE = pathlib.Path(__file__).resolve().parent
 ROOT = HERE.parent.parent
+MANUAL = ".1"  # the ending of a manual page
 
 
 def exceptions_of(rule):
@@ -66,15 +67,14 @@ def write_exceptions(rule, comments, findings, allowed):
 
 
 def python_faults():
-    """Errors of ruff (without it, pyflakes) and mypy in the Python of the tools, and how many of the two are not installed."""
-    typed = ["mypy", "--no-error-summary", "tools/lint", "tools/reading.py"]
-    checks = ([["ruff", "check", "--quiet", "tools", "bench"], ["pyflakes3", "tools", "bench"]], [typed])
+    """Errors of flake8 in all Python and of mypy in two tools, and how many of the two programs are not installed."""
+    tracked = subprocess.run(["git", "ls-files", "*.py", "helpers/rcell-*"], cwd=ROOT, capture_output=True, text=True, check=True)
+    sources = [path for path in tracked.stdout.splitlines() if not path.endswith(MANUAL)]
     faults, skipped = [], 0
-    for choices in checks:
-        words = next((it for it in choices if shutil.which(it[0])), None)
-        if words is None:
-            name, skipped = choices[-1][0], skipped + 1
-            print(f"skipped  lint: {name} is not installed; install: apt-get install {name}")
+    for words in (["flake8", *sources], ["mypy", "--no-error-summary", "tools/lint", "tools/reading.py"]):
+        if not shutil.which(words[0]):
+            skipped += 1
+            print(f"skipped  lint: {words[0]} is not installed; install: apt-get install {words[0]}")
             continue
         done = subprocess.run(words, cwd=ROOT, capture_output=True, text=True, check=False)
         faults += done.stdout.splitlines() if done.returncode else []

@@ -16,7 +16,6 @@ It needs, of Debian, python3-numpy and python3-gdal.
 import subprocess
 import sys
 
-import numpy as np
 from osgeo import gdal, ogr, osr
 
 # The number on our map (Madura is one with Java there), the name, that of the almanac, the western and southern edges of a degree
