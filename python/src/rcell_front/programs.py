@@ -11,13 +11,15 @@ import select
 import subprocess
 import threading
 import time
-from collections.abc import Iterator, Sequence
+from collections.abc import Callable, Iterator, Sequence
 from types import TracebackType
+from typing import Optional
 
-__all__ = ["Started", "above_standard", "close", "found_on_path", "pipe"]
+__all__ = ["WATCH_SECONDS", "Started", "above_standard", "close", "found_on_path", "pipe"]
 
 PIPE_BYTES = 1 << 20
 SET_PIPE_SIZE = getattr(fcntl, "F_SETPIPE_SZ", 1031)  # Python has it from 3.10 on
+WATCH_SECONDS = 0.1
 MESSAGE_LIMIT = 1 << 16
 """The programs print one line on standard error; of what another one prints no more is kept."""
 
@@ -81,6 +83,10 @@ class Started:
         Descriptors that the program gets under their numbers.
     seconds : float, optional
         How long it may take.
+    stdin : int
+        The descriptor of its standard input.
+    watch : callable, optional
+        Called ten times a second while its output is awaited.
 
     Raises
     ------
@@ -88,13 +94,21 @@ class Started:
         The program cannot be started; TimeoutError: it takes too long.
     """
 
-    def __init__(self, words: Sequence[str], inherited: Sequence[int] = (), seconds: float | None = None) -> None:
+    def __init__(
+        self,
+        words: Sequence[str],
+        inherited: Sequence[int] = (),
+        seconds: float | None = None,
+        stdin: int = subprocess.DEVNULL,
+        watch: Optional[Callable[[], None]] = None,
+    ) -> None:
         self._until = None if seconds is None else time.monotonic() + seconds
+        self._watch = watch
         self._message = b""
         self._output, output = pipe()
         self._told, told = pipe()
         try:
-            self._process = subprocess.Popen(words, stdin=subprocess.DEVNULL, stdout=output, stderr=told, pass_fds=inherited)
+            self._process = subprocess.Popen(words, stdin=stdin, stdout=output, stderr=told, pass_fds=inherited)
         except BaseException:
             close(self._output)
             close(self._told)
@@ -120,8 +134,8 @@ class Started:
         for end in open_ends:
             poll.register(end, select.POLLIN)
         while open_ends:
-            left = self._seconds_left()
-            for end, _ in poll.poll(None if left is None else left * 1000):
+            wait = self._longest_wait()
+            for end, _ in poll.poll(None if wait is None else wait * 1000):
                 piece = os.read(end, PIPE_BYTES)
                 if not piece:
                     poll.unregister(end)
@@ -130,6 +144,13 @@ class Started:
                     self._message = (self._message + piece)[:MESSAGE_LIMIT]
                 else:
                     yield piece
+
+    def _longest_wait(self) -> float | None:
+        left = self._seconds_left()
+        if self._watch is None:
+            return left
+        self._watch()
+        return WATCH_SECONDS if left is None else min(left, WATCH_SECONDS)
 
     def _seconds_left(self) -> float | None:
         if self._until is None:

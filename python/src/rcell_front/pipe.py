@@ -1,0 +1,412 @@
+# SPDX-License-Identifier: Apache-2.0 OR GPL-2.0-or-later
+"""The bytes of rcell-pipe, as docs/pipe.md defines them: a request of maps and a script, and an answer of frames.
+
+The program writes nothing before it has read the whole request, except the frame that rejects it. So the request is written first, then
+the answer is read, and no thread is needed.
+"""
+
+from __future__ import annotations
+
+import os
+import select
+import struct
+from collections.abc import Callable, Iterable, Iterator, Mapping, Sequence
+from dataclasses import dataclass, field
+from typing import NamedTuple, Optional, Union
+
+from .programs import WATCH_SECONDS, Started, close, pipe
+
+__all__ = ["NULL", "Block", "Buffer", "Frame", "GridFrame", "Killed", "Map", "NoAnswer", "Rejected", "TableFrame", "TextFrame", "run"]
+
+NULL = -2_147_483_648
+"""Null among cells of i32: no category has this value."""
+
+NULL_BYTE = 255
+"""Null among cells of u8 that come back."""
+
+CELL_BYTES = {"u8": 1, "i8": 1, "u16": 2, "i16": 2, "u32": 4, "i32": 4, "i64": 8}
+"""The types of cells that go in, in the order of their codes, which begin at 1."""
+
+_CODES = {name: code for code, name in enumerate(CELL_BYTES, 1)}
+_SOURCES = ("", "request", "script")
+# Rows and their masks are put together in pieces that stay in the cache of a processor.
+PIECE_BYTES = 1 << 18
+
+Buffer = Union[bytes, bytearray, memoryview]
+
+
+class Block(NamedTuple):
+    """Some whole rows of a map: C-contiguous bytes in the byte order of x86.
+
+    Attributes
+    ----------
+    cells : buffer
+    mask : buffer, optional
+        A byte for each cell, 1 if it is null; needed if the map is masked.
+    """
+
+    cells: Buffer
+    mask: Optional[Buffer] = None
+
+
+@dataclass(frozen=True)
+class Map:
+    """A map that goes in.
+
+    Attributes
+    ----------
+    name : str
+    edges : tuple of str
+        North, south, east and west, as decimal texts.
+    rows, cols : int
+    type : {"u8", "i8", "u16", "i16", "u32", "i32", "i64"}
+    blocks : iterable of Block
+        All rows from north to south. They are asked for one after another, while the program reads.
+    nodata : int, optional
+        A value of the type that is null.
+    is_masked : bool
+        Whether each block has a mask.
+    labels : mapping of int to str
+    """
+
+    name: str
+    edges: tuple[str, str, str, str]
+    rows: int
+    cols: int
+    type: str
+    blocks: Iterable[Block]
+    nodata: Optional[int] = None
+    is_masked: bool = False
+    labels: Mapping[int, str] = field(default_factory=dict)
+
+    def pieces(self) -> Iterator[Buffer]:
+        """Yield the bytes of the map.
+
+        Raises
+        ------
+        ValueError
+            The blocks are not so many rows.
+        """
+        yield self._head()
+        row_bytes, rows = self.cols * CELL_BYTES[self.type], 0
+        for block in self.blocks:
+            cells = memoryview(block.cells).cast("B")
+            rows += len(cells) // row_bytes
+            if self.is_masked:
+                yield from _interleaved(cells, memoryview(block.mask or b"").cast("B"), row_bytes, self.cols)
+            else:
+                yield cells
+            if len(cells) % row_bytes:
+                break
+        if rows != self.rows:
+            raise ValueError(f"{rows} rows of the map {self.name}, which has {self.rows}")
+
+    def _head(self) -> bytes:
+        flags = (self.nodata is not None) + 2 * self.is_masked
+        texts = b"".join(_short(text) for text in (self.name, *self.edges))
+        numbers = struct.pack("<IIBBqI", self.rows, self.cols, _CODES[self.type], flags, self.nodata or 0, len(self.labels))
+        labels = ((category, text.encode("utf-8", "surrogateescape")) for category, text in self.labels.items())
+        return texts + numbers + b"".join(struct.pack("<iH", category, len(text)) + text for category, text in labels)
+
+
+def _short(text: str) -> bytes:
+    return bytes([len(text)]) + text.encode("ascii")
+
+
+def _interleaved(cells: memoryview, mask: memoryview, row_bytes: int, cols: int) -> Iterator[bytes]:
+    """Yield rows, each followed by its mask."""
+    rows = len(cells) // row_bytes
+    if len(mask) != rows * cols:
+        raise ValueError(f"a mask of {len(mask)} bytes for {rows} rows of {cols} cells")
+    step = max(1, PIECE_BYTES // (row_bytes + cols))
+    for first in range(0, rows, step):
+        places = range(first, min(first + step, rows))
+        parts = ((cells[row * row_bytes : (row + 1) * row_bytes], mask[row * cols : (row + 1) * cols]) for row in places)
+        yield b"".join(part for pair in parts for part in pair)
+
+
+def _request(maps: Sequence[Map], script: bytes) -> Iterator[Buffer]:
+    yield b"RCELLQ1\n" + struct.pack("<I", len(maps))
+    for each in maps:
+        yield from each.pieces()
+    yield struct.pack("<I", len(script)) + script
+
+
+# The answer
+
+
+@dataclass(frozen=True)
+class TableFrame:
+    """The table of an `r.stats`.
+
+    Attributes
+    ----------
+    line : int
+        The line of the statement, from 1.
+    names : tuple of str
+        Its maps.
+    separator, null_text : bytes
+        Of the printed table.
+    entries : int
+    counts : memoryview or None
+        An unsigned number of 64 bits for each entry; None without the flag `-c`.
+    cells : memoryview
+        Numbers of 32 bits, entry by entry, in which `NULL` is null.
+    labels : list of bytes or None
+        A label for each of the cells: `no data` for null, empty for a category without one; None without the flag `-l`.
+    """
+
+    line: int
+    names: tuple[str, ...]
+    separator: bytes
+    null_text: bytes
+    entries: int
+    counts: Optional[memoryview]
+    cells: memoryview
+    labels: Optional[list[bytes]]
+
+    def printed(self) -> bytes:
+        """Return the table as rcell prints it."""
+        words = [self.null_text if cell == NULL else b"%d" % cell for cell in self.cells.tolist()]
+        if self.labels is not None:
+            words = [word for pair in zip(words, self.labels) for word in pair]
+        width = len(words) // max(self.entries, 1)
+        rows = [words[at : at + width] for at in range(0, len(words), max(width, 1))]
+        if self.counts is not None:
+            rows = [[*row, b"%d" % count] for row, count in zip(rows, self.counts.tolist())]
+        return b"".join(self.separator.join(row) + b"\n" for row in rows)
+
+
+@dataclass(frozen=True)
+class TextFrame:
+    """The lines of an `r.stats -1`, as rcell prints them."""
+
+    line: int
+    text: bytearray
+
+
+@dataclass(frozen=True)
+class GridFrame:
+    """The map of an `r.out.ascii`.
+
+    Attributes
+    ----------
+    line : int
+    name : str
+    null_text : bytes
+        Of the printed grid.
+    rows, cols : int
+    type : {"u8", "i32"}
+        u8, in which 255 is null, if all categories are from 0 to 254; else i32, in which `NULL` is null.
+    cells : memoryview
+        Row by row, of the type.
+    """
+
+    line: int
+    name: str
+    null_text: bytes
+    rows: int
+    cols: int
+    type: str
+    cells: memoryview
+
+    @property
+    def null(self) -> int:
+        """The number that is null."""
+        return NULL_BYTE if self.type == "u8" else NULL
+
+
+Frame = Union[TableFrame, TextFrame, GridFrame]
+
+
+class Rejected(Exception):
+    """The program rejected the request or the script, or ran out of memory.
+
+    Attributes
+    ----------
+    status : int
+        1: the request or the script is invalid; 3: out of memory; 4: the program could not read.
+    source : {"request", "script", ""}
+    map : int
+        The place of the map that is wrong, from 0, if the source is the request.
+    line : int
+        The line of the script; of a map its row, from 1; 0 if there is none.
+    column : int
+        The byte of the line, from 1; 0 if there is none.
+    text : str
+        As rcell says it.
+    """
+
+    def __init__(self, status: int, source: str, map: int, line: int, column: int, text: str) -> None:
+        super().__init__(status, source, map, line, column, text)
+        self.status, self.source, self.map, self.line, self.column, self.text = status, source, map, line, column, text
+
+
+class Killed(Exception):
+    """A signal, the argument, ended the program."""
+
+
+class NoAnswer(Exception):
+    """The program is not rcell-pipe of this version; the argument is the status and the text that it ended with."""
+
+
+class _EndsEarly(Exception):
+    pass
+
+
+class _Answer:
+    """An answer that is read from left to right; memory grows with what has come, not with what a length announces."""
+
+    def __init__(self, pieces: Iterator[bytes]) -> None:
+        self._pieces = pieces
+        self._held = memoryview(b"")
+
+    def _next(self) -> bytes:
+        for piece in self._pieces:
+            return piece
+        raise _EndsEarly
+
+    def take(self, count: int) -> bytearray:
+        found = bytearray()
+        while len(found) < count:
+            if not self._held:
+                self._held = memoryview(self._next())
+            part = self._held[: count - len(found)]
+            found += part
+            self._held = self._held[len(part) :]
+        return found
+
+    def numbers(self, count: int) -> tuple[int, ...]:
+        return struct.unpack(f"<{count}Q", self.take(8 * count))
+
+    def text(self) -> bytearray:
+        return self.take(self.numbers(1)[0])
+
+    def cells(self, count: int, letter: str) -> memoryview:
+        return memoryview(self.take(count * struct.calcsize(letter))).cast(letter)
+
+    def table(self) -> TableFrame:
+        line, entries, width = self.numbers(3)
+        counts, labels, separator = self.take(3)
+        null_text = bytes(self.text())
+        names = tuple(self.text().decode("ascii") for _ in range(width))
+        return TableFrame(
+            line=line,
+            names=names,
+            separator=bytes([separator]),
+            null_text=null_text,
+            entries=entries,
+            counts=self.cells(entries, "Q") if counts else None,
+            cells=self.cells(entries * width, "i"),
+            labels=[bytes(self.text()) for _ in range(entries * width)] if labels else None,
+        )
+
+    def grid(self) -> GridFrame:
+        line = self.numbers(1)[0]
+        null_text, name = bytes(self.text()), self.text().decode("ascii")
+        rows, cols = self.numbers(2)
+        kind = {1: "u8", 6: "i32"}[self.take(1)[0]]
+        return GridFrame(line, name, null_text, rows, cols, kind, self.cells(rows * cols, "B" if kind == "u8" else "i"))
+
+    def done(self) -> Rejected:
+        status, source, map, line, column = self.numbers(5)
+        return Rejected(status, _SOURCES[source], map, line, column, self.text().decode("utf-8", "surrogateescape"))
+
+    def frames(self) -> tuple[list[Frame], Rejected]:
+        """Return the frames, and how the run ended."""
+        found: list[Frame] = []
+        kinds: dict[bytes, Callable[[], Frame]] = {
+            b"TABL": self.table, b"GRID": self.grid, b"TEXT": lambda: TextFrame(self.numbers(1)[0], self.text())
+        }
+        if self.take(8) != b"RCELLA1\n":
+            raise _EndsEarly
+        while (kind := bytes(self.take(4))) != b"DONE":
+            found.append(kinds[kind]())
+        end = self.done()
+        if self._held or any(self._pieces):
+            raise _EndsEarly
+        return found, end
+
+
+def run(
+    program: str,
+    maps: Sequence[Map],
+    script: bytes,
+    *,
+    seconds: Optional[float] = None,
+    watch: Optional[Callable[[], None]] = None,
+) -> list[Frame]:
+    """Run a script over maps and return the frames of its outputs, in the order of the script.
+
+    Parameters
+    ----------
+    program : str
+        The path of rcell-pipe.
+    maps : sequence of Map
+    script : bytes
+    seconds : float, optional
+        How long the run may take.
+    watch : callable, optional
+        Called at least ten times a second; what it raises ends the run.
+
+    Raises
+    ------
+    Rejected
+        The program says what is wrong.
+    Killed
+        A signal ended the program.
+    NoAnswer
+        It is not rcell-pipe.
+    OSError
+        It cannot be started; TimeoutError: it takes too long.
+    """
+    reader, writer = pipe()
+    try:
+        process = Started([program], seconds=seconds, stdin=reader, watch=watch)
+    except BaseException:
+        close(writer)
+        raise
+    finally:
+        close(reader)
+    with process:
+        try:
+            _send(writer, _request(maps, script), watch)
+        finally:
+            close(writer)
+        answer = _read(process)
+        status, message = process.end()
+    if status < 0:
+        raise Killed(-status)
+    if answer is None or status != answer[1].status:
+        raise NoAnswer(f"the program ended in status {status} and said: {message.decode('utf-8', 'replace').strip() or 'nothing'}")
+    frames, end = answer
+    if status:
+        raise end
+    return frames
+
+
+def _send(writer: int, pieces: Iterator[Buffer], watch: Optional[Callable[[], None]]) -> None:
+    """Write a request; stop if the program has stopped reading, for its answer says why."""
+    os.set_blocking(writer, watch is None)
+    for piece in pieces:
+        rest = memoryview(piece)
+        while rest:
+            if watch is not None:
+                watch()
+            try:
+                rest = rest[os.write(writer, rest) :]
+            except BlockingIOError:
+                select.select([], [writer], [], WATCH_SECONDS)
+            except BrokenPipeError:
+                return
+
+
+def _read(process: Started) -> Optional[tuple[list[Frame], Rejected]]:
+    """Return the answer, or None if it is not one; all output is read."""
+    pieces = process.pieces()
+    try:
+        return _Answer(pieces).frames()
+    except (_EndsEarly, KeyError, IndexError, ValueError):
+        for _ in pieces:
+            pass
+        return None
