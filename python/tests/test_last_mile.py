@@ -94,7 +94,7 @@ def test_change_is_that_of_pontius() -> None:
     assert list(found.table.columns) == ["from", "from_label", "to", "to_label", "cells", "percent"]
     assert found.table["cells"].sum() == 7 and found.table["percent"].sum() == pytest.approx(100)
     assert rows(found.summary) == [(1, "wood", 4, 3, 1, 2, -1, 2, 2), (2, "water", 2, 2, 1, 1, 0, 2, 1), (3, "town", 1, 2, 1, 0, 1, 0, 1)]
-    assert found.matrix.loc["wood"].tolist() == [2, 1, 1] and found.matrix.columns.tolist() == ["1", "2", "3"]
+    assert found.matrix.loc["wood"].tolist() == [2, 1, 1] and found.matrix.columns.tolist() == ["wood", "water", "town"]
     assert list(rcell.change(before, after).summary.columns)[1:] == [f"{part}_ha" for part in ("before", "after", "gain", "loss", "net", "swap", "persistence")]
     assert rcell.change(before, after).matrix.loc[1, 2] == 0.0001
 
@@ -152,7 +152,11 @@ def test_patches_measure_oblong_cells_and_feet() -> None:
     feet = rcell.Map([[1]], (10, 0, 0, 0, -10, 30), "EPSG:2263")
     assert rcell.patches(feet)["perimeter_m"][0] == pytest.approx(40 * 1200 / 3937)
     assert list(rcell.patches(LAND, area=None).columns)[:6] == ["patch", "class", "cells", "perimeter_m", "core_cells", "west"]
-    for words, told in (({"connectivity": 6}, "connectivity= is 4 or 8, not 6"), ({"core_depth": 0}, "core_depth= is from 1 to 20, not 0")):
+    for words, told in (
+        ({"connectivity": 6}, "connectivity= is 4 or 8, not 6"),
+        ({"core_depth": 0}, "core_depth= is from 1 to 20, not 0"),
+        ({"classes": "31,32"}, "classes= is a list of whole numbers, as .31, 32., not '31,32'"),
+    ):
         with pytest.raises(rcell.Refused, match=told):
             rcell.patches(LAND, **words)  # type: ignore[arg-type]
 

@@ -143,7 +143,7 @@ class RefusalsTest(InSession):
         self.refused("arguments: 17 rasters, and a table has at most 16", "cross", INPUT=[self.cover] * 17, OUTPUT="TEMPORARY_OUTPUT")
         self.refused("cover: has 1 band, and no band 5", "majority", INPUT=self.cover, BAND=5, OUTPUT=self.path("m.tif"))
         self.refused("no format has this ending", "majority", INPUT=self.cover, OUTPUT=self.path("m.xyz9"))
-        self.refused("arguments: classes are whole numbers, divided by commas, and not `1;2`", "patches", INPUT=self.cover, CLASSES="1;2",
+        self.refused("arguments: classes are whole numbers with commas between them, as 31,32, and not `1;2`", "patches", INPUT=self.cover, CLASSES="1;2",
                      OUTPUT="TEMPORARY_OUTPUT")
         common = {"INPUT": [self.cover], "SCRIPT": "r.stats -c input=lc\nr.stats input=lc"}
         self.refused("2 names are given, and 1 rasters", "script", **common, NAMES="a,b")

@@ -198,7 +198,8 @@ def change(
     area : {"ha", "km2", "m2"} or None
         The unit of areas; None leaves them out.
     labels : path, dict or DataFrame, optional
-        The legend of all maps in place of the labels that they have, as in `composition`.
+        The legend of all maps in place of the labels that they have, as in `composition`. Maps without labels have those of the first
+        map with labels.
     crs : any, optional
         The reference system of maps that have none.
 
@@ -231,6 +232,8 @@ def change(
     measure = maps.measure(area)
     names = list(maps.sources)
     own = [maps.sources[name].labels if labels is None else labels_of(labels) for name in names]
+    shared = next(filter(None, own), {})
+    own = [found or shared for found in own]
     pairs = _Pairs(maps.counts(list(zip(names, names[1:])), measure), told, own, labels is not None, measure)
     matrix, classes = pairs.matrix()
     tables = {"table": pairs.table(), "matrix": matrix, "summary": pairs.summary()}

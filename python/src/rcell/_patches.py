@@ -89,6 +89,8 @@ def patches(
     check_connectivity(connectivity)
     if not (isinstance(core_depth, numbers.Integral) and 1 <= core_depth <= MOST_CORE_DEPTH):
         raise Refused(f"core_depth= is from 1 to {MOST_CORE_DEPTH}, not {core_depth!r}", status=2)
+    if isinstance(classes, (str, bytes)):
+        raise Refused(f"classes= is a list of whole numbers, as [31, 32], not {classes!r}", status=2)
     listed = None if classes is None else [_class_of(one) for one in classes]
     maps = Maps({"map": map}, crs, zones, zone_field)
     measure = maps.measure(area)

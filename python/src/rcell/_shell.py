@@ -77,7 +77,7 @@ def _wholes(text: str) -> list[int]:
     try:
         return [int(word) for word in text.split(",")]
     except ValueError:
-        raise argparse.ArgumentTypeError(f"whole numbers are needed, not {text}") from None
+        raise argparse.ArgumentTypeError(f"give whole numbers with commas between them, as 31,32, not {text}") from None
 
 
 def _pairs(words: Sequence[str]) -> dict[str, str]:
@@ -203,6 +203,8 @@ def _put(words: argparse.Namespace, table: Table) -> None:
     """Write a table to its file or to standard output."""
     form = words.format or (_ENDINGS.get(os.path.splitext(words.out)[1].lower(), "csv") if words.out else "csv")
     text = FORMATS[form](table)
+    if not len(table):
+        _tell("note: the table is empty: all cells are null or left out")
     if not words.out:
         emit(text)
         return
@@ -213,8 +215,8 @@ def _put(words: argparse.Namespace, table: Table) -> None:
 # The commands with what they write, the options that several have, and their own.
 
 OPTIONS: dict[str, dict[str, dict[str, Any]]] = {
-    "map": {"map": {"metavar": "MAP"}},
-    "target": {"target": {"metavar": "OUT.tif"}},
+    "map": {"map": {"metavar": "MAP", "help": "a raster that GDAL reads, or a grid of rcell"}},
+    "target": {"target": {"metavar": "OUT.tif", "help": "the map to write: .tif, .txt or a picture"}},
     "format": {"--format": {"choices": list(FORMATS), "help": "csv if not given, unless the name of the file says otherwise"}},
     "out": {"--out": {"metavar": "FILE", "help": "a file in place of standard output"}},
     "area": {"--area": {"choices": [*UNITS_OF_AREA, "none"], "default": "ha", "help": "the unit of areas; ha if not given"}},
@@ -228,7 +230,7 @@ OPTIONS: dict[str, dict[str, dict[str, Any]]] = {
     "crs": {"--crs": {"metavar": "EPSG:CODE", "help": "the coordinate reference system of maps that have none"}},
 }
 _AGAIN = {"action": "append", "default": []}
-_NAMED = {"maps": {"metavar": "NAME=MAP", "nargs": "+"}}
+_NAMED = {"maps": {"metavar": "NAME=MAP", "nargs": "+", "help": "maps, by their names in the table or the script"}}
 COMMANDS: dict[str, tuple[Callable[[argparse.Namespace], None], str, str, dict[str, dict[str, Any]]]] = {
     "composition": (_composition, "the cells, area and percentage of each class, in all or by zone", "map area labels zones field null format out", {}),
     "cross": (
@@ -262,7 +264,11 @@ COMMANDS: dict[str, tuple[Callable[[argparse.Namespace], None], str, str, dict[s
         _zonal,
         "sums, means and quantiles by zone",
         "field format out",
-        {"map": {"metavar": "VALUES"}, "zones": {"metavar": "ZONES"}, "--quantiles": {"default": "0.5", "metavar": "Q,..", "help": "from 0 to 1"}},
+        {
+            "map": {"metavar": "VALUES", "help": "a map of whole numbers"},
+            "zones": {"metavar": "ZONES", "help": "a map, or polygons"},
+            "--quantiles": {"default": "0.5", "metavar": "Q,..", "help": "from 0 to 1; the median if not given"},
+        },
     ),
     "majority": (
         _majority,

@@ -325,6 +325,8 @@ class RcellAlgorithm(QgsProcessingAlgorithm):
 
     def put_table(self, parameters: Parameters, context: QgsProcessingContext, name: str, table: Table | Answer) -> str:
         """Writes a table to an output: a file under another name first, or what else QGIS has for tables, as a layer in memory."""
+        if not table.columns()[0].values:
+            self.watch.warn(tr("The table is empty: all cells are without data or left out."))
         path = plain_path(parameters.get(name))
         if path and is_file_of_table(path):
             target: str = QgsProcessingParameters.parameterAsOutputLayer(self.parameterDefinition(name), parameters[name], context)

@@ -205,5 +205,5 @@ def numbers_of(text: str, name: str) -> list[float]:
     try:
         return [float(part) if name == "quantiles" else int(part) for part in text.split(",") if text.strip()]
     except ValueError:
-        kind = "numbers" if name == "quantiles" else "whole numbers"
-        raise Refused(f"{name} are {kind}, divided by commas, and not `{text}`", status=2) from None
+        kind, example = ("numbers", "0.25,0.5") if name == "quantiles" else ("whole numbers", "2012,2018" if name == "years" else "31,32")
+        raise Refused(f"{name} are {kind} with commas between them, as {example}, and not `{text}`", status=2) from None

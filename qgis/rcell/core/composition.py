@@ -67,7 +67,8 @@ def change(program: str, rasters: Sequence[Raster], years: Sequence[int], unit: 
         maps = dict(zip(("before", "after"), rasters[place : place + 2]))
         pairs.append(count(program, maps, [list(maps)], unit, watch=watch)[0][0])
     spans = list(zip(years, years[1:])) if years else [(0, 0)]
-    labels = [raster.labels for raster in rasters]
+    shared = next((raster.labels for raster in rasters if raster.labels), rasters[0].labels)
+    labels = [raster.labels or shared for raster in rasters]
     rows = [_rows(found, labels[at : at + 2], unit) for at, found in enumerate(pairs)]
     classes = np.unique(np.concatenate([found.classes[:, 1] for found in pairs]))
     matrix = [_matrix(found, labels[at : at + 2], classes) for at, found in enumerate(pairs)]

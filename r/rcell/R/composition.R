@@ -60,9 +60,11 @@ rcell_change <- function(before, after = NULL, years = NULL, area = "ha", labels
   names(maps) <- if (length(maps) == 2L) c("before", "after") else sprintf("map_%d", seq_along(maps))
   sources <- sources_of(list(), maps, crs)
   given <- if (!is.null(labels)) legend_of(labels, "labels")
+  # Maps without labels have those of the first map with labels.
+  shared <- Find(function(labels) length(labels$codes) > 0L, lapply(sources, `[[`, "labels"))
   pairs <- lapply(seq_len(length(maps) - 1L), function(first) {
     pair <- sources[first + 0:1]
-    legends <- lapply(pair, function(source) if (is.null(given)) source$labels else given)
+    legends <- lapply(pair, function(source) if (!is.null(given)) given else if (length(source$labels$codes) == 0L && !is.null(shared)) shared else source$labels)
     count_cells(pair, list(names(pair)), area, program = program, read = function(tables) {
       for (side in 1:2) check_legend(given, tables[[1]]$codes[[side]], names(pair)[[side]])
       change_of(tables[[1]], legends, area, sources[[1]]$template, years[first + 0:1])
