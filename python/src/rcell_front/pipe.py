@@ -12,7 +12,7 @@ import select
 import struct
 from collections.abc import Callable, Iterable, Iterator, Mapping, Sequence
 from dataclasses import dataclass, field
-from typing import NamedTuple, Optional, Union
+from typing import NamedTuple, NoReturn, Optional, Union
 
 from .programs import WATCH_SECONDS, Started, close, pipe
 
@@ -28,7 +28,7 @@ CELL_BYTES = {"u8": 1, "i8": 1, "u16": 2, "i16": 2, "u32": 4, "i32": 4, "i64": 8
 """The types of cells that go in, in the order of their codes, which begin at 1."""
 
 _CODES = {name: code for code, name in enumerate(CELL_BYTES, 1)}
-_SOURCES = ("", "request", "script")
+_SOURCES = {1: "request", 2: "script"}
 # Rows and their masks are put together in pieces that stay in the cache of a processor.
 PIECE_BYTES = 1 << 18
 
@@ -250,8 +250,8 @@ class NoAnswer(Exception):
     """The program is not rcell-pipe of this version; the argument is the status and the text that it ended with."""
 
 
-class _EndsEarly(Exception):
-    pass
+class _NotUnderstood(Exception):
+    """The answer ends early, or is another one."""
 
 
 class _Answer:
@@ -264,7 +264,7 @@ class _Answer:
     def _next(self) -> bytes:
         for piece in self._pieces:
             return piece
-        raise _EndsEarly
+        raise _NotUnderstood
 
     def take(self, count: int) -> bytearray:
         found = bytearray()
@@ -289,7 +289,7 @@ class _Answer:
         line, entries, width = self.numbers(3)
         counts, labels, separator = self.take(3)
         null_text = bytes(self.text())
-        names = tuple(self.text().decode("ascii") for _ in range(width))
+        names = tuple(self.text().decode("ascii", "replace") for _ in range(width))
         return TableFrame(
             line=line,
             names=names,
@@ -303,14 +303,17 @@ class _Answer:
 
     def grid(self) -> GridFrame:
         line = self.numbers(1)[0]
-        null_text, name = bytes(self.text()), self.text().decode("ascii")
+        null_text, name = bytes(self.text()), self.text().decode("ascii", "replace")
         rows, cols = self.numbers(2)
-        kind = {1: "u8", 6: "i32"}[self.take(1)[0]]
-        return GridFrame(line, name, null_text, rows, cols, kind, self.cells(rows * cols, "B" if kind == "u8" else "i"))
+        kind, letter = {1: ("u8", "B"), 6: ("i32", "i")}.get(self.take(1)[0]) or self.unknown()
+        return GridFrame(line, name, null_text, rows, cols, kind, self.cells(rows * cols, letter))
+
+    def unknown(self) -> NoReturn:
+        raise _NotUnderstood
 
     def done(self) -> Rejected:
         status, source, map, line, column = self.numbers(5)
-        return Rejected(status, _SOURCES[source], map, line, column, self.text().decode("utf-8", "surrogateescape"))
+        return Rejected(status, _SOURCES.get(source, ""), map, line, column, self.text().decode("utf-8", "surrogateescape"))
 
     def frames(self) -> tuple[list[Frame], Rejected]:
         """Return the frames, and how the run ended."""
@@ -319,12 +322,12 @@ class _Answer:
             b"TABL": self.table, b"GRID": self.grid, b"TEXT": lambda: TextFrame(self.numbers(1)[0], self.text())
         }
         if self.take(8) != b"RCELLA1\n":
-            raise _EndsEarly
+            raise _NotUnderstood
         while (kind := bytes(self.take(4))) != b"DONE":
-            found.append(kinds[kind]())
+            found.append(kinds.get(kind, self.unknown)())
         end = self.done()
         if self._held or any(self._pieces):
-            raise _EndsEarly
+            raise _NotUnderstood
         return found, end
 
 
@@ -406,7 +409,7 @@ def _read(process: Started) -> Optional[tuple[list[Frame], Rejected]]:
     pieces = process.pieces()
     try:
         return _Answer(pieces).frames()
-    except (_EndsEarly, KeyError, IndexError, ValueError):
+    except _NotUnderstood:
         for _ in pieces:
             pass
         return None
