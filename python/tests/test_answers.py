@@ -78,21 +78,18 @@ def test_tables_are_shown() -> None:
     assert str(rcell.run("r.stats -cn input=lc", lc=rcell.Map([[0]], nodata=0)).tables[0]) == "lc  cells"
 
 
-def test_without_pandas_and_matplotlib() -> None:
+def test_without_xarray_and_matplotlib() -> None:
     code = (
-        "import sys\nfor name in ('pandas', 'matplotlib', 'xarray'): sys.modules[name] = None\nimport numpy as np, rcell\n"
-        "import importlib.util as u\nfind = u.find_spec\nu.find_spec = lambda name: None if name in ('pandas', 'matplotlib', 'xarray') else find(name)\n"
-        "lc = rcell.Map(np.array([[1, 2]]), labels={1: '<b>'})\nt = rcell.table('r.stats -cl input=lc', lc=lc)\nprint(type(t).__name__, t._repr_html_())\n"
-        "print(rcell.table('r.stats -c input=lc,lc', lc=lc, pivot=True).values.tolist(), rcell.composition(lc).rows)\n"
+        "import sys\nfor name in ('matplotlib', 'xarray'): sys.modules[name] = None\nimport numpy as np, rcell\n"
+        "import importlib.util as u\nfind = u.find_spec\nu.find_spec = lambda name: None if name in ('matplotlib', 'xarray') else find(name)\n"
+        "lc = rcell.Map(np.array([[1, 2]]), labels={1: '<b>'})\nprint('pandas' in sys.modules)\n"
         "print(rcell.grid('', 'lc', lc=lc)._repr_html_())\n"
-        "for call in (t.frame, rcell.grid('', 'lc', lc=lc).xarray, rcell.grid('', 'lc', lc=lc).plot):\n"
+        "for call in (rcell.grid('', 'lc', lc=lc).xarray, rcell.grid('', 'lc', lc=lc).plot):\n"
         "    try: call()\n    except rcell.MissingLibrary as e: print(e.library)\n"
     )
     ran = subprocess.run([sys.executable, "-c", code], capture_output=True, text=True, env={**os.environ, "PYTHONPATH": ":".join(sys.path)})
     assert ran.stdout.splitlines() == [
-        "StatsTable <table><tr><th>lc</th><th>lc_label</th><th>cells</th></tr><tr><td>1</td><td>&lt;b&gt;</td><td>1</td></tr><tr><td>2</td><td></td><td>1</td></tr></table>",
-        "[[1, 0], [0, 1]] [(1, '<b>', 1, 0.0001, 50.0), (2, '', 1, 0.0001, 50.0)]",
-        "<p><b>lc</b>: 1 rows, 2 columns, 2 categories</p>", "pandas", "xarray", "matplotlib",
+        "False", "<p><b>lc</b>: 1 rows, 2 columns, 2 categories</p>", "xarray", "matplotlib",
     ], ran.stderr
 
 

@@ -481,7 +481,7 @@ def test_an_attribute_table_has_labels_and_colours(raster: Write) -> None:
     assert rcell.majority(path).colors == {1: "#100000", 2: "#200000", 3: "#300000"}
 
 
-# Without pandas
+# Tables
 
 
 def test_tables_read_back(tmp_path: pathlib.Path) -> None:

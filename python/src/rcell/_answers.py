@@ -10,7 +10,6 @@ import numpy as np
 
 from ._errors import Refused
 from ._grid import Grid
-from ._libraries import has
 from ._maps import Source, named_once, sources_of
 from ._program import Output, execute, judge
 from ._script import labels_in, statements_of
@@ -215,7 +214,7 @@ def table(
     -------
     pandas.DataFrame
         Columns by map name (nullable Int64), `NAME_label` with the flag `-l` (text), `cells`, `area_ha` or another unit, and
-        `percent`. Without pandas a StatsTable, or a Pivot.
+        `percent`.
 
     Raises
     ------
@@ -233,9 +232,7 @@ def table(
     2   3      1  16.666667
     """
     answer = table_of(_Run(script, maps, named, crs=crs), area, percent, pivot)
-    if pivot:
-        return answer.pivot_frame() if has("pandas") else answer.pivot()
-    return answer.answer()
+    return answer.pivot_frame() if pivot else answer.frame()
 
 
 def run_of(script: str, maps: Mapping[str, Any], crs: Any = None) -> _Run:

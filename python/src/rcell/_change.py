@@ -60,7 +60,7 @@ class Change:
         1     1   2      1      1.0  33.333333
         2     2   2      1      1.0  33.333333
         """
-        return self.tables["table"].answer()
+        return self.tables["table"].frame()
 
     @property
     def matrix(self) -> Any:
@@ -72,9 +72,7 @@ class Change:
         >>> rcell.change(np.array([[1, 1, 2]]), np.array([[1, 2, 2]]), area=None).matrix.loc[1, 2]
         1
         """
-        wide = self.tables["matrix"].answer()
-        if isinstance(wide, Table):
-            return wide
+        wide = self.tables["matrix"].frame()
         wide = wide.set_index(list(wide.columns[: self._keys]))
         if self._classes is not None:
             wide.columns = self._classes
@@ -92,7 +90,7 @@ class Change:
         >>> rcell.change(np.array([[1, 1, 2]]), np.array([[1, 2, 2]]), area="m2").summary.iloc[0, 1:].tolist()
         [2.0, 1.0, 0.0, 1.0, -1.0, 0.0, 1.0]
         """
-        return self.tables["summary"].answer()
+        return self.tables["summary"].frame()
 
 
 class _Pairs:

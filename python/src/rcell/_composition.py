@@ -51,7 +51,7 @@ def composition(
     -------
     pandas.DataFrame
         Columns `zone`, `zone_label`, `class`, `label`, `cells`, `area_ha` and `percent`, of the non-null cells of the zone; zones only
-        if there are some, labels only if there are some. A Table without pandas.
+        if there are some, labels only if there are some.
 
     Raises
     ------
@@ -122,7 +122,7 @@ def cross(
     -------
     pandas.DataFrame
         For each map a column of its name, and `NAME_label` if it has labels; then `cells`, `area_ha`, and `percent` of the cells that
-        are null in no map. A Table without pandas.
+        are null in no map.
 
     Raises
     ------

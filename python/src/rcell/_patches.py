@@ -69,7 +69,7 @@ def patches(
     pandas.DataFrame
         Columns `patch`, `class`, `label`, `cells`, `area_ha`, `perimeter_m`, `core_ha`, `west`, `south`, `east`, `north`, and with zones
         `zone` and `zone_label`. The perimeter counts sides to other patches, to null and to the map's edge; in degrees it is NaN,
-        and a warning says so. A Table without pandas.
+        and a warning says so.
 
     Raises
     ------

@@ -4,7 +4,6 @@
 from __future__ import annotations
 
 import csv
-import html
 import io
 import json
 from collections import Counter
@@ -17,7 +16,6 @@ from numpy.typing import NDArray
 
 from ._crs import cell_area
 from ._errors import Refused
-from ._libraries import has, need
 from ._text import NULL
 
 __all__ = ["Column", "Pivot", "StatsTable", "Table", "framed", "shortest"]
@@ -85,7 +83,7 @@ class Column:
 
 
 class Table:
-    """Columns with names: what calls return if pandas is not installed.
+    """Columns with names, which `frame` returns as a DataFrame.
 
     Parameters
     ----------
@@ -146,11 +144,6 @@ class Table:
         pandas.DataFrame
             With the columns of the table.
 
-        Raises
-        ------
-        MissingLibrary
-            Pandas is not installed.
-
         Examples
         --------
         >>> import numpy as np, rcell
@@ -159,24 +152,9 @@ class Table:
         0   1      2
         1   2      1
         """
-        pandas = need("pandas", "table", "to return a DataFrame")
+        import pandas  # here, since it takes longer to load than all the rest
+
         return pandas.DataFrame({column.name: column.series(pandas) for column in self._all()})
-
-    def answer(self) -> Any:
-        """Return the table as calls return it: a DataFrame if pandas is installed, else itself.
-
-        Returns
-        -------
-        pandas.DataFrame or Table
-            With the columns of the table.
-
-        Examples
-        --------
-        >>> import numpy as np, rcell
-        >>> rcell.run("r.stats -c input=lc", lc=np.array([[1, 1, 2]])).tables[0].answer()["cells"].sum()
-        3
-        """
-        return self.frame() if has("pandas") else self
 
     def csv(self) -> str:
         """Return the table as comma-separated values with a header; what is missing is empty.
@@ -247,11 +225,7 @@ class Table:
         return "\n".join(lines + ([f"({len(self):,} rows)"] if len(self) > SHOWN_ROWS else []))
 
     def _repr_html_(self) -> str:
-        if has("pandas"):
-            return str(self.frame()._repr_html_())
-        head = "".join(f"<th>{html.escape(name)}</th>" for name in self.columns)
-        shown = ["".join(f"<td>{html.escape(_plain(value))}</td>" for value in row) for row in self.rows[:SHOWN_ROWS]]
-        return f"<table><tr>{head}</tr>{''.join(f'<tr>{row}</tr>' for row in shown)}</table>"
+        return str(self.frame()._repr_html_())
 
 
 @dataclass(frozen=True, repr=False)
@@ -431,18 +405,19 @@ class StatsTable(Table):
         1  1  1
         2  0  1
         """
-        pandas = need("pandas", "table", "to return a DataFrame")
+        import pandas
+
         matrix = self.pivot()
         first, second = (pandas.Index(_axis(names), name=name) for names, name in zip(matrix[:2], self.maps))
         return pandas.DataFrame(matrix.values, first, second)
 
 
 def framed(make: Callable[Words, Table]) -> Callable[Words, Any]:
-    """Return a call that returns its table as a DataFrame, if pandas is installed; `inspect.unwrap` has the one of the Table."""
+    """Return a call that returns its table as a DataFrame; `inspect.unwrap` has the one of the Table."""
 
     @wraps(make)
     def call(*words: Words.args, **named: Words.kwargs) -> Any:
-        return make(*words, **named).answer()
+        return make(*words, **named).frame()
 
     return call
 

@@ -49,7 +49,7 @@ def zonal(
     -------
     pandas.DataFrame
         Columns `zone`, `zone_label`, `cells`, `sum`, `mean`, `minimum`, `maximum`, `variance` (of the population), and the quantiles.
-        Zones without a value have no row. A Table without pandas.
+        Zones without a value have no row.
 
     Raises
     ------

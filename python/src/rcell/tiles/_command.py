@@ -12,7 +12,6 @@ from typing import Any
 
 from ..__main__ import emit, script_of
 from .._errors import MissingLibrary, OutOfMemory, RcellError, Refused
-from .._table import Table
 from .mosaic import Mosaic, NeedlessTiles, TooLittleMemory, open_mosaic
 
 __all__ = ["main"]
@@ -121,8 +120,7 @@ def _patches(mosaic: Mosaic, given: argparse.Namespace) -> None:
 
 
 def _print(table: Any) -> None:
-    """A table as CSV; where pandas is not installed it is a Table."""
-    emit(table.csv() if isinstance(table, Table) else table.to_csv(index=False))
+    emit(table.to_csv(index=False))
 
 
 def _script(word: str) -> str:
