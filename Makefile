@@ -1,15 +1,15 @@
 # SPDX-License-Identifier: Apache-2.0 OR GPL-2.0-or-later
 
-# make           proves and builds the programs, bin/rcell and bin/rcell-join; JOBS=1 if memory is short
+# make           proves and builds the programs, bin/rcell, bin/rcell-join and bin/rcell-pipe; JOBS=1 if memory is short
 # make install   puts the programs, helpers, manual pages, documents and examples below PREFIX (/usr/local; DESTDIR goes before it)
 # make uninstall removes them
 # make try       compiles and runs the example; nothing is proved, and nothing is put into bin/ (two minutes)
 # make example   proves and builds bin/rcell alone, and runs it on the land cover of examples/land-cover
 #                OBJECTS=FILE, for make and make example: takes the proved objects of a release if they are of exactly these sources
-# make documents runs each example of the documents on bin/rcell and bin/rcell-join, and compares
+# make documents runs each example of the documents on the programs in bin/, and compares
 # make check     the gate: every proof, then the programs, documents, release and packages
 #                PARTS="lint documents" runs these parts alone, PARTS=list names them
-# make static    links bin/rcell-static and bin/rcell-join-static, which run on any Linux on x86-64
+# make static    links the programs as bin/NAME-static, which run on any Linux on x86-64
 # make dist      makes the release in dist/: tarball, package of Debian, wheel, packages for R and QGIS, objects, bill of materials
 # make debian11  runs the release's quick start in a root of Debian 11 (as root, with debootstrap)
 # make edits     tries the edits of crates/NAME/edits/, of which the gate tries those of tools/edits.txt: each must be rejected
@@ -39,11 +39,12 @@ SOURCES = crates.txt $(shell find $(wildcard $(CRATES:%=%/src) $(CRATES:%=%/spec
 
 .PHONY: all try install uninstall example documents check static dist debian11 edits hostile fuzz bench figures pictures exchange clean help
 
-all: bin/rcell bin/rcell-join
+all: bin/rcell bin/rcell-join bin/rcell-pipe
 
-# rcell first: it needs fewer crates, and what both need is proved once.
+# One after another, rcell first: it needs the fewest crates, and what two need is proved once.
 bin/rcell-join: bin/rcell
-bin/rcell bin/rcell-join: $(SOURCES)
+bin/rcell-pipe: bin/rcell-join
+bin/rcell bin/rcell-join bin/rcell-pipe: $(SOURCES)
 	@sh tools/needs.sh
 	@$(if $(OBJECTS),python3 tools/objects.py --from $(OBJECTS) $(@F) ||) python3 tools/build.py $(if $(JOBS),--jobs $(JOBS)) $(@F)
 

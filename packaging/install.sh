@@ -2,7 +2,7 @@
 # Installs what a user gets below PREFIX, or removes what was installed there: the programs, the helpers, the manual pages, the
 # documents, the examples and the add-on for GRASS. `make install`, the tarball and the package all use this one list.
 #
-#     packaging/install.sh PREFIX [ENDING]         bin/rcell and bin/rcell-join, or with -static as ENDING the static ones
+#     packaging/install.sh PREFIX [ENDING]         the programs of bin/, or with -static as ENDING the static ones
 #     packaging/install.sh --remove PREFIX
 set -eu
 cd "$(dirname "$0")/.."
@@ -11,7 +11,7 @@ documents=share/doc/rcell
 shared=share/rcell
 installed=$shared/installed
 pages=share/man/man1
-programs='rcell rcell-join'
+programs='rcell rcell-join rcell-pipe'
 
 # The files of the repository below some paths: those that git tracks, or all if this is no clone.
 files() {

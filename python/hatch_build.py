@@ -14,7 +14,7 @@ DYNAMIC_TAG = "py3-none-linux_x86_64"
 
 
 HERE = pathlib.Path(__file__).resolve().parent
-PROGRAMS = {"rcell": "RCELL_PROGRAM", "rcell-join": "RCELL_JOIN_PROGRAM"}
+PROGRAMS = {"rcell": "RCELL_PROGRAM", "rcell-join": "RCELL_JOIN_PROGRAM", "rcell-pipe": "RCELL_PIPE_PROGRAM"}
 """The scripts, and the environment variables that may name what they are made of."""
 
 
@@ -29,7 +29,7 @@ def version() -> str:
 
 
 class ProgramHook(BuildHookInterface):  # type: ignore[misc]
-    """Adds bin/rcell-static and bin/rcell-join-static, or what RCELL_PROGRAM and RCELL_JOIN_PROGRAM name."""
+    """Adds bin/NAME-static for each program, or the file that its environment variable names."""
 
     def initialize(self, version: str, build_data: dict[str, Any]) -> None:
         if version == "editable":

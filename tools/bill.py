@@ -50,7 +50,7 @@ def package(name, version, licence, sha256, says="", holder="NOASSERTION", group
 def packages(version):
     """The parts of the programs, the first of which is rcell itself."""
     crates = build.crates_of(build.PROGRAMS)
-    yield package("rcell", version, linked.OWN, "", "rcell, rcell-join, their helpers, documents and examples", HOLDER, "product")
+    yield package("rcell", version, linked.OWN, "", "rcell, rcell-join, rcell-pipe, their helpers, documents and examples", HOLDER, "product")
     for it in crates:
         yield package(it.name, version, linked.OWN, sum_of_crate(it), "A crate; the sum is of the lines 'SHA-256  PATH' of its sources.", HOLDER, "crate")
     for name, licence in linked.libraries().items():

@@ -1,7 +1,7 @@
 #!/usr/bin/env python3
 """Proves the crates that a program needs, and puts the program into bin/.
 
-    build.py [--jobs N] PROGRAM..       PROGRAM is rcell or rcell-join
+    build.py [--jobs N] PROGRAM..       PROGRAM is rcell, rcell-join or rcell-pipe
     build.py --list PROGRAM|all         the crates that it needs, each after those below it
 
 The proofs are those of `rt ci`, in a folder that has these crates alone, without tests and edits: what passes is kept on this
@@ -23,7 +23,7 @@ import threading
 import time
 
 ROOT = os.path.dirname(os.path.dirname(os.path.abspath(__file__)))
-PROGRAMS = {"rcell_program": "rcell", "rcell_join": "rcell-join"}
+PROGRAMS = {"rcell_program": "rcell", "rcell_join": "rcell-join", "rcell_pipe": "rcell-pipe"}
 PROVED = ("src", "specs", "proofs")
 RUN_ON = ("stdin", "args", "data", "status", "stdout")
 LINES_OF_A_LOG = 40

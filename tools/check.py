@@ -72,6 +72,7 @@ LATE = [
     Part("edits", "wrong bodies that the proof must refuse, many in one check", [tool("edits.py")], needs_programs=False),
     Part("cases", "rcell on each case, with each growth refused in turn", [tool("cases.py", CLANG)]),
     Part("joined", "rcell-join beside a plain model and full maps", [tool("test_join.py", CLANG)]),
+    Part("pipe", "rcell-pipe on random requests beside rcell, and on damaged ones", [tool("test_pipe.py", CLANG)]),
     Part("documents", "each example of the documents", [tool("documents.py")]),
     Part("hostile", "broken devices, bytes, sizes and memory, in short", [tool("hostile.py", "--short", "--clang", CLANG)]),
     Part("models", "rcell beside the plain model of the definitions",
@@ -122,7 +123,7 @@ def run_all(parts):
     results = []
     for part in parts:
         if part.needs_programs and not all(os.path.exists(f"{ROOT}/bin/{name}") for name in build.PROGRAMS.values()):
-            print(f"{part.name}: bin/rcell or bin/rcell-join is missing: run make first")
+            print(f"{part.name}: a program is missing in bin/: run make first")
             return [*results, Result(part.name, failed=1)]
         results.append(run(part))
         if part in [*EARLY, PROOFS] and results[-1].failed:
@@ -149,7 +150,7 @@ def keep_closing(results, closing):
     proofs = next(it.note for it in results if it.name == PROOFS.name)
     with open(f"{ROOT}/bin/gate", "w", encoding="utf-8") as file:
         file.write(f"commit: {commit}\nkit: {said_by('rt', 'version')}\nprogram: {sum_of('rcell')}\njoiner: {sum_of('rcell-join')}\n"
-                   f"proofs: {proofs}\nclosing: {closing}\n")
+                   f"pipe: {sum_of('rcell-pipe')}\nproofs: {proofs}\nclosing: {closing}\n")
 
 
 def table(results, wall):

@@ -4,7 +4,7 @@
 
     check_release.py [--keep FOLDER]
 
-It wants bin/rcell and bin/rcell-join and the objects that they were linked from, bin/rcell.o and bin/rcell-join.o. --keep leaves
+It wants the programs in bin/ and the objects that they were linked from, bin/NAME.o. --keep leaves
 the files of the release in the folder. The last line is 'N passed, M failed'.
 """
 import argparse
@@ -27,7 +27,7 @@ HELPERS = f"{ROOT}/tools/test_helpers.py"
 PATH_WITHOUT_KIT = "/usr/bin:/bin"
 RUNS = "300"
 KIND_OF_INTERPRETER = 3  # PT_INTERP of an ELF file
-PROGRAMS = ("rcell", "rcell-join")
+PROGRAMS = ("rcell", "rcell-join", "rcell-pipe")
 PAGES = "share/man/man1"
 # The packages of Debian that a release is made with, each by a file of it.
 PACKAGES = {"libc6-dev": "/usr/lib/x86_64-linux-gnu/libc.a", "libgcc-12-dev": "/usr/lib/gcc/x86_64-linux-gnu/12/libgcc.a",
@@ -64,11 +64,12 @@ class Count:
 
 def check_static(count):
     """The static programs give what the documents show, and answer as the plain models do on runs made at random."""
-    static, joiner = (f"{ROOT}/bin/{name}-static" for name in PROGRAMS)
+    static, joiner, pipe = (f"{ROOT}/bin/{name}-static" for name in PROGRAMS)
     for what, words in (("the documents by the static programs",
-                         ["tools/documents.py", "--program", static, "--joiner", joiner, *documents.DOCUMENTS]),
+                         ["tools/documents.py", "--program", static, "--joiner", joiner, "--pipe", pipe, *documents.DOCUMENTS]),
                         ("the static program beside the model", ["tools/compare.py", "--runs", RUNS, "--seed", "2", "--program", static]),
-                        ("the static joiner beside a plain one", ["tools/test_join.py", "--runs", RUNS, "--program", joiner])):
+                        ("the static joiner beside a plain one", ["tools/test_join.py", "--runs", RUNS, "--program", joiner]),
+                        ("the static rcell-pipe beside rcell", ["tools/test_pipe.py", "--runs", RUNS, "--program", pipe, "--rcell", static])):
         ran = subprocess.run([sys.executable, *words], cwd=ROOT, stdout=subprocess.PIPE, stderr=subprocess.STDOUT, text=True)
         count.add(what, ran.stdout if ran.returncode else "")
 
@@ -116,6 +117,14 @@ def fault_of_joining(programs, room):
     return "" if is_right else f"status {ran.returncode}, {ran.stdout!r}, {ran.stderr!r}"
 
 
+def fault_of_pipe(programs):
+    """What is wrong with rcell-pipe of this folder on the request of its crate, or ''."""
+    crate = pathlib.Path(ROOT, "crates/rcell_pipe")
+    ran = subprocess.run([f"{programs}/rcell-pipe"], input=(crate / "stdin").read_bytes(), capture_output=True)
+    is_right = (ran.returncode, ran.stdout, ran.stderr) == (0, (crate / "stdout").read_bytes(), b"")
+    return "" if is_right else f"status {ran.returncode}, {ran.stdout!r}, {ran.stderr!r}"
+
+
 def fault_of_page(prefix, name):
     """What is wrong with the manual page of a program below a prefix, or ''."""
     found = next(iter(glob.glob(f"{prefix}/{PAGES}/{name}.1*")), None)
@@ -136,7 +145,7 @@ def check_pages(count, what, prefix):
 
 
 def check_unpacked(count, room, folder, names):
-    """From the tarball and from the package: the quick start, then the manual pages, the joiner and the helpers."""
+    """From the tarball and from the package: the quick start, then the manual pages, rcell-join, rcell-pipe and the helpers."""
     for kind, ending, programs in (("tarball", "linux-x86_64.tar.gz", "rcell-*/bin"), ("package", ".deb", "unpacked/usr/bin")):
         file = next((f"{folder}/{name}" for name in names if name.endswith(ending)), None)
         if file is None:
@@ -147,6 +156,7 @@ def check_unpacked(count, room, folder, names):
         found = next(iter(glob.glob(f"{here}/{programs}")), f"{here}/{programs}")
         check_pages(count, f"the manual pages of the {kind}", os.path.dirname(found))
         count.add(f"rcell-join of the {kind}", fault_of_joining(found, room))
+        count.add(f"rcell-pipe of the {kind}", fault_of_pipe(found))
         if os.path.exists(HELPERS):
             count.add_run(f"helpers of the {kind}", [sys.executable, HELPERS, "--bin", found])
     if not os.path.exists(HELPERS):
@@ -173,6 +183,7 @@ def check_install(count, room):
     count.add("what make install puts", " ".join(name for name in wanted if not os.path.exists(f"{prefix}/{name}")))
     check_pages(count, "the installed manual pages", prefix)
     count.add("the installed rcell-join", fault_of_joining(f"{prefix}/bin", room))
+    count.add("the installed rcell-pipe", fault_of_pipe(f"{prefix}/bin"))
     land = f"{prefix}/share/doc/rcell/examples/land-cover"
     ran = run(f"{prefix}/bin/rcell", f"{land}/script", f"landuse={land}/landuse.txt")
     with open(f"{ROOT}/examples/land-cover/stdout", encoding="ascii") as file:

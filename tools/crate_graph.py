@@ -16,9 +16,9 @@ import sys
 
 ROOT = os.path.dirname(os.path.dirname(os.path.abspath(__file__)))
 PICTURE = f"{ROOT}/docs/crates.svg"
-ROOMS = {"core": "#dcecf7", "ascii": "#e4f3df", "calc": "#fdf1d3", "cats": "#f9e2e2", "stats": "#ece3f5", "tiles": "#eeeeee",
+ROOMS = {"core": "#dcecf7", "ascii": "#e4f3df", "raw": "#e7f0e4", "calc": "#fdf1d3", "cats": "#f9e2e2", "stats": "#ece3f5", "tiles": "#eeeeee",
          "rcell": "#dff2f0"}
-PROGRAMS = ("rcell_program", "rcell_join")
+PROGRAMS = ("rcell_program", "rcell_join", "rcell_pipe")
 TITLE = re.compile(r"<title>([^<]+)</title>")
 HEAD = """digraph crates {
     rankdir=BT; ranksep=0.45; nodesep=0.18; newrank=true; bgcolor=white;

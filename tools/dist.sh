@@ -1,6 +1,6 @@
 #!/bin/sh
-# Makes the release of what is built, from bin/rcell-static and bin/rcell-join-static (tools/static.sh): the tarball, the package of
-# Debian, the proved objects, the packages for Python, R and QGIS, the bill of materials, and SHA256SUMS over all.
+# Makes the release of what is built, from bin/NAME-static (tools/static.sh): the tarball, the package of Debian,
+# the proved objects, the packages for Python, R and QGIS, the bill of materials, and SHA256SUMS over all.
 #
 #     tools/dist.sh [FOLDER]         FOLDER is dist if it is not given
 set -eu
@@ -48,7 +48,7 @@ dpkg-deb --root-owner-group -Zgzip -z9 --build "$package" "$dist/rcell_${version
 object=rcell-$version-objects
 kit=$(dirname "$(rt doc)")
 mkdir "$room/$object"
-install -m 644 bin/rcell.o bin/rcell-join.o "$kit/c/libos_c.a" "$kit/c/liblibc_c.a" "$room/$object"
+install -m 644 bin/rcell.o bin/rcell-join.o bin/rcell-pipe.o "$kit/c/libos_c.a" "$kit/c/liblibc_c.a" "$room/$object"
 install -m 644 packaging/objects.md "$room/$object/README.md"
 python3 tools/objects.py --stamps "$room/$object"
 python3 tools/linked.py "$room/$object/licenses"

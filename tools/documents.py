@@ -1,9 +1,9 @@
 #!/usr/bin/env python3
 """Runs the examples of the documents on the built programs, and compares what they show byte for byte.
 
-    documents.py [--program PATH] [--joiner PATH] [--write] [--texts | DOCUMENT..]
+    documents.py [--program PATH] [--joiner PATH] [--pipe PATH] [--write] [--texts | DOCUMENT..]
 
-A document is run in a folder of its own that has bin/rcell, bin/rcell-join, the helpers beside them, examples/ and tools/.
+A document is run in a folder of its own that has the programs in bin/, the helpers beside them, examples/ and tools/.
 Its fenced blocks are taken from the top:
     console          lines that begin with `$ ` are given to sh, those with `> ` go on with the command above; the lines
                      after a command are what it must print, standard output and standard error together
@@ -42,7 +42,7 @@ import messages
 
 ROOT = os.path.dirname(os.path.dirname(os.path.abspath(__file__)))
 DOCUMENTS = ["README.md", "docs/tutorial.md", "docs/howto.md", "docs/large-maps.md", "docs/commands.md", "docs/rcell-join.md",
-             "docs/errors.md", "docs/grass.md", "examples/islands/README.md", "docs/proofs.md",
+             "docs/pipe.md", "docs/errors.md", "docs/grass.md", "examples/islands/README.md", "docs/proofs.md",
              *(f"examples/{name}/README.md" for name in ("change", "woodland", "stream", "majority", "protected", "large-map"))]
 FENCE = re.compile(r"```(\S*)(?: file=(\S+))?(?: needs=(\S+))?\n(.*?)^```$", re.MULTILINE | re.DOTALL)
 # What is said of the lines that have to be believed: numbers, and what stands around them.
@@ -286,12 +286,13 @@ def main():
     words = argparse.ArgumentParser(description=__doc__, formatter_class=argparse.RawDescriptionHelpFormatter)
     words.add_argument("--program", default=f"{ROOT}/bin/rcell")
     words.add_argument("--joiner", default=f"{ROOT}/bin/rcell-join")
+    words.add_argument("--pipe", default=f"{ROOT}/bin/rcell-pipe")
     words.add_argument("--write", action="store_true")
     words.add_argument("--texts", action="store_true")
     words.add_argument("documents", nargs="*")
     settings = words.parse_args()
     program, joiner = os.path.abspath(settings.program), os.path.abspath(settings.joiner)
-    programs = {"rcell": program, "rcell-join": joiner}
+    programs = {"rcell": program, "rcell-join": joiner, "rcell-pipe": os.path.abspath(settings.pipe)}
     texts = [("the messages", messages.check), ("the links", links.check),
              ("the citations", citations.check), ("the picture of the crates", crate_graph.check), ("the manual pages", check_pages),
              ("the numbers of lines", lambda: check_reading(settings.write)), ("the figures", lambda: figures.check(settings.write))]

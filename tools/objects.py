@@ -1,6 +1,5 @@
 #!/usr/bin/env python3
-"""The objects that bin/rcell and bin/rcell-join were linked from, bin/rcell.o and bin/rcell-join.o: the static programs of the
-release are linked from them.
+"""The objects that the programs of bin/ were linked from, bin/NAME.o: the static programs of the release are linked from them.
 
     objects.py                          puts into bin/ those that are missing or that are of other programs
     objects.py --from FILE PROGRAM..    puts programs into bin/ that are linked from the objects of a release

@@ -1,17 +1,17 @@
 #!/bin/sh
-# Links the programs statically: bin/rcell-static and bin/rcell-join-static, each one file that runs on each Linux on x86-64,
+# Links the programs statically: bin/NAME-static, each one file that runs on each Linux on x86-64,
 # whatever its C library.
 #
 #     tools/static.sh [FOLDER]         FOLDER is bin where it is not given
 #
-# Each is linked from its object, bin/rcell.o and bin/rcell-join.o, from which the kit links bin/rcell and bin/rcell-join, by the
+# Each is linked from its object bin/NAME.o, from which the kit links bin/NAME, by the
 # kit's ld.lld with the C library of Debian (libc.a of libc6-dev; libgcc-12-dev), as a position-independent program. First an
 # object is shown to be the right one: linked the kit's way it gives the program in bin/, byte for byte. Nothing is compiled
 # here, and no code of our own is added.
 set -eu
 cd "$(dirname "$0")/.."
 output=${1:-bin}
-programs='rcell rcell-join'
+programs='rcell rcell-join rcell-pipe'
 
 refuse() {
     echo "rcell: $1" >&2

@@ -13,7 +13,7 @@ HERE = pathlib.Path(__file__).resolve().parent
 # The pages in the order of the menu: heading, then title and file of the repository.
 MENU = {
     "Learn": {"Tutorial": "docs/tutorial.md", "How to": "docs/howto.md", "Large maps": "docs/large-maps.md", "Cheat sheet": "docs/cheatsheet.md"},
-    "Reference": {"Commands": "docs/commands.md", "Errors": "docs/errors.md", "rcell-join": "docs/rcell-join.md", "From GRASS": "docs/grass.md"},
+    "Reference": {"Commands": "docs/commands.md", "Errors": "docs/errors.md", "rcell-join": "docs/rcell-join.md", "rcell-pipe": "docs/pipe.md", "From GRASS": "docs/grass.md"},
     "Examples": {"All examples": "examples/README.md", "Change": "examples/change/README.md", "Woodland": "examples/woodland/README.md",
                  "Stream": "examples/stream/README.md", "Majority": "examples/majority/README.md", "Protected zones": "examples/protected/README.md",
                  "A large map": "examples/large-map/README.md", "Islands": "examples/islands/README.md"},

@@ -1,0 +1,3 @@
+-- Rows of cells as bytes.
+pub mod Numbers
+pub mod RawRows

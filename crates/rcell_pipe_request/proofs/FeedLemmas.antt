@@ -1,0 +1,37 @@
+-- What was read and what is left make what was to come.
+use Rattle.std.proofs.Common.{◌≡◌, ℕ, ◌<◌, true, false, List, [], ◌++◌, length, take, drop, Ok, Err, refl, sym, ap, ◌∙◌, append_assoc, arith, ltb}
+use Rattle.std.proofs.lemmas.List.{take-append-drop, take_at, drop_at, length-append}
+use Rattle.std.proofs.lemmas.Bool.{le-ltb, lt-ltb}
+use Rattle.cell_core_devices.specs.Device.{Coming}
+use Rattle.rcell_pipe_request.specs.RequestFields.{ending, bytes_at}
+use Rattle.rcell_pipe_request.specs.Feeds.{FeedValue, left, after}
+
+-- a block of which n bytes are passed
+pub after-pass : (front unread : List ℕ) (n : ℕ) (rest : Coming) → after front (after unread rest) ≡ after (front ++ take n unread) (after (drop n unread) rest)
+after-pass front unread n rest =
+    let bytes : front ++ (unread ++ rest.bytes) ≡ (front ++ take n unread) ++ (drop n unread ++ rest.bytes) =
+    ap (λ (h : List ℕ). front ++ (h ++ rest.bytes)) (sym (take-append-drop n unread))
+    ∙ ap (λ (t : List ℕ). front ++ t) (append_assoc (take n unread) (drop n unread) rest.bytes)
+    ∙ sym (append_assoc front (take n unread) (drop n unread ++ rest.bytes)) in
+    ap (λ (bs : List ℕ). record { bytes = bs; fails = rest.fails }) bytes
+
+-- after one block more
+pub read_more : (old one two three : FeedValue) (front more : List ℕ) (n : ℕ) → left old ≡ after front (left one) → left two ≡ left one → three ≡ record two { unread = drop n two.unread } → more ≡ front ++ take n two.unread → left old ≡ after more (left three)
+read_more old one two three front more n before same passed grown =
+    before ∙ ap (after front) (sym same) ∙ after-pass front two.unread n two.rest
+    ∙ ap (λ (xs : List ℕ). after xs (after (drop n two.unread) two.rest)) (sym grown)
+    ∙ ap (λ (f : FeedValue). after more (left f)) (sym passed)
+
+-- the bytes that were read
+pub bytes_at-all : (n : ℕ) (front : List ℕ) (c rest : Coming) → c ≡ after front rest → length front ≡ n → bytes_at n c ≡ Ok (front, rest)
+unfolding bytes_at
+bytes_at-all n front c rest is len =
+    let long : ltb (length (front ++ rest.bytes)) n ≡ false = le-ltb _ _ (omega (arith, length-append front rest.bytes, len)) in
+    rw (is, long, take_at front rest.bytes n len, drop_at front rest.bytes n len) refl
+
+-- the source gives no more
+pub bytes_at-short : (n : ℕ) (front : List ℕ) (c rest : Coming) → c ≡ after front rest → rest.bytes ≡ [] → length front < n → bytes_at n c ≡ Err (ending rest.fails)
+unfolding bytes_at
+bytes_at-short n front c rest is none short =
+    let few : ltb (length (front ++ rest.bytes)) n ≡ true = lt-ltb _ _ (omega (arith, length-append front rest.bytes, ap (λ (xs : List ℕ). length xs) none, short)) in
+    rw (is, few) refl

@@ -1,0 +1,21 @@
+use Rattle.std.proofs.Common.{◌≡◌, ℕ, ◌∙◌, Ok, refl, sym}
+use Rattle.std.specs.Int.{w32}
+use Rattle.cell_core_devices.specs.Device.{Coming}
+use Rattle.cell_core_values.specs.Region.{RegionValue, region_fault}
+use Rattle.rcell_pipe_request.specs.RequestFields.{number_at}
+use Rattle.rcell_pipe_request.specs.Heads.{EdgesValue, edges_at, region_at}
+use Rattle.rcell_pipe_request.proofs.head.read_region.Goals as goal
+
+-- the parts of a region make the region
+region_of_parts : (c c1 c2 c3 : Coming) (edges : EdgesValue) (rows cols : ℕ) (region : RegionValue) → edges_at c ≡ Ok (edges, c1) → number_at w32 c1 ≡ Ok (rows, c2) → number_at w32 c2 ≡ Ok (cols, c3)
+    → region_fault (record { north = edges.north; south = edges.south; east = edges.east; west = edges.west; rows = rows; cols = cols }) ≡ Ok region → region_at c ≡ Ok (region, c3)
+unfolding region_at
+region_of_parts c c1 c2 c3 edges rows cols region a b d is = rw (a, b, d, is) refl
+
+pub returns-in-Ok : goal.returns-in-Ok
+returns-in-Ok g c =
+    let k1 = c.in_ok-edges.ensures.0 in
+    let k2 = c.in_ok-rows.ensures.0 ∙ k1 in (
+      c.in_ok-cols.ensures.0 ∙ k2,
+      λ known. region_of_parts _ _ _ _ _ _ _ _ (c.in_ok-edges.ensures.1 known) (c.in_ok-rows.ensures.1 (k1 ∙ known)) (c.in_ok-cols.ensures.1 (k2 ∙ known)) (sym c.region_of.ensures ∙ c.in-Ok.is),
+    )

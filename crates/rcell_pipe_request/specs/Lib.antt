@@ -1,0 +1,7 @@
+-- What the bytes of a request denote, and their first error.
+pub mod RequestFields
+pub mod Heads
+pub mod Rows
+pub mod Requests
+pub mod Feeds
+pub mod parts

@@ -1,0 +1,45 @@
+-- A request is read from left to right, with the first error that is met. Numbers have their lowest byte first, and each length precedes its bytes (profile).
+use Rattle.std.specs.Prelude.{ℕ, ℤ, zero, suc, Bool, true, false, List, length, take, Result, Ok, Err, nat_lt, if◌then◌else◌}
+use Rattle.std.specs.Int.{Width, byte_len, from_le_bytes, cast_signed}
+use Rattle.cell_core_devices.specs.Device.{Coming, after_bytes}
+use Rattle.cell_core_text.specs.Answers.{◌>>=◌}
+use Rattle.rcell_pipe_request.specs.declared.error.ErrorKind.{ErrorKind}
+use Rattle.rcell_pipe_request.specs.declared.error.ErrorKind.TheVariants.{Short, ReadFailed}
+
+-- what was read and what is still to come, or what is wrong
+abbrev pub FieldReading : Type 0 → Type 0
+FieldReading X = Result (X × Coming) ErrorKind
+
+-- why a source gives no more bytes: it ends, or it fails
+abbrev pub ending : Bool → ErrorKind
+ending true = ReadFailed
+ending false = Short
+
+-- so many bytes
+unfoldable pub bytes_at : ℕ → Coming → FieldReading (List ℕ)
+bytes_at n c = if nat_lt (length c.bytes) n then Err (ending c.fails) else Ok (take n c.bytes, after_bytes c n)
+
+-- a number that is not negative
+unfoldable pub number_at : Width → Coming → FieldReading ℕ
+number_at w c = do
+  b ← bytes_at (byte_len w) c
+  Ok (from_le_bytes w b.0, b.1)
+
+-- a number in two's complement
+unfoldable pub signed_at : Width → Coming → FieldReading ℤ
+signed_at w c = do
+  n ← number_at w c
+  Ok (cast_signed w n.0, n.1)
+
+-- a length, and as many bytes
+unfoldable pub text_at : Width → Coming → FieldReading (List ℕ)
+text_at w c = do
+  n ← number_at w c
+  bytes_at n.0 n.1
+
+-- one step after another, so many of them
+unfoldable pub steps : {S E : Type 0} → (S → Coming → Result (S × Coming) E) → S → ℕ → Coming → Result (S × Coming) E
+steps step so_far zero c = Ok (so_far, c)
+steps step so_far (suc n) c = do
+  next ← step so_far c
+  steps step next.0 n next.1

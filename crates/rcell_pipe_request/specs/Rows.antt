@@ -1,0 +1,34 @@
+-- The rows of a map in a request: the numbers of the cells, then the mask of the row if there is one (profile).
+use Rattle.std.specs.Prelude.{ℕ, ◌*◌, List, Option, Some, None, Ok, Err, if◌then◌else◌}
+use Rattle.cell_core_devices.specs.Device.{Coming}
+use Rattle.cell_core.specs.Grid.{CellValue}
+use Rattle.cell_raw.specs.Numbers.{byte_size}
+use Rattle.cell_raw.specs.RawRows.{raw_cells, row_error}
+use Rattle.cell_raw.specs.declared.raw_row.RowError.{RowError}
+use Rattle.cell_raw.specs.declared.raw_row.RowError.TheVariants as row_errors
+use Rattle.rcell_pipe_request.specs.declared.head.RawFormat.{RawFormat}
+use Rattle.rcell_pipe_request.specs.declared.error.ErrorKind.{ErrorKind}
+use Rattle.rcell_pipe_request.specs.declared.error.ErrorKind.TheVariants as kinds
+use Rattle.cell_core_text.specs.Answers.{◌>>=◌}
+use Rattle.rcell_pipe_request.specs.RequestFields.{FieldReading, bytes_at}
+
+-- how many bytes the mask of a row has: one for each cell, or none at all
+abbrev pub mask_size : RawFormat → ℕ → ℕ
+mask_size format cols = if format.is_masked then cols else 0
+
+-- what is wrong with a row
+abbrev pub kind_of_row : RowError → ErrorKind
+kind_of_row row_errors.BadMask = kinds.BadMask
+kind_of_row row_errors.OutOfRange = kinds.CellRange
+
+-- the cells of a row, if it has no error
+abbrev pub cells_or_error : Option RowError → List CellValue → Coming → FieldReading (List CellValue)
+cells_or_error None cells rest = Ok (cells, rest)
+cells_or_error (Some error) cells rest = Err (kind_of_row error)
+
+-- a row of so many cells
+unfoldable pub cells_at : RawFormat → ℕ → Coming → FieldReading (List CellValue)
+cells_at format cols c = do
+  bytes ← bytes_at (cols * byte_size format.kind) c
+  mask ← bytes_at (mask_size format cols) bytes.1
+  cells_or_error (row_error format.kind format.nodata mask.0 bytes.0 cols) (raw_cells format.kind format.nodata mask.0 bytes.0 cols) mask.1

@@ -1,0 +1,12 @@
+-- The edges of a region, as the code has them before the region is known.
+use Rattle.std.specs.Prelude.{ℕ}
+use Rattle.cell_core_values.specs.Region.{RegionValue}
+use Rattle.rcell_pipe_request.specs.declared.head.Edges.{Edges}
+use Rattle.rcell_pipe_request.specs.Heads.{EdgesValue}
+
+-- edges, rows and columns
+abbrev pub region_value : Edges → ℕ → ℕ → RegionValue
+region_value edges rows cols = record { north = edges.north; south = edges.south; east = edges.east; west = edges.west; rows = rows; cols = cols }
+
+abbrev pub edges_value : Edges → EdgesValue
+edges_value edges = record { north = edges.north; south = edges.south; east = edges.east; west = edges.west }

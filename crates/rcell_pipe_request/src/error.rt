@@ -1,0 +1,117 @@
+//! Why bytes are no request.
+
+ghost use Rattle.std.specs.Prelude.{◌≡◌};
+ghost use Rattle.rcell_pipe_request.specs.declared.error.FieldStop.TheVariants as field_stops;
+ghost use Rattle.rcell_pipe_request.specs.declared.error.RequestStop.TheVariants as request_stops;
+ghost use Rattle.rcell_pipe_request.specs.Requests.{stop_at};
+
+use std::alloc::{AllocError, AllocFailed};
+
+/// What is wrong with a request.
+#[derive(Clone, Copy, Debug, PartialEq, Eq)]
+pub enum ErrorKind {
+    /// The first eight bytes are not those of this version.
+    BadMagic,
+    /// The request ends before it is complete.
+    Short,
+    /// The request could not be read to its end.
+    ReadFailed,
+    /// There is no map, or there are more than 65535.
+    BadCount,
+    /// A name is not the name of a map.
+    BadName,
+    /// A map before has the name.
+    NameTwice,
+    /// A coordinate is not a number, or has more than 8 decimals.
+    BadNumber,
+    /// The six numbers are not a region.
+    BadRegion,
+    /// The region is not that of the first map.
+    OtherRegion,
+    /// There is no such type of cells.
+    BadType,
+    /// There are no such flags.
+    BadFlags,
+    /// The type does not have the nodata value, or it is not 0 without flag 1.
+    BadNodata,
+    /// A label is that of no category, or has a line feed.
+    BadLabel,
+    /// A byte of a mask is neither 0 nor 1.
+    BadMask,
+    /// A number is neither null nor a category.
+    CellRange,
+    /// The script has more than 1048576 bytes.
+    ScriptSize,
+    /// There are bytes after the request.
+    Trailing,
+}
+
+/// What is wrong, with the number of maps before it and the number of the row, 0 if it belongs to none.
+#[derive(Clone, Copy, Debug, PartialEq, Eq)]
+pub struct RequestError {
+    pub kind: ErrorKind,
+    pub maps: u32,
+    pub row: u32,
+}
+
+/// Why a field was not read.
+#[derive(Clone, Copy, Debug)]
+pub enum FieldStop {
+    /// Memory ran out.
+    Memory,
+    /// The bytes have an error.
+    Error(ErrorKind),
+}
+
+impl From<AllocError> for FieldStop {
+    ghost from_gives = { λ _ e. e ≡ field_stops.Memory };
+
+    fn from(_e: AllocError) -> FieldStop {
+        FieldStop::Memory
+    }
+}
+
+impl<T: Drop> From<AllocFailed<T>> for FieldStop {
+    ghost from_gives = { λ _ e. e ≡ field_stops.Memory };
+
+    fn from(_e: AllocFailed<T>) -> FieldStop {
+        FieldStop::Memory
+    }
+}
+
+/// Why a request was not read.
+#[derive(Clone, Copy, Debug, PartialEq, Eq)]
+pub enum RequestStop {
+    /// Memory ran out.
+    Memory,
+    /// The bytes have an error.
+    Error(RequestError),
+}
+
+impl From<AllocError> for RequestStop {
+    ghost from_gives = { λ _ e. e ≡ request_stops.Memory };
+
+    fn from(_e: AllocError) -> RequestStop {
+        RequestStop::Memory
+    }
+}
+
+impl<T: Drop> From<AllocFailed<T>> for RequestStop {
+    ghost from_gives = { λ _ e. e ≡ request_stops.Memory };
+
+    fn from(_e: AllocFailed<T>) -> RequestStop {
+        RequestStop::Memory
+    }
+}
+
+impl FieldStop {
+    /// The same at a place.
+    pub fn at(self, maps: u32, row: u32) -> RequestStop
+        ensures { result ≡ stop_at maps row self }
+    {
+        match self {
+            FieldStop::Memory => RequestStop::Memory,
+            FieldStop::Error(kind) => RequestStop::Error(RequestError { kind, maps, row }),
+        }
+    }
+}

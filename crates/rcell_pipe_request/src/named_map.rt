@@ -1,0 +1,221 @@
+//! Maps in a request: what precedes their rows, and the rows.
+
+ghost use Rattle.std.specs.Prelude.{◌≡◌, ◌+◌, ◌*◌, ◌<◌, ◌≤◌, List, [], ◌∷◌, ◌++◌, length, map, OnOk, IfOk, All};
+ghost use Rattle.std.specs.Option.{option_map};
+ghost use Rattle.std.specs.FinMap.{insert};
+ghost use Rattle.cell_core_values.specs.Region.{RegionValue};
+ghost use Rattle.cell_core.specs.Grid.{Grid, Draft, no_labels};
+ghost use Rattle.cell_raw.specs.Numbers.{byte_size};
+ghost use Rattle.rcell_pipe_request.specs.RequestFields.{steps};
+ghost use Rattle.rcell_pipe_request.specs.Feeds.{left, ReadsField, ReadsPlaced};
+ghost use Rattle.rcell_pipe_request.specs.Heads.{IsGoodLabel, head_value, label_values};
+ghost use Rattle.rcell_pipe_request.specs.Rows.{mask_size, cells_at, kind_of_row};
+ghost use Rattle.rcell_pipe_request.specs.Requests.{one_more_row, with_labels, map_at, named_value};
+
+use crate::error::{ErrorKind, FieldStop, RequestStop};
+use crate::feed::{Feed, read_into};
+use crate::head::{Label, MapHead, RawFormat, read_head};
+use cell_core::cell::Cell;
+use cell_core::map::{CellMap, MapBuilder};
+use cell_core::memory::Memory;
+use cell_core::name::Name;
+use cell_core::region::Region;
+use cell_core::shelf::Shelf;
+use cell_core::source::Source;
+use cell_raw::raw_row::{RowError, read_row};
+use std::alloc::Global;
+
+/// A map under its name.
+#[derive(Debug, Drop)]
+pub struct NamedMap {
+    pub name: Name,
+    pub map: CellMap,
+}
+
+fn kind_of_row(error: RowError) -> ErrorKind
+    ensures { result ≡ kind_of_row error }
+{
+    match error {
+        RowError::BadMask => ErrorKind::BadMask,
+        RowError::OutOfRange => ErrorKind::CellRange,
+    }
+}
+
+// Reads a row into a slice of cells, by a slice for its bytes and one for its mask.
+#[tactic(auto, unfolding(crate::specs::Rows::cells_at))]
+fn read_cells<R: Source>(
+    feed: &mut Feed<R>,
+    format: RawFormat,
+    bytes: &mut [u8],
+    mask: &mut [u8],
+    cells: &mut [Cell],
+) -> Result<(), FieldStop>
+    requires bytes { length bytes.old ≡ length cells.old * byte_size format.kind }
+    requires mask { length mask.old ≡ mask_size format (length cells.old) }
+    ensures reads { ReadsField (λ _. cells.new) feed.old result feed.new
+        (cells_at format (length cells.old)) }
+    ensures width { length cells.new ≡ length cells.old }
+    ensures bytes { length bytes.new ≡ length bytes.old }
+    ensures mask { length mask.new ≡ length mask.old }
+{
+    read_into(feed, bytes)?;
+    read_into(feed, mask)?;
+    match read_row(format.kind, format.nodata, mask, bytes, cells) {
+        Ok(()) => Ok(()),
+        Err(error) => Err(FieldStop::Error(kind_of_row(error))),
+    }
+}
+
+// Reads one row more.
+#[tactic(auto, unfolding(crate::specs::Requests::one_more_row))]
+fn push_row<R: Source>(
+    feed: &mut Feed<R>,
+    maps: u32,
+    format: RawFormat,
+    builder: &mut MapBuilder,
+    row: u32,
+    bytes: &mut [u8],
+    mask: &mut [u8],
+    cells: &mut [Cell],
+) -> Result<(), RequestStop>
+    requires bytes { length bytes.old ≡ length cells.old * byte_size format.kind }
+    requires mask { length mask.old ≡ mask_size format (length cells.old) }
+    requires width { length cells.old ≡ builder.old.region.cols }
+    requires row { row ≡ length builder.old.rows + 1 }
+    requires room { length builder.old.rows < builder.old.region.rows }
+    ensures reads { ReadsPlaced (λ _. builder.new.rows) feed.old result feed.new
+        (one_more_row maps format (length cells.old) builder.old.rows) }
+    ensures region { builder.new.region ≡ builder.old.region }
+    ensures count { OnOk result (length builder.new.rows ≡ length builder.old.rows + 1) }
+    ensures width { length cells.new ≡ length cells.old }
+    ensures bytes { length bytes.new ≡ length bytes.old }
+    ensures mask { length mask.new ≡ length mask.old }
+{
+    match read_cells(feed, format, bytes, mask, cells) {
+        Ok(()) => {}
+        Err(stop) => return Err(stop.at(maps, row)),
+    }
+    match builder.push_row(cells) {
+        Ok(()) => Ok(()),
+        Err(_) => Err(RequestStop::Memory),
+    }
+}
+
+// Reads all rows.
+fn push_rows<R: Source>(
+    feed: &mut Feed<R>,
+    maps: u32,
+    format: RawFormat,
+    builder: &mut MapBuilder,
+    rows: u32,
+    bytes: &mut [u8],
+    mask: &mut [u8],
+    cells: &mut [Cell],
+) -> Result<(), RequestStop>
+    requires bytes { length bytes.old ≡ length cells.old * byte_size format.kind }
+    requires mask { length mask.old ≡ mask_size format (length cells.old) }
+    requires width { length cells.old ≡ builder.old.region.cols }
+    requires rows { rows ≡ builder.old.region.rows }
+    requires none { builder.old.rows ≡ [] }
+    ensures reads { ReadsPlaced (λ _. builder.new.rows) feed.old result feed.new
+        (steps (one_more_row maps format (length cells.old)) [] rows) }
+    ensures region { builder.new.region ≡ builder.old.region }
+    ensures count { OnOk result (length builder.new.rows ≡ rows) }
+{
+    for i in 0..rows {
+        match push_row(feed, maps, format, builder, i + 1, bytes, mask, cells) {
+            Ok(()) => {}
+            Err(stop) => return Err(stop),
+        }
+    }
+    Ok(())
+}
+
+// The map of the rows, without labels.
+fn read_rows<R: Source>(
+    alloc: Global,
+    feed: &mut Feed<R>,
+    maps: u32,
+    format: RawFormat,
+    region: Region,
+) -> Result<CellMap, RequestStop>
+    ensures reads { ReadsPlaced (λ map. map.rows) feed.old result feed.new
+        (steps (one_more_row maps format region.cols) [] region.rows) }
+    ensures rest { IfOk result (λ map. (map.region ≡ region) × (map.labels ≡ no_labels)) }
+{
+    let cols = region.cols() as usize;
+    let mut bytes = vec![in alloc; 0u8; cols * format.kind.size()]?;
+    let mut mask = vec![in alloc; 0u8; if format.is_masked { cols } else { 0 }]?;
+    let mut cells = vec![in alloc; Cell::null(); cols]?;
+    let mut builder = MapBuilder::new(alloc, region);
+    match push_rows(
+        feed,
+        maps,
+        format,
+        &mut builder,
+        region.rows(),
+        bytes.as_mut_slice(),
+        mask.as_mut_slice(),
+        cells.as_mut_slice(),
+    ) {
+        Ok(()) => Ok(builder.finish()),
+        Err(stop) => Err(stop),
+    }
+}
+
+// Sets the label of a category.
+fn set_label(map: &mut CellMap, label: &Label) -> Result<(), Memory>
+    requires { IsGoodLabel label.now }
+    ensures { OnOk result (map.new ≡ record map.old {
+      labels = insert map.old.labels label.now.category label.now.text.items;
+    }) }
+{
+    map.set_label(label.category, &label.text)
+}
+
+// Sets the labels of a map, one after another.
+fn set_labels(map: &mut CellMap, labels: &[Label]) -> Result<(), Memory>
+    requires { All IsGoodLabel labels.now }
+    ensures { OnOk result (map.new ≡ record map.old {
+      labels = with_labels map.old.labels (label_values labels.now);
+    }) }
+{
+    for label in labels {
+        match set_label(map, label) {
+            Ok(()) => {}
+            Err(_) => return Err(Memory),
+        }
+    }
+    Ok(())
+}
+
+/// A map under its name, if the maps before are on this shelf.
+#[tactic(auto, unfolding(crate::specs::Requests::map_at))]
+pub fn read_map<R: Source>(
+    alloc: Global,
+    feed: &mut Feed<R>,
+    maps: u32,
+    shelf: Option<&Shelf>,
+) -> Result<NamedMap, RequestStop>
+    ensures { ReadsPlaced named_value feed.old result feed.new
+        (map_at maps (option_map (λ s. s.now) shelf.entry)) }
+{
+    let head = match read_head(alloc, feed, shelf) {
+        Ok(head) => head,
+        Err(stop) => return Err(stop.at(maps, 0)),
+    };
+    let MapHead {
+        name,
+        region,
+        format,
+        labels,
+    } = head;
+    let mut map = match read_rows(alloc, feed, maps, format, region) {
+        Ok(map) => map,
+        Err(stop) => return Err(stop),
+    };
+    match set_labels(&mut map, &labels) {
+        Ok(()) => Ok(NamedMap { name, map }),
+        Err(_) => Err(RequestStop::Memory),
+    }
+}

@@ -1,0 +1,210 @@
+//! Requests, read whole.
+
+ghost use Rattle.std.specs.Prelude.{◌≡◌, ◌+◌, ◌-◌, ◌<◌, ◌≤◌, ◌++◌, List, [], ◌∷◌, length, OnOk, IfOk, IfErr, IfSome, bytes_eq, codes};
+ghost use Rattle.cell_core.specs.Shelf.{ShelfValue};
+ghost use Rattle.rcell_pipe_request.specs.RequestFields.{steps};
+ghost use Rattle.rcell_pipe_request.specs.Feeds.{left, ReadsField, ReadsPlaced};
+ghost use Rattle.rcell_pipe_request.specs.Requests.{ReadsRequest, first_shelf, shelf_with, count_at, script_at, last_script_at, first_map_at, one_more_map, run_at, magic_at, request_at, request_of, named_value, run_request_value};
+
+use crate::error::{ErrorKind, FieldStop, RequestStop};
+use crate::feed::{Feed, read_bytes, read_end, read_into, read_u32};
+use crate::named_map::{NamedMap, read_map};
+use cell_core::shelf::Shelf;
+use cell_core::source::Source;
+use std::alloc::Global;
+
+/// Maps and a script.
+#[derive(Debug, Drop)]
+pub struct Request {
+    pub shelf: Shelf,
+    pub script: Vec<u8>,
+}
+
+// The number of maps.
+#[tactic(auto, unfolding(crate::specs::Requests::count_at))]
+fn read_count<R: Source>(feed: &mut Feed<R>) -> Result<u32, FieldStop>
+    ensures reads { ReadsField (λ n. n) feed.old result feed.new count_at }
+    ensures within { IfOk result (λ n. (1 ≤ n) × (n ≤ 65535)) }
+{
+    let count = read_u32(feed)?;
+    if 1 <= count && count <= 65535 {
+        return Ok(count);
+    }
+    Err(FieldStop::Error(ErrorKind::BadCount))
+}
+
+// The bytes of the script.
+#[tactic(auto, unfolding(crate::specs::Requests::script_at))]
+fn read_script<R: Source>(alloc: Global, feed: &mut Feed<R>) -> Result<Vec<u8>, FieldStop>
+    ensures { ReadsField (λ text. text.items) feed.old result feed.new script_at }
+{
+    let size = read_u32(feed)?;
+    if size > 1048576 {
+        return Err(FieldStop::Error(ErrorKind::ScriptSize));
+    }
+    read_bytes(alloc, feed, size as usize)
+}
+
+/// The bytes of the script, which end the request.
+#[tactic(auto, unfolding(crate::specs::Requests::last_script_at))]
+pub fn read_last_script<R: Source>(alloc: Global, feed: &mut Feed<R>) -> Result<Vec<u8>, FieldStop>
+    ensures { ReadsField (λ text. text.items) feed.old result feed.new last_script_at }
+{
+    let script = read_script(alloc, feed)?;
+    read_end(feed)?;
+    Ok(script)
+}
+
+// A shelf of one map.
+fn first_shelf(alloc: Global, named: NamedMap) -> Result<Shelf, RequestStop>
+    ensures ok { IfOk result (λ shelf. shelf ≡ first_shelf (named_value named)) }
+    ensures error { IfErr result (λ stop. stop ≡ RequestStop.Memory) }
+{
+    let NamedMap { name, map } = named;
+    let mut shelf = Shelf::new(alloc, map.region());
+    match shelf.add(name, map) {
+        Ok(()) => Ok(shelf),
+        Err(_) => Err(RequestStop::Memory),
+    }
+}
+
+// Puts one map more on a shelf.
+fn put_map(shelf: &mut Shelf, named: NamedMap) -> Result<(), RequestStop>
+    ensures ok { OnOk result (shelf.new ≡ shelf_with shelf.old (named_value named)) }
+    ensures count { OnOk result (length shelf.new.names ≡ length shelf.old.names + 1) }
+    ensures error { IfErr result (λ stop. stop ≡ RequestStop.Memory) }
+{
+    let NamedMap { name, map } = named;
+    match shelf.add(name, map) {
+        Ok(()) => Ok(()),
+        Err(_) => Err(RequestStop::Memory),
+    }
+}
+
+// Reads one map more.
+#[tactic(auto, unfolding(crate::specs::Requests::one_more_map))]
+fn push_map<R: Source>(
+    alloc: Global,
+    feed: &mut Feed<R>,
+    shelf: &mut Shelf,
+) -> Result<(), RequestStop>
+    requires { length shelf.old.names < 65536 }
+    ensures reads { ReadsPlaced (λ _. shelf.new) feed.old result feed.new (one_more_map shelf.old) }
+    ensures count { OnOk result (length shelf.new.names ≡ length shelf.old.names + 1) }
+{
+    let maps = shelf.len() as u32;
+    let named = match read_map(alloc, feed, maps, Some(&*shelf)) {
+        Ok(named) => named,
+        Err(stop) => return Err(stop),
+    };
+    put_map(shelf, named)
+}
+
+// Reads so many maps more.
+fn push_maps<R: Source>(
+    alloc: Global,
+    feed: &mut Feed<R>,
+    shelf: &mut Shelf,
+    count: u32,
+) -> Result<(), RequestStop>
+    requires { length shelf.old.names + count ≤ 65536 }
+    ensures { ReadsPlaced (λ _. shelf.new) feed.old result feed.new
+        (steps one_more_map shelf.old count) }
+{
+    for i in 0..count {
+        match push_map(alloc, feed, shelf) {
+            Ok(()) => {}
+            Err(stop) => return Err(stop),
+        }
+    }
+    Ok(())
+}
+
+// How many maps there are, and a shelf of the first.
+#[derive(Drop)]
+struct FirstMap {
+    count: u32,
+    shelf: Shelf,
+}
+
+#[tactic(auto, unfolding(crate::specs::Requests::first_map_at))]
+fn read_first_map<R: Source>(alloc: Global, feed: &mut Feed<R>) -> Result<FirstMap, RequestStop>
+    ensures reads { ReadsPlaced (λ first. (first.count, first.shelf)) feed.old result feed.new
+        first_map_at }
+    ensures count { IfOk result (λ first. (1 ≤ first.count) × (first.count ≤ 65535)) }
+    ensures one { IfOk result (λ first. length first.shelf.names ≡ 1) }
+{
+    let count = match read_count(feed) {
+        Ok(count) => count,
+        Err(stop) => return Err(stop.at(0, 0)),
+    };
+    let named = match read_map(alloc, feed, 0, None) {
+        Ok(named) => named,
+        Err(stop) => return Err(stop),
+    };
+    match first_shelf(alloc, named) {
+        Ok(shelf) => Ok(FirstMap { count, shelf }),
+        Err(stop) => Err(stop),
+    }
+}
+
+/// The maps and the script.
+#[tactic(auto, unfolding(crate::specs::Requests::run_at))]
+pub fn read_run<R: Source>(alloc: Global, feed: &mut Feed<R>) -> Result<Request, RequestStop>
+    ensures { ReadsPlaced run_request_value feed.old result feed.new run_at }
+{
+    let first = match read_first_map(alloc, feed) {
+        Ok(first) => first,
+        Err(stop) => return Err(stop),
+    };
+    let FirstMap { count, mut shelf } = first;
+    match push_maps(alloc, feed, &mut shelf, count - 1) {
+        Ok(()) => {}
+        Err(stop) => return Err(stop),
+    }
+    match read_last_script(alloc, feed) {
+        Ok(script) => Ok(Request { shelf, script }),
+        Err(stop) => Err(stop.at(count, 0)),
+    }
+}
+
+fn is_magic(bytes: &[u8]) -> bool
+    ensures { result ≡ bytes_eq bytes.now (codes "RCELLQ1\n") }
+{
+    bytes == b"RCELLQ1\n".as_slice()
+}
+
+// The first eight bytes.
+#[tactic(auto, unfolding(crate::specs::Requests::magic_at))]
+fn read_magic<R: Source>(feed: &mut Feed<R>) -> Result<(), FieldStop>
+    ensures { ReadsField (λ done. done) feed.old result feed.new magic_at }
+{
+    let mut magic = [0u8; 8];
+    read_into(feed, &mut magic)?;
+    if !is_magic(&magic) {
+        return Err(FieldStop::Error(ErrorKind::BadMagic));
+    }
+    Ok(())
+}
+
+#[tactic(auto, unfolding(crate::specs::Requests::request_at))]
+fn read_whole<R: Source>(alloc: Global, feed: &mut Feed<R>) -> Result<Request, RequestStop>
+    ensures { ReadsPlaced run_request_value feed.old result feed.new request_at }
+{
+    match read_magic(feed) {
+        Ok(()) => read_run(alloc, feed),
+        Err(stop) => Err(stop.at(0, 0)),
+    }
+}
+
+/// Reads a request to the end of its source. Memory grows with the bytes that have come.
+///
+/// # Errors
+///
+/// The first error of the bytes, or [`RequestStop::Memory`] if memory ran out.
+pub fn read_request<R: Source + Drop>(alloc: Global, source: R) -> Result<Request, RequestStop>
+    ensures { IfSome (R.coming source) (λ c. ReadsRequest result (request_of c)) }
+{
+    let mut feed = Feed::new(alloc, source)?;
+    read_whole(alloc, &mut feed)
+}

@@ -1,0 +1,7 @@
+pub mod LawLemmas
+pub mod ExecutionLemmas
+pub mod CountLemmas
+pub mod EndLemmas
+pub mod ListingLemmas
+pub mod TableLemmas
+pub mod StatsLemmas

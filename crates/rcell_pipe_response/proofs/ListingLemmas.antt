@@ -1,0 +1,21 @@
+-- What is written of a list that is taken from the front.
+use Rattle.std.proofs.Common.{ℕ, List, [], ◌++◌, Option}
+use Rattle.cell_core_devices.specs.Device.{Faults}
+use Rattle.cell_core_devices.specs.Blocks.{BlockValue, Appends}
+use Rattle.cell_core_devices.proofs.BlockLemmas.{appends_none, appends_then}
+
+-- where the rest is appended, all was appended since the first
+pub record Leads {S : Type 0} (taken : S → Option (List ℕ)) (faults : S → Faults) (first : S) (start : BlockValue) (all : List ℕ) (out : S) (block : BlockValue) (rest : List ℕ) : Type 0 where
+  pub on : (now : S) (new : BlockValue) → Appends taken faults out block rest now new → Appends taken faults first start all now new
+
+module _ {S : Type 0} {taken : S → Option (List ℕ)} {faults : S → Faults} {first : S} {start : BlockValue} {all : List ℕ} where
+  pub leads_first : Leads taken faults first start all first start all
+  leads_first = record { on = λ now new appends. appends }
+
+  -- after one piece more
+  pub leads_more : {out next : S} {block middle : BlockValue} (piece rest : List ℕ) → Leads taken faults first start all out block (piece ++ rest) → Appends taken faults out block piece next middle → Leads taken faults first start all next middle rest
+  leads_more piece rest before step = record { on = λ now new appends. before.on now new (appends_then step appends) }
+
+  -- after the last piece
+  pub leads_done : {out : S} {block : BlockValue} → Leads taken faults first start all out block [] → Appends taken faults first start all out block
+  leads_done {out} {block} before = before.on out block appends_none

@@ -1,0 +1,6 @@
+use Rattle.rcell_pipe_response.proofs.StatsLemmas.{table-stats}
+use Rattle.rcell_pipe_response.proofs.execution.push_stats.Goals as goal
+
+pub returns-clause-ok : goal.returns-clause-ok
+returns-clause-ok g c =
+    rw (← table-stats c.args.shelf.now c.args.line c.args.places.now c.args.options.now c.in-Ok.table.pairs c.if-options.false c.in-Ok.ensures.value) c.push_table.ensures

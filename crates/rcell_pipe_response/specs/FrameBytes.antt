@@ -1,0 +1,110 @@
+-- The bytes of a response: a magic line, the frames, and a frame that says how the run ended (profile).
+use Rattle.std.specs.Prelude.{ℕ, pos, negsuc, Bool, true, false, List, [], ◌∷◌, ◌++◌, length, map, flat_map, codes, Some, None, if◌then◌else◌, nat_le}
+use Rattle.std.specs.List.{list_all}
+use Rattle.std.specs.Int.{w32, w64, to_le_bytes, cast_unsigned}
+use Rattle.cell_core_devices.specs.Blocks.{capped_count}
+use Rattle.cell_core_values.specs.Cell.{pattern_of_cell}
+use Rattle.cell_core.specs.Grid.{CellValue}
+use Rattle.cell_stats.specs.CategoryTables.{Pairs}
+use Rattle.cell_stats.specs.TableText.{FormatValue}
+use Rattle.rcell_pipe_response.specs.Frames.{TableFrame, LinesFrame, GridFrame, OutputFrame, Table, Lines, Map}
+
+-- a number in eight bytes, the lowest first
+abbrev pub number_bytes : ℕ → List ℕ
+number_bytes n = to_le_bytes w64 n
+
+-- the length of a text, and the text
+abbrev pub text_bytes : List ℕ → List ℕ
+text_bytes text = number_bytes (length text) ++ text
+
+-- a cell in four bytes: its category, or -2147483648 for null
+abbrev pub wide_bytes : CellValue → List ℕ
+wide_bytes cell = to_le_bytes w32 (cast_unsigned w32 (pattern_of_cell cell))
+
+-- 1 if it is so
+abbrev pub flag : Bool → ℕ
+flag true = 1
+flag false = 0
+
+-- what a table begins with: line, number of combinations and of maps, whether there are counts and labels, the separator, the null text, and the names of the maps
+abbrev pub head_bytes : ℕ → ℕ → FormatValue → List (List ℕ) → List ℕ
+head_bytes line entries format names =
+    codes "TABL" ++ number_bytes line ++ number_bytes entries ++ number_bytes (length names)
+    ++ (flag format.counts ∷ flag format.labels ∷ format.separator ∷ []) ++ text_bytes format.null_text ++ flat_map text_bytes names
+
+-- the counts, if they are asked for
+abbrev pub counts_bytes : FormatValue → Pairs → List ℕ
+counts_bytes format pairs = if format.counts then flat_map (λ pair. number_bytes pair.1) pairs else []
+
+-- the cells of the combinations, one combination after another
+abbrev pub combinations_bytes : Pairs → List ℕ
+combinations_bytes pairs = flat_map (λ pair. flat_map wide_bytes pair.0) pairs
+
+-- the labels in the order of the cells, if they are asked for
+abbrev pub labels_bytes : FormatValue → List (List (List ℕ)) → List ℕ
+labels_bytes format labels = if format.labels then flat_map (flat_map text_bytes) labels else []
+
+abbrev pub table_bytes : TableFrame → List ℕ
+table_bytes t = head_bytes t.line (length t.pairs) t.format t.names ++ counts_bytes t.format t.pairs ++ combinations_bytes t.pairs ++ labels_bytes t.format t.labels
+
+-- lines, after the number of their bytes
+abbrev pub lines_bytes : LinesFrame → List ℕ
+lines_bytes t = codes "TEXT" ++ number_bytes t.line ++ number_bytes (capped_count (length t.text)) ++ t.text
+
+-- whether a cell fits a byte: null, or a category from 0 to 254
+abbrev pub is_small_cell : CellValue → Bool
+is_small_cell None = true
+is_small_cell (Some (pos n)) = nat_le n 254
+is_small_cell (Some (negsuc n)) = false
+
+-- whether each cell fits a byte
+abbrev pub are_small : List (List CellValue) → Bool
+are_small rows = list_all (list_all is_small_cell) rows
+
+-- the byte of a cell: its category, or 255 for null and for a category that fits no byte
+abbrev pub byte_of_cell : CellValue → ℕ
+byte_of_cell None = 255
+byte_of_cell (Some (pos n)) = if nat_le n 254 then n else 255
+byte_of_cell (Some (negsuc n)) = 255
+
+-- the cells of a map, row by row: 1, and a byte for each cell, if all fit; otherwise 6, and four bytes for each
+abbrev pub rows_bytes : List (List CellValue) → List ℕ
+rows_bytes rows = if are_small rows then 1 ∷ flat_map (map byte_of_cell) rows else 6 ∷ flat_map (flat_map wide_bytes) rows
+
+-- what a map begins with: line, null text, name, numbers of rows and columns
+abbrev pub grid_head : ℕ → List ℕ → List ℕ → ℕ → ℕ → List ℕ
+grid_head line null_text name rows cols = codes "GRID" ++ number_bytes line ++ text_bytes null_text ++ text_bytes name ++ number_bytes rows ++ number_bytes cols
+
+abbrev pub grid_bytes : GridFrame → List ℕ
+grid_bytes g = grid_head g.line g.null_text g.name g.grid.region.rows g.grid.region.cols ++ rows_bytes g.grid.rows
+
+-- the bytes of a frame
+abbrev pub frame_bytes : OutputFrame → List ℕ
+frame_bytes (Table t) = table_bytes t
+frame_bytes (Lines t) = lines_bytes t
+frame_bytes (Map g) = grid_bytes g
+
+-- the bytes of frames
+abbrev pub frames_bytes : List OutputFrame → List ℕ
+frames_bytes frames = flat_map frame_bytes frames
+
+-- how a run ended: its status, where its error is (0 nowhere, 1 in the request, 2 in the script), after how many maps, in which line or row and column, and the text of the error
+pub record EndValue : Type 0 where
+  pub status : ℕ
+  pub source : ℕ
+  pub maps : ℕ
+  pub line : ℕ
+  pub column : ℕ
+  pub text : List ℕ
+
+-- the last frame
+abbrev pub end_bytes : EndValue → List ℕ
+end_bytes e = codes "DONE" ++ number_bytes e.status ++ number_bytes e.source ++ number_bytes e.maps ++ number_bytes e.line ++ number_bytes e.column ++ text_bytes e.text
+
+-- the first eight bytes
+abbrev pub response_magic : List ℕ
+response_magic = codes "RCELLA1\n"
+
+-- a whole response
+abbrev pub response_bytes : List OutputFrame → EndValue → List ℕ
+response_bytes frames end = response_magic ++ frames_bytes frames ++ end_bytes end

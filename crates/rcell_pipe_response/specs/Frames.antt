@@ -1,0 +1,102 @@
+-- The frames of a response: one for each statement that writes, in order, with all that it writes (r.stats and r.out.ascii manuals; profile).
+use Rattle.std.specs.Prelude.{ℕ, ◌≡◌, List, [], ◌∷◌, ◌++◌, map, flat_map, slice_get, unwrap_or, Option, Some, None, if◌then◌else◌}
+use Rattle.std.specs.List.{zip}
+use Rattle.cell_core.specs.Grid.{Grid, CellValue}
+use Rattle.cell_core.specs.Shelf.{ShelfValue}
+use Rattle.cell_core.specs.Text.{cell_text}
+use Rattle.cell_ascii_meaning.specs.Writing.{grid_text}
+use Rattle.cell_stats_combinations.specs.Combinations.{Combination}
+use Rattle.cell_stats.specs.CategoryTables.{Pairs, table_of}
+use Rattle.cell_stats.specs.TableText.{FormatValue, printed_pairs, line_text, count_fields, label_of_cell, cell_lines}
+use Rattle.rcell_script.specs.declared.statement.Statement.{Statement}
+use Rattle.rcell_script_commands.specs.declared.command.Command.{Command}
+use Rattle.rcell_script_commands.specs.declared.command.Command.TheVariants.{Mapcalc, Reclass, Clump, Stats, OutAscii}
+use Rattle.rcell_script_commands.specs.declared.command.StatsOptions.{StatsOptions}
+use Rattle.rcell.specs.After.{IsShelfAfter}
+use Rattle.rcell.specs.Output.{combinations_of, format_of}
+
+-- a table: the line of its statement, how it is printed, the names of its maps, its combinations with their counts, and a label for each cell of each combination
+pub record TableFrame : Type 0 where
+  pub line : ℕ
+  pub format : FormatValue
+  pub names : List (List ℕ)
+  pub pairs : Pairs
+  pub labels : List (List (List ℕ))
+
+-- printed lines: the line of their statement, and their text
+pub record LinesFrame : Type 0 where
+  pub line : ℕ
+  pub text : List ℕ
+
+-- a map: the line of its statement, the text that stands for null, its name, and the map
+pub record GridFrame : Type 0 where
+  pub line : ℕ
+  pub null_text : List ℕ
+  pub name : List ℕ
+  pub grid : Grid
+
+-- the result of a statement that writes
+pub data OutputFrame : Type 0 where
+  Table : TableFrame → OutputFrame
+  Lines : LinesFrame → OutputFrame
+  Map : GridFrame → OutputFrame
+
+-- a cell and its label as they are printed
+abbrev pub printed_fields : FormatValue → CellValue × List ℕ → List (List ℕ)
+printed_fields format given = cell_text format.null_text given.0 ∷ (if format.labels then given.1 ∷ [] else [])
+
+-- the line of a combination with its count and its labels
+abbrev pub printed_line : FormatValue → (Combination × ℕ) × List (List ℕ) → List ℕ
+printed_line format given = line_text format (flat_map (printed_fields format) (zip given.0.0 given.1) ++ count_fields format given.0.1)
+
+-- the text that rcell writes for a frame
+abbrev pub frame_text : OutputFrame → List ℕ
+frame_text (Table t) = flat_map (printed_line t.format) (zip t.pairs t.labels)
+frame_text (Lines t) = t.text
+frame_text (Map g) = grid_text g.null_text g.grid
+
+-- the name of the map in a place, nothing where there is none
+abbrev pub name_in : ShelfValue → ℕ → List ℕ
+name_in shelf place = unwrap_or (slice_get shelf.names place) []
+
+-- the label of each cell of a combination
+abbrev pub combination_labels : List Grid → List ℕ → Combination × ℕ → List (List ℕ)
+combination_labels maps places pair = map (λ p. label_of_cell maps p.0 p.1) (zip places pair.0)
+
+-- the table that r.stats prints
+abbrev pub listed_pairs : ShelfValue → List ℕ → StatsOptions → Pairs
+listed_pairs shelf places options = printed_pairs options.after (table_of options.skip (combinations_of shelf places))
+
+-- the lines that r.stats -1 prints
+abbrev pub cell_lines_of : ShelfValue → List ℕ → StatsOptions → List ℕ
+cell_lines_of shelf places options = cell_lines (format_of options) options.skip shelf.maps places shelf.region.rows shelf.region.cols
+
+-- the frame of a table
+abbrev pub table_frame : ShelfValue → ℕ → List ℕ → StatsOptions → Pairs → TableFrame
+table_frame shelf line places options pairs = record { line = line; format = format_of options; names = map (name_in shelf) places; pairs = pairs; labels = map (combination_labels shelf.maps places) pairs }
+
+-- the frame of r.stats
+abbrev pub stats_frame : ShelfValue → ℕ → List ℕ → StatsOptions → OutputFrame
+stats_frame shelf line places options =
+    if options.cells
+    then Lines (record { line = line; text = cell_lines_of shelf places options })
+    else Table (table_frame shelf line places options (listed_pairs shelf places options))
+
+-- the frame of r.out.ascii, nothing where there is no map
+abbrev pub map_frames : ShelfValue → ℕ → ℕ → List ℕ → Option Grid → List OutputFrame
+map_frames shelf line place null_text None = []
+map_frames shelf line place null_text (Some grid) = Map (record { line = line; null_text = null_text; name = name_in shelf place; grid = grid }) ∷ []
+
+-- the frames of a command over a shelf: one if it writes
+abbrev pub command_frames : ShelfValue → ℕ → Command → List OutputFrame
+command_frames shelf line (Mapcalc target bound) = []
+command_frames shelf line (Reclass place target rules) = []
+command_frames shelf line (Clump place target joining) = []
+command_frames shelf line (Stats places options) = stats_frame shelf line places options ∷ []
+command_frames shelf line (OutAscii place null_text) = map_frames shelf line place null_text (slice_get shelf.maps place)
+
+-- statements over a shelf give the frames and leave the other shelf: each over the shelf that those before it left
+abbrev pub GivesFrames : ShelfValue → List Statement → List OutputFrame → ShelfValue → Type 0
+GivesFrames shelf [] frames after = (frames ≡ []) × (after ≡ shelf)
+GivesFrames shelf (s ∷ ss) frames after =
+    (next : ShelfValue) × ((rest : List OutputFrame) × (IsShelfAfter shelf s.command next × (GivesFrames next ss rest after × (frames ≡ command_frames shelf s.line s.command ++ rest))))

@@ -1,0 +1,7 @@
+-- The frames of a response, their bytes, and how a run of `rcell-pipe` ends.
+pub mod Frames
+pub mod FrameBytes
+pub mod RunEnds
+pub mod Endings
+pub mod FrameLaw
+pub mod parts

@@ -1,0 +1,136 @@
+-- What a run of `rcell-pipe` has written when it ends (profile).
+use Rattle.std.specs.Prelude.{ℕ, ◌≡◌, ◌≢◌, ⊤, ◌++◌, List, [], ◌∷◌, codes, Option, Some, None, Result, Ok, Err}
+use Rattle.cell_core_devices.specs.Device.{append_known}
+use Rattle.cell_core.specs.Shelf.{ShelfValue}
+use Rattle.rcell_script.specs.Scripts.{IsScript}
+use Rattle.rcell_script.specs.ReadScripts.{IsScriptFault}
+use Rattle.rcell_script.specs.declared.statement.Statement.{Statement}
+use Rattle.rcell_script_commands.specs.declared.script_fault.ScriptFault.{ScriptFault}
+use Rattle.rcell_script_commands.specs.declared.script_fault.ScriptKind.{ScriptKind}
+use Rattle.rcell_script_commands.specs.declared.script_fault.ScriptKind.TheVariants as script_kinds
+use Rattle.rcell.specs.runs.Statuses.{script_status}
+use Rattle.rcell_pipe_request.specs.declared.error.ErrorKind.{ErrorKind}
+use Rattle.rcell_pipe_request.specs.declared.error.ErrorKind.TheVariants as kinds
+use Rattle.rcell_pipe_request.specs.declared.error.RequestError.{RequestError}
+use Rattle.rcell_pipe_request.specs.Requests.{RunRequestValue}
+use Rattle.rcell_pipe_response.specs.declared.end.End.{End}
+use Rattle.rcell_pipe_response.specs.declared.end.PipeError.{PipeError}
+use Rattle.rcell_pipe_response.specs.declared.end.PipeError.TheVariants as errors
+use Rattle.rcell_pipe_response.specs.Frames.{OutputFrame, GivesFrames}
+use Rattle.rcell_pipe_response.specs.FrameBytes.{EndValue, response_bytes}
+
+-- an end without where its text lies in memory
+abbrev pub end_value : End → EndValue
+end_value end = record { status = end.status; source = end.source; maps = end.maps; line = end.line; column = end.column; text = end.text.now }
+
+-- the text of an error of the bytes
+abbrev pub kind_text : ErrorKind → List ℕ
+kind_text kinds.BadMagic = codes "bad magic"
+kind_text kinds.Short = codes "request too short"
+kind_text kinds.ReadFailed = codes "read failed"
+kind_text kinds.BadCount = codes "bad number of maps"
+kind_text kinds.BadName = codes "bad name"
+kind_text kinds.NameTwice = codes "name used twice"
+kind_text kinds.BadNumber = codes "bad number"
+kind_text kinds.BadRegion = codes "bad region"
+kind_text kinds.OtherRegion = codes "other region"
+kind_text kinds.BadType = codes "bad type"
+kind_text kinds.BadFlags = codes "bad flags"
+kind_text kinds.BadNodata = codes "bad nodata"
+kind_text kinds.BadLabel = codes "bad label"
+kind_text kinds.BadMask = codes "bad mask"
+kind_text kinds.CellRange = codes "cell out of range"
+kind_text kinds.ScriptSize = codes "script too long"
+kind_text kinds.Trailing = codes "bytes after the request"
+
+-- 4 if a read failed, 1 for what is wrong with the bytes
+abbrev pub request_status : ErrorKind → ℕ
+request_status kinds.ReadFailed = 4
+request_status kind = 1
+
+-- the column of an error in an expression, 0 for others
+abbrev pub script_column : ScriptKind → ℕ
+script_column (script_kinds.Calc error) = error.column
+script_column kind = 0
+
+-- the end of a run that is done
+abbrev pub done_end : EndValue
+done_end = record { status = 0; source = 0; maps = 0; line = 0; column = 0; text = [] }
+
+-- the end where the bytes are no request
+abbrev pub request_end : RequestError → EndValue
+request_end error = record { status = request_status error.kind; source = 1; maps = error.maps; line = error.row; column = 0; text = kind_text error.kind }
+
+-- the end where the script is rejected, with the text of the error
+abbrev pub script_end : ScriptFault → List ℕ → EndValue
+script_end error text = record { status = script_status error.kind; source = 2; maps = 0; line = error.line; column = script_column error.kind; text = text }
+
+-- the end where memory ran out, at a line or before the first
+abbrev pub memory_end : ℕ → EndValue
+memory_end line = record { status = 3; source = 0; maps = 0; line = line; column = 0; text = codes "no memory" }
+
+-- the status of a run
+abbrev pub error_status : PipeError → ℕ
+error_status (errors.Request error) = request_status error.kind
+error_status (errors.Script error) = script_status error.kind
+error_status errors.Memory = 3
+error_status (errors.MemoryAt line) = 3
+error_status errors.Write = 4
+
+abbrev pub status_after : Option PipeError → ℕ
+status_after None = 0
+status_after (Some error) = error_status error
+
+-- the bytes are a request, and its script denotes statements over its maps
+pub record IsPipeAccepted (read : Result RunRequestValue RequestError) (shelf : ShelfValue) (statements : List Statement) : Type 0 where
+  pub script : List ℕ
+  pub request : read ≡ Ok (record { shelf = shelf; script = script })
+  pub denoted : IsScript shelf.names script statements
+
+-- the whole response was written: the frames of the statements, and the end
+pub record IsPipeDone (read : Result RunRequestValue RequestError) (before now : Option (List ℕ)) : Type 0 where
+  pub shelf : ShelfValue
+  pub statements : List Statement
+  pub accepted : IsPipeAccepted read shelf statements
+  pub frames : List OutputFrame
+  pub after : ShelfValue
+  pub given : GivesFrames shelf statements frames after
+  pub taken : now ≡ append_known before (response_bytes frames done_end)
+
+-- the script was rejected for its first error: no frame but the end, with some text of the error
+pub record IsScriptRejected (read : Result RunRequestValue RequestError) (before now : Option (List ℕ)) (error : ScriptFault) : Type 0 where
+  pub shelf : ShelfValue
+  pub script : List ℕ
+  pub request : read ≡ Ok (record { shelf = shelf; script = script })
+  pub first : error.kind ≢ script_kinds.Memory → IsScriptFault shelf.names script error
+  pub text : List ℕ
+  pub taken : now ≡ append_known before (response_bytes [] (script_end error text))
+
+-- memory ran out at a statement: the frames of those before it were written, and the end
+pub record IsPipeStopped (read : Result RunRequestValue RequestError) (before now : Option (List ℕ)) (line : ℕ) : Type 0 where
+  pub shelf : ShelfValue
+  pub first : List Statement
+  pub statement : Statement
+  pub others : List Statement
+  pub accepted : IsPipeAccepted read shelf (first ++ statement ∷ others)
+  pub line_is : line ≡ statement.line
+  pub frames : List OutputFrame
+  pub after : ShelfValue
+  pub given : GivesFrames shelf first frames after
+  pub taken : now ≡ append_known before (response_bytes frames (memory_end line))
+
+-- what has been written, by the error of the run
+abbrev pub IsPipeEnd : Result RunRequestValue RequestError → Option (List ℕ) → Option (List ℕ) → Option PipeError → Type 0
+IsPipeEnd read before now None = IsPipeDone read before now
+IsPipeEnd read before now (Some (errors.Request error)) = (read ≡ Err error) × (now ≡ append_known before (response_bytes [] (request_end error)))
+IsPipeEnd read before now (Some (errors.Script error)) = IsScriptRejected read before now error
+IsPipeEnd read before now (Some errors.Memory) = now ≡ append_known before (response_bytes [] (memory_end 0))
+IsPipeEnd read before now (Some (errors.MemoryAt line)) = IsPipeStopped read before now line
+IsPipeEnd read before now (Some errors.Write) = ⊤
+
+-- memory lasts: the error is not that it ran out
+abbrev pub MemoryLasts : Option PipeError → Type 0
+MemoryLasts (Some errors.Memory) = ⊥
+MemoryLasts (Some (errors.MemoryAt line)) = ⊥
+MemoryLasts (Some (errors.Script fault)) = fault.kind ≢ script_kinds.Memory
+MemoryLasts error = ⊤

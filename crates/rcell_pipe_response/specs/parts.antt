@@ -1,0 +1,4 @@
+-- What only private functions and proofs cite.
+pub mod CellLabels
+pub mod LastFrames
+pub mod Execution

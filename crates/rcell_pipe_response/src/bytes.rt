@@ -1,0 +1,54 @@
+//! Numbers, texts and cells as bytes.
+
+ghost use Rattle.std.specs.Prelude.{◌≡◌, flat_map};
+ghost use Rattle.cell_core_devices.specs.Blocks.{Appends};
+ghost use Rattle.cell_core_values.specs.Cell.{pattern_of_cell};
+ghost use Rattle.rcell_pipe_response.specs.FrameBytes.{number_bytes, text_bytes, wide_bytes};
+
+use cell_core::block::OutputBlock;
+use cell_core::cell::Cell;
+use cell_core::sink::Sink;
+
+// The number of a cell: its category, or the smallest number for null.
+#[inline(always)]
+fn pattern_of(cell: Cell) -> i32
+    ensures { result ≡ pattern_of_cell cell }
+{
+    match cell.get() {
+        Some(category) => category,
+        None => i32::MIN,
+    }
+}
+
+/// A number in eight bytes.
+pub fn push_number<W: Sink>(out: &mut W, block: &mut OutputBlock, n: u64)
+    ensures { Appends W.taken W.faults out.old block.old (number_bytes n) out.new block.new }
+{
+    block.push(out, &n.to_le_bytes());
+}
+
+/// A length and a text.
+pub fn push_text<W: Sink>(out: &mut W, block: &mut OutputBlock, text: &[u8])
+    ensures { Appends W.taken W.faults out.old block.old (text_bytes text.now) out.new block.new }
+{
+    push_number(out, block, text.len() as u64);
+    block.push(out, text);
+}
+
+/// A cell in four bytes.
+#[inline(always)]
+pub(crate) fn push_cell<W: Sink>(out: &mut W, block: &mut OutputBlock, cell: Cell)
+    ensures { Appends W.taken W.faults out.old block.old (wide_bytes cell) out.new block.new }
+{
+    block.push(out, &pattern_of(cell).to_le_bytes());
+}
+
+/// Cells in four bytes each.
+pub(crate) fn push_cells<W: Sink>(out: &mut W, block: &mut OutputBlock, cells: &[Cell])
+    ensures { Appends W.taken W.faults out.old block.old
+        (flat_map wide_bytes cells.now) out.new block.new }
+{
+    for cell in cells {
+        push_cell(out, block, *cell);
+    }
+}

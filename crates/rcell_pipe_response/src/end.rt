@@ -1,0 +1,164 @@
+//! How a run ends.
+
+ghost use Rattle.std.specs.Prelude.{◌≡◌};
+ghost use Rattle.rcell_pipe_response.specs.RunEnds.{kind_text, request_status, script_column, done_end, request_end, script_end, memory_end, error_status, status_after, end_value};
+ghost use Rattle.rcell.specs.runs.Statuses.{script_status};
+
+use rcell_pipe_request::error::{ErrorKind, RequestError};
+use rcell_script::script_fault::{ScriptFault, ScriptKind};
+
+/// Why a run of `rcell-pipe` did not do its work.
+#[derive(Clone, Copy, Debug, PartialEq, Eq)]
+pub enum PipeError {
+    /// The bytes are no request.
+    Request(RequestError),
+    /// The script was rejected.
+    Script(ScriptFault),
+    /// Memory ran out before the script was accepted.
+    Memory,
+    /// Memory ran out at the statement of this line.
+    MemoryAt { line: u64 },
+    /// A write failed.
+    Write,
+}
+
+/// The fields of the last frame.
+#[derive(Clone, Copy, Debug)]
+pub struct End<'a> {
+    pub status: u8,
+    pub source: u8,
+    pub maps: u32,
+    pub line: u64,
+    pub column: u32,
+    pub text: &'a [u8],
+}
+
+fn kind_text(kind: ErrorKind) -> &'static [u8]
+    ensures { result.now ≡ kind_text kind }
+{
+    match kind {
+        ErrorKind::BadMagic => b"bad magic",
+        ErrorKind::Short => b"request too short",
+        ErrorKind::ReadFailed => b"read failed",
+        ErrorKind::BadCount => b"bad number of maps",
+        ErrorKind::BadName => b"bad name",
+        ErrorKind::NameTwice => b"name used twice",
+        ErrorKind::BadNumber => b"bad number",
+        ErrorKind::BadRegion => b"bad region",
+        ErrorKind::OtherRegion => b"other region",
+        ErrorKind::BadType => b"bad type",
+        ErrorKind::BadFlags => b"bad flags",
+        ErrorKind::BadNodata => b"bad nodata",
+        ErrorKind::BadLabel => b"bad label",
+        ErrorKind::BadMask => b"bad mask",
+        ErrorKind::CellRange => b"cell out of range",
+        ErrorKind::ScriptSize => b"script too long",
+        ErrorKind::Trailing => b"bytes after the request",
+    }
+}
+
+fn request_status(kind: ErrorKind) -> u8
+    ensures { result ≡ request_status kind }
+{
+    match kind {
+        ErrorKind::ReadFailed => 4,
+        _ => 1,
+    }
+}
+
+/// All is done.
+pub fn done_end() -> End<'static>
+    ensures { end_value result ≡ done_end }
+{
+    End {
+        status: 0,
+        source: 0,
+        maps: 0,
+        line: 0,
+        column: 0,
+        text: b"",
+    }
+}
+
+/// The bytes are no request.
+pub fn request_end(error: RequestError) -> End<'static>
+    ensures { end_value result ≡ request_end error }
+{
+    End {
+        status: request_status(error.kind),
+        source: 1,
+        maps: error.maps,
+        line: error.row as u64,
+        column: 0,
+        text: kind_text(error.kind),
+    }
+}
+
+fn script_status(kind: ScriptKind) -> u8
+    ensures { result ≡ script_status kind }
+{
+    match kind {
+        ScriptKind::Memory => 3,
+        _ => 1,
+    }
+}
+
+fn script_column(kind: ScriptKind) -> u32
+    ensures { result ≡ script_column kind }
+{
+    match kind {
+        ScriptKind::Calc(error) => error.column,
+        _ => 0,
+    }
+}
+
+/// The script was rejected, with this text.
+pub fn script_end<'a>(error: ScriptFault, text: &'a [u8]) -> End<'a>
+    ensures { end_value result ≡ script_end error text.now }
+{
+    End {
+        status: script_status(error.kind),
+        source: 2,
+        maps: 0,
+        line: error.line,
+        column: script_column(error.kind),
+        text,
+    }
+}
+
+/// Memory ran out at a line.
+pub fn memory_end(line: u64) -> End<'static>
+    ensures { end_value result ≡ memory_end line }
+{
+    End {
+        status: 3,
+        source: 0,
+        maps: 0,
+        line,
+        column: 0,
+        text: b"no memory",
+    }
+}
+
+/// The exit status of an error.
+fn error_status(error: PipeError) -> u8
+    ensures { result ≡ error_status error }
+{
+    match error {
+        PipeError::Request(error) => request_status(error.kind),
+        PipeError::Script(error) => script_status(error.kind),
+        PipeError::Memory => 3,
+        PipeError::MemoryAt { .. } => 3,
+        PipeError::Write => 4,
+    }
+}
+
+/// The exit status of a run.
+pub(crate) fn status_after(error: Option<PipeError>) -> u8
+    ensures { result ≡ status_after error }
+{
+    match error {
+        Some(error) => error_status(error),
+        None => 0,
+    }
+}

@@ -1,0 +1,10 @@
+//! The law that ties frames to the output of `rcell`.
+
+ghost use Rattle.rcell_pipe_response.specs.FrameLaw.{FramesAreOutput, OutputIsFrames};
+
+/// Where a script gives frames, `rcell` writes their text for the same maps; and where it writes a text, there are frames
+/// of that text.
+pub fn frames_are_output()
+    ensures output { FramesAreOutput }
+    ensures frames { OutputIsFrames }
+{}

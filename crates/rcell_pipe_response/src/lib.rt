@@ -1,0 +1,12 @@
+//! Responses of `rcell-pipe`: reads a request, runs its script over its maps, and writes the results as frames.
+#![tactic(auto)]
+
+pub mod bytes;
+mod cells;
+pub mod end;
+mod execution;
+mod frames;
+pub mod law;
+mod null_sink;
+pub mod running;
+mod table_frame;

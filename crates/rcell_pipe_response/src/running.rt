@@ -1,0 +1,199 @@
+//! A run, from bytes to bytes.
+
+ghost use Rattle.std.specs.Prelude.{ℕ, ◌≡◌, List, [], ◌++◌, true, false, Option, IfSome, Some, Result, Ok, Err};
+ghost use Rattle.std.specs.Option.{IsNone};
+ghost use Rattle.cell_core_devices.specs.Device.{Faults, has_failed, after_flush};
+ghost use Rattle.cell_core_devices.specs.Blocks.{Appended};
+ghost use Rattle.cell_core.specs.Shelf.{ShelfValue};
+ghost use Rattle.rcell_script.specs.FittingScripts.{Fits};
+ghost use Rattle.rcell_script.specs.declared.statement.Statement.{Statement};
+ghost use Rattle.rcell_pipe_request.specs.declared.error.RequestError.{RequestError};
+ghost use Rattle.rcell_pipe_request.specs.Requests.{RunRequestValue, ReadsRequest, request_of, run_request_value};
+ghost use Rattle.rcell_pipe_response.specs.FrameBytes.{response_magic, response_bytes, end_bytes};
+ghost use Rattle.rcell_pipe_response.specs.RunEnds.{status_after, IsPipeAccepted, IsPipeEnd, MemoryLasts, end_value};
+ghost use Rattle.rcell_pipe_response.specs.Endings.{error_after, Finished, Rejected, IsEndOfRun};
+ghost use Rattle.rcell_pipe_response.specs.parts.LastFrames.{EndsResponse};
+
+use crate::end::{End, PipeError, done_end, memory_end, request_end, script_end, status_after};
+use crate::execution::{PipeStop, execute};
+use crate::frames::push_end;
+use cell_core::block::OutputBlock;
+use cell_core::shelf::Shelf;
+use cell_core::sink::Sink;
+use cell_core::source::Source;
+use rcell_loading::loading::shelf_names;
+use rcell_pipe_request::error::RequestStop;
+use rcell_pipe_request::request::{Request, read_request};
+use rcell_script::law::no_fault_of_a_script;
+use rcell_script::script_fault::ScriptFault;
+use rcell_script::script_parsing::parse_script;
+use rcell_script::statement::Script;
+use std::alloc::Global;
+
+/// What a run did.
+#[derive(Clone, Copy, Debug, PartialEq, Eq)]
+pub struct PipeOutcome {
+    /// 0 if it is done, 1 if the request or the script was rejected, 3 if memory ran out, 4 if a read or a write failed.
+    pub status: u8,
+    /// Why it is not done.
+    pub error: Option<PipeError>,
+}
+
+// Puts the last frame, and flushes the sink. Returns whether all of that went well.
+fn finish<W: Sink>(out: &mut W, mut block: OutputBlock, end: &End<'_>) -> bool
+    ensures { EndsResponse W.taken W.faults out.old block (end_value end.now) out.new result }
+{
+    push_end(out, &mut block, end);
+    block.empty(out);
+    if block.has_failed() {
+        return false;
+    }
+    match out.flush() {
+        Ok(()) => true,
+        Err(_) => false,
+    }
+}
+
+// The outcome of a run with this error, if its last frame was written.
+fn outcome_of(error: Option<PipeError>, wrote: bool) -> PipeOutcome
+    ensures error { result.error ≡ error_after error wrote }
+    ensures status { result.status ≡ status_after result.error }
+{
+    let error = if wrote { error } else { Some(PipeError::Write) };
+    PipeOutcome {
+        status: status_after(error),
+        error,
+    }
+}
+
+/// Puts the last frame, and returns the error, or a failed write.
+pub fn end_run<W: Sink>(
+    out: &mut W,
+    block: OutputBlock,
+    error: Option<PipeError>,
+    end: &End<'_>,
+) -> PipeOutcome
+    ensures { (before : Option (List ℕ)) (start : Faults) (text : List ℕ)
+        → Appended before start text (W.taken out.old) (W.faults out.old) block
+        → Finished before start (W.taken out.new) (W.faults out.new) error
+        (text ++ end_bytes (end_value end.now)) result }
+{
+    let wrote = finish(out, block, end);
+    outcome_of(error, wrote)
+}
+
+/// The first eight bytes of a response, in a block.
+pub fn begin<W: Sink>(out: &mut W) -> OutputBlock
+    ensures { Appended (W.taken out.old) (W.faults out.old) response_magic
+        (W.taken out.new) (W.faults out.new) result }
+{
+    let mut block = OutputBlock::new();
+    block.push(out, b"RCELLA1\n");
+    block
+}
+
+/// A response with no frame but the last.
+pub fn reject<W: Sink>(out: &mut W, error: PipeError, end: &End<'_>) -> PipeOutcome
+    ensures { Finished (W.taken out.old) (W.faults out.old) (W.taken out.new) (W.faults out.new)
+        (Some error) (response_bytes [] (end_value end.now)) result }
+{
+    let block = begin(out);
+    end_run(out, block, Some(error), end)
+}
+
+/// Rejects a script, with the text of its error, or without it if there is no memory for the text.
+pub fn reject_script<W: Sink>(alloc: Global, out: &mut W, error: ScriptFault) -> PipeOutcome
+    ensures { Rejected (W.taken out.old) (W.faults out.old) (W.taken out.new) (W.faults out.new)
+        error result }
+{
+    let kind = error.kind;
+    match format!(in alloc; "{kind}") {
+        Ok(text) => reject(
+            out,
+            PipeError::Script(error),
+            &script_end(error, text.as_bytes()),
+        ),
+        Err(_) => reject(out, PipeError::Script(error), &script_end(error, b"")),
+    }
+}
+
+// Runs statements over the maps on a shelf.
+fn run_statements<W: Sink>(
+    alloc: Global,
+    mut shelf: Shelf,
+    script: &Script,
+    out: &mut W,
+) -> PipeOutcome
+    requires { Fits shelf.names script.now }
+    ensures { (read : Result RunRequestValue RequestError) → IsPipeAccepted read shelf script.now
+        → IsEndOfRun read (W.taken out.old) (W.faults out.old) (W.taken out.new) (W.faults out.new) result }
+{
+    let mut block = begin(out);
+    match execute(alloc, &mut shelf, script.statements(), &mut block, out) {
+        Ok(()) => end_run(out, block, None, &done_end()),
+        Err(stop) => match stop {
+            PipeStop::Memory { line } => end_run(
+                out,
+                block,
+                Some(PipeError::MemoryAt { line }),
+                &memory_end(line),
+            ),
+            PipeStop::Write => outcome_of(None, false),
+        },
+    }
+}
+
+/// Runs the script of a request over its maps.
+pub fn run_request<W: Sink>(alloc: Global, request: Request, out: &mut W) -> PipeOutcome
+    ensures { IsEndOfRun (Ok (run_request_value request)) (W.taken out.old) (W.faults out.old)
+        (W.taken out.new) (W.faults out.new) result }
+{
+    let Request { shelf, script } = request;
+    let Ok(names) = shelf_names(alloc, &shelf) else {
+        return reject(out, PipeError::Memory, &memory_end(0));
+    };
+    match parse_script(alloc, &script, &names) {
+        Ok(statements) => run_statements(alloc, shelf, &statements, out),
+        Err(error) => reject_script(alloc, out, error),
+    }
+}
+
+/// Rejects what is no request.
+pub fn reject_request<W: Sink>(out: &mut W, stop: RequestStop) -> PipeOutcome
+    ensures end { (read : Result RunRequestValue RequestError) → ReadsRequest (Err stop) read
+        → IsPipeEnd read (W.taken out.old) (W.taken out.new) result.error }
+    ensures status { result.status ≡ status_after result.error }
+    ensures write { result.error ≡ Some PipeError.Write → has_failed (W.faults out.new) ≡ true }
+    ensures sound { result.status ≡ 0 → W.faults out.new ≡ after_flush (W.faults out.old) false }
+{
+    match stop {
+        RequestStop::Error(error) => reject(out, PipeError::Request(error), &request_end(error)),
+        RequestStop::Memory => reject(out, PipeError::Memory, &memory_end(0)),
+    }
+}
+
+/// Reads a request, runs its script over its maps, and writes the response.
+///
+/// The request is read whole before the first statement is executed. Each statement has all that it needs of memory before
+/// its first byte is written.
+pub fn run_pipe<R: Source + Drop, W: Sink>(alloc: Global, source: R, out: &mut W) -> PipeOutcome
+    // The error says what has been written. Without one: the frames of the statements and the end. Otherwise: the end with
+    // the first error of the request or of its script, after the frames of the statements before memory ran out.
+    ensures end { IfSome (R.coming source)
+        (λ c. IsPipeEnd (request_of c) (W.taken out.old) (W.taken out.new) result.error) }
+    ensures status { result.status ≡ status_after result.error }
+    // Write comes only where the sink failed, and status 0 only where it did not and was flushed once.
+    ensures write { result.error ≡ Some PipeError.Write → has_failed (W.faults out.new) ≡ true }
+    ensures sound { result.status ≡ 0 → W.faults out.new ≡ after_flush (W.faults out.old) false }
+    // If the script of a request is accepted, memory lasts and the sink takes everything, the run is done.
+    ensures complete { IfSome (R.coming source)
+        (λ c. (shelf : ShelfValue) (statements : List Statement)
+        → IsPipeAccepted (request_of c) shelf statements → MemoryLasts result.error
+        → has_failed (W.faults out.new) ≡ false → IsNone result.error) }
+{
+    no_fault_of_a_script();
+    match read_request(alloc, source) {
+        Ok(request) => run_request(alloc, request, out),
+        Err(stop) => reject_request(out, stop),
+    }
+}

@@ -1,0 +1,250 @@
+"""The bytes of `rcell-pipe`, as docs/pipe.md defines them: requests, written and read, and responses, read and printed as `rcell` does."""
+from __future__ import annotations
+
+import re
+import struct
+from dataclasses import dataclass, field
+from typing import Any, Callable, Optional
+
+NULL = -(2**31)
+# The letter of `struct`, the smallest and the largest number, by the code of the type.
+TYPES = {
+    1: ("B", 0, 255), 2: ("b", -128, 127), 3: ("H", 0, 65535), 4: ("h", -32768, 32767), 5: ("I", 0, 2**32 - 1), 6: ("i", NULL, 2**31 - 1),
+    7: ("q", -(2**63), 2**63 - 1),
+}
+NAME = re.compile(rb"[A-Za-z_][A-Za-z0-9_.]{0,63}")
+COORDINATE = re.compile(rb"([+-]?)(\d{0,10})(?:\.(\d{0,8}))?")
+UNITS = 10**8  # of a coordinate
+MOST_MAPS, MOST_SIDE, MOST_CELLS, MOST_SCRIPT = 65535, 65535, 2**31 - 1, 1048576
+
+Row = list[int]
+Edges = tuple[bytes, bytes, bytes, bytes]
+
+
+@dataclass
+class Raster:
+    """A map of a request: its numbers and its mask row by row."""
+
+    name: bytes
+    edges: Edges
+    type: int
+    rows: list[Row]
+    nodata: Optional[int] = None
+    mask: Optional[list[Row]] = None
+    labels: list[tuple[int, bytes]] = field(default_factory=list)
+
+    def cells(self) -> list[list[Optional[int]]]:
+        """Return the rows as categories and None."""
+        masks = self.mask or [[0] * len(row) for row in self.rows]
+        return [[None if hidden or n == self.nodata else n for n, hidden in zip(row, mask)] for row, mask in zip(self.rows, masks)]
+
+
+def short(text: bytes) -> bytes:
+    return bytes([len(text)]) + text
+
+
+def request(maps: list[Raster], script: bytes) -> bytes:
+    """Return the bytes of a request."""
+    out = b"RCELLQ1\n" + struct.pack("<I", len(maps))
+    for it in maps:
+        out += short(it.name) + b"".join(map(short, it.edges)) + struct.pack("<II", len(it.rows), len(it.rows[0]))
+        flags = (it.nodata is not None) + 2 * (it.mask is not None)
+        out += struct.pack("<BBqI", it.type, flags, it.nodata or 0, len(it.labels))
+        for category, text in it.labels:
+            out += struct.pack("<iH", category, len(text)) + text
+        for place, row in enumerate(it.rows):
+            out += struct.pack(f"<{len(row)}{TYPES[it.type][0]}", *row)
+            out += bytes(it.mask[place]) if it.mask is not None else b""
+    return out + struct.pack("<I", len(script)) + script
+
+
+class Rejected(Exception):
+    """The first error of a request: its text, the number of complete maps before it, and its row, 0 outside of rows."""
+
+    def __init__(self, text: str, maps: int = 0, row: int = 0):
+        super().__init__(text, maps, row)
+        self.place = (text.encode(), maps, row)
+
+
+def units(text: bytes) -> Optional[int]:
+    """Return a coordinate in units of 8 decimals; None if the text is no coordinate."""
+    found = COORDINATE.fullmatch(text)
+    if found is None or not (found[2] or found[3]):
+        return None
+    size = int(found[2] or b"0") * UNITS + int((found[3] or b"").ljust(8, b"0"))
+    return -size if found[1] == b"-" else size
+
+
+class Reader:
+    """A request, read from left to right to its first error."""
+
+    def __init__(self, data: bytes):
+        self.data, self.at, self.maps, self.row = data, 0, 0, 0
+        self.names: set[bytes] = set()
+        self.region: Optional[tuple[int, ...]] = None
+
+    def need(self, is_so: Any, text: str) -> None:
+        if not is_so:
+            raise Rejected(text, self.maps, self.row)
+
+    def take(self, count: int) -> bytes:
+        self.need(self.at + count <= len(self.data), "request too short")
+        self.at += count
+        return self.data[self.at - count : self.at]
+
+    def numbers(self, letters: str) -> tuple[int, ...]:
+        return struct.unpack(f"<{letters}", self.take(struct.calcsize(f"<{letters}")))
+
+    def number(self, letter: str) -> int:
+        return self.numbers(letter)[0]
+
+    def coordinate(self) -> tuple[bytes, int]:
+        text = self.take(self.number("B"))
+        found = units(text)
+        self.need(found is not None, "bad number")
+        return text, found or 0
+
+    def head(self) -> tuple[bytes, Edges, tuple[int, ...]]:
+        name = self.take(self.number("B"))
+        self.need(NAME.fullmatch(name), "bad name")
+        self.need(name not in self.names, "name used twice")
+        (n, north), (s, south), (e, east), (w, west) = (self.coordinate() for _ in range(4))
+        rows, cols = self.number("I"), self.number("I")
+        sides = 1 <= rows <= MOST_SIDE and 1 <= cols <= MOST_SIDE and rows * cols <= MOST_CELLS
+        self.need(sides and south < north and west < east, "bad region")
+        region = (north, south, east, west, rows, cols)
+        self.need(self.region in (None, region), "other region")
+        self.names.add(name)
+        self.region = region
+        return name, (n, s, e, w), region
+
+    def nodata(self, code: int, flags: int) -> Optional[int]:
+        number, (_, smallest, largest) = self.number("q"), TYPES[code]
+        self.need(smallest <= number <= largest if flags & 1 else number == 0, "bad nodata")
+        return number if flags & 1 else None
+
+    def labels(self) -> list[tuple[int, bytes]]:
+        found = []
+        for _ in range(self.number("I")):
+            category = self.number("i")
+            text = self.take(self.number("H"))
+            self.need(category != NULL and b"\n" not in text, "bad label")
+            found.append((category, text))
+        return found
+
+    def raster(self) -> Raster:
+        name, edges, region = self.head()
+        code = self.number("B")
+        self.need(code in TYPES, "bad type")
+        flags = self.number("B")
+        self.need(flags <= 3, "bad flags")
+        nodata = self.nodata(code, flags)
+        found = Raster(name, edges, code, [], nodata, [] if flags & 2 else None, self.labels())
+        for self.row in range(1, region[4] + 1):
+            found.rows.append(list(self.numbers(f"{region[5]}{TYPES[code][0]}")))
+            if found.mask is not None:
+                found.mask.append(list(self.take(region[5])))
+                self.need(max(found.mask[-1]) <= 1, "bad mask")
+            row = Raster(name, edges, code, found.rows[-1:], nodata, found.mask and found.mask[-1:]).cells()[0]
+            self.need(all(cell is None or NULL < cell < 2**31 for cell in row), "cell out of range")
+        self.row = 0
+        return found
+
+    def run(self) -> tuple[list[Raster], bytes]:
+        """Return the maps and the script, or raise the first error."""
+        self.need(self.take(8) == b"RCELLQ1\n", "bad magic")
+        count, maps = self.number("I"), []
+        self.need(1 <= count <= MOST_MAPS, "bad number of maps")
+        for self.maps in range(count):
+            maps.append(self.raster())
+        self.maps = count
+        size = self.number("I")
+        self.need(size <= MOST_SCRIPT, "script too long")
+        script = self.take(size)
+        self.need(self.at == len(self.data), "bytes after the request")
+        return maps, script
+
+
+Frame = dict[str, Any]
+
+
+class Response:
+    """The bytes of a response, read from left to right; a ValueError if they are none."""
+
+    def __init__(self, data: bytes):
+        self.data, self.at = data, 0
+
+    def take(self, count: int) -> bytes:
+        piece = self.data[self.at : self.at + count]
+        if len(piece) < count:
+            raise ValueError("the response ends early")
+        self.at += count
+        return piece
+
+    def numbers(self, count: int, letter: str = "Q") -> tuple[int, ...]:
+        return struct.unpack(f"<{count}{letter}", self.take(count * struct.calcsize("<" + letter)))
+
+    def text(self) -> bytes:
+        return self.take(self.numbers(1)[0])
+
+    def table(self) -> Frame:
+        line, entries, width = self.numbers(3)
+        counts, labels, separator = self.take(3)
+        frame: Frame = {"line": line, "separator": bytes([separator]), "null": self.text()}
+        frame["names"] = [self.text() for _ in range(width)]
+        frame["counts"] = self.numbers(entries) if counts else None
+        cells = self.numbers(entries * width, "i")
+        frame["cells"] = [cells[i * width : (i + 1) * width] for i in range(entries)]
+        frame["labels"] = [[self.text() for _ in range(width)] for _ in range(entries)] if labels else None
+        return frame
+
+    def lines(self) -> Frame:
+        return {"line": self.numbers(1)[0], "text": self.text()}
+
+    def grid(self) -> Frame:
+        frame: Frame = {"line": self.numbers(1)[0], "null": self.text(), "name": self.text()}
+        rows, cols = self.numbers(2)
+        is_small = self.take(1) == b"\1"
+        cells, null = self.numbers(rows * cols, "B" if is_small else "i"), 255 if is_small else NULL
+        frame["rows"] = [[None if cell == null else cell for cell in cells[r * cols : (r + 1) * cols]] for r in range(rows)]
+        return frame
+
+    def done(self) -> Frame:
+        return {**dict(zip(("status", "source", "maps", "line", "column"), self.numbers(5))), "text": self.text()}
+
+    def frames(self) -> list[Frame]:
+        """Return the frames, of which the last is DONE."""
+        if self.take(8) != b"RCELLA1\n":
+            raise ValueError("another magic")
+        kinds: dict[bytes, Callable[[], Frame]] = {b"TABL": self.table, b"TEXT": self.lines, b"GRID": self.grid, b"DONE": self.done}
+        found: list[Frame] = []
+        while not found or found[-1]["kind"] != b"DONE":
+            kind = self.take(4)
+            if kind not in kinds:
+                raise ValueError(f"no frame: {kind!r}")
+            found.append({"kind": kind, **kinds[kind]()})
+        if self.at != len(self.data):
+            raise ValueError("bytes after the response")
+        return found
+
+
+def cell_text(cell: Optional[int], null: bytes) -> bytes:
+    return null if cell is None or cell == NULL else b"%d" % cell
+
+
+def printed(frame: Frame, head: bytes) -> bytes:
+    """Return the text that `rcell` prints for a frame; `head` is the header of its grids."""
+    if frame["kind"] == b"TEXT":
+        return frame["text"]
+    if frame["kind"] == b"GRID":
+        null = b"" if frame["null"] == b"*" else b"null: " + frame["null"] + b"\n"
+        rows = (b" ".join(cell_text(cell, frame["null"]) for cell in row) + b"\n" for row in frame["rows"])
+        return head + null + b"".join(rows)
+    out = b""
+    for place, cells in enumerate(frame["cells"]):
+        fields = []
+        for column, cell in enumerate(cells):
+            fields += [cell_text(cell, frame["null"])] + ([frame["labels"][place][column]] if frame["labels"] is not None else [])
+        fields += [b"%d" % frame["counts"][place]] if frame["counts"] is not None else []
+        out += frame["separator"].join(fields) + b"\n"
+    return out
