@@ -1,18 +1,27 @@
-# Answers each line of paths, which are maps of one call, by a line: the counts of each map, or where a cell is refused.
+# Answers each line, which has maps of one call, by a line and by the cells of each map in turn; see random_rasters.py.
 
 suppressMessages(library(rcell))
 options(warn = -1)
 
-answer <- function(paths) {
+answer <- function(words) {
+  paths <- words[-(1:3)]
   names(paths) <- sprintf("m%d", seq_along(paths) - 1L)
-  outputs <- rcell_run(sprintf("r.stats -c input=%s", names(paths)), maps = as.list(paths))
-  told <- function(table) paste(ifelse(is.na(table[[1]]), "*", as.character(table[[1]])), table$cells, sep = ":", collapse = " ")
-  vapply(outputs, told, "")
+  again <- sprintf("m%s", words[[3]])
+  script <- c(sprintf("r.stats -1 input=%s", paste(names(paths), collapse = ",")), sprintf("r.out.ascii input=%s", again))
+  found <- rcell_run(script, maps = as.list(paths))
+  names <- terra::levels(found[[2]])[[1]]
+  told <- if (is.data.frame(names)) sprintf("\"%d\": \"%s\"", as.integer(names[[1]]), names[[2]]) else character()
+  cells <- as.integer(c(unlist(found[[1]], use.names = FALSE), terra::values(found[[2]])))
+  list(head = sprintf("cells %d {%s}", 4L * length(cells), paste(told, collapse = ", ")), cells = cells)
 }
 
 lines <- file("stdin", "r")
+out <- pipe("cat", "wb")
 while (length(line <- readLines(lines, 1L))) {
-  found <- tryCatch(answer(strsplit(line, "\t", fixed = TRUE)[[1]]), rcell_bad_map = function(e) sprintf("refused %s %s", e$row, e$column),
-    error = function(e) paste("error", gsub("[\t\n]", " ", conditionMessage(e))))
-  cat(paste(found, collapse = "\t"), "\n", sep = "")
+  found <- tryCatch(answer(strsplit(line, "\t", fixed = TRUE)[[1]]), error = function(e) {
+    list(head = gsub("[\t\n]", " ", conditionMessage(e)), cells = integer())
+  })
+  writeBin(charToRaw(paste0(found$head, "\n")), out)
+  writeBin(found$cells, out)
+  flush(out)
 }

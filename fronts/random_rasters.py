@@ -1,41 +1,49 @@
-"""Random rasters through the fronts, against numpy: types, nodata, alpha, masks, blocks, transforms, reference systems.
+"""Random rasters through the fronts, cell by cell against numpy: types, nodata, alpha, masks, blocks, transforms, reference systems, labels.
 
     /usr/bin/python3 fronts/random_rasters.py [--count N] [--seconds N] [--seed N] [FRONT...]
 
-Sixteen rasters of one place are counted in one call of a front; one in twenty is no map, and must be refused by row and column. Of
-r.rcell its own part is tried, from the numbers that GRASS hands out to the text of a grid. The last line is 'N passed, M failed,
-K skipped', in rasters.
+Sixteen rasters of one place go through one call of a front, and their cells come back with the labels of one of them. A raster that is no
+map must be refused, by row and column if a cell is bad, and so must maps of two places. Of r.rcell its own part is tried, from the
+numbers that GRASS hands out to the text of a grid; `shell` is rcell-tif and rcell; `tiles` writes one map of each call by tiles.
+Progress comes every 5,000 rasters; a group is made again by --seed and --from. The last line is 'N passed, M failed, K skipped'.
 """
 
 from __future__ import annotations
 
 import argparse
+import functools
+import json
 import os
 import pathlib
+import re
 import shutil
 import subprocess
 import sys
 import tempfile
 import time
 from dataclasses import dataclass, field
-from typing import Any
+from typing import Any, Callable, NamedTuple
 
 import numpy as np
 from osgeo import gdal, osr
 from run import MISSING, PACKAGES, REPOSITORY, environment
 
 HERE = pathlib.Path(__file__).resolve().parent
-FRONTS = ("python", "r", "qgis", "grass")
+FRONTS = ("python", "shell", "r", "qgis", "grass")
 GROUP = 16
-SHORT = 160  # rasters of the gate
+SHORT = 800  # rasters of the gate
+PROGRESS = 5000
 MOST_CATEGORY = 2147483647
-NULL = -2147483648  # among the numbers of GRASS
+NULL = -2147483648  # among cells that come back
 EXACT_FLOAT = 2**53
 TYPES = {
     gdal.GDT_Byte: np.uint8, gdal.GDT_UInt16: np.uint16, gdal.GDT_Int16: np.int16, gdal.GDT_UInt32: np.uint32, gdal.GDT_Int32: np.int32,
     gdal.GDT_Float32: np.float32, gdal.GDT_Float64: np.float64, gdal.GDT_Int64: np.int64, gdal.GDT_UInt64: np.uint64,
 }
 SYSTEMS = (0, 4326, 25832, 32632, 2263, 31467)
+BLOCKS: tuple[list[str], ...] = (["TILED=YES", "BLOCKXSIZE=16", "BLOCKYSIZE=16"], ["BLOCKYSIZE=1"], ["BLOCKYSIZE=5"], [])
+NAMES = ["", "water", "a b", "", "Wald", "5"]
+REFUSED_SYSTEM = "reference system|CRS"
 
 
 @dataclass
@@ -44,61 +52,86 @@ class Place:
 
     rows: int
     cols: int
-    transform: tuple[float, ...]
+    transform: tuple[float, ...] | None
     epsg: int
+    reason: str
+    """Why no raster of it is a map; empty if they are."""
 
 
 @dataclass
 class Made:
-    """A raster, and what a front must answer: `CATEGORY:CELLS` in order, null as `*`, or `refused ROW COLUMN`."""
+    """A raster, its cells, and what a refusal has to say if it is no map."""
 
     path: str
-    expected: str
+    cells: Any
+    reason: str
+    labels: dict[str, str]
     has_mask: bool
     has_wide_null: bool
 
     def is_for(self, front: str) -> bool:
         """R refuses masks, and nulls that a float cannot tell from their neighbours; the numbers of GRASS are categories."""
         if front == "grass":
-            return not self.expected.startswith("refused")
+            return not self.reason
         return front != "r" or not (self.has_mask or self.has_wide_null)
 
 
+# Rasters
+
+
 def place_of(random: Any) -> Place:
-    rows, cols = (int(size) for size in random.integers(1, 40, 2))
-    width, height = (float(size) for size in random.choice([0.5, 1, 10, 25, 30, 1 / 3, 1000], 2))
+    rows, cols = (int(size) for size in random.integers(1, 19, 2)) if random.random() < 0.9 else (int(random.integers(1, 60)), 40)
+    width, height = (float(size) for size in random.choice([0.5, 1, 10, 25, 30, 1 / 3, 1 / 120, 1000], 2))
     west, north = float(random.integers(-1000, 1000)), float(random.integers(-1000, 1000)) / 3
-    is_upside_down = random.random() < 0.2
-    transform = (west, width, 0, north, 0, height if is_upside_down else -height)
-    return Place(rows, cols, transform, int(random.choice(SYSTEMS)))
+    usual = (west, width, 0.0, north, 0.0, -height)
+    forms: list[tuple[tuple[float, ...] | None, str]] = [
+        (None, ""), ((*usual[:5], height), ""), ((*usual[:5], height), ""), ((*usual[:2], 0.5, *usual[3:]), "rotated|mirrored"),
+        ((west, -width, *usual[2:]), "west|mirrored"), ((float("nan"), *usual[1:]), "finite"),
+    ]
+    kind = int(random.integers(24))
+    transform, reason = forms[kind] if kind < len(forms) else (usual, "")
+    return Place(rows, cols, transform, int(random.choice(SYSTEMS)), reason)
 
 
 def cells_of(random: Any, dtype: Any, shape: tuple[int, int]) -> Any:
-    """Whole numbers that the type holds: a few, many, or any."""
+    """Whole numbers that the type holds: a few, many, or any; sometimes the greatest among them."""
     is_real = np.dtype(dtype).kind == "f"
     limits = (-(2**24), 2**24) if dtype == np.float32 else (-MOST_CATEGORY, MOST_CATEGORY) if is_real else (np.iinfo(dtype).min, np.iinfo(dtype).max)
     least, most = max(int(limits[0]), -MOST_CATEGORY), min(int(limits[1]), MOST_CATEGORY)
     span = int(random.choice([2, 9, 300, 70_000, 2**33]))
     low = int(random.integers(least, most + 1)) if random.random() < 0.3 else 0 if least == 0 else -(span // 3)
     low = max(least, min(low, most))
-    return random.integers(low, min(low + span, most) + 1, shape, np.int64).astype(dtype)
+    cells = random.integers(low, min(low + span, most) + 1, shape, np.int64)
+    if random.random() < 0.2:
+        cells[random.random(shape) < 0.2] = random.choice([least, most, most - 1])
+    return cells.astype(dtype)
 
 
-def null_of(random: Any, cells: Any) -> Any:
-    """A nodata value, or None: one of the cells, one that no cell has, an end of the type, NaN."""
-    kind = random.integers(5)
-    if kind == 0:
-        return None
-    if kind == 1:
-        return random.choice(cells.reshape(-1)).item()
-    if cells.dtype.kind == "f":
-        return float(random.choice([np.nan, -9999, 1e30, np.finfo(cells.dtype).min]))
-    limits = np.iinfo(cells.dtype)
-    return int((limits.max, limits.min, limits.max - 1)[kind - 2])
+def nodata_of(random: Any, cells: Any) -> Any:
+    """A nodata value, or None: one of the cells, one that no cell has or no cell can have, an end of the type, NaN."""
+    is_real, is_wide = cells.dtype.kind == "f", cells.dtype.itemsize == 8
+    limits: Any = np.finfo(cells.dtype) if is_real else np.iinfo(cells.dtype)
+    one, end, before = cells.reshape(-1)[random.integers(cells.size)].item(), limits.max.item() if is_real else limits.max, limits.min
+    odd = [-9999, 255, 0.5, float("nan"), 2**31, -(2**31), 1e30] if is_real or not is_wide else [255, 2**31, end - 1]
+    choices = [None, None, one, one, one + 1, end, before.item() if is_real else before, odd[random.integers(len(odd))]]
+    found = choices[random.integers(len(choices))]
+    return min(found, end) if found is not None and found == found and is_wide and not is_real else found
 
 
-def spoiled(random: Any, cells: Any, nodata: Any, null: Any) -> tuple[Any, str]:
-    """The cells with one that is no category, and where it is; the cells as they were if the type has none."""
+def null_cells(cells: Any, nodata: Any, opaque: list[Any]) -> Any:
+    null = np.isnan(cells) if cells.dtype.kind == "f" else np.zeros(cells.shape, bool)
+    for mask in opaque:
+        null |= mask == 0
+    if nodata is None or nodata != nodata:
+        return null
+    if cells.dtype.kind != "f" and not (nodata == int(nodata) and np.iinfo(cells.dtype).min <= int(nodata) <= np.iinfo(cells.dtype).max):
+        return null
+    with np.errstate(over="ignore"):
+        return null | (cells == cells.dtype.type(nodata if cells.dtype.kind == "f" else int(nodata)))
+
+
+def spoil(random: Any, cells: Any, nodata: Any, null: Any) -> str:
+    """Puts a cell that is no category, and tells where; nothing if the type has none."""
     kind = cells.dtype
     if kind.kind == "f":
         bad: Any = random.choice([0.5, 1e12, -2147483648.0, np.inf])
@@ -107,130 +140,201 @@ def spoiled(random: Any, cells: Any, nodata: Any, null: Any) -> tuple[Any, str]:
     elif kind.itemsize == 4:
         bad = np.iinfo(kind).max if kind == np.uint32 else np.iinfo(kind).min
     else:
-        return cells, ""
+        return ""
     row, col = (int(random.integers(size)) for size in cells.shape)
     value = kind.type(bad)
-    if null[row, col] or (nodata is not None and value == kind.type(nodata)):
-        return cells, ""
+    if null[row, col] or null_cells(np.array([value]), nodata, [])[0]:
+        return ""
     cells[row, col] = value
-    return cells, f"refused {row + 1} {col + 1}"
+    return rf"row {row + 1}, column {col + 1}\b"
 
 
-def is_null(cells: Any, nodata: Any, *masks: Any) -> Any:
-    null = np.isnan(cells) if cells.dtype.kind == "f" else np.zeros(cells.shape, bool)
-    for mask in masks:
-        null |= mask == 0
-    return null if nodata is None or nodata != nodata else null | (cells == cells.dtype.type(nodata))
+@dataclass
+class Form:
+    """How a raster is laid down, besides its cells and its nodata."""
+
+    kind: int
+    options: list[str]
+    alpha: Any
+    mask: Any
+    is_complex: bool
+    is_scaled: bool
+    labels: list[str]
 
 
-def counted(cells: Any, null: Any) -> str:
-    values, counts = np.unique(cells[~null], return_counts=True)
-    words = [f"{int(value)}:{count}" for value, count in zip(values, counts)]
-    return " ".join(words + [f"*:{null.sum()}"] * bool(null.any()))
+def form_of(random: Any, kind: int, shape: tuple[int, int]) -> Form:
+    chance = random.random(6)
+    opaque = random.choice([0, 1, 100], shape, p=[0.2, 0.1, 0.7]).astype(TYPES[kind])
+    options = [*BLOCKS[random.integers(len(BLOCKS))], *(["COMPRESS=DEFLATE"] if chance[0] < 0.2 else [])]
+    return Form(
+        kind, options + (["ALPHA=YES", "PHOTOMETRIC=MINISBLACK"] if chance[1] < 0.15 else []), opaque if chance[1] < 0.15 else None,
+        np.where(random.random(shape) < 0.2, 0, 255).astype(np.uint8) if chance[2] < 0.1 else None, bool(chance[3] < 0.01), bool(chance[4] < 0.01),
+        NAMES if kind == gdal.GDT_Byte and chance[5] < 0.1 else [])
 
 
-def set_nodata(band: Any, kind: int, nodata: Any) -> None:
-    setters = {gdal.GDT_Int64: band.SetNoDataValueAsInt64, gdal.GDT_UInt64: band.SetNoDataValueAsUInt64}
-    setters.get(kind, band.SetNoDataValue)(nodata)
-
-
-def make(random: Any, place: Place, path: str, is_bad: bool) -> Made:
+def make(random: Any, place: Place, path: str, projection: str) -> Made:
     """Writes a raster, and reckons what a front must answer."""
-    kind = int(random.choice(list(TYPES)))
-    shape = (place.rows, place.cols)
-    cells = cells_of(random, TYPES[kind], shape)
-    nodata = null_of(random, cells)
-    opaque = random.choice([0, 1, 255], shape, p=[0.2, 0.1, 0.7]).astype(np.uint8)
-    has_alpha, has_mask = random.random() < 0.15, random.random() < 0.1
-    alpha = [opaque.astype(cells.dtype)] if has_alpha else []
-    masks = [np.where(random.random(shape) < 0.2, 0, 255).astype(np.uint8)] if has_mask else []
-    null = is_null(cells, nodata, *alpha, *masks)
-    expected = ""
-    if is_bad:
-        cells, expected = spoiled(random, cells, nodata, null)
-    is_upside_down = place.transform[5] > 0
-    options = [*(["TILED=YES", "BLOCKXSIZE=16", "BLOCKYSIZE=16"] if random.random() < 0.3 else [f"BLOCKYSIZE={random.integers(1, 9)}"]),
-               f"COMPRESS={random.choice(['NONE', 'DEFLATE', 'LZW'])}", *(["ALPHA=YES", "PHOTOMETRIC=MINISBLACK"] if has_alpha else [])]
-    dataset = gdal.GetDriverByName("GTiff").Create(path, place.cols, place.rows, 1 + has_alpha, kind, options)
-    north = place.transform[3] - (place.transform[5] * place.rows if is_upside_down else 0)
-    dataset.SetGeoTransform((*place.transform[:3], north, *place.transform[4:]))
-    if place.epsg:
-        system = osr.SpatialReference()
-        system.ImportFromEPSG(place.epsg)
-        dataset.SetProjection(system.ExportToWkt())
-    flip = slice(None, None, -1 if is_upside_down else 1)
-    for number, array in enumerate([cells, *alpha], 1):
-        dataset.GetRasterBand(number).WriteArray(np.ascontiguousarray(array[flip]))
-    if nodata is not None:
-        set_nodata(dataset.GetRasterBand(1), kind, nodata)
-    if has_mask:
-        gdal.SetConfigOption("GDAL_TIFF_INTERNAL_MASK", str(random.choice(["YES", "NO"])))
-        dataset.CreateMaskBand(gdal.GMF_PER_DATASET)
-        dataset.GetRasterBand(1).GetMaskBand().WriteArray(np.ascontiguousarray(masks[0][flip]))
-    del dataset
-    if not expected:
-        np.save(f"{path}.npy", np.where(null, NULL, np.where(null, 0, cells).astype(np.int64)).astype(np.int32))
+    shape, kind = (place.rows, place.cols), list(TYPES)[random.integers(len(TYPES))]
+    cells, form = cells_of(random, TYPES[kind], shape), form_of(random, kind, shape)
+    nodata = nodata_of(random, cells)
+    null = null_cells(cells, nodata, [one for one in (form.alpha, form.mask) if one is not None])
+    reason = spoil(random, cells, nodata, null) if random.random() < 0.04 else ""
+    write(place, path, projection, cells, nodata, form)
+    reason = "|".join(["type|complex"] * form.is_complex + ["scale"] * form.is_scaled) or reason
+    known = None if reason else np.where(null, NULL, np.where(null, 0, cells).astype(np.int64)).astype(np.int32).reshape(-1)
     is_wide = kind in (gdal.GDT_Int64, gdal.GDT_UInt64) and nodata is not None and abs(nodata) >= EXACT_FLOAT
-    return Made(path, expected or counted(cells, null), has_mask, is_wide)
+    labels = {str(number): name for number, name in enumerate(form.labels) if name}
+    return Made(path, known, place.reason or reason, labels, form.mask is not None, is_wide)
 
 
-# The fronts
+def write(place: Place, path: str, projection: str, cells: Any, nodata: Any, form: Form) -> None:
+    kind = gdal.GDT_CFloat32 if form.is_complex else form.kind
+    dataset = gdal.GetDriverByName("GTiff").Create(path, place.cols, place.rows, 1 + (form.alpha is not None), kind, form.options)
+    step = 1
+    if place.transform is not None:
+        step = -1 if place.transform[5] > 0 else 1
+        north = place.transform[3] - (place.transform[5] * place.rows if step < 0 else 0)
+        dataset.SetGeoTransform((*place.transform[:3], north, *place.transform[4:]))
+    if projection:
+        dataset.SetProjection(projection)
+    band = dataset.GetRasterBand(1)
+    if form.is_scaled:
+        band.SetScale(0.5)
+    if form.labels:
+        band.SetCategoryNames(form.labels)
+    if nodata is not None:
+        band.Fill(1)
+        dataset.FlushCache()  # all blocks are stored now: GDAL writes nodata, rounded, in place of zeros in a block that is not
+        {gdal.GDT_Int64: band.SetNoDataValueAsInt64, gdal.GDT_UInt64: band.SetNoDataValueAsUInt64}.get(kind, band.SetNoDataValue)(nodata)
+    for number, array in enumerate([cells] if form.alpha is None else [cells, form.alpha], 1):
+        dataset.GetRasterBand(number).WriteArray(np.ascontiguousarray(array[::step]))
+    if form.mask is not None:
+        gdal.SetConfigOption("GDAL_TIFF_INTERNAL_MASK", "YES" if form.mask[0, 0] else "NO")
+        dataset.CreateMaskBand(gdal.GMF_PER_DATASET)
+        band.GetMaskBand().WriteArray(np.ascontiguousarray(form.mask[::step]))
 
 
-def script_of(count: int) -> str:
-    return "\n".join(f"r.stats -c input=m{at}" for at in range(count))
+def projection_of(epsg: int) -> str:
+    system = osr.SpatialReference()
+    if epsg:
+        system.ImportFromEPSG(epsg)
+    return str(system.ExportToWkt()) if epsg else ""
 
 
-def told(rows: Any) -> str:
-    return " ".join(f"{'*' if value is None else value}:{count}" for value, count in rows)
+# What a front answers: the cells of all maps, those of one of them again, and its labels
 
 
-def answer_of_python(paths: list[str]) -> list[str]:
+class Asked(NamedTuple):
+    """Maps that go through one call, and the place of the one that comes as a map with labels."""
+
+    rows: int
+    cols: int
+    again: int
+    paths: list[str]
+
+    @property
+    def script(self) -> str:
+        return f"r.stats -1 input={','.join(self.names)}\nr.out.ascii input=m{self.again}"
+
+    @property
+    def names(self) -> list[str]:
+        return [f"m{at}" for at in range(len(self.paths))]
+
+
+Answer = tuple[list[Any], dict[int, str]]
+
+
+def answer_of_python(asked: Asked) -> Answer:
+    import rasterio
     import rcell
 
-    try:
-        outputs = rcell.run(script_of(len(paths)), {f"m{at}": path for at, path in enumerate(paths)})
-    except rcell.BadMap as error:
-        return [f"refused {error.row} {error.col}"]
-    return [told(table.rows) for table in outputs.tables]
+    with rasterio.Env():
+        found = rcell.run(asked.script, dict(zip(asked.names, asked.paths)))
+    return [found[0].categories, found[1].array.filled(NULL)], found[1].labels
 
 
-def answer_of_qgis(paths: list[str]) -> list[str]:
+@functools.cache
+def cluster() -> Any:
+    import distributed
+
+    return distributed.Client(processes=False, dashboard_address=None)  # type: ignore[no-untyped-call]
+
+
+def answer_of_tiles(asked: Asked) -> Answer:
+    import rcell.tiles
+
+    made, size = f"{asked.paths[0]}.tiled.tif", (asked.rows // 2 + 1, asked.cols // 3 + 1)
+    with rcell.tiles.open({"m0": asked.paths[0]}, size=size, scheduler=cluster()) as mosaic:
+        mosaic.grid("r.mapcalc made = m0", made)
+    dataset = gdal.Open(made)
+    is_null = dataset.GetRasterBand(1).GetMaskBand().ReadAsArray() == 0
+    return [np.where(is_null, NULL, dataset.ReadAsArray().astype(np.int64))] * 2, {}
+
+
+def answer_of_qgis(asked: Asked) -> Answer:
     from rcell.core import answers, program
-    from rcell.core.errors import BadMap
     from rcell.core.rasters import Raster
 
-    try:
-        maps = {f"m{at}": Raster.open(f"m{at}", path) for at, path in enumerate(paths)}
-        found = answers.run(program.find_program(), script_of(len(paths)), maps)
-    except BadMap as error:
-        return [f"refused {error.row} {error.col}"]
-    return [told(zip(*(column.values for column in table.columns()))) for table in found.tables]
+    maps = {name: Raster.open(name, path) for name, path in zip(asked.names, asked.paths)}
+    found = answers.run(program.find_program(), asked.script, maps)
+    return [found.tables[0].categories, found.grids[0].cells], found.grids[0].labels
 
 
-def answer_of_grass(paths: list[str]) -> list[str]:
+def answer_of_grass(asked: Asked) -> Answer:
     from test_without_grass import rcell as module
 
-    with tempfile.TemporaryDirectory() as room:
-        words = [os.environ["RCELL"], "script"]
-        nothing = "r.mapcalc nothing = null()\n" + script_of(len(paths)).replace("\n", "\nr.stats input=nothing null_value=end\n")
-        pathlib.Path(room, "script").write_text(nothing, encoding="ascii")
-        for at, path in enumerate(paths):
-            cells = np.load(f"{path}.npy")
-            known = cells[cells != NULL]
-            text = module.CellWords(int(known.min()) if known.size else 0, int(known.max()) if known.size else 0)
-            sides = {"n": cells.shape[0], "s": 0, "e": cells.shape[1], "w": 0, "rows": cells.shape[0], "cols": cells.shape[1]}
-            pathlib.Path(room, f"m{at}").write_bytes(module.header_of(sides, text.null) + text.text(cells.reshape(-1), cells.shape[1]))
-            words.append(f"m{at}=m{at}")
-        ran = subprocess.run(words, cwd=room, capture_output=True, text=True)
-    return [" ".join(line.replace(" ", ":") for line in part.splitlines()) for part in ran.stdout.split("end\n")] if not ran.returncode else [ran.stderr]
+    def text_of(path: str) -> bytes:
+        cells = np.fromfile(f"{path}.cells", np.int32)
+        known = cells[cells != NULL]
+        text = module.CellWords(int(known.min()) if known.size else 0, int(known.max()) if known.size else 0)
+        sides = {"n": asked.rows, "s": 0, "e": asked.cols, "w": 0, "rows": asked.rows, "cols": asked.cols}
+        return bytes(module.header_of(sides, text.null) + text.text(cells, asked.cols))
+
+    return answer_of_program(asked, text_of)
 
 
-def work(front: str) -> None:
-    """Answers each line of paths by a line, as long as lines come."""
-    answer = {"python": answer_of_python, "qgis": answer_of_qgis, "grass": answer_of_grass}[front]
+def answer_of_shell(asked: Asked) -> Answer:
+    sys.path[:0] = [str(REPOSITORY / "helpers")] * (str(REPOSITORY / "helpers") not in sys.path)
+    import rcell_tif
+
+    def text_of(path: str) -> bytes:
+        written: list[bytes] = []
+        dataset = gdal.Open(path)
+        rcell_tif.write_grid(dataset, rcell_tif.one_band(dataset), written.append)
+        return b"".join(written)
+
+    return answer_of_program(asked, text_of)
+
+
+def answer_of_program(asked: Asked, text_of: Callable[[str], bytes]) -> Answer:
+    """What rcell itself makes of grids."""
+    words = [os.environ["RCELL"], f"{asked.paths[0]}.script"]
+    for name, path in zip(["", *asked.names], [words[1], *asked.paths]):
+        pathlib.Path(path if not name else f"{path}.grid").write_bytes(text_of(path) if name else asked.script.encode())
+        words += [f"{name}={path}.grid"] * bool(name)
+    ran = subprocess.run(words, capture_output=True, check=False)
+    if ran.returncode:
+        raise ValueError(ran.stderr.decode())
+    lines, size = ran.stdout.replace(b"*", b"%d" % NULL).split(b"\n"), asked.rows * asked.cols
+    return [np.array(b" ".join(part).split(), np.int64) for part in (lines[:size], lines[size + 6:])], {}
+
+
+def work(answer: Callable[[Asked], Answer]) -> None:
+    """Answers each line by a line, and by the cells of each map in turn if there are any."""
     for line in sys.stdin:
-        print("\t".join(answer(line.rstrip("\n").split("\t"))), flush=True)
+        rows, cols, again, *paths = line.rstrip("\n").split("\t")
+        asked = Asked(int(rows), int(cols), int(again), paths)
+        try:
+            arrays, labels = answer(asked)
+            told = b"".join(part.reshape(asked.rows * asked.cols, -1).T.astype(np.int32).tobytes() for part in arrays)
+            head = f"cells {len(told)} {json.dumps({str(number): label for number, label in labels.items()})}"
+        except Exception as error:
+            told, head = b"", f"{type(error).__name__}: {error}".replace("\n", " ")
+        sys.stdout.buffer.write(head.encode() + b"\n" + told)
+        sys.stdout.buffer.flush()
+
+
+# The fronts at work
 
 
 @dataclass
@@ -242,45 +346,85 @@ class Front:
     wrong: list[str] = field(default_factory=list)
 
     def __post_init__(self) -> None:
-        paths = {"python": "python/src", "qgis": "qgis", "grass": "grass/tests"}
-        words = ["Rscript", str(HERE / "random_rasters.R")] if self.name == "r" else [sys.executable, str(HERE / "random_rasters.py"), "--work", self.name]
-        known = {**environment(), "PYTHONPATH": str(REPOSITORY / paths.get(self.name, ""))}
-        self._process = subprocess.Popen(words, stdin=subprocess.PIPE, stdout=subprocess.PIPE, text=True, env=known)
+        paths = {"qgis": "qgis", "grass": "grass/tests"}
+        words = ["Rscript", str(HERE / "random_rasters.R")] if self.name == "r" else [sys.executable, "-W", "ignore", __file__, "--work", self.name]
+        known = {**environment(), "PYTHONPATH": str(REPOSITORY / paths.get(self.name, "python/src"))}
+        self._process = subprocess.Popen(words, stdin=subprocess.PIPE, stdout=subprocess.PIPE, env=known)
 
-    def ask(self, rasters: list[Made]) -> None:
-        """Compares what the front answers of some rasters of one call."""
+    def ask(self, place: Place, rasters: list[Made], again: int) -> tuple[str, bytes]:
+        """What the front answers of some rasters of one call."""
         assert self._process.stdin is not None and self._process.stdout is not None
-        if not rasters:
-            return
-        self._process.stdin.write("\t".join(made.path for made in rasters) + "\n")
+        line = "\t".join([str(place.rows), str(place.cols), str(again), *(made.path for made in rasters)])
+        self._process.stdin.write(line.encode() + b"\n")
         self._process.stdin.flush()
-        found = self._process.stdout.readline().rstrip("\n").split("\t")
+        head = self._process.stdout.readline().decode().rstrip("\n")
+        return head, self._process.stdout.read(int(head.split()[1])) if head.startswith("cells ") else b""
+
+    def judge(self, place: Place, rasters: list[Made], again: int) -> None:
+        """Compares what the front answers with what numpy says."""
+        head, told = self.ask(place, rasters, again)
+        wanted, labels = [made.cells.tobytes() for made in [*rasters, rasters[again]]], rasters[again].labels
+        size = len(wanted[0])
+        found = [told[at : at + size] for at in range(0, len(told), size)]
+        if self.name in ("python", "qgis", "r") and found and json.loads(head.split(" ", 2)[2]) != labels:
+            found = []
         for at, made in enumerate(rasters):
-            answer = found[at] if len(found) == len(rasters) else found[0]
-            if answer == made.expected:
+            if found[at : at + 1] == wanted[at : at + 1] and (at != again or found[-1:] == wanted[-1:]):
                 self.passed += 1
             else:
-                self.wrong.append(f"{made.path}: expected `{made.expected[:200]}`, found `{answer[:200]}`")
+                self.wrong.append(f"{made.path}: {head[:300]}; {np.frombuffer(b''.join(found[at:at + 1]), np.int32)[:20]}, not {made.cells[:20]}")
+
+    def refuses(self, place: Place, rasters: list[Made], reason: str) -> None:
+        """Sees that rasters are refused, and why."""
+        head = self.ask(place, rasters, 0)[0]
+        if not head.startswith("cells ") and re.search(reason, head):
+            self.passed += 1
+        else:
+            self.wrong.append(f"{' '.join(made.path for made in rasters)}: {head[:300]}, and not refused as {reason}")
 
     def end(self) -> None:
         """Ends the front."""
         self._process.communicate()
 
 
-def try_group(random: Any, room: str, number: int, fronts: list[Front]) -> None:
+def try_group(seed: int, number: int, room: str, fronts: list[Front], last: list[tuple[Place, Made]]) -> None:
+    random = np.random.default_rng([seed, number])
     place = place_of(random)
-    rasters = [make(random, place, f"{room}/{number}_{at}.tif", random.random() < 0.05) for at in range(GROUP)]
+    projection = projection_of(place.epsg)
+    rasters = [make(random, place, f"{room}/{number}_{at}.tif", projection) for at in range(GROUP)]
+    if any(front.name == "grass" for front in fronts):
+        for made in rasters:
+            if made.cells is not None:
+                made.cells.tofile(f"{made.path}.cells")
     for front in fronts:
-        mine = [made for made in rasters if made.is_for(front.name)]
-        front.ask([made for made in mine if not made.expected.startswith("refused")])
-        for made in mine:
-            if made.expected.startswith("refused"):
-                front.ask([made])
+        mine = [made for made in rasters if made.is_for(front.name)][: 1 if front.name == "tiles" else GROUP]
+        good = [made for made in mine if not made.reason]
+        if good:
+            front.judge(place, good, number % len(good))
+        for made in [made for made in mine if made.reason][: 1 if place.reason else GROUP]:
+            front.refuses(place, [made], made.reason)
+        if good and last and front.name in ("python", "qgis", "r") and last[0][1].is_for(front.name):
+            front.refuses(place, [good[0], last[0][1]], REFUSED_SYSTEM if last[0][0].epsg != place.epsg else "")
     kept = "".join("\n".join(front.wrong) for front in fronts)
-    for made in rasters:
-        if made.path not in kept:
-            for path in pathlib.Path(room).glob(pathlib.Path(made.path).name + "*"):
-                path.unlink()
+    for entry in list(os.scandir(room)):
+        if entry.name.split(".")[0] not in kept and not (rasters[0].cells is not None and entry.path.startswith(rasters[0].path)):
+            os.unlink(entry.path)
+    last[:] = [(place, rasters[0])] if not rasters[0].reason else []
+
+
+def run(asked: argparse.Namespace, fronts: list[Front], room: str) -> None:
+    """Tries groups until there are enough, or the time is over."""
+    last: list[tuple[Place, Made]] = []
+    began, told = time.monotonic(), 0
+    for number in range(asked.start, asked.start + -(-asked.count // GROUP)):
+        if time.monotonic() > began + asked.seconds:
+            break
+        try_group(asked.seed, number, room, fronts, last)
+        done = (number + 1 - asked.start) * GROUP
+        if done // PROGRESS > told:
+            told = done // PROGRESS
+            counts = ", ".join(f"{front.name} {front.passed} of {front.passed + len(front.wrong)}" for front in fronts)
+            print(f"fronts: seed {asked.seed}, groups {asked.start} to {number}: {counts}; {time.monotonic() - began:.0f} s", flush=True)
 
 
 def main() -> int:
@@ -288,27 +432,24 @@ def main() -> int:
     options.add_argument("--count", type=int, default=SHORT)
     options.add_argument("--seconds", type=float, default=float("inf"))
     options.add_argument("--seed", type=int, default=1)
-    options.add_argument("--work", choices=("python", "qgis", "grass"))
+    options.add_argument("--from", type=int, default=0, dest="start", metavar="GROUP")
+    options.add_argument("--work", choices=("python", "tiles", "shell", "qgis", "grass"))
     options.add_argument("fronts", nargs="*")
     asked = options.parse_args()
     gdal.UseExceptions()
     if asked.work:
-        work(asked.work)
+        work(globals()[f"answer_of_{asked.work}"])
         return 0
-    named = [name for name in asked.fronts or FRONTS if name in FRONTS]
-    missing = {name: "" if name == "grass" else MISSING[name]() for name in named}  # which is not started
+    named = [name for name in asked.fronts or FRONTS if name in (*FRONTS, "tiles")]
+    missing = {name: MISSING[{"tiles": "python"}.get(name, name)]() if name not in ("grass", "shell") else "" for name in named}
     for name in filter(missing.get, named):
         print(f"skipped  fronts/{name}: {missing[name]}; install: apt-get install {PACKAGES[name]}")
     fronts = [Front(name) for name in named if not missing[name]]
-    room = tempfile.mkdtemp(prefix="rasters-")
-    until = time.monotonic() + asked.seconds
-    for number in range(-(-asked.count // GROUP)):
-        if time.monotonic() > until:
-            break
-        try_group(np.random.default_rng([asked.seed, number]), room, number, fronts)
+    room = tempfile.mkdtemp(prefix="rasters-", dir="/dev/shm" if os.access("/dev/shm", os.W_OK) else None)
+    run(asked, fronts, room)
     for front in fronts:
         front.end()
-        print(f"fronts: {front.name}: {front.passed} random rasters of {front.passed + len(front.wrong)}")
+        print(f"fronts: {front.name}: {front.passed} random rasters of {front.passed + len(front.wrong)}, seed {asked.seed}")
         print(*front.wrong[:20], sep="\n", end="\n" * bool(front.wrong))
     failed = sum(len(front.wrong) for front in fronts)
     if not failed:

@@ -21,5 +21,5 @@ check 'types of the package' $types python/pyproject.toml python/src python/tool
 check 'types of the benchmarks' env MYPYPATH=python/bench $types python/pyproject.toml python/bench/*.py
 check 'types of the tests' sh -c 'cd "$1" && shift && exec "$@"' sh "$room" $types pyproject.toml tests
 add documents python3 python/tools/documents.py
-add 'random rasters' python3 python/tools/random_rasters.py --count 2000
+add 'random rasters' python3 fronts/random_rasters.py --count 2000 python tiles
 closing

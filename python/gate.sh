@@ -22,7 +22,7 @@ else
     if has 'pytest, hypothesis, rasterio, osgeo, pandas, xarray, dask, pyproj, fiona, geopandas, matplotlib, numpydoc, scipy' && command -v grass > /dev/null; then
         add 'at the edge' "$python" tests/gate.py tests/test_edge.py tests/test_edge_files.py
         add 'the seven calls' "$python" tests/gate.py tests/test_last_mile.py tests/test_shell.py tests/test_grass.py
-        add 'random rasters' "$python" tools/random_rasters.py --count 300
+        add 'random rasters by tiles' "$python" ../fronts/random_rasters.py --count 320 tiles
     else
         # shellcheck disable=SC2046
         skip python/edge 'pytest, GRASS or a library of rasters is not installed' $(grep -v '^#' packages.txt)

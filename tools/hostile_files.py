@@ -1,7 +1,7 @@
 #!/usr/bin/env python3
 """Hostile files, through the helpers and the Python package: no traceback, and no wrong number.
 
-    hostile_files.py [--count N] [--seed N]
+    hostile_files.py [--count N] [--tiffs N] [--seed N]
 
 AAIGrids go through rcell-aaigrid, grids through rcell-tif --from, TIFFs with changed or missing bytes through rcell-tif and the package. What is
 written is compared with a plain reading of the same text, or for TIFFs with what GDAL's own arrays say; what is refused is refused by the
@@ -23,6 +23,7 @@ ROOT = os.path.dirname(os.path.dirname(os.path.abspath(__file__)))
 sys.path[:0] = [f"{ROOT}/tools", f"{ROOT}/helpers", f"{ROOT}/python/src"]
 sys.dont_write_bytecode = True
 GREATEST = 2**31 - 1
+PROGRESS = 5000
 MEMORY = 3 << 30  # bytes that a broken file may make a reader ask for
 NUMBER = re.compile(r"[+-]?([0-9]+\.?[0-9]*|\.[0-9]+)([eE][+-]?[0-9]+)?")
 WORDS = ["0", "00", "+0", "-0", "1", "7", "007", "+7", "255", "-9999", "-09999", "-9999.0", "2147483647", "-2147483647", "2147483648", "-2147483648", "1.0",
@@ -160,10 +161,8 @@ def ways_of_tiff(helper, gdal, rcell):
         return cells_of(b"".join(written))
 
     def by_package(path):
-        source = rcell._maps.source_of("m", path)
-        words = rcell._text.Words(*source.range(), source.nodata)
-        header = source.region.header().encode() + b"null: " + words.null + b"\n"
-        return cells_of(header + b"".join(bytes(words.spell(block.cells, block.null)) for block in source.blocks()))
+        cells = rcell.run("r.stats -1 input=m", m=path)[0].categories[:, 0].tolist()
+        return [None if cell == helper.NULL else cell for cell in cells]
 
     return (by_helper, (helper.Refused, RuntimeError, MemoryError)), (by_package, (rcell.RcellError, MemoryError))
 
@@ -194,13 +193,16 @@ def tried(name, count, seed, fault_of):
         if fault:
             failed += 1
             print(f"{name} {at}: {fault[:600]}", flush=True)
-    print(f"{name}: {count - failed} of {count}", flush=True)
+        if (at + 1) % PROGRESS == 0:
+            print(f"{name}: {at + 1 - failed} of {at + 1}, seed {seed}", flush=True)
+    print(f"{name}: {count - failed} of {count}, seed {seed}", flush=True)
     return count - failed, failed
 
 
 def main():
     words = argparse.ArgumentParser(description=__doc__, formatter_class=argparse.RawDescriptionHelpFormatter)
     words.add_argument("--count", type=int, default=500)
+    words.add_argument("--tiffs", type=int, help="of TIFFs, another number")
     words.add_argument("--seed", type=int, default=1)
     settings = words.parse_args()
     resource.setrlimit(resource.RLIMIT_AS, (MEMORY, MEMORY))
@@ -220,12 +222,11 @@ def main():
             print(f"skipped  helpers/hostile TIFFs: {fault}; install: apt-get install python3-gdal python3-rasterio")
         else:
             import rcell
-            import rcell._maps
-            import rcell._text
 
+            os.environ.setdefault("RCELL", f"{ROOT}/bin/rcell")
             gdal.UseExceptions()
             ways = ways_of_tiff(rcell_tif, gdal, rcell)
-            counts.append(tried("TIFF", settings.count, settings.seed, lambda chance: fault_of_tiff(ways, chance, gdal, numpy, f"{folder}/m.tif")))
+            counts.append(tried("TIFF", settings.count if settings.tiffs is None else settings.tiffs, settings.seed, lambda chance: fault_of_tiff(ways, chance, gdal, numpy, f"{folder}/m.tif")))
     print(f"{sum(passed for passed, _ in counts)} passed, {sum(failed for _, failed in counts)} failed")
     return 1 if any(failed for _, failed in counts) else 0
 
