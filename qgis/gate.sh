@@ -1,5 +1,5 @@
 #!/bin/sh
-# The part of the plugin for QGIS that takes seconds, on bin/rcell: what the gate runs of it. Its core if GDAL's Python and numpy are
+# The part of the plugin for QGIS that takes seconds, on bin/rcell and bin/rcell-pipe: what the gate runs of it. Its core if GDAL's Python and numpy are
 # installed, and if QGIS is, a short session of it without a screen. The last line is 'N passed, M failed, K skipped'.
 cd "$(dirname "$0")/.." || exit 1
 python=/usr/bin/python3

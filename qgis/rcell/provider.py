@@ -36,7 +36,7 @@ class RcellProvider(QgsProcessingProvider):
     def load(self) -> bool:
         """Adds the setting under Settings, Options, Processing, Providers."""
         ProcessingConfig.settingIcons["rcell"] = self.icon()
-        title = "Program rcell (empty: the plugin's own)"
+        title = "Program rcell-pipe (empty: the plugin's own)"
         ProcessingConfig.addSetting(Setting("rcell", "RCELL_PROGRAM", title, "", valuetype=Setting.FILE))
         ProcessingConfig.readSettings()
         self.refreshAlgorithms()

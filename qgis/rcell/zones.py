@@ -13,11 +13,11 @@ from osgeo import gdal, ogr
 from qgis.core import NULL as NO_VALUE
 from qgis.core import QgsRasterLayer, QgsVectorLayer, QgsWkbTypes
 
-from .core.cells import MAX_CATEGORY, NULL
 from .core.crs import are_same, shown
 from .core.errors import BadMap, OtherCrs
+from .core.front.pipe import NULL
 from .core.program import Watch
-from .core.rasters import Raster, quiet
+from .core.rasters import MAX_CATEGORY, Raster, quiet
 from .layers import raster_of, wkt_of
 
 # Of polygons that are named in a warning, so many are.

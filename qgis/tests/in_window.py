@@ -26,7 +26,7 @@ def installed() -> dict[str, Any]:
     from qgis.utils import active_plugins, home_plugin_path
 
     pyplugin_installer.instance().installFromZipFile(ZIP)
-    program = os.path.join(home_plugin_path, "rcell/bin/rcell")
+    program = os.path.join(home_plugin_path, "rcell/bin/rcell-pipe")
     algorithms = sorted(it.id() for it in QgsApplication.processingRegistry().algorithms() if it.id().startswith("rcell:"))
     return {"is_active": "rcell" in active_plugins, "algorithms": algorithms, "program": program, "mode": os.stat(program).st_mode & 0o777}
 

@@ -10,8 +10,8 @@ import made
 import numpy as np
 from osgeo import gdal
 from rcell.core import answers
-from rcell.core.cells import NULL
 from rcell.core.errors import Refused
+from rcell.core.front.pipe import NULL
 from rcell.core.program import find_program
 from rcell.core.rasters import Raster
 
@@ -58,7 +58,7 @@ class AnswersTest(unittest.TestCase):
         self.assertEqual(found.tables[1].categories.tolist(), [[1, 1_000_000_000], [2, 2_000_000_000]])
         self.assertEqual(found.grids[1].cells.tolist(), [[1_000_000_000, 1_000_000_000, 2_000_000_000]])
 
-    def test_a_refusal_after_a_mark_names_the_line_of_the_script(self) -> None:
+    def test_an_error_after_outputs_names_the_line_of_the_script(self) -> None:
         with self.assertRaises(Refused) as caught:
             answers.run(self.program, "r.stats input=lc\nr.stats -c input=lc\n\nr.stats input=other", {"lc": self.raster("lc", [[1]])})
         self.assertEqual(str(caught.exception), "script, line 4: unknown map\n  r.stats input=other\n  try: defined here: lc")

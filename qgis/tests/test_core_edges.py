@@ -11,7 +11,7 @@ import sys
 import tempfile
 import time
 import unittest
-from typing import Any
+from typing import Any, Iterator
 
 import asked
 import made
@@ -20,6 +20,7 @@ from osgeo import gdal
 from rcell.core import answers, landscape, program
 from rcell.core.errors import BadMap, OtherCrs, OtherRegion, Refused, WriteFailed
 from rcell.core.files import check_target, write_raster
+from rcell.core.front import pipe
 from rcell.core.rasters import Raster, fitted
 
 PROGRAM = program.find_program()
@@ -246,19 +247,21 @@ class StreamsTest(Room):
             os.unlink(told)
 
     def test_a_run_does_not_wait_for_processes_that_are_forked_meanwhile(self) -> None:
-        raster = Raster.open("lc", made.write(self.path("lc.tif"), CELLS))
-        with program._Run(PROGRAM, ["lc"], {}, program.Watch()) as run:
+        children = []
+
+        def blocks() -> Iterator[pipe.Block]:
             if not (child := os.fork()):
                 time.sleep(300)
                 os._exit(0)
-            begun = time.monotonic()
-            run.write(0, raster.region.header().encode() + b"1 2 3 2 2 1\n")
-            run.close(0)
-            run.write_script(b"r.stats -c input=lc\n")
-            self.assertEqual(b"".join(run.pieces()), b"1 2\n2 3\n3 1\n")
-            self.assertLess(time.monotonic() - begun, 200)
-            os.kill(child, signal.SIGKILL)
-            os.waitpid(child, 0)
+            children.append(child)
+            yield pipe.Block(b"\1\2\3\2\2\1")
+
+        begun = time.monotonic()
+        [table] = pipe.run(PROGRAM, [pipe.Map("lc", ("2", "0", "3", "0"), 2, 3, "u8", blocks())], b"r.stats -c input=lc")
+        self.assertEqual((table.cells.tolist(), table.counts.tolist()), ([1, 2, 3], [2, 3, 1]))
+        self.assertLess(time.monotonic() - begun, 200)
+        os.kill(children[0], signal.SIGKILL)
+        os.waitpid(children[0], 0)
 
 
 if __name__ == "__main__":

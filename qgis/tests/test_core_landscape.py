@@ -13,9 +13,9 @@ import numpy as np
 from osgeo import gdal
 from rcell.core import composition, landscape
 from rcell.core.align import align
-from rcell.core.cells import NULL
 from rcell.core.counting import Answer
 from rcell.core.errors import OtherCrs, OtherRegion, Refused
+from rcell.core.front.pipe import NULL
 from rcell.core.legends import legend_of
 from rcell.core.program import Watch, find_program
 from rcell.core.rasters import Raster, fitted

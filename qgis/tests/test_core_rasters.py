@@ -15,6 +15,7 @@ from osgeo import gdal
 from rcell.core import answers, files
 from rcell.core.composition import cross
 from rcell.core.errors import BadMap, Cancelled, OtherRegion, ReadFailed, Refused, WriteFailed
+from rcell.core.front.pipe import NULL
 from rcell.core.landscape import patches
 from rcell.core.program import find_program
 from rcell.core.rasters import Raster, check_regions
@@ -57,6 +58,24 @@ class ReadingTest(InRoom):
                 array[1, 2] = cell
                 path = made.write(self.path("bad.tif"), array, dtype)
                 self.refused(BadMap, f"not a map of whole numbers: the cell at row 2, column 3 is {told}", path)
+
+    def test_what_the_program_gets(self) -> None:
+        for dtype, kind in ((gdal.GDT_Byte, "u8"), (gdal.GDT_UInt16, "u16"), (gdal.GDT_Int16, "i16"), (gdal.GDT_Int32, "i32"), (gdal.GDT_UInt32, "i32"),
+                            (gdal.GDT_Int64, "i32"), (gdal.GDT_Float32, "i32"), (gdal.GDT_Float64, "i32")):
+            with self.subTest(dtype=dtype):
+                path = made.write(self.path(f"{dtype}.tif"), CELLS, dtype, nodata=7)
+                is_converted = dtype in (gdal.GDT_UInt32, gdal.GDT_Int64, gdal.GDT_Float32, gdal.GDT_Float64)
+                raster = Raster.open("lc", path)
+                self.assertEqual((raster.cell_type, raster.nodata, raster.is_masked), (kind, NULL if is_converted else 7, False))
+                [(cells, null)] = raster.blocks()
+                self.assertEqual((cells.tolist(), null), (np.where(CELLS == 7, NULL, CELLS).tolist() if is_converted else CELLS.tolist(), None))
+                ranged = Raster.open("lc", path, null_ranges=[(1.5, 2.5), (-1e30, -5), (0.2, 0.8)])
+                self.assertEqual((ranged.nodata, ranged.is_masked), (NULL, False) if is_converted else (None, True))
+                [(cells, null)] = ranged.blocks()
+                self.assertEqual((cells == NULL if null is None else null).tolist(), np.isin(CELLS, (2, 7)).tolist())
+        signed = Raster.open("lc", made.write(self.path("b.tif"), [[1, 255]], gdal.GDT_Byte), null_ranges=[(250.0, float("inf"))])
+        self.assertEqual(signed.is_masked, True)
+        self.assertEqual(Raster.open("lc", signed.path, null_ranges=[(255.0, float("inf")), (300, 301)]).nodata, 255)
 
     def test_least_number_that_is_nodata(self) -> None:
         raster = Raster.open("lc", made.write(self.path("least.tif"), [[1, -(2**31)]], nodata=-(2**31)))
@@ -135,7 +154,7 @@ class RegionTest(InRoom):
 
     def test_thirds(self) -> None:
         raster = self.opened("third", 8 + 1 / 3, 1 / 120)
-        self.assertEqual(raster.region.header(), "north: 48\nsouth: 47\neast: 8.35833333\nwest: 8.33333333\nrows: 2\ncols: 3\n")
+        self.assertEqual(raster.region.edge_texts(), ("48", "47", "8.35833333", "8.33333333"))
         made_map = answers.grid(self.program, "r.mapcalc a = map", "a", raster)
         files.write_raster(self.path("back.tif"), "GTiff", made_map.cells, made_map.null, raster, {})
         self.assertEqual(Raster.open("back", self.path("back.tif")).geotransform, raster.geotransform)

@@ -1,53 +1,57 @@
-"""Scripts: what is sent in place of what was written, and how labels are found."""
+"""Scripts: what they make, what is sent in place of what was written, and how labels come back."""
 
 from __future__ import annotations
 
+import os
+import tempfile
 import unittest
+from unittest import mock
 
-from rcell.core.script import labels_in, plan_of, statements_of
+import made
+from rcell.core import answers
+from rcell.core.errors import Refused
+from rcell.core.front.pipe import NULL
+from rcell.core.program import find_program
+from rcell.core.rasters import Raster
+from rcell.core.script import outline_of
 
 
-class PlanTest(unittest.TestCase):
-    def test_one_table_is_sent_alone(self) -> None:
-        plan = plan_of("r.stats -c -l input=lc separator=comma null_value=NA", ["lc"])
-        self.assertEqual(plan.text, b"r.stats -c input=lc null_value=-2147483648")
-        self.assertEqual((plan.lines, plan.marks), ([1], [None]))
+class ScriptTest(unittest.TestCase):
+    def setUp(self) -> None:
+        folder = tempfile.TemporaryDirectory()
+        self.addCleanup(folder.cleanup)
+        self.program = find_program()
+        path = made.write(os.path.join(folder.name, "a.tif"), [[1, 0, 2]], nodata=0, names=["", "one", "a\nb"])
+        self.maps = {name: Raster.open(name, path) for name in ("a", "b")}
 
-    def test_marks_between_outputs(self) -> None:
-        plan = plan_of("# a note\nr.stats -c input=a\nr.out.ascii input=a\nr.stats input=a,b", ["a", "b"], ["a"])
-        self.assertEqual(plan.text.decode().split("\n"), [
-            "# a note",
-            "r.stats -c input=a null_value=-2147483648",
-            "r.mapcalc nothing_0 = null()",
-            "r.stats input=nothing_0 null_value=end",
-            "r.stats -1 input=a null_value=-2147483648",
-            "r.stats input=a,b null_value=-2147483648",
-            "r.stats input=nothing_0 null_value=end",
-            "r.stats -1 input=a null_value=-2147483648",
-        ])
-        self.assertEqual(plan.lines, [1, 2, 2, 2, 3, 4, 4, 0])
+    def test_what_a_script_makes(self) -> None:
+        script = ("\tr.mapcalc x= a == 1\n# r.mapcalc y = 1\nr.reclass output=k input=a\n1 = 2 r.clump output=no\n end \r\n"
+                  "r.clump -d input=k\toutput=c.1\nr.stats input=a\nr.mapcalc\tinput = output")
+        with self.assertRaisesRegex(Refused, "script, line 8: unknown map at column 19"):
+            outline_of(self.program, script, ["a"])
+        found = outline_of(self.program, script.replace("= output", "= x"), ["a"])
+        self.assertEqual(found.made, {"x": "mapcalc", "k": "reclass", "c.1": "clump", "input": "mapcalc"})
+        self.assertEqual([frame.line for frame in found.frames], [7])
 
-    def test_what_is_not_understood_is_sent_as_it_is(self) -> None:
-        for line in ("r.stats -z input=a", "r.stats input=a input=a", "r.stats -1 -c input=a", "r.out.ascii input=a null_value=a:b"):
-            with self.subTest(line=line):
-                plan = plan_of(line, ["a"])
-                self.assertEqual((plan.text.decode(), plan.outputs[0].is_known), (line, False))
+    def test_cells_come_as_maps(self) -> None:
+        script = "r.stats input=a\nr.stats -1 -n\tinput=b,a separator=comma\nr.stats -1N input=x,a\nr.stats -1l input=k\nr.out.ascii input=k"
+        script = f"r.mapcalc x = null()\nr.reclass input=a output=k\n1 = 7 seven\nend\n{script}"
+        with mock.patch("rcell.core.answers.frames_of", wraps=answers.frames_of) as run:
+            found = answers.run(self.program, script, self.maps, ["b"])
+        lines = run.call_args.args[3].split("\n")
+        self.assertEqual(lines[4:9], ["r.stats input=a", "", "", "", "r.out.ascii input=k"])
+        self.assertEqual(lines[9:], [*(f"r.out.ascii input={name}" for name in "baxk"), "r.stats -l -n input=k"])
+        self.assertEqual([type(output).__name__ for output in found.outputs], ["Table", "Table", "Table", "Table", "Grid", "Grid"])
+        self.assertEqual([table.categories.tolist() for table in found.tables],
+                         [[[1], [2], [NULL]], [[1, 1], [2, 2]], [[NULL, 1], [NULL, 2]], [[7], [NULL], [NULL]]])
+        self.assertEqual([table.line for table in found.tables], [5, 6, 7, 8])
+        self.assertEqual([table.labels for table in found.tables[1:]], [(None, None), (None, None), ({7: "seven"},)])
+        self.assertEqual([(grid.name, dict(grid.labels)) for grid in found.grids], [("k", {7: "seven"}), ("b", {1: "one", 2: "a\nb"})])
 
-    def test_nothing_is_added_after_rules_without_end(self) -> None:
-        script = "r.reclass input=a output=b\n1 = 2"
-        self.assertEqual(plan_of(script, ["a"], ["b"]).text.decode(), script)
-
-    def test_a_name_that_is_taken_is_not_used_for_marks(self) -> None:
-        plan = plan_of("r.mapcalc nothing_0 = a\nr.stats input=a\nr.stats input=a", ["a", "nothing_1"])
-        self.assertIn(b"r.mapcalc nothing_2 = null()", plan.text)
-
-    def test_statements_skip_rules(self) -> None:
-        found = statements_of("r.reclass input=a output=k\nr.stats = 1\n end\t\r\nr.clump -d input=k output=c")
-        self.assertEqual([(it.line, it.command, it.output) for it in found], [(1, "r.reclass", "k"), (4, "r.clump", "c")])
-
-    def test_labels_of_the_last_rule(self) -> None:
-        script = "r.reclass input=a output=k\n1 = 5 first\n# 2 = 5 note\n2 = 5 second, \u00fc\n3 = 5\n* = NULL\nend"
-        self.assertEqual(labels_in(script), {"k": {5: "second, \u00fc"}})
+    def test_labels_of_a_table(self) -> None:
+        script = "r.reclass input=a output=k\n1 = 5 first\n# 2 = 5 note\n2 = 5 last, \u00fc\n* = 6\nend\nr.stats -l input=a,k"
+        [table] = answers.run(self.program, script, self.maps).tables
+        self.assertEqual(table.labels, ({1: "one", 2: "a\nb"}, {5: "last, \u00fc"}))
 
 
 if __name__ == "__main__":

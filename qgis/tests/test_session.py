@@ -31,6 +31,7 @@ from qgis.core import (
 from qgis.PyQt.QtCore import QTranslator, QUrl
 from qgis.PyQt.QtGui import QColor
 from rcell import results
+from rcell.core.program import find_program
 
 COVER = np.array([[1, 1, 2, 0, 3], [1, 2, 2, 2, 3], [3, 3, 1, 1, 2], [3, 1, 1, 2, 2]])
 ZONES = np.array([[7, 7, 8, 8, 8], [7, 7, 8, 8, 8], [0, 7, 8, 8, 8], [0, 7, 7, 8, 8]])
@@ -195,8 +196,10 @@ class RefusalsTest(InSession):
 
             ProcessingConfig.readSettings()
             algorithm = QgsApplication.processingRegistry().algorithmById("rcell:majority")
-            self.assertEqual(algorithm.canExecute(), (False, "the program /nowhere/rcell is not there, or may not be executed"))
-            self.refused("the program /nowhere/rcell is not there", "majority", INPUT=self.cover, OUTPUT=self.path("m.tif"))
+            self.assertEqual(algorithm.canExecute(), 
+                             (False, "the program /nowhere/rcell-pipe is not there, or may not be executed: correct the path under Settings > Options > "
+                                     "Processing > Providers > rcell, or leave it empty to use the plugin's own"))
+            self.refused("the program /nowhere/rcell-pipe is not there", "majority", INPUT=self.cover, OUTPUT=self.path("m.tif"))
         finally:
             QgsSettings().setValue("Processing/Configuration/RCELL_PROGRAM", "")
             ProcessingConfig.readSettings()
@@ -370,7 +373,7 @@ class MapsTest(InSession):
     def test_a_run_that_is_cancelled_leaves_no_file(self) -> None:
         path = self.path("sleeping")
         with open(path, "w", encoding="utf-8") as file:
-            file.write(f'#!/bin/sh\ntest -e "$0.known" && exec sleep 60\ntouch "$0.known"\nexec "{os.environ["RCELL"]}" "$@"\n')
+            file.write(f'#!/bin/sh\ntest -e "$0.known" && exec sleep 60\ntouch "$0.known"\nexec "{find_program()}" "$@"\n')
         os.chmod(path, stat.S_IRWXU)
         from processing.core.ProcessingConfig import ProcessingConfig
 

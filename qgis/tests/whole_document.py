@@ -34,7 +34,7 @@ class DocumentTest(unittest.TestCase):
             with zipfile.ZipFile(os.environ["RCELL_QGIS_ZIP"]) as archive:
                 archive.extractall(plugins)
             shutil.copytree(REPOSITORY / "examples/rasters", f"{room}/rasters")
-            kept = {name: value for name, value in os.environ.items() if name not in ("RCELL", "PYTHONPATH")}
+            kept = {name: value for name, value in os.environ.items() if name not in ("RCELL", "RCELL_PIPE", "PYTHONPATH")}
             environment = {**kept, "HOME": room, "XDG_RUNTIME_DIR": room, "LC_ALL": "C.UTF-8"}
             for command, shown in sessions():
                 ran = subprocess.run(["sh", "-c", command], cwd=f"{room}/rasters", env=environment, capture_output=True, encoding="utf-8", check=False)

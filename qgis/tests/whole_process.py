@@ -36,7 +36,7 @@ class ProcessTest(unittest.TestCase):
         os.makedirs(cls.plugins)
         with zipfile.ZipFile(ZIP) as archive:
             archive.extractall(cls.plugins)
-        cls.program = os.path.join(cls.plugins, "rcell/bin/rcell")
+        cls.program = os.path.join(cls.plugins, "rcell/bin/rcell-pipe")
         cls.room = os.path.join(cls.folder.name, "Karten \u00e4 b")
         os.mkdir(cls.room)
         cls.mode_before = os.stat(cls.program).st_mode & 0o777
@@ -51,7 +51,7 @@ class ProcessTest(unittest.TestCase):
 
     @classmethod
     def environment(cls, **more: str) -> dict[str, str]:
-        kept = {name: value for name, value in os.environ.items() if name not in ("RCELL", "PYTHONPATH", "HOME", "XDG_DATA_HOME")}
+        kept = {name: value for name, value in os.environ.items() if name not in ("RCELL", "RCELL_PIPE", "PYTHONPATH", "HOME", "XDG_DATA_HOME")}
         return {**kept, "HOME": cls.home, "QT_QPA_PLATFORM": "offscreen", "LC_ALL": "C.UTF-8", "XDG_RUNTIME_DIR": cls.home, **more}
 
     @classmethod
@@ -135,7 +135,7 @@ class ProcessTest(unittest.TestCase):
     def test_a_program_that_is_missing(self) -> None:
         os.rename(self.program, self.program + ".away")
         try:
-            self.refused("the program rcell was not found: neither in the setting, nor in the environment variable RCELL", "rcell:cross",
+            self.refused("the program rcell-pipe was not found: install the plugin from its zip", "rcell:cross",
                          f"INPUT={self.cover}", f"OUTPUT={self.path('no.gpkg')}")
         finally:
             os.rename(self.program + ".away", self.program)

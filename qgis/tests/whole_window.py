@@ -27,7 +27,7 @@ class WindowTest(unittest.TestCase):
             made.write(os.path.join(room, "shifted.tif"), [[1, 2, 3], [3, 3, 0]], gdal.GDT_Byte, nodata=0, transform=(500010, 20, 0, 5400000, 0, -20))
             made.write(os.path.join(room, "large.tif"), made.noise(1, 3000, 3000, 3), gdal.GDT_Byte, nodata=0)
             told = os.path.join(room, "told.json")
-            environment = {name: value for name, value in os.environ.items() if name not in ("RCELL", "QT_QPA_PLATFORM")}
+            environment = {name: value for name, value in os.environ.items() if name not in ("RCELL", "RCELL_PIPE", "QT_QPA_PLATFORM")}
             environment.update(HOME=room, RCELL_QGIS_ROOM=room, RCELL_QGIS_TOLD=told, XDG_RUNTIME_DIR=room)
             words = ["xvfb-run", "-a", "qgis.bin", "--noversioncheck", "--nologo", "--profiles-path", os.path.join(room, "profiles"),
                      "--code", os.path.join(HERE, "in_window.py")]

@@ -23,9 +23,10 @@ from ..core import answers
 from ..core.answers import Answers, Table
 from ..core.errors import RcellError, Refused, WriteFailed
 from ..core.files import check_target, write_raster, write_table
-from ..core.program import Watch, find_program, judge
+from ..core.front.pipe import GridFrame
+from ..core.program import Watch, find_program
 from ..core.rasters import Raster, fitted
-from ..core.script import statements_of
+from ..core.script import Outline, outline_of
 from ..layers import names_of, raster_of
 from ..results import counted_classes, put_legend
 from ..translation import tr
@@ -93,7 +94,7 @@ class ScriptAlgorithm(RcellAlgorithm):
     def answer(self, program: str, parameters: Parameters, context: QgsProcessingContext, feedback: QgsProcessingFeedback,
                watch: Watch) -> dict[str, Any]:
         """What is wanted of the script."""
-        script, wanted = self._script(parameters, context), self._wanted(parameters, context)
+        script, wanted = self._script(parameters, context), self._wanted(self._outline(parameters, context), parameters, context)
         maps = {raster.name: raster for raster in self.rasters}
         found = answers.run(program, script, maps, [wanted] if wanted else [], watch)
         self._measure(found, parameters, context)
@@ -115,41 +116,37 @@ class ScriptAlgorithm(RcellAlgorithm):
         return list(zip(names_of(layers, given), layers))
 
     def _check_wanted(self, parameters: Parameters, context: QgsProcessingContext) -> None:
-        """Looks for what is wanted; if it is not there, the script may be misspelled, and the program judges it first."""
-        try:
-            self._wanted(parameters, context)
-            self._check_table(parameters, context)
-        except Refused:
-            if self.has_rasters(parameters):
-                names = [name for name, _ in self._named_layers(parameters, context)]
-                judge(find_program(program_setting()), self._script(parameters, context), names)
-            raise
+        """Looks for what is wanted, if the program accepts the script; if not, the run says why, with a mark in the log."""
+        if self.has_rasters(parameters):
+            try:
+                outline = self._outline(parameters, context)
+            except Refused as error:
+                if error.content is not None:
+                    return
+                raise
+            self._wanted(outline, parameters, context)
+            _check_table(outline, parameters)
+
+    def _outline(self, parameters: Parameters, context: QgsProcessingContext) -> Outline:
+        names = [name for name, _ in self._named_layers(parameters, context)]
+        return outline_of(find_program(program_setting()), self._script(parameters, context), names)
 
     def _script(self, parameters: Parameters, context: QgsProcessingContext) -> str:
         script: str = self.parameterAsString(parameters, "SCRIPT", context)
         return script.rstrip("\n")
 
-    def _wanted(self, parameters: Parameters, context: QgsProcessingContext) -> str:
+    def _wanted(self, outline: Outline, parameters: Parameters, context: QgsProcessingContext) -> str:
         """The map that is wanted; empty where none is."""
         name: str = self.parameterAsString(parameters, "MAP", context).strip()
         if not parameters.get("OUTPUT"):
             if name:
                 raise Refused(f"the map {name} is wanted, and no place for it is given", status=2)
             return ""
-        statements = statements_of(self._script(parameters, context))
-        made = [statement.output for statement in statements if statement.output is not None]
+        made = list(outline.made)
         if not name and len(made) != 1:
             told = f"makes {', '.join(made)}" if made else "makes none"
             raise Refused(f"the script {told}: name the map that is wanted", status=2)
         return name or made[0]
-
-    def _check_table(self, parameters: Parameters, context: QgsProcessingContext) -> None:
-        """A table that is wanted is the only one."""
-        statements = statements_of(self._script(parameters, context))
-        tables = [statement for statement in statements if statement.command == "r.stats"]
-        if parameters.get("TABLE") and len(tables) != 1:
-            told = ", ".join(f"{statement.command} in line {statement.line}" for statement in tables) or "no r.stats"
-            raise Refused(f"one table is asked for, and the script has {told}: a folder has all outputs", "script")
 
     def _measure(self, found: Answers, parameters: Parameters, context: QgsProcessingContext) -> None:
         """Puts areas and percentages into the tables, where they are asked for."""
@@ -175,6 +172,14 @@ class ScriptAlgorithm(RcellAlgorithm):
                 write_raster(path, "GTiff", output.cells, output.null, self.rasters[0], output.labels, self.watch.check)
                 put_legend(path, counted_classes(output, self.rasters[0]), {}, context)
         return folder
+
+
+def _check_table(outline: Outline, parameters: Parameters) -> None:
+    """A table that is wanted is the only one."""
+    tables = [frame.line for frame in outline.frames if not isinstance(frame, GridFrame)]
+    if parameters.get("TABLE") and len(tables) != 1:
+        told = ", ".join(f"r.stats in line {line}" for line in tables) or "no r.stats"
+        raise Refused(f"one table is asked for, and the script has {told}: a folder has all outputs", "script")
 
 
 def _shown(table: Table) -> str:

@@ -11,9 +11,9 @@ from numpy.typing import NDArray
 from osgeo import osr
 
 from .answers import Grid, run
-from .cells import NULL
 from .crs import are_same
 from .errors import OtherRegion
+from .front.pipe import NULL
 from .program import Watch
 from .rasters import Raster, check_crs
 

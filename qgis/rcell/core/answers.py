@@ -9,11 +9,12 @@ from typing import Mapping, Sequence, Union
 import numpy as np
 from numpy.typing import NDArray
 
-from .cells import NULL
 from .errors import Refused
-from .program import Output, Watch, execute, judge
+from .front import pipe
+from .front.pipe import NULL
+from .program import Watch, frames_of
 from .rasters import Raster, fitted
-from .script import labels_in, labels_of_rules, statements_of
+from .script import Listing, outline_of
 from .sizes import UNITS
 
 # Of categories that lie within so many each is counted at its place, in place of being sorted.
@@ -183,31 +184,72 @@ def run(program: str, script: str, maps: Mapping[str, Raster], wanted: Sequence[
     if not maps:
         raise Refused("no map is given", status=2)
     fitted(list(maps.values()))
-    known = [*maps, *(statement.output for statement in statements_of(script) if statement.output is not None)]
+    watch = watch or Watch()
+    outline = outline_of(program, script, list(maps), watch)
     for name in wanted:
-        if name not in known:
-            judge(program, script, list(maps))
-            raise Refused(f"no map {name}: there are {', '.join(known)}", status=2)
-    labels: dict[str, Mapping[int, str]] = {**labels_in(script)}
-    labels.update({name: raster.labels for name, raster in maps.items()})
-    outputs = [_answer(output, labels, maps) for output in execute(program, script, maps, wanted, watch)]
+        if name not in maps and name not in outline.made:
+            raise Refused(f"no map {name}: there are {', '.join([*maps, *outline.made])}", status=2)
+    listed = [name for listing in outline.listings.values() for name in listing.maps]
+    shown = [frame.name for frame in outline.frames if isinstance(frame, pipe.GridFrame)]
+    asked = list(dict.fromkeys([*listed, *wanted]))
+    labelled = [name for name in dict.fromkeys([*shown, *asked]) if outline.made.get(name) == "reclass"]
+    # The cells of a listing come as maps.
+    lines = ["" if number in outline.listings else line for number, line in enumerate(script.split("\n"), 1)]
+    lines += [*(f"r.out.ascii input={name}" for name in asked), *(f"r.stats -l -n input={name}" for name in labelled)]
+    frames = iter(frames_of(program, maps, script, "\n".join(lines), watch))
+    own = [None if isinstance(frame, pipe.TextFrame) else next(frames) for frame in outline.frames]
+    cells = {name: _cells_of(next(frames)) for name in asked}
+    labels = {**{name: raster.labels for name, raster in maps.items()}, **{name: _labels_of(next(frames))[0] for name in labelled}}
+    outputs: list[Table | Grid] = []
+    for place, frame in enumerate(own):
+        if isinstance(frame, pipe.GridFrame):
+            outputs.append(Grid(frame.name, _cells_of(frame), labels=labels.get(frame.name, {})))
+        elif isinstance(frame, pipe.TableFrame):
+            outputs.append(_table(frame, maps))
+        else:
+            line = outline.frames[place].line
+            outputs.append(_listing(outline.listings[line], line, cells, labels, maps))
+    outputs += [Grid(name, cells[name], labels=labels.get(name, {})) for name in wanted]
     tables = [output for output in outputs if isinstance(output, Table)]
     return Answers(tables, [output for output in outputs if isinstance(output, Grid)], outputs)
 
 
-def _answer(output: Output, labels: Mapping[str, Mapping[int, str]], maps: Mapping[str, Raster]) -> Table | Grid:
-    statement = output.statement
-    if statement.is_of_cells and (statement.command == "r.out.ascii" or statement.line == 0):
-        return Grid(statement.maps[0], output.values, labels=labels.get(statement.maps[0], {}))
-    values = output.values.reshape(-1, 1).astype(np.int64) if statement.is_of_cells else output.values
-    count = len(statement.maps)
+def _cells_of(frame: pipe.Frame) -> NDArray[np.int32]:
+    """The cells of a map, NULL for null."""
+    assert isinstance(frame, pipe.GridFrame)
+    cells = np.asarray(frame.cells).reshape(frame.rows, frame.cols)
+    return cells if frame.null == NULL else np.where(cells == frame.null, np.int32(NULL), cells)
+
+
+def _labels_of(frame: pipe.Frame) -> list[dict[int, str]]:
+    """The labels of each map of a table."""
+    assert isinstance(frame, pipe.TableFrame) and frame.labels is not None
+    width = len(frame.names)
+    codes, texts = frame.cells.tolist(), frame.labels
+    pairs = (zip(codes[place::width], texts[place::width]) for place in range(width))
+    return [{code: text.decode("utf-8", "surrogateescape") for code, text in each if text and code != NULL} for each in pairs]
+
+
+def _table(frame: pipe.TableFrame, maps: Mapping[str, Raster]) -> Table:
+    """A table; a map that was given has its own name and labels."""
+    labels = None if frame.labels is None else _labels_of(frame)
     return Table(
-        titles=tuple(maps[name].name if name in maps else name for name in statement.maps),
-        categories=values[:, :count],
-        cells=values[:, count] if "c" in statement.flags else None,
-        labels=tuple(labels.get(name, {}) if "l" in statement.flags else None for name in statement.maps),
-        line=statement.line,
+        titles=tuple(maps[name].name if name in maps else name for name in frame.names),
+        categories=np.asarray(frame.cells).reshape(frame.entries, len(frame.names)).astype(np.int64),
+        cells=None if frame.counts is None else np.asarray(frame.counts).astype(np.int64),
+        labels=tuple(None if labels is None else maps[name].labels if name in maps else labels[at] for at, name in enumerate(frame.names)),
+        line=frame.line,
     )
+
+
+def _listing(listing: Listing, line: int, cells: Mapping[str, NDArray[np.int32]], labels: Mapping[str, Mapping[int, str]],
+             maps: Mapping[str, Raster]) -> Table:
+    """The cells of maps, an entry for each cell that its flags do not leave out."""
+    entries = np.column_stack([cells[name].reshape(-1) for name in listing.maps]).astype(np.int64)
+    if "n" in listing.flags or "N" in listing.flags:
+        entries = entries[(entries != NULL).all(axis=1) if "n" in listing.flags else (entries != NULL).any(axis=1)]
+    titles = tuple(maps[name].name if name in maps else name for name in listing.maps)
+    return Table(titles, entries, None, tuple(labels.get(name, {}) if "l" in listing.flags else None for name in listing.maps), line)
 
 
 def grid(program: str, script: str, name: str, raster: Raster, watch: Watch | None = None) -> Grid:
@@ -228,9 +270,8 @@ def reclass(program: str, raster: Raster, rules: str, watch: Watch | None = None
         lines = lines[: next(at for at, line in enumerate(lines) if line.strip(" \t\r") == "end")]
     script = "\n".join(["r.reclass input=map output=classes", *lines, "end"])
     try:
-        made = grid(program, script, "classes", raster, watch)
+        return grid(program, script, "classes", raster, watch)
     except Refused as refusal:
         if refusal.source != "script" or not 2 <= refusal.line <= len(lines) + 1:
             raise
         raise type(refusal)(refusal.text, "rules", refusal.line - 1, refusal.status, refusal.content, advice=refusal.advice) from None
-    return replace(made, labels=labels_of_rules(lines))

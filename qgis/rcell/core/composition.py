@@ -8,9 +8,9 @@ from typing import Mapping, Sequence
 import numpy as np
 
 from .answers import Column
-from .cells import NULL
 from .counting import Answer, Counts, Floats, Integers, coded, count, real, sized, starts_of, text, whole
 from .errors import Refused
+from .front.pipe import NULL
 from .program import Watch
 from .rasters import Raster
 from .sizes import UNITS

@@ -9,9 +9,9 @@ from typing import Iterable
 import numpy as np
 
 from .answers import Column, Grid, grid, run
-from .cells import NULL
 from .counting import Answer, Counts, Floats, Integers, coded, count, real, starts_of, whole
 from .errors import Refused
+from .front.pipe import NULL
 from .program import Watch
 from .rasters import Raster
 

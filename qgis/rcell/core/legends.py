@@ -7,8 +7,8 @@ import csv
 import xml.etree.ElementTree as ElementTree
 from typing import Iterable
 
-from .cells import MAX_CATEGORY
 from .errors import Refused
+from .rasters import MAX_CATEGORY
 
 _HEADERS = (["value", "label"], ["value", "label", "colour"], ["value", "label", "color"])
 

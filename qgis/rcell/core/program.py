@@ -1,10 +1,5 @@
 # SPDX-License-Identifier: Apache-2.0 OR GPL-2.0-or-later
-"""The program: where it is, and a run of it over pipes.
-
-No grid is written to a file and no thread is started. The program reads the grids in their order and then the script, and writes nothing
-before it has read them all; so each goes into a pipe of its own, one after the other, and then the output is read. Whoever waits for
-a pipe looks ten times a second whether the user has cancelled.
-"""
+"""The programs: where they are, and runs of rcell-pipe over maps, which the user can cancel."""
 
 from __future__ import annotations
 
@@ -12,46 +7,39 @@ import contextlib
 import importlib
 import os
 import re
-import select
 import shlex
 import stat
-import subprocess
 import sys
 from dataclasses import dataclass
-from typing import Any, Callable, Iterator, Mapping, NoReturn, Sequence
+from typing import Any, Callable, Iterator, Mapping, Sequence
 
 import numpy as np
-from numpy.typing import NDArray
 
-from .cells import NULL, Words
 from .errors import Cancelled, Killed, MissingProgram, OutOfMemory, RcellError, Refused, WrongProgram
-from .front.programs import close, found_on_path, pipe
-from .rasters import Raster, Warn
-from .region import Region
-from .script import SCRIPT_LIMIT, Plan, Statement, plan_of
+from .front import pipe
+from .front.pipe import NULL
+from .front.programs import Started, above_standard, found_on_path
+from .rasters import Cells, Mask, Raster, Warn
 
-PIPE_BYTES = 1 << 20
-# The program tells one line; of what another program may tell no more is kept.
-_MESSAGE_LIMIT = 1 << 16
 _AT_COLUMN = re.compile(r" at column \d+$")
 _MESSAGE = re.compile(r"rcell: ([^:]*):(\d+): (.*)")
-_WAIT = 0.1
-
-BUNDLED = os.path.join(os.path.dirname(os.path.dirname(os.path.abspath(__file__))), "bin", "rcell")
+_PROBE_SECONDS = 60
+_FOLDER = os.path.join(os.path.dirname(os.path.dirname(os.path.abspath(__file__))), "bin")
+BUNDLED = os.path.join(_FOLDER, "rcell-pipe")
 
 
 @dataclass
 class Watch:
-    """What the one who waits for a run wants to be asked and told.
+    """How a run is watched.
 
     Attributes
     ----------
     is_cancelled : callable
     progress : callable
-        Called with what is done, from 0 to 1.
+        Called with the share that is done, from 0 to 1.
     warn : callable
     command : callable
-        Called with the command line and the script before the program is started.
+        Called with the names of the maps and the script before the program is started.
     """
 
     is_cancelled: Callable[[], bool] = lambda: False
@@ -60,43 +48,38 @@ class Watch:
     command: Callable[[str], None] = lambda text: None
 
     def check(self) -> None:
-        """Raises `Cancelled` where the user has cancelled."""
+        """Raise `Cancelled` if the user has cancelled."""
         if self.is_cancelled():
             raise Cancelled()
 
 
-@dataclass(frozen=True)
-class Output:
-    """What one statement wrote: of a table int64, entries x columns; of a map int32, rows x cols; -2147483648 is null."""
-
-    statement: Statement
-    values: NDArray[Any]
-
-
-# Where it is
+# Where they are
 
 
 def find_program(setting: str = "") -> str:
-    """The path of the program: the first of what the setting names, the environment variable RCELL, the plugin's own, the path's.
+    """Return the path of rcell-pipe: of the setting, of the variable RCELL_PIPE, next to RCELL, of the plugin, or on the path.
+
+    A setting that names rcell stands for the rcell-pipe next to it.
 
     Raises
     ------
     MissingProgram
-        Where there is none, or it cannot be executed.
+        There is none, or it cannot be executed.
     WrongProgram
-        Where it does not answer as this plugin needs it.
+        It does not work as this plugin needs it.
     """
     if sys.platform == "win32":
-        raise MissingProgram("the program rcell runs on Linux alone")
-    bundled = BUNDLED if os.path.isfile(BUNDLED) else ""
-    path = setting or os.environ.get("RCELL", "") or bundled or found_on_path("rcell") or ""
+        raise MissingProgram("the program rcell-pipe runs on Linux alone")
+    named = _beside(setting) or os.environ.get("RCELL_PIPE", "") or _beside(os.environ.get("RCELL", ""))
+    path = named or (BUNDLED if os.path.isfile(BUNDLED) else "") or found_on_path("rcell-pipe")
     if not path:
-        raise MissingProgram("the program rcell was not found: neither in the setting, nor in the environment variable RCELL, "
-                             "nor in the plugin's folder bin, nor on the path")
+        raise MissingProgram("the program rcell-pipe was not found: install the plugin from its zip, which contains it; or set the path under "
+                             "Settings > Options > Processing > Providers > rcell, or in the environment variable RCELL_PIPE")
     if path == BUNDLED:
         _set_executable(path)
     if not os.path.isfile(path) or not os.access(path, os.X_OK):
-        raise MissingProgram(f"the program {path} is not there, or may not be executed")
+        raise MissingProgram(f"the program {path} is not there, or may not be executed: correct the path under "
+                             "Settings > Options > Processing > Providers > rcell, or leave it empty to use the plugin's own")
     state = os.stat(path)
     stamp = (state.st_ino, state.st_size, state.st_mtime_ns)
     if _known.get(path) != stamp:
@@ -108,8 +91,14 @@ def find_program(setting: str = "") -> str:
 _known: dict[str, tuple[int, int, int]] = {}
 
 
+def _beside(path: str) -> str:
+    """The rcell-pipe next to a path of rcell; another path as it is."""
+    folder, name = os.path.split(path)
+    return os.path.join(folder, "rcell-pipe") if name == "rcell" else path
+
+
 def _set_executable(path: str) -> None:
-    """Install from ZIP takes the right to execute away."""
+    """Give back the right to execute, which Install from ZIP takes away."""
     mode = os.stat(path).st_mode
     if not mode & stat.S_IXUSR:
         try:
@@ -118,229 +107,102 @@ def _set_executable(path: str) -> None:
             raise MissingProgram(f"the program {path} may not be executed, and that cannot be changed: {error.strerror}") from None
 
 
-_UNKNOWN = "{} is not a program rcell of a version that this plugin knows"
-_PROBE_GRID = b"north: 1\nsouth: 0\neast: 3\nwest: 0\nrows: 1\ncols: 3\nnull: ***\n007 *** 012 "
-_ONE_CELL = b"north: 1\nsouth: 0\neast: 1\nwest: 0\nrows: 1\ncols: 1\n0\n"
-_PROBE_SCRIPT = b"r.clump -d input=g output=k\nr.stats -c input=g,k after=7,1\nr.stats input=k null_value=end\nr.stats -1 input=k\n"
-_PROBE_ANSWER = b"12 2 1\n* * 1\n1\n2\nend\n1\n*\n2\n"
+_PROBE_SCRIPT = b"r.clump -d input=probe output=k\nr.stats -c input=probe,k after=7,1\nr.stats -1 input=k\nr.out.ascii input=k\n"
+_PROBE_CELLS = [np.array([12, 2, NULL, NULL], np.int32).tobytes(), b"1\n*\n2\n", b"\1\xff\2"]
 
 
 def _probe(path: str) -> None:
-    """Runs the program once on a grid of three cells, with all that this plugin makes use of."""
+    """Run the program once on three cells, with a frame of each kind."""
+    probe = pipe.Map("probe", ("1", "0", "3", "0"), 1, 3, "u8", [pipe.Block(b"\7\xff\14")], nodata=255)
+    frames: list[pipe.Frame] = []
     try:
-        with _Run(path, ["g"], {}, Watch()) as run:
-            run.write(0, _PROBE_GRID)
-            run.close(0)
-            run.write_script(_PROBE_SCRIPT)
-            answer = b""
-            for piece in run.pieces():
-                answer += piece
-                if len(answer) > len(_PROBE_ANSWER):
-                    raise WrongProgram(_UNKNOWN.format(path))
-            status = run.end()[0]
+        frames = pipe.run(path, [probe], _PROBE_SCRIPT, seconds=_PROBE_SECONDS)
+    except (pipe.Rejected, pipe.Killed, pipe.NoAnswer, TimeoutError):
+        pass
     except OSError as error:
         raise MissingProgram(f"the program {path} cannot be executed: {error.strerror}") from None
-    if status != 0 or answer != _PROBE_ANSWER:
-        raise WrongProgram(_UNKNOWN.format(path))
+    if [bytes(getattr(frame, "cells", b"") or getattr(frame, "text", b"")) for frame in frames] != _PROBE_CELLS:
+        raise WrongProgram(f"{path} is not a program rcell-pipe of a version that this plugin knows")
 
 
-# A run
+# Runs
 
 
-class _Run:
-    """The program at work: a pipe for each grid and one for the script, its output and its message.
-
-    Leaving it ends the program, whatever has happened, and closes all pipes.
-    """
-
-    def __init__(self, path: str, names: Sequence[str], files: Mapping[str, str], watch: Watch) -> None:
-        self._watch = watch
-        self._writers: list[int] = []
-        readers: list[int] = []
-        try:
-            for _ in range(len(names) + 1):
-                reader, writer = pipe()
-                readers.append(reader)
-                self._writers.append(writer)
-                os.set_blocking(writer, False)
-            words = [f"{name}={files.get(name, f'/dev/fd/{reader}')}" for name, reader in zip(names, readers)]
-            self._start([path, f"/dev/fd/{readers[-1]}", *words], readers)
-        except BaseException:
-            for writer in self._writers:
-                close(writer)
-            raise
-        finally:
-            for reader in readers:
-                close(reader)
-        self.is_reading = True
-        self._message = b""
-
-    def _start(self, words: Sequence[str], inherited: Sequence[int]) -> None:
-        """Starts the program; its output and its message come through pipes as well."""
-        self._output, output = pipe()
-        self._told, told = pipe()
-        try:
-            self._process = subprocess.Popen(words, stdin=subprocess.DEVNULL, stdout=output, stderr=told, pass_fds=inherited)
-        except BaseException:
-            close(self._output)
-            close(self._told)
-            raise
-        finally:
-            close(output)
-            close(told)
-
-    def __enter__(self) -> _Run:
-        return self
-
-    def __exit__(self, *_: object) -> None:
-        for place in range(len(self._writers)):
-            self.close(place)
-        if self._process.poll() is None:
-            self._process.kill()
-        self._process.wait()
-        close(self._output)
-        close(self._told)
-
-    def write(self, place: int, data: bytes | memoryview) -> None:
-        """Writes all of the data to a grid's pipe; nothing more once the program has stopped reading."""
-        rest = memoryview(data)
-        writer = self._writers[place]
-        try:
-            while rest and self.is_reading:
-                try:
-                    rest = rest[os.write(writer, rest) :]
-                except BlockingIOError:
-                    self._watch.check()
-                    select.select([], [writer], [], _WAIT)
-        except BrokenPipeError:
-            self.is_reading = False
-
-    def write_script(self, script: bytes) -> None:
-        """Writes the script, and ends it."""
-        self.write(-1, script)
-        self.close(len(self._writers) - 1)
-
-    def close(self, place: int) -> None:
-        """Ends a grid, or the script, which comes after them."""
-        if self._writers[place] >= 0:
-            close(self._writers[place])
-            self._writers[place] = -1
-
-    def pieces(self) -> Iterator[bytes]:
-        """The output, as it comes; what comes on standard error meanwhile is kept."""
-        poll = select.poll()
-        poll.register(self._output, select.POLLIN)
-        poll.register(self._told, select.POLLIN)
-        while True:
-            self._watch.check()
-            ready = {file for file, _ in poll.poll(_WAIT * 1000)}
-            if self._told in ready:
-                piece = os.read(self._told, PIPE_BYTES)
-                self._message = (self._message + piece)[:_MESSAGE_LIMIT]
-                if not piece:
-                    poll.unregister(self._told)
-            if self._output in ready:
-                piece = os.read(self._output, PIPE_BYTES)
-                if not piece:
-                    return
-                yield piece
-
-    def end(self) -> tuple[int, str]:
-        """The status and the message, when all output has been read."""
-        while piece := os.read(self._told, PIPE_BYTES):
-            self._message = (self._message + piece)[:_MESSAGE_LIMIT]
-        return self._process.wait(), self._message.decode("utf-8", "surrogateescape")
-
-
-def judge(program: str, script: str, names: Sequence[str]) -> None:
-    """Runs a script over maps of one cell with these names.
+def judge(program: str, script: str, names: Sequence[str], watch: Watch) -> list[pipe.Frame]:
+    """Run a script over maps of one null cell with these names, and return what its statements write.
 
     Raises
     ------
     Refused
-        As the program refuses the script.
+        The program rejects the script.
     """
-    lines = script.split("\n")
-    with _Run(program, names, {}, Watch()) as run:
-        for place in range(len(names)):
-            run.write(place, _ONE_CELL)
-            run.close(place)
-        run.write_script(script.encode("utf-8", "surrogateescape"))
-        for _ in run.pieces():
-            pass
-        status, message = run.end()
-    if status:
-        _raise_fault(status, message, Plan(b"", list(range(1, len(lines) + 1)), [], names=tuple(names)), script)
+    maps = [pipe.Map(name, ("1", "0", "1", "0"), 1, 1, "u8", [pipe.Block(b"\0")], nodata=0) for name in names]
+    return _run(program, maps, script, script, watch)
 
 
-def execute(program: str, script: str, maps: Mapping[str, Raster], wanted: Sequence[str] = (), watch: Watch | None = None) -> list[Output]:
-    """Runs a script over maps of one region.
+def frames_of(program: str, maps: Mapping[str, Raster], script: str, sent: str, watch: Watch) -> list[pipe.Frame]:
+    """Run a script over maps of one region, and return what its statements write.
 
     Parameters
     ----------
     program : str
-        As `find_program` answers it.
-    script : str
+        As `find_program` returns it.
     maps : mapping of str to Raster
-        By the names that the script has for them; at least one. Their regions are equal.
-    wanted : sequence of str
-        Maps whose cells are answered after the outputs of the script.
-    watch : Watch, optional
+        By the names that the script has for them.
+    script : str
+        As the user wrote it.
+    sent : str
+        The same lines, of which some may be empty, and further lines.
+    watch : Watch
 
     Raises
     ------
     Refused
-        As the program refuses, with the line of the caller's script.
+        The program rejects a map or the script.
     BadMap
-        Where a cell can't be sent.
+        A cell is no category.
     OutOfMemory, Killed, WrongProgram, Cancelled
     """
-    watch = watch or Watch()
-    plan = plan_of(script, maps, wanted)
-    _check_length(script, plan)
-    region = next(iter(maps.values())).region
-    files = {name: raster.path for name, raster in maps.items() if raster.is_text}
     words = [f"{name}={shlex.quote(raster.path)}" for name, raster in maps.items()]
-    watch.command("\n".join([f"{program} script {' '.join(words)}", *(f"  {line}" for line in script.split("\n"))]))
-    with _Run(program, list(maps), files, watch) as run:
-        _Sender(run, maps, watch).send()
-        run.write_script(plan.text)
-        outputs, rest = _outputs_of(_Reader(run.pieces(), watch), plan, region)
-        if rest is None:
-            for _ in run.pieces():
-                pass
-        status, message = run.end()
-    if status:
-        _raise_fault(status, message, plan, script)
-    if rest != b"":
-        raise WrongProgram(f"{program} has written what this plugin does not understand")
-    return outputs
+    watch.command("\n".join([f"rcell script {' '.join(words)}", *(f"  {line}" for line in script.split("\n"))]))
+    sender = _Sender(program, maps, watch)
+    frames = _run(program, [sender.map_of(name, raster) for name, raster in maps.items()], script, sent, watch)
+    watch.progress(1.0)
+    return frames
+
+
+def _run(program: str, maps: Sequence[pipe.Map], script: str, sent: str, watch: Watch) -> list[pipe.Frame]:
+    try:
+        frames: list[pipe.Frame] = pipe.run(program, maps, sent.encode("utf-8", "surrogateescape"), watch=watch.check)
+    except pipe.Rejected as end:
+        raise _fault(end, script, [each.name for each in maps]) from None
+    except pipe.Killed as error:
+        raise Killed(int(error.args[0])) from None
+    except pipe.NoAnswer as error:
+        raise WrongProgram(str(error)) from None
+    return frames
 
 
 class _Sender:
-    """Sends the maps of a run, and tells how far it is: half of a run is sending."""
+    """The maps of a run as the program gets them. It reports progress; half of a run is sending."""
 
-    def __init__(self, run: _Run, maps: Mapping[str, Raster], watch: Watch) -> None:
-        self._run, self._maps, self._watch = run, maps, watch
+    def __init__(self, program: str, maps: Mapping[str, Raster], watch: Watch) -> None:
+        self._program, self._watch = program, watch
         self._warned: set[str] = set()
         self._all = sum(raster.region.rows * raster.region.cols for raster in maps.values())
         self._sent = 0
 
-    def send(self) -> None:
-        for place, raster in enumerate(self._maps.values()):
-            if not raster.is_text:
-                self._send(place, raster)
-            self._run.close(place)
+    def map_of(self, name: str, raster: Raster) -> pipe.Map:
+        """A map whose blocks are read while the program takes them."""
+        region = raster.region
+        if raster.is_text:
+            return pipe.Map(name, region.edge_texts(), region.rows, region.cols, "i32", self._blocks(_text_blocks(self._program, name, raster)), NULL)
+        blocks = self._blocks(raster.blocks(self._warn))
+        return pipe.Map(name, region.edge_texts(), region.rows, region.cols, raster.cell_type, blocks, raster.nodata, raster.is_masked)
 
-    def _send(self, place: int, raster: Raster) -> None:
-        words = Words(*raster.range(), raster.null_ranges)
-        self._run.write(place, raster.region.header().encode() + b"null: " + words.null + b"\n")
-        for cells, null in raster.blocks(self._warn):
-            if not self._run.is_reading:
-                break
-            self._watch.check()
-            for piece in words.pieces(cells, null):
-                self._run.write(place, piece)
+    def _blocks(self, blocks: Iterator[tuple[Cells, Mask | None]]) -> Iterator[pipe.Block]:
+        for cells, null in blocks:
+            yield pipe.Block(cells.data, None if null is None else null.view(np.uint8).data)
             self._sent += cells.size
             self._watch.progress(self._sent / self._all / 2)
 
@@ -350,28 +212,56 @@ class _Sender:
             self._watch.warn(text)
 
 
-def _check_length(script: str, plan: Plan) -> None:
-    own = len(script.encode("utf-8", "surrogateescape"))
-    if own <= SCRIPT_LIMIT < len(plan.text):
-        told = f"the script has {own:,} bytes, and with the marks that part its outputs {len(plan.text):,}, over {SCRIPT_LIMIT:,}"
-        raise Refused(f"{told}: make several runs", "script")
+def _text_blocks(program: str, name: str, raster: Raster) -> Iterator[tuple[Cells, Mask | None]]:
+    """The rows of a grid of the program's own form, as rcell reads them."""
+    beside = os.path.join(os.path.dirname(program), "rcell")
+    path = os.environ.get("RCELL") or (beside if os.path.isfile(beside) else found_on_path("rcell"))
+    if path and os.path.dirname(path) == _FOLDER:
+        _set_executable(path)
+    if not path:
+        raise MissingProgram(f"{name} is a grid of rcell, and the program rcell, which reads it, is not next to {program}")
+    script = above_standard(os.memfd_create("script"))
+    try:
+        os.write(script, f"r.stats -1 input={name} null_value={NULL}\n".encode())
+        run = Started([path, f"/dev/fd/{script}", f"{name}={os.path.abspath(raster.path)}"], [script])
+    finally:
+        os.close(script)
+    cols, rest, cells = raster.region.cols, b"", np.empty(0, np.int32)
+    with run:
+        for piece in run.pieces():
+            lines, _, rest = (rest + piece).rpartition(b"\n")
+            cells = np.concatenate([cells, np.fromstring(lines, np.int32, sep=" ")])
+            whole = cells.size // cols * cols
+            if whole:
+                yield cells[:whole].reshape(-1, cols), None
+                cells = cells[whole:]
+        status, message = run.end()
+    if status:
+        raise _fault_of_text(status, message.decode("utf-8", "replace"))
 
 
-def _raise_fault(status: int, message: str, plan: Plan, script: str) -> NoReturn:
-    """The error of a run that ended in another status than 0."""
+def _fault_of_text(status: int, message: str) -> RcellError:
     if status < 0:
-        raise Killed(-status)
-    found = _MESSAGE.match(message.rstrip("\n"))
+        return Killed(-status)
+    found = _MESSAGE.match(message)
     if not found:
-        raise WrongProgram(f"the program ended in status {status} and said: {message.strip() or 'nothing'}")
-    source, line, text = found[1], int(found[2]), found[3]
-    content = None
-    if source == "script" and 0 < line <= len(plan.lines):
-        line = plan.lines[line - 1]
-        content = script.split("\n")[line - 1].rstrip("\r") if line else None
-    kind: type[RcellError] = OutOfMemory if status == 3 or text == "no memory" else Refused
-    column, advice = _advice(script, plan.names, line, text) if content else (None, None)
-    raise kind(text, source, line, status, content, column, advice)
+        return WrongProgram(f"the program rcell ended in status {status} and said: {message.strip() or 'nothing'}")
+    return (OutOfMemory if status == 3 else Refused)(found[3], found[1], int(found[2]), status)
+
+
+# Errors
+
+
+def _fault(end: pipe.Rejected, script: str, names: Sequence[str]) -> RcellError:
+    """The error of a run that was rejected."""
+    kind = OutOfMemory if end.status == 3 else Refused
+    if end.source == "request" and end.map < len(names):
+        return kind(end.text, names[end.map], end.line, end.status)
+    lines = script.split("\n")
+    if not 0 < end.line <= len(lines):
+        return kind(end.text, "output" if end.status == 3 else "script", 0, end.status)
+    column, advice = _advice(script, names, end.line, end.text)
+    return kind(end.text, "script", end.line, end.status, lines[end.line - 1].rstrip("\r"), column, advice)
 
 
 def _advice(script: str, names: Sequence[str], line: int, text: str) -> tuple[int | None, str | None]:
@@ -381,105 +271,3 @@ def _advice(script: str, names: Sequence[str], line: int, text: str) -> tuple[in
         column, advice = mending.advice(script.encode("utf-8", "surrogateescape"), list(names), line, _AT_COLUMN.sub("", text))
         return (column if text == "bad option" else None), advice
     return None, None
-
-
-class _Short(Exception):
-    """The output ended before it was whole; the status says why."""
-
-
-def _outputs_of(reader: _Reader, plan: Plan, region: Region) -> tuple[list[Output], bytes | None]:
-    """The outputs of a run and what comes after them; None where they are not whole."""
-    try:
-        outputs = [reader.output(statement, mark, region) for statement, mark in zip(plan.outputs, plan.marks)]
-        return outputs, reader.rest()
-    except _Short:
-        return [], None
-
-
-class _Reader:
-    """Parts the output of a run as it comes."""
-
-    def __init__(self, pieces: Iterator[bytes], watch: Watch) -> None:
-        self._pieces = pieces
-        self._watch = watch
-        self._held = b""
-
-    def output(self, statement: Statement, mark: bytes | None, region: Region) -> Output:
-        """What the next statement wrote."""
-        if not statement.is_known:
-            raise _Short
-        if statement.is_of_cells:
-            return Output(statement, self._cells(region))
-        numbers = _numbers(self._until(mark), np.int64)
-        columns = len(statement.maps) + ("c" in statement.flags)
-        if numbers.size % columns:
-            raise _Short
-        return Output(statement, numbers.reshape(-1, columns))
-
-    def rest(self) -> bytes:
-        """All that is still to come."""
-        rest = self._held + b"".join(self._pieces)
-        self._held = b""
-        return rest
-
-    def _cells(self, region: Region) -> NDArray[np.int32]:
-        """The next numbers, one for each cell; the text is never held whole."""
-        cells = np.empty(region.rows * region.cols, np.int32)
-        at = 0
-        while at < cells.size:
-            end, count = self._lines(cells.size - at)
-            numbers = _numbers(self._held[:end], np.int32)
-            if numbers.size != count:
-                raise _Short
-            cells[at : at + count] = numbers
-            at += count
-            self._held = self._held[end:]
-            self._watch.progress(0.5 + at / cells.size / 2)
-            if at < cells.size and not self._gather():
-                raise _Short
-        return cells.reshape(region.rows, region.cols)
-
-    def _lines(self, most: int) -> tuple[int, int]:
-        """Where the whole lines end that are held, and how many they are; no more than so many."""
-        is_end = np.frombuffer(self._held, np.uint8) == ord("\n")
-        count = int(np.count_nonzero(is_end))
-        if count <= most:
-            return self._held.rfind(b"\n") + 1, count
-        return int(np.flatnonzero(is_end)[most - 1]) + 1, most
-
-    def _gather(self) -> bool:
-        """Holds some more pieces; False where there is none."""
-        pieces, size = [self._held], 0
-        while size < PIPE_BYTES:
-            piece = next(self._pieces, b"")
-            if not piece:
-                break
-            pieces.append(piece)
-            size += len(piece)
-        self._held = b"".join(pieces)
-        return size > 0
-
-    def _until(self, mark: bytes | None) -> bytes:
-        """What comes before the line that is the mark, or all where there is none."""
-        if mark is None:
-            return self.rest()
-        line = b"\n" + mark + b"\n"
-        pieces, tail = [], b"\n" + self._held
-        while (at := tail.find(line)) < 0:
-            piece = next(self._pieces, b"")
-            if not piece:
-                raise _Short
-            known = max(len(tail) - len(line), 0)
-            pieces.append(tail[:known])
-            tail = tail[known:] + piece
-        pieces.append(tail[:at])
-        self._held = tail[at + len(line) :]
-        return b"".join(pieces)
-
-
-def _numbers(text: bytes, dtype: Any) -> NDArray[Any]:
-    """The whole numbers of a text, with blanks or line ends between them."""
-    return np.fromstring(text, dtype, sep=" ") if text.strip() else np.empty(0, dtype)
-
-
-__all__ = ["BUNDLED", "NULL", "Output", "Watch", "execute", "find_program"]

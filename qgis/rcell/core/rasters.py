@@ -4,17 +4,19 @@
 from __future__ import annotations
 
 import contextlib
+import math
 import os
 import re
 from dataclasses import dataclass, field, replace
 from typing import Any, Callable, Iterator, Mapping, Sequence
 
 import numpy as np
+from numpy.typing import NDArray
 from osgeo import gdal
 
-from .cells import MAX_CATEGORY, Cells, Mask, NullRanges, range_of, within
 from .crs import Crs, are_same, shown
 from .errors import BadMap, OtherCrs, OtherRegion, ReadFailed
+from .front.pipe import NULL
 from .labels import labels_of_band
 from .region import GeoTransform, Region
 
@@ -23,12 +25,16 @@ BLOCK_CELLS = 1 << 20
 # Beyond it a float of 32 bits does not have every whole number.
 _EXACT_FLOAT32 = 1 << 24
 _IDENTITY = (0.0, 1.0, 0.0, 0.0, 0.0, 1.0)
-# Blocks of the file that are looked at for a guess of the range of the cells.
-_SAMPLES = 12
+MAX_CATEGORY = 2_147_483_647
+# Types whose cells the program gets as they are.
+_TYPES = {"uint8": "u8", "int8": "i8", "uint16": "u16", "int16": "i16", "int32": "i32"}
 # The first line of a grid of the program's own form, which goes to it as it is: GDAL would take its null text for 0.
 _GRID = re.compile(rb"\s*(?:north|south|east|west|rows|cols|null|type|multiplier):")
 
 Warn = Callable[[str], None]
+Cells = NDArray[Any]
+Mask = NDArray[np.bool_]
+NullRanges = Sequence[tuple[float, float]]
 
 
 @contextlib.contextmanager
@@ -174,15 +180,41 @@ class Raster:
         system = Crs.of_wkt(crs)
         return self if self.crs or not crs else replace(self, crs=system.wkt, is_geographic=system.is_geographic, metres=system.metres)
 
-    def blocks(self, warn: Warn | None = None, most_rows: int | None = None) -> Iterator[tuple[Cells, Mask | None]]:
-        """Its rows from north to south: cells of one, two or four bytes, and where they are null.
+    # As the program gets it
 
-        Cells of one or two bytes are null by `null_ranges` as well, which their masks do not tell.
+    @property
+    def cell_type(self) -> str:
+        """The type of the cells of its blocks."""
+        return _TYPES.get(self.dtype.name, "i32")
+
+    @property
+    def nodata(self) -> int | None:
+        """The number that is null in its blocks."""
+        if self.dtype.name not in _TYPES:
+            return int(NULL)
+        numbers = self._null_numbers()
+        return numbers[0][0] if len(numbers) == 1 and not self.is_masked else None
+
+    @property
+    def is_masked(self) -> bool:
+        """Whether its blocks have masks."""
+        if self.dtype.name not in _TYPES:
+            return False
+        numbers = self._null_numbers()
+        return self.has_mask or self.alpha is not None or len(numbers) > 1 or any(least < greatest for least, greatest in numbers)
+
+    def _null_numbers(self) -> list[tuple[int, int]]:
+        """The ranges of whole numbers of its type that are null."""
+        ends = {_whole_bounds(least, greatest, self.dtype) for least, greatest in self.null_ranges}
+        return sorted((least, greatest) for least, greatest in ends if least <= greatest)
+
+    def blocks(self, warn: Warn | None = None, most_rows: int | None = None) -> Iterator[tuple[Cells, Mask | None]]:
+        """Yield its rows from north to south: cells of `cell_type` in which `nodata` is null, and masks if `is_masked`.
 
         Raises
         ------
         ReadFailed
-            Where a part of the file is broken.
+            A part of the file is broken.
         BadMap
             With the first cell that is neither null nor a whole number from -2147483647 to 2147483647.
         """
@@ -191,80 +223,76 @@ class Raster:
         step = max(step - step % self.block_shape[0], min(step, self.block_shape[0]))
         dataset = opened(self.name, self.path)
         for row in range(0, rows, step):
-            yield self._block(dataset, row, 0, min(step, rows - row), self.region.cols, warn)
+            yield self._block(dataset, row, min(step, rows - row), warn)
 
-    def range(self) -> tuple[int, int]:
-        """A guess of the least and greatest category, from some blocks of the file; 0 is among them."""
-        if self.dtype == np.uint8:
-            return self._range_of_bytes()
-        least, greatest = 0, 0
-        dataset = opened(self.name, self.path)
-        for row, col, rows, cols in self._samples():
-            cells, null = self._block(dataset, row, col, rows, cols, None)
-            ranges = within(cells, self.null_ranges) if cells.dtype.itemsize <= 2 else None
-            null = ranges if null is None else null if ranges is None else null | ranges
-            low, high = range_of(cells, null)
-            least, greatest = min(least, low), max(greatest, high)
-        return least, greatest
-
-    def _range_of_bytes(self) -> tuple[int, int]:
-        """Bytes are three digits, or one where the samples say so."""
-        dataset = opened(self.name, self.path)
-        samples = (self._block(dataset, *window, None)[0] for window in self._samples())
-        is_digit = np.ones(256, bool)
-        is_digit[10:] = False
-        is_digit |= _are_null(np.arange(256), self.null_ranges)
-        return (0, 9) if all(is_digit[cells].all() for cells in samples) else (0, 255)
-
-    def _samples(self) -> list[tuple[int, int, int, int]]:
-        """Windows of one block of the file each, spread over the map."""
-        rows, cols = self.region.rows, self.region.cols
-        height, width = min(self.block_shape[0], rows), min(self.block_shape[1], cols)
-        down, across = -(-rows // height), -(-cols // width)
-        places = sorted({at * (down * across - 1) // (_SAMPLES - 1) for at in range(_SAMPLES)})
-        windows = [(place // across * height, place % across * width) for place in places]
-        return [(row, col, min(height, rows - row), min(width, cols - col)) for row, col in windows]
-
-    def _block(self, dataset: Any, row: int, col: int, rows: int, cols: int, warn: Warn | None) -> tuple[Cells, Mask | None]:
-        band = dataset.GetRasterBand(self.band)
+    def _block(self, dataset: Any, row: int, rows: int, warn: Warn | None) -> tuple[Cells, Mask | None]:
+        band, cols = dataset.GetRasterBand(self.band), self.region.cols
         top = self.region.rows - row - rows if self.is_upside_down else row
         try:
             with quiet():
-                cells = band.ReadAsArray(col, top, cols, rows)
-                masks = [mask.ReadAsArray(col, top, cols, rows) for mask in self._mask_bands(dataset, band)]
+                cells = band.ReadAsArray(0, top, cols, rows)
+                masks = [mask.ReadAsArray(0, top, cols, rows) for mask in self._mask_bands(dataset, band)]
             text = gdal.GetLastErrorMsg()
         except RuntimeError as error:
             cells, masks, text = None, [], str(error)
         if cells is None or any(mask is None for mask in masks):
             raise ReadFailed(self.name, f"rows {row + 1} to {row + rows} cannot be read: {text or self.path}")
-        null = np.logical_or.reduce([mask == 0 for mask in masks]) if masks else None
+        nulls = [mask == 0 for mask in masks]
         if self.is_upside_down:
-            cells, null = cells[::-1], None if null is None else null[::-1]
-        return self._checked(cells, null, row, col, warn)
+            cells, nulls = cells[::-1], [null[::-1] for null in nulls]
+        return (self._plain if cells.dtype.name in _TYPES else self._converted)(np.ascontiguousarray(cells), nulls, row, warn)
 
     def _mask_bands(self, dataset: Any, band: Any) -> list[Any]:
         """The bands in which 0 is null. (GDAL's own mask tells of an alpha band only if the file declares no nodata.)"""
         masks = [band.GetMaskBand()] if self.has_mask else []
         return masks if self.alpha is None else [*masks, dataset.GetRasterBand(self.alpha)]
 
-    def _checked(self, cells: Cells, null: Mask | None, first_row: int, first_col: int, warn: Warn | None) -> tuple[Cells, Mask | None]:
-        """Cells of any type of whole numbers as cells of at most four bytes."""
-        kind, size = cells.dtype.kind, cells.dtype.itemsize
-        if kind in "iu" and size <= 2:
-            return cells, null
-        masks = [mask for mask in (null, within(cells, self.null_ranges), np.isnan(cells) if kind == "f" else None) if mask is not None]
-        null = np.logical_or.reduce(masks) if masks else None
-        bad = _bad(cells)
-        if bad is not None:
-            bad = bad if null is None else bad & ~null
-            if bad.any():
-                row, col = (int(place) for place in np.unravel_index(int(bad.argmax()), bad.shape))
-                raise _bad_cell(self.name, first_row + row + 1, first_col + col + 1, cells[row, col].item())
-        if null is not None:
-            cells = np.where(null, cells.dtype.type(0), cells)
-        if warn is not None and cells.dtype == np.float32 and cells.size and np.abs(cells).max() > _EXACT_FLOAT32:
+    def _plain(self, cells: Cells, nulls: list[Mask], row: int, _: Warn | None) -> tuple[Cells, Mask | None]:
+        """Cells as they are, and their mask if there is more to it than a nodata value."""
+        nulls = [*nulls, *within(cells, self.null_ranges)] if self.is_masked else []
+        null = np.ascontiguousarray(np.logical_or.reduce(nulls)) if self.is_masked else None
+        if self.cell_type == "i32" and self.nodata != NULL:
+            self._check(cells, cells == NULL, null, row)
+        return cells, null
+
+    def _converted(self, cells: Cells, nulls: list[Mask], row: int, warn: Warn | None) -> tuple[Cells, Mask | None]:
+        """Floats and wider whole numbers as cells of 32 bits."""
+        nulls = [*nulls, *within(cells, self.null_ranges), *([np.isnan(cells)] if cells.dtype.kind == "f" else [])]
+        null = np.logical_or.reduce(nulls) if nulls else None
+        self._check(cells, _bad(cells), null, row)
+        kept = cells if null is None else np.where(null, cells.dtype.type(0), cells)
+        if warn is not None and cells.dtype == np.float32 and np.abs(kept).max() > _EXACT_FLOAT32:
             warn(f"{self.name}: floats of 32 bits are not exact beyond {_EXACT_FLOAT32}, and the map has larger values")
-        return cells if cells.dtype == np.int32 else cells.astype(np.int32), null
+        found = kept.astype(np.int32)
+        if null is not None:
+            found[null] = NULL
+        return found, None
+
+    def _check(self, cells: Cells, bad: Mask, null: Mask | None, first_row: int) -> None:
+        """Raise BadMap for the first bad cell that is not null."""
+        bad = bad if null is None else bad & ~null
+        if bad.any():
+            row, col = (int(place) for place in np.unravel_index(int(bad.argmax()), bad.shape))
+            raise _bad_cell(self.name, first_row + row + 1, col + 1, cells[row, col].item())
+
+
+def within(cells: Cells, ranges: NullRanges) -> list[Mask]:
+    """Where cells are in each of some ranges, which may be single values."""
+    found = []
+    for least, greatest in ranges:
+        if cells.dtype.kind in "iu":
+            least, greatest = _whole_bounds(least, greatest, cells.dtype)
+        found.append(cells == least if least == greatest else (cells >= least) & (cells <= greatest))
+    return found
+
+
+def _whole_bounds(least: float, greatest: float, dtype: np.dtype[Any]) -> tuple[int, int]:
+    """A range in whole numbers of a type; floats could not be compared with all numbers of 64 bits exactly."""
+    limits = np.iinfo(dtype)
+    low = math.ceil(least) if least > limits.min else int(limits.min)
+    high = math.floor(greatest) if greatest < limits.max else int(limits.max)
+    # A range without numbers of the type is spelled by two that are.
+    return (low, high) if limits.min <= low <= high <= limits.max else (1, 0)
 
 
 def is_grid(path: str) -> bool:
@@ -341,18 +369,11 @@ def _align_call(first: Raster, raster: Raster) -> str:
     return f'rcell:align with INPUT "{raster.name}", TO "{first.name}"{resample}'
 
 
-def _are_null(values: Cells, ranges: NullRanges) -> Mask:
-    found = within(values, ranges)
-    return np.zeros(values.shape, bool) if found is None else found
-
-
-def _bad(cells: Cells) -> Mask | None:
-    """Where cells are no whole number in range; None where all are."""
+def _bad(cells: Cells) -> Mask:
+    """Where cells are no whole number in range."""
     if cells.dtype.kind == "f":
         with np.errstate(invalid="ignore"):
             return np.asarray(~((np.rint(cells) == cells) & (np.abs(cells) <= MAX_CATEGORY)))
-    if cells.size == 0 or (cells.min() >= -MAX_CATEGORY and cells.max() <= MAX_CATEGORY):
-        return None
     return (cells > MAX_CATEGORY) | (cells < -MAX_CATEGORY)
 
 

@@ -80,10 +80,9 @@ class Region:
             low, high = ("south", "north") if self.north <= self.south else ("west", "east")
             raise BadMap(name, f"{high} is not above {low} once they are rounded to {DECIMALS} decimals: {self}")
 
-    def header(self) -> str:
-        """The six header lines of a grid of this region."""
-        edges = "".join(f"{edge}: {_edge_text(getattr(self, edge))}\n" for edge in ("north", "south", "east", "west"))
-        return f"{edges}rows: {self.rows}\ncols: {self.cols}\n"
+    def edge_texts(self) -> tuple[str, str, str, str]:
+        """North, south, east and west as the program takes them."""
+        return _edge_text(self.north), _edge_text(self.south), _edge_text(self.east), _edge_text(self.west)
 
     def differences(self, other: Region) -> list[str]:
         """In which edges and sizes another region differs from this one, and by how much; empty where they are equal."""
