@@ -10,7 +10,7 @@ rcell_change(before, after = NULL, years = NULL, area = "ha", labels = NULL, crs
 \item{before, after}{two maps, or in \code{before} a list of maps in the order of time; see \code{\link{rcell-package}}.}
 \item{years}{the years of the maps, whole numbers; needed for more than two maps.}
 \item{area}{as in \code{\link{rcell_composition}}; with \code{NULL}, matrix and summary have cells.}
-\item{labels}{one legend for all maps, as in \code{\link{rcell_composition}}. Maps without labels have those of the first map with labels.}
+\item{labels}{one legend for all maps, as in \code{\link{rcell_composition}}. Maps without labels get the labels of the first map that has some.}
 \item{crs, program}{as in \code{\link{rcell_run}}.}
 }
 \value{
