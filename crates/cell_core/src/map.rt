@@ -3,6 +3,7 @@
 ghost use Rattle.std.specs.Prelude.{◌≡◌, ◌≢◌, ◌+◌, ◌<◌, ◌++◌, [], ◌∷◌, length, All, IfSome, OnOk, OnErr};
 ghost use Rattle.std.specs.Option.{option_map};
 ghost use Rattle.std.specs.FinMap.{get, insert};
+ghost use Rattle.cell_core_values.specs.Cell.{IsCell};
 ghost use Rattle.cell_core_values.specs.SmallCells.{cells_of_bytes};
 ghost use Rattle.cell_core.specs.Grid.{Grid, Draft, cell_at, row_at, IsFilled, IsDraft, AreCells, no_labels};
 ghost use Rattle.cell_core.specs.Runs.{AreRuns, written_out};
@@ -187,6 +188,34 @@ impl MapBuilder {
         ensures err { OnErr result (self.new ≡ self.old) }
     {
         let row = Row::of(self.alloc, row)?;
+        self.push(row)
+    }
+
+    /// Puts the row of cells that bytes stand for below the others, as [`MapBuilder::push_row`] does.
+    ///
+    /// # Errors
+    ///
+    /// [`Memory`] where memory for the row was refused: nothing is changed.
+    pub fn push_bytes(&mut self, bytes: &[u8]) -> Result<(), Memory>
+        requires width { length bytes.now ≡ self.old.region.cols }
+        requires room { length self.old.rows < self.old.region.rows }
+        ensures ok { OnOk result
+            (self.new ≡ record self.old { rows = self.old.rows ++ cells_of_bytes bytes.now ∷ [] }) }
+        ensures err { OnErr result (self.new ≡ self.old) }
+    {
+        let row = Row::of_bytes(self.alloc, bytes)?;
+        self.push(row)
+    }
+
+    // Puts a row below the others.
+    fn push(&mut self, row: Row) -> Result<(), Memory>
+        requires width { length row ≡ self.old.region.cols }
+        requires cells { All IsCell row }
+        requires room { length self.old.rows < self.old.region.rows }
+        ensures ok { OnOk result
+            (self.new ≡ record self.old { rows = self.old.rows ++ row ∷ [] }) }
+        ensures err { OnErr result (self.new ≡ self.old) }
+    {
         self.rows.push(row)?;
         Ok(())
     }

@@ -5,6 +5,7 @@ ghost use Rattle.cell_core_values.specs.Cell.{IsCell};
 ghost use Rattle.cell_core_values.specs.SmallCells.{cells_of_bytes};
 ghost use Rattle.cell_core.specs.Runs.{AreRuns, written_out};
 
+use crate::byte_runs::{number_of_byte_runs, runs_of_bytes};
 use crate::runs::{Runs, cell_of_runs, number_of_runs, runs_of, write_out};
 use crate::stretches::Stretches;
 use cell_core_values::cell::Cell;
@@ -56,6 +57,21 @@ impl Row {
             RowForm::Bytes(bytes_of(alloc, cells)?)
         } else {
             RowForm::Cells(Vec::from_slice(alloc, cells)?)
+        };
+        Ok(Row { kept })
+    }
+
+    // Keeps the row of cells that bytes stand for. Takes memory once.
+    pub(crate) fn of_bytes(alloc: Global, bytes: &[u8]) -> Result<Row, Memory>
+        requires { length bytes.now < 2 ^ 32 }
+        ensures value { IfOk result (λ row. row ≡ cells_of_bytes bytes.now) }
+        ensures cells { IfOk result (λ row. All IsCell row) }
+    {
+        let count = number_of_byte_runs(bytes);
+        let kept = if count <= bytes.len() / CELLS_A_RUN {
+            RowForm::Runs(runs_of_bytes(alloc, bytes, count)?)
+        } else {
+            RowForm::Bytes(Vec::from_slice(alloc, bytes)?)
         };
         Ok(Row { kept })
     }

@@ -1,3 +1,4 @@
 -- Rows of cells as bytes.
 pub mod Numbers
 pub mod RawRows
+pub mod PackedRows

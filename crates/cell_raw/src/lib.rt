@@ -3,4 +3,5 @@
 #![tactic(auto)]
 
 pub mod kind;
+pub mod packed_row;
 pub mod raw_row;

@@ -19,7 +19,7 @@ pub enum RowError {
 
 // Whether the mask hides the cell in a place.
 #[inline(always)]
-fn is_hidden(mask: &[u8], place: usize) -> bool
+pub(crate) fn is_hidden(mask: &[u8], place: usize) -> bool
     ensures { result ≡ is_hiding (slice_get mask.now place) }
 {
     match mask.get(place) {
@@ -30,7 +30,7 @@ fn is_hidden(mask: &[u8], place: usize) -> bool
 
 // Whether a number stands for null.
 #[inline(always)]
-fn is_nodata(nodata: Option<i64>, number: i64) -> bool
+pub(crate) fn is_nodata(nodata: Option<i64>, number: i64) -> bool
     ensures { result ≡ is_nodata nodata number }
 {
     match nodata {
@@ -144,7 +144,7 @@ fn fill_row_of(
 }
 
 // Whether a mask has a byte other than 0 and 1.
-fn is_bad_mask(mask: &[u8]) -> bool
+pub(crate) fn is_bad_mask(mask: &[u8]) -> bool
     ensures { result ≡ is_bad_mask mask.now }
 {
     mask.iter().any(|byte| 1 < *byte)

@@ -1,11 +1,12 @@
 //! Maps in a request: what precedes their rows, and the rows.
 
-ghost use Rattle.std.specs.Prelude.{◌≡◌, ◌+◌, ◌*◌, ◌<◌, ◌≤◌, List, [], ◌∷◌, ◌++◌, length, map, OnOk, IfOk, All};
+ghost use Rattle.std.specs.Prelude.{◌≡◌, ◌+◌, ◌*◌, ◌<◌, ◌≤◌, List, [], ◌∷◌, ◌++◌, length, map, true, Ok, OnOk, IfOk, All};
 ghost use Rattle.std.specs.Option.{option_map};
 ghost use Rattle.std.specs.FinMap.{insert};
 ghost use Rattle.cell_core_values.specs.Region.{RegionValue};
 ghost use Rattle.cell_core.specs.Grid.{Grid, Draft, no_labels};
 ghost use Rattle.cell_raw.specs.Numbers.{byte_size};
+ghost use Rattle.cell_raw.specs.PackedRows.{cells_in};
 ghost use Rattle.rcell_pipe_request.specs.RequestFields.{steps};
 ghost use Rattle.rcell_pipe_request.specs.Feeds.{left, ReadsField, ReadsPlaced};
 ghost use Rattle.rcell_pipe_request.specs.Heads.{IsGoodLabel, head_value, label_values};
@@ -22,7 +23,8 @@ use cell_core::name::Name;
 use cell_core::region::Region;
 use cell_core::shelf::Shelf;
 use cell_core::source::Source;
-use cell_raw::raw_row::{RowError, read_row};
+use cell_raw::packed_row::read_or_pack_row;
+use cell_raw::raw_row::RowError;
 use std::alloc::Global;
 
 /// A map under its name.
@@ -41,7 +43,7 @@ fn kind_of_row(error: RowError) -> ErrorKind
     }
 }
 
-// Reads a row into a slice of cells, by a slice for its bytes and one for its mask.
+// Reads a row, by a slice for its bytes and one for its mask: packed into its bytes, or else into a slice of cells.
 #[tactic(auto, unfolding(crate::specs::Rows::cells_at))]
 fn read_cells<R: Source>(
     feed: &mut Feed<R>,
@@ -49,19 +51,20 @@ fn read_cells<R: Source>(
     bytes: &mut [u8],
     mask: &mut [u8],
     cells: &mut [Cell],
-) -> Result<(), FieldStop>
+) -> Result<bool, FieldStop>
     requires bytes { length bytes.old ≡ length cells.old * byte_size format.kind }
     requires mask { length mask.old ≡ mask_size format (length cells.old) }
-    ensures reads { ReadsField (λ _. cells.new) feed.old result feed.new
-        (cells_at format (length cells.old)) }
+    ensures reads { ReadsField (λ packed. cells_in packed bytes.new cells.new)
+        feed.old result feed.new (cells_at format (length cells.old)) }
+    ensures packed { result ≡ Ok true → length bytes.new ≡ length cells.old }
     ensures width { length cells.new ≡ length cells.old }
     ensures bytes { length bytes.new ≡ length bytes.old }
     ensures mask { length mask.new ≡ length mask.old }
 {
     read_into(feed, bytes)?;
     read_into(feed, mask)?;
-    match read_row(format.kind, format.nodata, mask, bytes, cells) {
-        Ok(()) => Ok(()),
+    match read_or_pack_row(format.kind, format.nodata, mask, bytes, cells) {
+        Ok(packed) => Ok(packed),
         Err(error) => Err(FieldStop::Error(kind_of_row(error))),
     }
 }
@@ -91,11 +94,12 @@ fn push_row<R: Source>(
     ensures bytes { length bytes.new ≡ length bytes.old }
     ensures mask { length mask.new ≡ length mask.old }
 {
-    match read_cells(feed, format, bytes, mask, cells) {
-        Ok(()) => {}
+    let pushed = match read_cells(feed, format, bytes, mask, cells) {
+        Ok(true) => builder.push_bytes(bytes),
+        Ok(false) => builder.push_row(cells),
         Err(stop) => return Err(stop.at(maps, row)),
-    }
-    match builder.push_row(cells) {
+    };
+    match pushed {
         Ok(()) => Ok(()),
         Err(_) => Err(RequestStop::Memory),
     }

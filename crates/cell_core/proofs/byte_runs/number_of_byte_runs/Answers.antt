@@ -1,16 +1,10 @@
-use Rattle.std.proofs.Common.{◌≡◌, ◌<◌, ℕ, List, length, get_or}
-use Rattle.std.proofs.Common.{sym, ap, ◌∙◌, arith, rules}
-use Rattle.std.proofs.lemmas.List.{length-map, get_or-map, get_or_default}
+use Rattle.std.proofs.Common.{◌<◌, length, get_or, arith, rules}
+use Rattle.std.proofs.lemmas.List.{length-map, get_or_default}
 use Rattle.cell_core_values.specs.SmallCells.{byte_cell, cells_of_bytes}
-use Rattle.cell_core.proofs.ByteLemmas.{cells-same, cells-apart}
+use Rattle.cell_core.proofs.ByteLemmas.{cells-same, cells-apart, byte_at}
 use Rattle.cell_core.proofs.RowLemmas.{breaks-none, breaks-one, breaks-whole}
 use Rattle.cell_core.proofs.byte_runs.number_of_byte_runs.Goals as goal
 use Rattle.cell_core.proofs.byte_runs.number_of_byte_runs.Goals.{then-byte-last, else-byte-last}
-
--- the cell that the byte at a place stands for
-byte_at : (bytes : List ℕ) (i b : ℕ) → i < length bytes → b ≡ get_or bytes i b
-    → byte_cell b ≡ get_or (cells_of_bytes bytes) i (byte_cell b)
-byte_at bytes i b within is = ap byte_cell is ∙ sym (get_or-map byte_cell bytes i b (byte_cell b) within)
 
 pub loop-byte-init : goal.loop-byte-init
 loop-byte-init c =

@@ -1,10 +1,10 @@
-use Rattle.std.proofs.Common.{◌≡◌, ◌∙◌, ◌<◌, ◌≤◌, ◌++◌, ◌∷◌, [], ℕ, List, All, length, refl, sym, ap, arith, length-append}
+use Rattle.std.proofs.Common.{◌≡◌, ◌∙◌, ◌<◌, ◌≤◌, ◌++◌, ◌∷◌, [], ℕ, List, All, length, sym, ap, arith, length-append}
 use Rattle.std.proofs.lemmas.List.Elements.{All-push}
 use Rattle.std.proofs.lemmas.Result.{err_from_is_err_and}
 use Rattle.cell_core_values.specs.Cell.{IsCell}
 use Rattle.cell_core_values.specs.Region.{RegionValue}
 use Rattle.cell_core.specs.Grid.{CellValue, Draft, IsDraft, AreCells}
-use Rattle.cell_core.proofs.map.MapBuilder.push_row.Goals as goal
+use Rattle.cell_core.proofs.map.MapBuilder.push.Goals as goal
 
 more : (rows : List (List CellValue)) (row : List CellValue) {most : ℕ} → length rows < most → length (rows ++ row ∷ []) ≤ most
 more rows row room = omega (arith, length-append rows (row ∷ []))
@@ -20,27 +20,17 @@ one_more region rows row before room width cells = (
   All-push (λ (r : List CellValue). All IsCell r) rows row before.1 cells,
 )
 
-pub returns-in_err-row-clause-ok : goal.returns-in_err-row-clause-ok
-returns-in_err-row-clause-ok c =
-    let p = err_from_is_err_and c.from_residual.result c.from_residual.ensures.1 in
-    rw p.1 tt
-
-pub returns-in_err-row-clause-err : goal.returns-in_err-row-clause-err
-returns-in_err-row-clause-err c =
-    let p = err_from_is_err_and c.from_residual.result c.from_residual.ensures.1 in
-    rw p.1 refl
-
 pub invariant_of-self : goal.invariant_of-self
 invariant_of-self c = rw c.in_err-push.ensures.items c.self.invariant
 
 pub returns-in_err-push-clause-ok : goal.returns-in_err-push-clause-ok
 returns-in_err-push-clause-ok c =
-    let p = err_from_is_err_and c.from_residual-in_err-push.result c.from_residual-in_err-push.ensures.1 in
+    let p = err_from_is_err_and c.from_residual.result c.from_residual.ensures.1 in
     rw p.1 tt
 
 pub returns-in_err-push-clause-err : goal.returns-in_err-push-clause-err
 returns-in_err-push-clause-err c =
-    let p = err_from_is_err_and c.from_residual-in_err-push.result c.from_residual-in_err-push.ensures.1 in
+    let p = err_from_is_err_and c.from_residual.result c.from_residual.ensures.1 in
     let region = c.self.inside.region in
     let same = ap (λ (rows : List (List CellValue)). record { region = region; rows = rows }) c.in_err-push.ensures.items in
     rw p.1 (same ∙ c.self.view_is)
@@ -48,13 +38,11 @@ returns-in_err-push-clause-err c =
 pub invariant_of-self-2 : goal.invariant_of-self-2
 invariant_of-self-2 c =
     let i = c.self.inside in
-    let row = c.in_ok-row.row in
     let room = rw (← c.self.view_is) at c.requires.room in
-    let width = ap length c.in_ok-row.ensures.value ∙ c.requires.width ∙ sym (ap (λ (d : Draft). d.region.cols) c.self.view_is) in
-    rw c.in_ok-push.ensures.items (one_more i.region i.rows.items row c.self.invariant room width c.in_ok-row.ensures.cells)
+    let width = c.requires.width ∙ sym (ap (λ (d : Draft). d.region.cols) c.self.view_is) in
+    rw c.in_ok-push.ensures.items (one_more i.region i.rows.items c.args.row c.self.invariant room width c.requires.cells)
 
 pub returns-clause-ok : goal.returns-clause-ok
 returns-clause-ok c =
     let i = c.self.inside in
-    let items = c.in_ok-push.ensures.items ∙ ap (λ (row : List CellValue). i.rows.items ++ row ∷ []) c.in_ok-row.ensures.value in
-    rw (← c.self.view_is) (ap (λ (rows : List (List CellValue)). record { region = i.region; rows = rows }) items)
+    rw (← c.self.view_is) (ap (λ (rows : List (List CellValue)). record { region = i.region; rows = rows }) c.in_ok-push.ensures.items)
