@@ -17,6 +17,7 @@ import os
 import random
 import re
 import resource
+import select
 import struct
 import subprocess
 import sys
@@ -39,6 +40,7 @@ MESSAGE = re.compile(rb"rcell: script:(\d+): (.*?(?: at column (\d+))?)\n")
 MOST_MEMORY = 64 << 20  # of a program that is given a large header and no rows
 LONGEST_WHOLE = 300  # of a request that is cut at each of its bytes
 DAMAGED_IN = 4  # one random request of so many is damaged too
+MOMENT = 0.3  # seconds in which a program would have written
 SECONDS = 120
 
 
@@ -243,12 +245,26 @@ def limit_memory() -> None:
     resource.setrlimit(resource.RLIMIT_AS, (MOST_MEMORY, MOST_MEMORY))
 
 
-def wrong_announcement(programs: Programs) -> str:
-    """A header that announces 8 GB and gives none, in little memory."""
-    data = b"RCELLQ1\n" + struct.pack("<I", 1) + b"\4land\0011\0010\0011\0010" + struct.pack("<IIBBqI", 32767, 65535, 6, 0, 0, 0)
+def wrong_announcement(programs: Programs, rows: int, cols: int, labels: int) -> str:
+    """A header that announces cells or labels and gives none, in little memory."""
+    data = b"RCELLQ1\n" + struct.pack("<I", 1) + b"\4land\0011\0010\0011\0010" + struct.pack("<IIBBqI", rows, cols, 6, 0, 0, labels)
     ran = subprocess.run([programs.pipe], input=data, stdout=subprocess.PIPE, preexec_fn=limit_memory, timeout=SECONDS)
     end = Response(ran.stdout).frames()[-1]
     return "" if (ran.returncode, end["text"]) == (STATUS_REJECTED, b"request too short") else f"status {ran.returncode}, {end}"
+
+
+def wrong_order(programs: Programs) -> str:
+    """Half of a request: nothing comes back before the rest of it."""
+    data = few_bytes()
+    with subprocess.Popen([programs.pipe], stdin=subprocess.PIPE, stdout=subprocess.PIPE) as ran:
+        assert ran.stdin and ran.stdout
+        ran.stdin.write(data[: len(data) // 2])
+        ran.stdin.flush()
+        is_early = bool(select.select([ran.stdout], [], [], MOMENT)[0])
+        ran.stdin.write(data[len(data) // 2 :])
+        ran.stdin.close()
+        output = ran.stdout.read()
+    return "bytes before the end of the request" if is_early else "" if (ran.returncode, output) == programs.run(data) else f"status {ran.returncode}"
 
 
 def few_bytes() -> bytes:
@@ -266,7 +282,7 @@ def wrong_growths(programs: Programs, shim: str) -> str:
         *frames, end = programs.frames(data, LD_PRELOAD=shim, REFUSE_AT=str(at), REFUSE_COUNT=counter)
         with open(counter, encoding="ascii") as file:
             asked = int(file.read())
-        is_end = end == wanted[-1] if end["status"] == STATUS_DONE else (end["status"], end["text"] or b"no memory") == (STATUS_MEMORY, b"no memory")
+        is_end = end == wanted[-1] if end["status"] == STATUS_DONE else (end["status"], end["source"], end["text"]) == (STATUS_MEMORY, 0, b"no memory")
         if not is_end or frames != wanted[: len(frames)]:
             return f"with growth {at} refused: {end}"
     return ""
@@ -298,7 +314,9 @@ def wrong_devices(programs: Programs, shim: str) -> str:
 def check_system(programs: Programs, count: Count, clang: Optional[str]) -> None:
     for taken in (0, 1, 100_000):
         count.add(f"a caller that stops after {taken} bytes", wrong_stop(programs, taken))
-    count.add("a header that announces 8 GB", wrong_announcement(programs))
+    count.add("a header that announces 8 GB", wrong_announcement(programs, 32767, 65535, 0))
+    count.add("a header that announces labels", wrong_announcement(programs, 1, 1, 2**32 - 1))
+    count.add("half of a request", wrong_order(programs))
     if clang:
         for name, wrong in (("refuse", wrong_growths), ("devices", wrong_devices)):
             shim = os.path.join(programs.room, f"{name}.so")

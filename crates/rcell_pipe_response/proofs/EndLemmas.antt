@@ -1,10 +1,15 @@
 -- The ends of a run.
-use Rattle.std.proofs.Common.{◌≡◌, ◌∙◌, ℕ, Bool, true, false, List, [], ◌++◌, Option, Some, None, Result, IfSome, refl, sym, ap, subst, arith, append_assoc, append-nil, ◌||◌}
+use Rattle.std.proofs.Common.{◌≡◌, ◌≢◌, ◌∙◌, ℕ, Bool, true, false, List, [], ◌++◌, Option, Some, None, Result, Ok, ◌∷◌, IfSome, refl, sym, ap, subst, append_assoc, append-nil, ◌||◌}
 use Rattle.cell_core_devices.specs.Device.{Faults, append_known, after_flush, has_failed}
 use Rattle.std.specs.Option.{IsNone}
 use Rattle.cell_core_devices.specs.Blocks.{BlockValue, Appended, Appends}
 use Rattle.cell_core.specs.Shelf.{ShelfValue}
 use Rattle.rcell_script.specs.Scripts.{IsScript}
+use Rattle.rcell_script.specs.ReadScripts.{IsScriptFault}
+use Rattle.rcell_script_commands.specs.declared.script_fault.ScriptFault.{ScriptFault}
+use Rattle.rcell_script_commands.specs.declared.script_fault.ScriptKind.{ScriptKind}
+use Rattle.rcell_script_commands.specs.declared.script_fault.ScriptKind.TheVariants as script_kinds
+use Rattle.rcell_pipe_response.specs.parts.ScriptKinds.{is_memory}
 use Rattle.rcell_script.specs.ScriptLaw.{NoFaultOfAScript}
 use Rattle.rcell_script.specs.declared.statement.Statement.{Statement}
 use Rattle.cell_ascii_writer.proofs.PutLemmas.{appended_put}
@@ -13,33 +18,37 @@ use Rattle.rcell_pipe_request.specs.Requests.{RunRequestValue}
 use Rattle.rcell_pipe_response.specs.declared.end.PipeError.{PipeError}
 use Rattle.rcell_pipe_response.specs.declared.end.PipeError.TheVariants as errors
 use Rattle.rcell_pipe_response.specs.declared.running.PipeOutcome.{PipeOutcome}
-use Rattle.rcell_pipe_response.specs.Frames.{OutputFrame}
+use Rattle.rcell_pipe_response.specs.Frames.{OutputFrame, GivesFrames}
 use Rattle.rcell_pipe_response.specs.FrameBytes.{EndValue, frames_bytes, end_bytes, response_magic, response_bytes}
-use Rattle.rcell_pipe_response.specs.RunEnds.{status_after, IsPipeEnd, IsPipeAccepted, MemoryLasts}
-use Rattle.rcell_pipe_response.specs.Endings.{error_after, Finished, IsEndOfRun}
+use Rattle.rcell_pipe_response.specs.RunEnds.{status_after, done_end, memory_end, script_end, IsPipeAccepted, IsResponse, IsCut, IsPipeCut, IsPipeEnd}
+use Rattle.rcell_pipe_response.specs.Endings.{error_after, Finished, IsRejection, IsEndOfRun}
 use Rattle.rcell_pipe_response.specs.parts.LastFrames.{EndsResponse}
 
 or-true : (b : Bool) → (b || true) ≡ true
 or-true true = refl
 or-true false = refl
 
+-- what was appended is cut where the sink stopped
+cut : {before now : Option (List ℕ)} {start faults : Faults} {text : List ℕ} {block : BlockValue} → Appended before start text now faults block → IsCut before now text
+cut a = record { front = a.front; rest = a.rest; whole = a.whole; taken = a.taken }
+
 module _ {S : Type 0} {taken : S → Option (List ℕ)} {faults : S → Faults} (old mid now flushed : S) (block middle new : BlockValue) (end : EndValue)
     (put : Appends taken faults old block (end_bytes end) mid middle) (emptied : Appends taken faults mid middle [] now new) where
   all : (before : Option (List ℕ)) (start : Faults) (text : List ℕ) → Appended before start text (taken old) (faults old) block → Appended before start (text ++ end_bytes end) (taken now) (faults now) new
   all before start text p = subst (λ (t : List ℕ). Appended before start t (taken now) (faults now) new) (append-nil (text ++ end_bytes end)) (emptied.adds before start (text ++ end_bytes end) (put.adds before start text p))
 
-  -- a put was refused
+  -- a put failed
   pub ends_cut : new.failed ≡ true → EndsResponse taken faults old block end now false
   ends_cut failed = record {
     whole = λ wrote. absurd cc;
-    fails = λ wrote before start text p. ap has_failed (rw failed at (all before start text p).fails);
+    fails = λ wrote before start text p. (ap has_failed (rw failed at (all before start text p).fails), cut (all before start text p));
   }
 
   -- the flush failed
-  pub ends_unflushed : faults flushed ≡ after_flush (faults now) true → EndsResponse taken faults old block end flushed false
-  ends_unflushed after = record {
+  pub ends_unflushed : taken flushed ≡ taken now → faults flushed ≡ after_flush (faults now) true → EndsResponse taken faults old block end flushed false
+  ends_unflushed same after = record {
     whole = λ wrote. absurd cc;
-    fails = λ wrote before start text p. ap has_failed after ∙ or-true (faults now).refused;
+    fails = λ wrote before start text p. (ap has_failed after ∙ or-true (faults now).refused, subst (λ (t : Option (List ℕ)). IsCut before t (text ++ end_bytes end)) (sym same) (cut (all before start text p)));
   }
 
   -- all went well
@@ -58,57 +67,116 @@ finished_frames {before} {now} {start} {after} {error} {outcome} frames one end 
     subst (λ (t : List ℕ). Finished before start now after error t outcome)
     (ap (λ (e : EndValue). (response_magic ++ frames_bytes frames) ++ end_bytes e) same ∙ append_assoc response_magic (frames_bytes frames) (end_bytes end)) finished
 
+-- a whole response was taken
+written : (read : Result RunRequestValue RequestError) (before now : Option (List ℕ)) (text : List ℕ) (error : Option PipeError) → IsResponse read text error → now ≡ append_known before text → IsPipeEnd read before now error
+written read before now text None is taken = record { response = text; is = is; taken = taken }
+written read before now text (Some (errors.Request error)) is taken = record { response = text; is = is; taken = taken }
+written read before now text (Some (errors.Script error)) is taken = record { response = text; is = is; taken = taken }
+written read before now text (Some errors.Memory) is taken = record { response = text; is = is; taken = taken }
+written read before now text (Some (errors.MemoryAt line)) is taken = record { response = text; is = is; taken = taken }
+written read before now text (Some errors.Write) is taken = absurd is
+
 end_by : (read : Result RunRequestValue RequestError) (before now : Option (List ℕ)) (start after : Faults) (error : Option PipeError) (text : List ℕ) (outcome : PipeOutcome)
-    → (now ≡ append_known before text → IsPipeEnd read before now error) → (error ≡ Some errors.Write → ⊥)
-    → (wrote : Bool) → outcome.error ≡ error_after error wrote → outcome.status ≡ status_after outcome.error → (wrote ≡ true → (now ≡ append_known before text) × (after ≡ after_flush start false)) → (wrote ≡ false → has_failed after ≡ true)
+    → IsResponse read text error → (error ≡ Some errors.Write → ⊥)
+    → (wrote : Bool) → outcome.error ≡ error_after error wrote → outcome.status ≡ status_after outcome.error → (wrote ≡ true → (now ≡ append_known before text) × (after ≡ after_flush start false)) → (wrote ≡ false → (has_failed after ≡ true) × IsCut before now text)
     → IsEndOfRun read before start now after outcome
-end_by read before now start after error text outcome ended fine true is status whole fails = record {
-  end = subst (λ (f : Option PipeError). IsPipeEnd read before now f) (sym is) (ended (whole refl).0);
+end_by read before now start after error text outcome response fine true is status whole fails = record {
+  end = subst (λ (f : Option PipeError). IsPipeEnd read before now f) (sym is) (written read before now text error response (whole refl).0);
   status = status;
   write = λ write. absurd (fine (sym is ∙ write));
-  sound = λ zero. (whole refl).1;
+  flushed = λ other. (whole refl).1;
 }
-end_by read before now start after error text outcome ended fine false is status whole fails = record {
-  end = subst (λ (f : Option PipeError). IsPipeEnd read before now f) (sym is) tt;
+end_by read before now start after error text outcome response fine false is status whole fails = record {
+  end = subst (λ (f : Option PipeError). IsPipeEnd read before now f) (sym is) (record { error = error; response = text; would = response; cut = (fails refl).1 });
   status = status;
-  write = λ write. fails refl;
-  sound = λ zero. absurd (omega (arith, zero, status ∙ ap status_after is));
+  write = λ write. (fails refl).0;
+  flushed = λ other. absurd (other is);
 }
 
--- what was finished is how the run ended
+-- what was written is how the run ended
 pub end_of : (read : Result RunRequestValue RequestError) {before now : Option (List ℕ)} {start after : Faults} (error : Option PipeError) {text : List ℕ} {outcome : PipeOutcome}
-    → (now ≡ append_known before text → IsPipeEnd read before now error) → (error ≡ Some errors.Write → ⊥) → Finished before start now after error text outcome → IsEndOfRun read before start now after outcome
-end_of read {before} {now} {start} {after} error {text} {outcome} ended fine finished =
-    end_by read before now start after error text outcome ended fine finished.wrote finished.error_is finished.status finished.whole finished.fails
+    → IsResponse read text error → (error ≡ Some errors.Write → ⊥) → Finished before start now after error text outcome → IsEndOfRun read before start now after outcome
+end_of read {before} {now} {start} {after} error {text} {outcome} response fine finished =
+    end_by read before now start after error text outcome response fine finished.wrote finished.error_is finished.status finished.whole finished.fails
 
--- a run whose sink failed
-pub end_failed : (read : Result RunRequestValue RequestError) {before now : Option (List ℕ)} {start after : Faults} {outcome : PipeOutcome} → outcome.error ≡ Some errors.Write → outcome.status ≡ status_after outcome.error → has_failed after ≡ true → IsEndOfRun read before start now after outcome
-end_failed read {before} {now} {start} {after} {outcome} is status failed = record {
-  end = subst (λ (f : Option PipeError). IsPipeEnd read before now f) (sym is) tt;
-  status = status;
-  write = λ write. failed;
-  sound = λ zero. absurd (omega (arith, zero, status ∙ ap status_after is));
+-- the sink failed among the frames of the first statements
+cut_of : {before now : Option (List ℕ)} {start after : Faults} {block : BlockValue} (frames : List OutputFrame) (end : EndValue) → Appended before start (response_magic ++ frames_bytes frames) now after block → IsCut before now (response_bytes frames end)
+cut_of frames end a = record {
+  front = a.front;
+  rest = a.rest ++ end_bytes end;
+  whole = sym (append_assoc a.front a.rest (end_bytes end)) ∙ ap (λ (t : List ℕ). t ++ end_bytes end) a.whole ∙ append_assoc response_magic (frames_bytes frames) (end_bytes end);
+  taken = a.taken;
 }
 
--- the sink failed in an execution
-pub cut_errors : {before now : Option (List ℕ)} {start after : Faults} {text : List ℕ} {block : BlockValue} → Appended before start text now after block → block.failed ≡ true → has_failed after ≡ true
-cut_errors appended failed = ap has_failed (rw failed at appended.fails)
+within : {read : Result RunRequestValue RequestError} {before now : Option (List ℕ)} {start after : Faults} {block : BlockValue} (shelf next : ShelfValue) (first others : List Statement) (frames : List OutputFrame)
+    → IsPipeAccepted read shelf (first ++ others) → GivesFrames shelf first frames next → Appended before start (response_magic ++ frames_bytes frames) now after block → IsPipeCut read before now
+within {read} shelf next first [] frames accepted given appended = record {
+  error = None;
+  response = response_bytes frames done_end;
+  would = record { shelf = shelf; statements = first; accepted = subst (λ (s : List Statement). IsPipeAccepted read shelf s) (append-nil first) accepted; frames = frames; after = next; given = given; bytes = refl };
+  cut = cut_of frames done_end appended;
+}
+within {read} shelf next first (statement ∷ others) frames accepted given appended = record {
+  error = Some (errors.MemoryAt statement.line);
+  response = response_bytes frames (memory_end statement.line);
+  would = record { shelf = shelf; first = first; statement = statement; others = others; accepted = accepted; line_is = refl; frames = frames; after = next; given = given; bytes = refl };
+  cut = cut_of frames (memory_end statement.line) appended;
+}
+
+-- a run whose sink failed in an execution
+pub end_failed : (read : Result RunRequestValue RequestError) {before now : Option (List ℕ)} {start after : Faults} {block : BlockValue} {outcome : PipeOutcome} (shelf next : ShelfValue) (first others : List Statement) (frames : List OutputFrame)
+    → outcome.error ≡ Some errors.Write → outcome.status ≡ status_after outcome.error → IsPipeAccepted read shelf (first ++ others) → GivesFrames shelf first frames next
+    → Appended before start (response_magic ++ frames_bytes frames) now after block → block.failed ≡ true → IsEndOfRun read before start now after outcome
+end_failed read {before} {now} {start} {after} {block} {outcome} shelf next first others frames is status accepted given appended failed = record {
+  end = subst (λ (f : Option PipeError). IsPipeEnd read before now f) (sym is) (within shelf next first others frames accepted given appended);
+  status = status;
+  write = λ write. ap has_failed (rw failed at appended.fails);
+  flushed = λ other. absurd (other is);
+}
 
 pub if_some : {X : Type 0} (P Q : X → Type 0) (found : Option X) → ((x : X) → P x → Q x) → IfSome found P → IfSome found Q
 if_some P Q None on one = tt
 if_some P Q (Some x) on one = on x one
 
-abbrev of_run : ShelfValue → List ℕ → RunRequestValue
+-- what is no want of memory
+pub not_memory : (kind : ScriptKind) → is_memory kind ≡ false → kind ≢ script_kinds.Memory
+not_memory kind not same = absurd (cc (not, ap is_memory same))
+
+abbrev pub of_run : ShelfValue → List ℕ → RunRequestValue
 of_run shelf script = record { shelf = shelf; script = script }
 
+-- a rejected script has its response
+pub rejection : (shelf : ShelfValue) (script : List ℕ) (fault : ScriptFault) (error : PipeError) (end : EndValue) → IsScriptFault shelf.names script fault → IsRejection fault error end
+    → IsResponse (Ok (of_run shelf script)) (response_bytes [] end) (Some error)
+rejection shelf script fault (errors.Script error) end first is = record {
+  shelf = shelf;
+  script = script;
+  request = refl;
+  first = subst (λ (f : ScriptFault). IsScriptFault shelf.names script f) (sym is.0) first;
+  text = is.1.0;
+  bytes = ap (λ (e : EndValue). response_bytes [] e) (is.1.1 ∙ ap (λ (f : ScriptFault). script_end f is.1.0) (sym is.0));
+}
+rejection shelf script fault errors.Memory end first is = ap (λ (e : EndValue). response_bytes [] e) is
+rejection shelf script fault (errors.Request error) end first is = absurd is
+rejection shelf script fault (errors.MemoryAt line) end first is = absurd is
+rejection shelf script fault errors.Write end first is = absurd is
+
+-- nor is a rejection a failed write
+pub not_write : (fault : ScriptFault) (error : PipeError) (end : EndValue) → IsRejection fault error end → Some error ≡ Some errors.Write → ⊥
+not_write fault (errors.Script error) end is same = cc
+not_write fault errors.Memory end is same = cc
+not_write fault (errors.Request error) end is same = is
+not_write fault (errors.MemoryAt line) end is same = is
+not_write fault errors.Write end is same = is
+
 -- a run of an accepted script is done, if memory lasts and the sink takes everything
-pub complete_of : NoFaultOfAScript → (read : Result RunRequestValue RequestError) (before now : Option (List ℕ)) (failed : Bool) (error : Option PipeError) → IsPipeEnd read before now error → (error ≡ Some errors.Write → failed ≡ true)
-    → (shelf : ShelfValue) (statements : List Statement) → IsPipeAccepted read shelf statements → MemoryLasts error → failed ≡ false → IsNone error
-complete_of law read before now failed None end write shelf statements accepted lasts good = refl
-complete_of law read before now failed (Some (errors.Request error)) end write shelf statements accepted lasts good = absurd (cc (end.0, accepted.request))
-complete_of law read before now failed (Some (errors.Script fault)) end write shelf statements accepted lasts good =
-    let same : of_run shelf accepted.script ≡ of_run end.shelf end.script = cc (end.request, accepted.request) in
-    absurd (law end.shelf.names end.script statements fault (subst (λ (r : RunRequestValue). IsScript r.shelf.names r.script statements) same accepted.denoted) (end.first lasts))
-complete_of law read before now failed (Some errors.Memory) end write shelf statements accepted lasts good = absurd lasts
-complete_of law read before now failed (Some (errors.MemoryAt line)) end write shelf statements accepted lasts good = absurd lasts
-complete_of law read before now failed (Some errors.Write) end write shelf statements accepted lasts good = absurd (cc (write refl, good))
+pub complete_of : NoFaultOfAScript → (read : Result RunRequestValue RequestError) (before now : Option (List ℕ)) (failed : Bool) (error : Option PipeError) (status : ℕ) → IsPipeEnd read before now error → status ≡ status_after error → (error ≡ Some errors.Write → failed ≡ true)
+    → (shelf : ShelfValue) (statements : List Statement) → IsPipeAccepted read shelf statements → status ≢ 3 → failed ≡ false → IsNone error
+complete_of law read before now failed None status end is write shelf statements accepted lasts good = refl
+complete_of law read before now failed (Some (errors.Request error)) status end is write shelf statements accepted lasts good = absurd (cc (end.is.0, accepted.request))
+complete_of law read before now failed (Some (errors.Script fault)) status end is write shelf statements accepted lasts good =
+    let same : of_run shelf accepted.script ≡ of_run end.is.shelf end.is.script = cc (end.is.request, accepted.request) in
+    absurd (law end.is.shelf.names end.is.script statements fault (subst (λ (r : RunRequestValue). IsScript r.shelf.names r.script statements) same accepted.denoted) end.is.first)
+complete_of law read before now failed (Some errors.Memory) status end is write shelf statements accepted lasts good = absurd (lasts is)
+complete_of law read before now failed (Some (errors.MemoryAt line)) status end is write shelf statements accepted lasts good = absurd (lasts is)
+complete_of law read before now failed (Some errors.Write) status end is write shelf statements accepted lasts good = absurd (cc (write refl, good))

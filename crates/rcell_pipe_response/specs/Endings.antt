@@ -1,5 +1,5 @@
 -- How a response ends: the last frame, and what became of the sink.
-use Rattle.std.specs.Prelude.{ℕ, ◌≡◌, Bool, true, false, List, [], Option, Some, Result}
+use Rattle.std.specs.Prelude.{ℕ, ◌≡◌, ◌≢◌, Bool, true, false, List, [], Option, Some, Result}
 use Rattle.cell_core_devices.specs.Device.{Faults, append_known, after_flush, has_failed}
 use Rattle.rcell_script_commands.specs.declared.script_fault.ScriptFault.{ScriptFault}
 use Rattle.rcell_pipe_request.specs.declared.error.RequestError.{RequestError}
@@ -7,8 +7,8 @@ use Rattle.rcell_pipe_request.specs.Requests.{RunRequestValue}
 use Rattle.rcell_pipe_response.specs.declared.end.PipeError.{PipeError}
 use Rattle.rcell_pipe_response.specs.declared.end.PipeError.TheVariants as errors
 use Rattle.rcell_pipe_response.specs.declared.running.PipeOutcome.{PipeOutcome}
-use Rattle.rcell_pipe_response.specs.FrameBytes.{response_bytes}
-use Rattle.rcell_pipe_response.specs.RunEnds.{status_after, script_end, IsPipeEnd}
+use Rattle.rcell_pipe_response.specs.FrameBytes.{EndValue, response_bytes}
+use Rattle.rcell_pipe_response.specs.RunEnds.{status_after, script_end, memory_end, IsCut, IsPipeEnd}
 
 -- the error of a run whose last frame was written or not
 abbrev pub error_after : Option PipeError → Bool → Option PipeError
@@ -21,15 +21,24 @@ pub record Finished (before : Option (List ℕ)) (start : Faults) (now : Option 
   pub error_is : outcome.error ≡ error_after error wrote
   pub status : outcome.status ≡ status_after outcome.error
   pub whole : wrote ≡ true → (now ≡ append_known before text) × (after ≡ after_flush start false)
-  pub fails : wrote ≡ false → has_failed after ≡ true
+  pub fails : wrote ≡ false → (has_failed after ≡ true) × IsCut before now text
 
--- a script was rejected for an error, with some text of it
-abbrev pub Rejected : Option (List ℕ) → Faults → Option (List ℕ) → Faults → ScriptFault → PipeOutcome → Type 0
-Rejected before start now after error outcome = (text : List ℕ) × Finished before start now after (Some (errors.Script error)) (response_bytes [] (script_end error text)) outcome
+-- how a script is rejected: with some text of its error, or for want of memory
+abbrev pub IsRejection : ScriptFault → PipeError → EndValue → Type 0
+IsRejection fault (errors.Script error) end = (error ≡ fault) × ((text : List ℕ) × (end ≡ script_end fault text))
+IsRejection fault errors.Memory end = end ≡ memory_end 0
+IsRejection fault error end = ⊥
+
+-- a script was rejected
+pub record Rejected (before : Option (List ℕ)) (start : Faults) (now : Option (List ℕ)) (after : Faults) (fault : ScriptFault) (outcome : PipeOutcome) : Type 0 where
+  pub error : PipeError
+  pub end : EndValue
+  pub rejects : IsRejection fault error end
+  pub finished : Finished before start now after (Some error) (response_bytes [] end) outcome
 
 -- how a run ended, by what was read
 pub record IsEndOfRun (read : Result RunRequestValue RequestError) (before : Option (List ℕ)) (start : Faults) (now : Option (List ℕ)) (after : Faults) (outcome : PipeOutcome) : Type 0 where
   pub end : IsPipeEnd read before now outcome.error
   pub status : outcome.status ≡ status_after outcome.error
   pub write : outcome.error ≡ Some errors.Write → has_failed after ≡ true
-  pub sound : outcome.status ≡ 0 → after ≡ after_flush start false
+  pub flushed : outcome.error ≢ Some errors.Write → after ≡ after_flush start false

@@ -1,5 +1,5 @@
 -- What a run of `rcell-pipe` has written when it ends (profile).
-use Rattle.std.specs.Prelude.{ℕ, ◌≡◌, ◌≢◌, ⊤, ◌++◌, List, [], ◌∷◌, codes, Option, Some, None, Result, Ok, Err}
+use Rattle.std.specs.Prelude.{ℕ, ◌≡◌, ◌++◌, List, [], ◌∷◌, codes, Option, Some, None, Result, Ok, Err}
 use Rattle.cell_core_devices.specs.Device.{append_known}
 use Rattle.cell_core.specs.Shelf.{ShelfValue}
 use Rattle.rcell_script.specs.Scripts.{IsScript}
@@ -8,7 +8,6 @@ use Rattle.rcell_script.specs.declared.statement.Statement.{Statement}
 use Rattle.rcell_script_commands.specs.declared.script_fault.ScriptFault.{ScriptFault}
 use Rattle.rcell_script_commands.specs.declared.script_fault.ScriptKind.{ScriptKind}
 use Rattle.rcell_script_commands.specs.declared.script_fault.ScriptKind.TheVariants as script_kinds
-use Rattle.rcell.specs.runs.Statuses.{script_status}
 use Rattle.rcell_pipe_request.specs.declared.error.ErrorKind.{ErrorKind}
 use Rattle.rcell_pipe_request.specs.declared.error.ErrorKind.TheVariants as kinds
 use Rattle.rcell_pipe_request.specs.declared.error.RequestError.{RequestError}
@@ -63,7 +62,7 @@ request_end error = record { status = request_status error.kind; source = 1; map
 
 -- the end where the script is rejected, with the text of the error
 abbrev pub script_end : ScriptFault → List ℕ → EndValue
-script_end error text = record { status = script_status error.kind; source = 2; maps = 0; line = error.line; column = script_column error.kind; text = text }
+script_end error text = record { status = 1; source = 2; maps = 0; line = error.line; column = script_column error.kind; text = text }
 
 -- the end where memory ran out, at a line or before the first
 abbrev pub memory_end : ℕ → EndValue
@@ -72,7 +71,7 @@ memory_end line = record { status = 3; source = 0; maps = 0; line = line; column
 -- the status of a run
 abbrev pub error_status : PipeError → ℕ
 error_status (errors.Request error) = request_status error.kind
-error_status (errors.Script error) = script_status error.kind
+error_status (errors.Script error) = 1
 error_status errors.Memory = 3
 error_status (errors.MemoryAt line) = 3
 error_status errors.Write = 4
@@ -87,27 +86,27 @@ pub record IsPipeAccepted (read : Result RunRequestValue RequestError) (shelf : 
   pub request : read ≡ Ok (record { shelf = shelf; script = script })
   pub denoted : IsScript shelf.names script statements
 
--- the whole response was written: the frames of the statements, and the end
-pub record IsPipeDone (read : Result RunRequestValue RequestError) (before now : Option (List ℕ)) : Type 0 where
+-- the frames of the statements of an accepted script, and the end
+pub record IsPipeDone (read : Result RunRequestValue RequestError) (response : List ℕ) : Type 0 where
   pub shelf : ShelfValue
   pub statements : List Statement
   pub accepted : IsPipeAccepted read shelf statements
   pub frames : List OutputFrame
   pub after : ShelfValue
   pub given : GivesFrames shelf statements frames after
-  pub taken : now ≡ append_known before (response_bytes frames done_end)
+  pub bytes : response ≡ response_bytes frames done_end
 
--- the script was rejected for its first error: no frame but the end, with some text of the error
-pub record IsScriptRejected (read : Result RunRequestValue RequestError) (before now : Option (List ℕ)) (error : ScriptFault) : Type 0 where
+-- the script is rejected for its first error: no frame but the end, with some text of the error
+pub record IsScriptRejected (read : Result RunRequestValue RequestError) (response : List ℕ) (error : ScriptFault) : Type 0 where
   pub shelf : ShelfValue
   pub script : List ℕ
   pub request : read ≡ Ok (record { shelf = shelf; script = script })
-  pub first : error.kind ≢ script_kinds.Memory → IsScriptFault shelf.names script error
+  pub first : IsScriptFault shelf.names script error
   pub text : List ℕ
-  pub taken : now ≡ append_known before (response_bytes [] (script_end error text))
+  pub bytes : response ≡ response_bytes [] (script_end error text)
 
--- memory ran out at a statement: the frames of those before it were written, and the end
-pub record IsPipeStopped (read : Result RunRequestValue RequestError) (before now : Option (List ℕ)) (line : ℕ) : Type 0 where
+-- memory runs out at a statement: the frames of those before it, and the end
+pub record IsPipeStopped (read : Result RunRequestValue RequestError) (response : List ℕ) (line : ℕ) : Type 0 where
   pub shelf : ShelfValue
   pub first : List Statement
   pub statement : Statement
@@ -117,20 +116,38 @@ pub record IsPipeStopped (read : Result RunRequestValue RequestError) (before no
   pub frames : List OutputFrame
   pub after : ShelfValue
   pub given : GivesFrames shelf first frames after
-  pub taken : now ≡ append_known before (response_bytes frames (memory_end line))
+  pub bytes : response ≡ response_bytes frames (memory_end line)
 
--- what has been written, by the error of the run
+-- the whole response of a run, by its error; a run whose write failed has none
+abbrev pub IsResponse : Result RunRequestValue RequestError → List ℕ → Option PipeError → Type 0
+IsResponse read response None = IsPipeDone read response
+IsResponse read response (Some (errors.Request error)) = (read ≡ Err error) × (response ≡ response_bytes [] (request_end error))
+IsResponse read response (Some (errors.Script error)) = IsScriptRejected read response error
+IsResponse read response (Some errors.Memory) = response ≡ response_bytes [] (memory_end 0)
+IsResponse read response (Some (errors.MemoryAt line)) = IsPipeStopped read response line
+IsResponse read response (Some errors.Write) = ⊥
+
+-- the sink took the first bytes of a text
+pub record IsCut (before now : Option (List ℕ)) (text : List ℕ) : Type 0 where
+  pub front : List ℕ
+  pub rest : List ℕ
+  pub whole : front ++ rest ≡ text
+  pub taken : now ≡ append_known before front
+
+-- the sink took the first bytes of a response
+pub record IsPipeCut (read : Result RunRequestValue RequestError) (before now : Option (List ℕ)) : Type 0 where
+  pub error : Option PipeError
+  pub response : List ℕ
+  pub would : IsResponse read response error
+  pub cut : IsCut before now response
+
+-- the sink took a whole response
+pub record IsPipeWritten (read : Result RunRequestValue RequestError) (before now : Option (List ℕ)) (error : Option PipeError) : Type 0 where
+  pub response : List ℕ
+  pub is : IsResponse read response error
+  pub taken : now ≡ append_known before response
+
+-- what has been written, by the error of the run: a whole response, or the first bytes of one if a write failed
 abbrev pub IsPipeEnd : Result RunRequestValue RequestError → Option (List ℕ) → Option (List ℕ) → Option PipeError → Type 0
-IsPipeEnd read before now None = IsPipeDone read before now
-IsPipeEnd read before now (Some (errors.Request error)) = (read ≡ Err error) × (now ≡ append_known before (response_bytes [] (request_end error)))
-IsPipeEnd read before now (Some (errors.Script error)) = IsScriptRejected read before now error
-IsPipeEnd read before now (Some errors.Memory) = now ≡ append_known before (response_bytes [] (memory_end 0))
-IsPipeEnd read before now (Some (errors.MemoryAt line)) = IsPipeStopped read before now line
-IsPipeEnd read before now (Some errors.Write) = ⊤
-
--- memory lasts: the error is not that it ran out
-abbrev pub MemoryLasts : Option PipeError → Type 0
-MemoryLasts (Some errors.Memory) = ⊥
-MemoryLasts (Some (errors.MemoryAt line)) = ⊥
-MemoryLasts (Some (errors.Script fault)) = fault.kind ≢ script_kinds.Memory
-MemoryLasts error = ⊤
+IsPipeEnd read before now (Some errors.Write) = IsPipeCut read before now
+IsPipeEnd read before now error = IsPipeWritten read before now error

@@ -2,7 +2,7 @@
 
 ghost use Rattle.std.specs.Prelude.{◌≡◌};
 ghost use Rattle.rcell_pipe_response.specs.RunEnds.{kind_text, request_status, script_column, done_end, request_end, script_end, memory_end, error_status, status_after, end_value};
-ghost use Rattle.rcell.specs.runs.Statuses.{script_status};
+ghost use Rattle.rcell_pipe_response.specs.parts.ScriptKinds.{is_memory};
 
 use rcell_pipe_request::error::{ErrorKind, RequestError};
 use rcell_script::script_fault::{ScriptFault, ScriptKind};
@@ -94,12 +94,13 @@ pub fn request_end(error: RequestError) -> End<'static>
     }
 }
 
-fn script_status(kind: ScriptKind) -> u8
-    ensures { result ≡ script_status kind }
+/// Whether a script was not read for want of memory.
+pub(crate) fn is_memory(kind: ScriptKind) -> bool
+    ensures { result ≡ is_memory kind }
 {
     match kind {
-        ScriptKind::Memory => 3,
-        _ => 1,
+        ScriptKind::Memory => true,
+        _ => false,
     }
 }
 
@@ -117,7 +118,7 @@ pub fn script_end<'a>(error: ScriptFault, text: &'a [u8]) -> End<'a>
     ensures { end_value result ≡ script_end error text.now }
 {
     End {
-        status: script_status(error.kind),
+        status: 1,
         source: 2,
         maps: 0,
         line: error.line,
@@ -146,7 +147,7 @@ fn error_status(error: PipeError) -> u8
 {
     match error {
         PipeError::Request(error) => request_status(error.kind),
-        PipeError::Script(error) => script_status(error.kind),
+        PipeError::Script(_) => 1,
         PipeError::Memory => 3,
         PipeError::MemoryAt { .. } => 3,
         PipeError::Write => 4,

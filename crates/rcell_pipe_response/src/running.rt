@@ -1,6 +1,6 @@
 //! A run, from bytes to bytes.
 
-ghost use Rattle.std.specs.Prelude.{ℕ, ◌≡◌, List, [], ◌++◌, true, false, Option, IfSome, Some, Result, Ok, Err};
+ghost use Rattle.std.specs.Prelude.{ℕ, ◌≡◌, ◌≢◌, List, [], ◌++◌, true, false, Option, IfSome, Some, Result, Ok, Err};
 ghost use Rattle.std.specs.Option.{IsNone};
 ghost use Rattle.cell_core_devices.specs.Device.{Faults, has_failed, after_flush};
 ghost use Rattle.cell_core_devices.specs.Blocks.{Appended};
@@ -10,11 +10,13 @@ ghost use Rattle.rcell_script.specs.declared.statement.Statement.{Statement};
 ghost use Rattle.rcell_pipe_request.specs.declared.error.RequestError.{RequestError};
 ghost use Rattle.rcell_pipe_request.specs.Requests.{RunRequestValue, ReadsRequest, request_of, run_request_value};
 ghost use Rattle.rcell_pipe_response.specs.FrameBytes.{response_magic, response_bytes, end_bytes};
-ghost use Rattle.rcell_pipe_response.specs.RunEnds.{status_after, IsPipeAccepted, IsPipeEnd, MemoryLasts, end_value};
+ghost use Rattle.rcell_pipe_response.specs.RunEnds.{status_after, IsPipeAccepted, IsPipeEnd, end_value};
 ghost use Rattle.rcell_pipe_response.specs.Endings.{error_after, Finished, Rejected, IsEndOfRun};
 ghost use Rattle.rcell_pipe_response.specs.parts.LastFrames.{EndsResponse};
 
-use crate::end::{End, PipeError, done_end, memory_end, request_end, script_end, status_after};
+use crate::end::{
+    End, PipeError, done_end, is_memory, memory_end, request_end, script_end, status_after,
+};
 use crate::execution::{PipeStop, execute};
 use crate::frames::push_end;
 use cell_core::block::OutputBlock;
@@ -101,7 +103,7 @@ pub fn reject<W: Sink>(out: &mut W, error: PipeError, end: &End<'_>) -> PipeOutc
     end_run(out, block, Some(error), end)
 }
 
-/// Rejects a script, with the text of its error, or without it if there is no memory for the text.
+/// Rejects a script, with the text of its error, or for want of memory if there is none for the text.
 pub fn reject_script<W: Sink>(alloc: Global, out: &mut W, error: ScriptFault) -> PipeOutcome
     ensures { Rejected (W.taken out.old) (W.faults out.old) (W.taken out.new) (W.faults out.new)
         error result }
@@ -113,7 +115,7 @@ pub fn reject_script<W: Sink>(alloc: Global, out: &mut W, error: ScriptFault) ->
             PipeError::Script(error),
             &script_end(error, text.as_bytes()),
         ),
-        Err(_) => reject(out, PipeError::Script(error), &script_end(error, b"")),
+        Err(_) => reject(out, PipeError::Memory, &memory_end(0)),
     }
 }
 
@@ -154,7 +156,13 @@ pub fn run_request<W: Sink>(alloc: Global, request: Request, out: &mut W) -> Pip
     };
     match parse_script(alloc, &script, &names) {
         Ok(statements) => run_statements(alloc, shelf, &statements, out),
-        Err(error) => reject_script(alloc, out, error),
+        Err(error) => {
+            if is_memory(error.kind) {
+                reject(out, PipeError::Memory, &memory_end(0))
+            } else {
+                reject_script(alloc, out, error)
+            }
+        }
     }
 }
 
@@ -164,7 +172,8 @@ pub fn reject_request<W: Sink>(out: &mut W, stop: RequestStop) -> PipeOutcome
         → IsPipeEnd read (W.taken out.old) (W.taken out.new) result.error }
     ensures status { result.status ≡ status_after result.error }
     ensures write { result.error ≡ Some PipeError.Write → has_failed (W.faults out.new) ≡ true }
-    ensures sound { result.status ≡ 0 → W.faults out.new ≡ after_flush (W.faults out.old) false }
+    ensures flushed { result.error ≢ Some PipeError.Write
+        → W.faults out.new ≡ after_flush (W.faults out.old) false }
 {
     match stop {
         RequestStop::Error(error) => reject(out, PipeError::Request(error), &request_end(error)),
@@ -178,17 +187,19 @@ pub fn reject_request<W: Sink>(out: &mut W, stop: RequestStop) -> PipeOutcome
 /// its first byte is written.
 pub fn run_pipe<R: Source + Drop, W: Sink>(alloc: Global, source: R, out: &mut W) -> PipeOutcome
     // The error says what has been written. Without one: the frames of the statements and the end. Otherwise: the end with
-    // the first error of the request or of its script, after the frames of the statements before memory ran out.
+    // the first error of the request or of its script, after the frames of the statements before memory ran out. If a write
+    // failed: the first bytes of such a response.
     ensures end { IfSome (R.coming source)
         (λ c. IsPipeEnd (request_of c) (W.taken out.old) (W.taken out.new) result.error) }
     ensures status { result.status ≡ status_after result.error }
-    // Write comes only where the sink failed, and status 0 only where it did not and was flushed once.
+    // Write comes only if the sink failed; otherwise it did not fail and was flushed once.
     ensures write { result.error ≡ Some PipeError.Write → has_failed (W.faults out.new) ≡ true }
-    ensures sound { result.status ≡ 0 → W.faults out.new ≡ after_flush (W.faults out.old) false }
+    ensures flushed { result.error ≢ Some PipeError.Write
+        → W.faults out.new ≡ after_flush (W.faults out.old) false }
     // If the script of a request is accepted, memory lasts and the sink takes everything, the run is done.
     ensures complete { IfSome (R.coming source)
         (λ c. (shelf : ShelfValue) (statements : List Statement)
-        → IsPipeAccepted (request_of c) shelf statements → MemoryLasts result.error
+        → IsPipeAccepted (request_of c) shelf statements → result.status ≢ 3
         → has_failed (W.faults out.new) ≡ false → IsNone result.error) }
 {
     no_fault_of_a_script();

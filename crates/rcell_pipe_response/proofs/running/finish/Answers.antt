@@ -14,4 +14,4 @@ returns-in-Ok g c =
 
 pub returns-in-Err : goal.returns-in-Err
 returns-in-Err g c =
-    ends_unflushed c.args.out.now c.push_end.new.out c.empty.new.out c.flush.new.self c.args.block c.push_end.new.block c.empty.new.self (end_value c.args.end.now) c.push_end.ensures c.empty.ensures.appends c.in-Err.ensures.faults
+    ends_unflushed c.args.out.now c.push_end.new.out c.empty.new.out c.flush.new.self c.args.block c.push_end.new.block c.empty.new.self (end_value c.args.end.now) c.push_end.ensures c.empty.ensures.appends c.flush.ensures.taken c.in-Err.ensures.faults
