@@ -2,3 +2,4 @@
 pub mod Numbers
 pub mod RawRows
 pub mod PackedRows
+pub mod parts

@@ -5,7 +5,8 @@ ghost use Rattle.cell_core_values.specs.SmallCells.{cells_of_bytes};
 ghost use Rattle.cell_raw.specs.declared.kind.CellType.TheVariants.{U8};
 ghost use Rattle.cell_raw.specs.Numbers.{byte_size};
 ghost use Rattle.cell_raw.specs.RawRows.{is_hiding, is_nodata, places, raw_cells, has_outside, row_error, error_of};
-ghost use Rattle.cell_raw.specs.PackedRows.{packed_byte, cells_in};
+ghost use Rattle.cell_raw.specs.PackedRows.{cells_in};
+ghost use Rattle.cell_raw.specs.parts.PackedBytes.{packed_byte};
 
 use crate::kind::CellType;
 use crate::raw_row::{RowError, is_bad_mask, is_hidden, is_nodata, read_row};

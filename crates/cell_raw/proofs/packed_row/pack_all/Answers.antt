@@ -1,6 +1,6 @@
 use Rattle.std.proofs.Common.{length, arith}
 use Rattle.std.proofs.lemmas.List.FromFn.{fill_by_all}
-use Rattle.cell_raw.specs.PackedRows.{packed_byte}
+use Rattle.cell_raw.specs.parts.PackedBytes.{packed_byte}
 use Rattle.cell_raw.proofs.packed_row.pack_all.Goals as goal
 
 pub returns : goal.returns

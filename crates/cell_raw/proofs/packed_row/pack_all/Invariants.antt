@@ -1,5 +1,5 @@
 use Rattle.std.proofs.Common.{◌≡◌, ◌<◌, ◌≤◌, ℕ, length, get_or}
-use Rattle.cell_raw.specs.PackedRows.{packed_byte}
+use Rattle.cell_raw.specs.parts.PackedBytes.{packed_byte}
 use Rattle.cell_raw.proofs.packed_row.pack_all.Given as goal
 
 abbrev pub invariant-loop-i : goal.invariant-loop-i

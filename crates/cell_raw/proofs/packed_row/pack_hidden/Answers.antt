@@ -1,4 +1,5 @@
-use Rattle.std.proofs.Common.{◌≡◌, ◌≢◌, ◌<◌, ◌*◌, ℕ, ℤ, pos, Bool, true, false, not, ◌&&◌, eqb, List, Option, None, Some, Fits, w8, length, map, take, drop, get_or, refl, sym, ap, ◌∙◌, arith, rules}
+use Rattle.std.proofs.Common.{◌≡◌, ◌≢◌, ◌<◌, ◌*◌, ℕ, ℤ, pos, Bool, true, false, not, ◌&&◌, eqb, List, Option, None}
+use Rattle.std.proofs.Common.{Some, Fits, w8, length, map, take, drop, get_or, refl, sym, ap, ◌∙◌, arith, rules}
 use Rattle.std.specs.Prelude.{slice_get, if◌then◌else◌}
 use Rattle.std.specs.Int.{from_le_bytes}
 use Rattle.std.proofs.Math.Facts.{Fits-lt-pow}
@@ -7,15 +8,18 @@ use Rattle.std.proofs.Math.Seq.{drop-cons}
 use Rattle.std.proofs.lemmas.Bool.{eqb-true, eq-eqb}
 use Rattle.std.proofs.lemmas.List.{length-map, get_or-map}
 use Rattle.std.proofs.lemmas.List.Folds.{list_any_none}
-use Rattle.std.proofs.lemmas.List.FromFn.{get_or-range_with_len, length-range_with_len, fill_by_all, length-map-range_with_len, get_or-map-range_with_len}
+use Rattle.std.proofs.lemmas.List.FromFn.{get_or-range_with_len, length-range_with_len, fill_by_all}
+use Rattle.std.proofs.lemmas.List.FromFn.{length-map-range_with_len, get_or-map-range_with_len}
 use Rattle.cell_core_values.specs.Cell.{is_category}
 use Rattle.cell_core_values.specs.SmallCells.{byte_cell, cells_of_bytes}
 use Rattle.cell_raw.specs.declared.kind.CellType.TheVariants.{U8}
 use Rattle.cell_raw.specs.Numbers.{raw_number}
-use Rattle.cell_raw.specs.RawRows.{is_hiding, is_nodata, cell_of_raw, raw_cell, raw_cells, places, is_outside, is_raw_outside, has_outside}
-use Rattle.cell_raw.specs.PackedRows.{packed_byte}
+use Rattle.cell_raw.specs.RawRows.{is_hiding, is_nodata, cell_of_raw, raw_cell, raw_cells, places, is_outside}
+use Rattle.cell_raw.specs.RawRows.{is_raw_outside, has_outside}
+use Rattle.cell_raw.specs.parts.PackedBytes.{packed_byte}
 use Rattle.cell_raw.proofs.packed_row.pack_hidden.Goals as goal
-use Rattle.cell_raw.proofs.packed_row.pack_hidden.Goals.{else-not-is_nodata-via-then-not-is_nodata+else-has_255, else-not-is_nodata-via-else-not-is_nodata}
+use Rattle.cell_raw.proofs.packed_row.pack_hidden.Goals.{else-not-is_nodata-via-then-not-is_nodata+else-has_255}
+use Rattle.cell_raw.proofs.packed_row.pack_hidden.Goals.{else-not-is_nodata-via-else-not-is_nodata}
 
 number : (bytes : List ℕ) (k : ℕ) → k < length bytes → raw_number U8 bytes k ≡ pos (get_or bytes k 0)
 number bytes k within =
@@ -49,15 +53,19 @@ visible nodata null b few nulls free = by (eqb b 255) (eqb b null) refl refl
     by false true e f = sym (if_null (sym (nulls b (below e)) ∙ f))
     by false false e f =
         ap (λ (h : Bool). if h then None else Some (pos b)) e
-        ∙ sym (ap (λ (h : Bool). if h then None else (if is_category (pos b) then Some (pos b) else None)) (sym (nulls b (below e)) ∙ f) ∙ ap (λ (h : Bool). if h then Some (pos b) else None) (is_byte b few))
+        ∙ sym (ap (λ (h : Bool). if h then None else (if is_category (pos b) then Some (pos b) else None)) (sym
+        (nulls b (below e)) ∙ f) ∙ ap (λ (h : Bool). if h then Some (pos b) else None) (is_byte b few))
 
 is_inside : (nodata : Option ℤ) (b : ℕ) → b < 256 → is_outside nodata (pos b) ≡ false
-is_inside nodata b few = ap (λ (h : Bool). not (is_nodata nodata (pos b)) && not h) (is_byte b few) ∙ and-false (not (is_nodata nodata (pos b)))
+is_inside nodata b few = ap (λ (h : Bool). not (is_nodata nodata (pos b)) && not h) (is_byte b few)
+    ∙ and-false (not (is_nodata nodata (pos b)))
 
-module _ (nodata : Option ℤ) (mask bytes new : List ℕ) (null : ℕ) (small : null < 256) (fits : (i : ℕ) → Fits w8 (get_or new i 0))
+module _ (nodata : Option ℤ) (mask bytes new : List ℕ) (null : ℕ) (small : null < 256) (fits : (i : ℕ)
+    → Fits w8 (get_or new i 0))
     (packed : new ≡ map (packed_byte mask null bytes) (places (length bytes)))
     (nulls : (n : ℕ) → n < 255 → eqb n null ≡ is_nodata nodata (pos n))
-    (free : (k : ℕ) → k < length bytes → is_hiding (slice_get mask k) ≡ false → get_or bytes k 0 ≡ 255 → is_nodata nodata (pos 255) ≡ true) where
+    (free : (k : ℕ) → k < length bytes → is_hiding (slice_get mask k) ≡ false → get_or bytes k 0 ≡ 255
+    → is_nodata nodata (pos 255) ≡ true) where
   abbrev number_of : ℕ → ℕ
   number_of k = get_or bytes k 0
 
@@ -65,7 +73,8 @@ module _ (nodata : Option ℤ) (mask bytes new : List ℕ) (null : ℕ) (small :
   long = ap length packed ∙ length-map-range_with_len (packed_byte mask null bytes) 0 (length bytes)
 
   at : (k : ℕ) → k < length bytes → get_or new k 0 ≡ packed_byte mask null bytes k
-  at k within = ap (λ (l : List ℕ). get_or l k 0) packed ∙ get_or-map-range_with_len (packed_byte mask null bytes) 0 (length bytes) k k 0 within (omega arith)
+  at k within = ap (λ (l : List ℕ). get_or l k 0) packed
+      ∙ get_or-map-range_with_len (packed_byte mask null bytes) 0 (length bytes) k k 0 within (omega arith)
 
   -- each number is a byte: it is null or is kept
   few : (k : ℕ) → k < length bytes → is_hiding (slice_get mask k) ≡ false → number_of k < 256
@@ -83,47 +92,61 @@ module _ (nodata : Option ℤ) (mask bytes new : List ℕ) (null : ℕ) (small :
   each k within = by (is_hiding (slice_get mask k)) refl
     where
       by : (h : Bool) → is_hiding (slice_get mask k) ≡ h
-          → byte_cell (if h then 255 else (if eqb (number_of k) null then 255 else number_of k)) ≡ (if h then None else cell_of_raw nodata (raw_number U8 bytes k))
+          → byte_cell (if h then 255 else (if eqb (number_of k) null then 255 else number_of k))
+          ≡ (if h then None else cell_of_raw nodata (raw_number U8 bytes k))
       by true hidden = refl
-      by false seen = visible nodata null (number_of k) (few k within seen) nulls (free k within seen) ∙ ap (cell_of_raw nodata) (sym (number bytes k within))
+      by false seen = visible nodata null (number_of k) (few k within seen) nulls (free k within seen)
+          ∙ ap (cell_of_raw nodata) (sym (number bytes k within))
 
   all : cells_of_bytes new ≡ raw_cells U8 nodata mask bytes (length bytes)
-  all = fill_by_all (raw_cell U8 nodata mask bytes) (cells_of_bytes new) (length bytes) None (length-map new byte_cell ∙ long)
-      (λ k within. get_or-map byte_cell new k 0 None (omega (arith, within, long)) ∙ ap byte_cell (at k within) ∙ each k within)
+  all = fill_by_all (raw_cell U8 nodata mask bytes) (cells_of_bytes new) (length bytes) None
+      (length-map new byte_cell ∙ long)
+      (λ k within. get_or-map byte_cell new k 0 None (omega (arith, within, long)) ∙ ap byte_cell (at k within)
+      ∙ each k within)
 
   inside : (k : ℕ) → k < length bytes → is_raw_outside U8 nodata mask bytes k ≡ false
   inside k within = by (is_hiding (slice_get mask k)) refl
     where
       by : (h : Bool) → is_hiding (slice_get mask k) ≡ h → (not h && is_outside nodata (raw_number U8 bytes k)) ≡ false
       by true hidden = refl
-      by false seen = ap (is_outside nodata) (number bytes k within) ∙ is_inside nodata (number_of k) (few k within seen)
+      by false seen = ap (is_outside nodata) (number bytes k within)
+          ∙ is_inside nodata (number_of k) (few k within seen)
 
   -- each number is null or a category
   none : has_outside U8 nodata mask bytes (length bytes) ≡ false
   none = list_any_none (is_raw_outside U8 nodata mask bytes) (places (length bytes))
       (λ k d within.
       let below : k < length bytes = omega (arith, within, length-range_with_len 0 (length bytes)) in
-      let place : get_or (places (length bytes)) k d ≡ k = get_or-range_with_len 0 (length bytes) k d below ∙ omega arith in
+      let place : get_or (places (length bytes)) k d ≡ k = get_or-range_with_len 0 (length bytes) k d below
+      ∙ omega arith in
       ap (is_raw_outside U8 nodata mask bytes) place ∙ inside k below)
 
 pub returns-clause-packed : goal.returns-clause-packed
 returns-clause-packed c =
     let bytes = c.args.bytes.now in
     let mask = c.args.mask.now in
-    let free : (k : ℕ) → k < length bytes → is_hiding (slice_get mask k) ≡ false → get_or bytes k 0 ≡ 255 → is_nodata c.args.nodata (pos 255) ≡ true =
+    let free : (k : ℕ) → k < length bytes → is_hiding (slice_get mask k) ≡ false → get_or bytes k 0 ≡ 255
+    → is_nodata c.args.nodata (pos 255) ≡ true =
     elim c.else-not-is_nodata.branch [
-      | else-not-is_nodata-via-then-not-is_nodata+else-has_255 w ↦ λ k within seen e. absurd (w.has_255.ensures (search (rules, w.if-has_255)) k within seen e)
-      | else-not-is_nodata-via-else-not-is_nodata w ↦ λ k within seen e. search (rules, w.if-not-is_nodata, c.is_nodata.ensures)
+      | else-not-is_nodata-via-then-not-is_nodata+else-has_255 w ↦ λ k within seen e. absurd (w.has_255.ensures
+          (search (rules, w.if-has_255)) k within seen e)
+      | else-not-is_nodata-via-else-not-is_nodata w ↦ λ k within seen e. search
+          (rules, w.if-not-is_nodata, c.is_nodata.ensures)
     ] in
-    λ _. all c.args.nodata mask bytes c.pack_all.new.bytes c.null_byte.result c.null_byte.type_inv c.type_inv.bytes c.pack_all.ensures c.null_byte.ensures free
+    λ _. all c.args.nodata mask bytes c.pack_all.new.bytes c.null_byte.result c.null_byte.type_inv
+    c.type_inv.bytes c.pack_all.ensures c.null_byte.ensures free
 
 pub returns-clause-inside : goal.returns-clause-inside
 returns-clause-inside c =
     let bytes = c.args.bytes.now in
     let mask = c.args.mask.now in
-    let free : (k : ℕ) → k < length bytes → is_hiding (slice_get mask k) ≡ false → get_or bytes k 0 ≡ 255 → is_nodata c.args.nodata (pos 255) ≡ true =
+    let free : (k : ℕ) → k < length bytes → is_hiding (slice_get mask k) ≡ false → get_or bytes k 0 ≡ 255
+    → is_nodata c.args.nodata (pos 255) ≡ true =
     elim c.else-not-is_nodata.branch [
-      | else-not-is_nodata-via-then-not-is_nodata+else-has_255 w ↦ λ k within seen e. absurd (w.has_255.ensures (search (rules, w.if-has_255)) k within seen e)
-      | else-not-is_nodata-via-else-not-is_nodata w ↦ λ k within seen e. search (rules, w.if-not-is_nodata, c.is_nodata.ensures)
+      | else-not-is_nodata-via-then-not-is_nodata+else-has_255 w ↦ λ k within seen e. absurd (w.has_255.ensures
+          (search (rules, w.if-has_255)) k within seen e)
+      | else-not-is_nodata-via-else-not-is_nodata w ↦ λ k within seen e. search
+          (rules, w.if-not-is_nodata, c.is_nodata.ensures)
     ] in
-    λ _. none c.args.nodata mask bytes c.pack_all.new.bytes c.null_byte.result c.null_byte.type_inv c.type_inv.bytes c.pack_all.ensures c.null_byte.ensures free
+    λ _. none c.args.nodata mask bytes c.pack_all.new.bytes c.null_byte.result c.null_byte.type_inv
+    c.type_inv.bytes c.pack_all.ensures c.null_byte.ensures free

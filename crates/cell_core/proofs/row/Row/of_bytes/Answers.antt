@@ -1,4 +1,5 @@
-use Rattle.std.proofs.Common.{◌<◌, ℕ, Bool, true, false, eqb, List, All, Fits, w8, get_or, sym, ap, rules, pos, Some, None}
+use Rattle.std.proofs.Common.{◌<◌, ℕ, Bool, true, false, eqb, List, All, Fits, w8, get_or, sym, ap, rules, pos, Some}
+use Rattle.std.proofs.Common.{None}
 use Rattle.std.specs.Prelude.{if◌then◌else◌}
 use Rattle.std.proofs.lemmas.List.{get_or_default}
 use Rattle.std.proofs.lemmas.List.Elements.{All-map, All-same}
@@ -6,7 +7,8 @@ use Rattle.std.proofs.Math.Facts.{Fits-lt-pow}
 use Rattle.cell_core_values.specs.Cell.{IsCell}
 use Rattle.cell_core_values.specs.SmallCells.{byte_cell, cells_of_bytes}
 use Rattle.cell_core.proofs.row.Row.of_bytes.Goals as goal
-use Rattle.cell_core.proofs.row.Row.of_bytes.Goals.{then-count-bytes+in_ok-runs_of_bytes, else-count-bytes+in_ok-from_slice}
+use Rattle.cell_core.proofs.row.Row.of_bytes.Goals.{then-count-bytes+in_ok-runs_of_bytes}
+use Rattle.cell_core.proofs.row.Row.of_bytes.Goals.{else-count-bytes+in_ok-from_slice}
 
 byte_is : (b : ℕ) → b < 256 → IsCell (byte_cell b)
 byte_is b few = by (eqb b 255)
@@ -16,7 +18,8 @@ byte_is b few = by (eqb b 255)
     by false = search (rules, few)
 
 all_cells : (bytes : List ℕ) → ((i : ℕ) → Fits w8 (get_or bytes i 0)) → All IsCell (cells_of_bytes bytes)
-all_cells bytes fits = All-map IsCell byte_cell bytes (λ i d within. rw (sym (get_or_default bytes i 0 d within)) (byte_is (get_or bytes i 0) (Fits-lt-pow (fits i))))
+all_cells bytes fits = All-map IsCell byte_cell bytes (λ i d within. rw (sym (get_or_default bytes i 0 d within))
+    (byte_is (get_or bytes i 0) (Fits-lt-pow (fits i))))
 
 pub returns-clause-cells : goal.returns-clause-cells
 returns-clause-cells c =
