@@ -1,6 +1,6 @@
 #!/bin/sh
-# What the gate runs of the Python package, on bin/rcell: the tests that need numpy alone, of rasters and files at the edge, and of the seven
-# calls and rcell-gis beside their peers.
+# What the gate runs of the Python package, on bin/rcell: the tests that need numpy alone, of rasters and files at the edge, of the seven
+# calls and rcell-gis next to their peers, and of DataArrays by tiles next to one run.
 # The last line is 'N passed, M failed, K skipped'.
 cd "$(dirname "$0")/.." || exit 1
 room=$(mktemp -d) || exit 1
@@ -19,9 +19,10 @@ elif ! has numpy; then
     skip python 'numpy is not installed' python3-numpy
 else
     add 'with numpy alone' "$python" tests/gate.py
-    if has 'pytest, hypothesis, rasterio, osgeo, pandas, xarray, dask, pyproj, fiona, geopandas, matplotlib, numpydoc, scipy' && command -v grass > /dev/null; then
+    if has 'pytest, hypothesis, rasterio, osgeo, pandas, xarray, rioxarray, zarr, distributed, tqdm, psutil, cryptography, pyproj, fiona, geopandas, matplotlib, numpydoc, scipy' && command -v grass > /dev/null; then
         add 'at the edge' "$python" tests/gate.py tests/test_edge.py tests/test_edge_files.py
         add 'the seven calls' "$python" tests/gate.py tests/test_last_mile.py tests/test_shell.py tests/test_grass.py
+        add 'with Dask' "$python" tests/gate.py tests/tiles/test_dask.py tests/tiles/test_memory.py
         add 'random rasters by tiles' "$python" ../fronts/random_rasters.py --count 320 tiles
     else
         # shellcheck disable=SC2046

@@ -30,7 +30,8 @@ from rcell._maps import ArrayMap
 from rcell._region import CELL_LIMIT, Region
 from rcell.tiles import Mosaic
 from rcell._rasters import Layer
-from rcell.tiles._sheet import MapFile, Sheet
+from rcell.tiles._engine import Engine
+from rcell.tiles._sheet import MapFile, Maps, Sheet
 from rcell.tiles.joining import Rectangle
 from watching import MILLION, measured
 
@@ -130,7 +131,7 @@ def main() -> None:
     wrong = 0
     for task in given.task or ["table", "corners"]:
         title, work = TASKS[task]
-        with Mosaic(sheet, [made], (given.size, given.size), given.workers) as mosaic:
+        with Mosaic(Maps(sheet, {made.name: made}, {}, {}), (given.size, given.size), Engine(given.workers)) as mosaic:
             answer, figures = measured(mosaic, lambda: work(mosaic))
         is_right = is_as_known(task, answer, known)
         wrong += not is_right

@@ -38,9 +38,10 @@ import rcell.tiles
 from beside import ALL, NMODE, SUM, answers, grass_maps, undivided
 from made_maps import STRIP, checkerboard, comb, land_cover, noise, runs_of, spiral, write
 from page import load, put
-from rcell.tiles._memory import Demand, clump_demand, grid_demand, patches_demand, places, table_demand
+from rcell.tiles._graph import cuts_of, places_of
+from rcell.tiles._memory import Demand, clump_demand, grid_demand, patches_demand, table_demand
 from rcell.tiles._scripts import NO_REACH, Reach
-from rcell.tiles._tasks import tile_border
+from rcell.tiles._tasks import ClumpRun, tile_border
 from rcell.tiles.joining import Rectangle, join
 from watching import MILLION, Figures, measured
 
@@ -222,15 +223,15 @@ def areas_of(path: Path) -> float:
 def of_joining(given: Settings) -> list[str]:
     """What it costs to join clumps as tiles get more, and what rcell-join is given."""
     with rcell.tiles.open(lc=str(given.path)) as mosaic:
-        file, sheet = mosaic._files["lc"], mosaic.sheet
+        sheet, run = mosaic.sheet, ClumpRun(mosaic.sheet, mosaic._files["lc"], False)
     rows = ["From the borders of tiles, as texts, to the numbers of the full map: rcell-join clumps, and this process, which reads what it prints.", "",
             "| Tiles | Million cells | Clumps of tiles | Borders | Seconds | Largest process |", "|---|---|---|---|---|---|"]
     part = min(given.side, 4096)
     for size in (2048, 1024, 512, 256, 128):
-        tiles = [place for place in places(sheet, (size, size)) if place.top + place.rows <= part and place.left + place.cols <= part]
-        rows.append(_joined([tile_border(file, sheet, place, False) for place in tiles], size))
+        tiles = [place for place in places_of(cuts_of((sheet.rows, sheet.cols), (size, size))) if place.top + place.rows <= part and place.left + place.cols <= part]
+        rows.append(_joined([tile_border(run, place, []) for place in tiles], size))
     side = min(given.side, 2048)
-    border = tile_border(file, sheet, Rectangle(0, 0, side, side), False)
+    border = tile_border(run, Rectangle(0, 0, side, side), [])
     for count in (8, 16, 32):
         rows.append(_joined([again(border, Rectangle(down * side, right * side, side, side)) for down in range(count) for right in range(count)], side))
     return rows

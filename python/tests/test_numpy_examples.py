@@ -18,7 +18,7 @@ from rcell._libraries import has
 # What an example says by which it needs a library.
 NEEDS = {
     "pandas": ("rcell.table(", ".frame()", ".pivot_frame()", ".sizes"),
-    "xarray": (".xarray()",),
+    "xarray": (".xarray()", "xarray."),
     "matplotlib": (".plot(", ".picture(", "matplotlib"),
     "affine": ("profile_of(",),
     "dask": ("tiles",),
@@ -29,7 +29,7 @@ NEEDS = {
 def examples() -> list[doctest.DocTest]:
     found: list[doctest.DocTest] = []
     for module in pkgutil.iter_modules(rcell.__path__):
-        if not module.ispkg:
+        if not module.ispkg and (module.name != "xarray" or has("xarray") and has("distributed")):
             found += doctest.DocTestFinder(exclude_empty=True).find(importlib.import_module(f"rcell.{module.name}"), extraglobs={"np": np})
     for name in rcell.__all__:
         named = getattr(rcell, name, None) if name != "tiles" else None

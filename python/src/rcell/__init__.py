@@ -17,6 +17,7 @@ from typing import TYPE_CHECKING, Any
 
 from ._align import align
 from ._answers import Result, grid, run, table
+from ._bands import bands
 from ._change import Change, change
 from ._composition import composition, cross
 from ._errors import (
@@ -68,6 +69,7 @@ __all__ = [
     "WrongProgram",
     "__version__",
     "align",
+    "bands",
     "change",
     "composition",
     "cross",

@@ -230,7 +230,7 @@ def change(
     measure = maps.measure(area)
     names = list(maps.sources)
     own = [maps.sources[name].labels if labels is None else labels_of(labels) for name in names]
-    shared = next(filter(None, own), {})
+    shared: Mapping[int, str] = next(filter(None, own), {})
     own = [found or shared for found in own]
     pairs = _Pairs(maps.counts(list(zip(names, names[1:])), measure), told, own, labels is not None, measure)
     matrix, classes = pairs.matrix()

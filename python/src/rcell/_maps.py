@@ -407,8 +407,12 @@ def source_of(name: str, given: Any) -> Source:
     raise BadMap(name, f"neither a path nor an array nor a raster, but a {type(given).__name__}")
 
 
-def named_once(maps: Mapping[str, Any] | None, named: Mapping[str, Any]) -> dict[str, Any]:
-    """Return the maps of a mapping and of keywords, unless one is in both."""
+def named_once(maps: Any, named: Mapping[str, Any]) -> dict[str, Any]:
+    """Return the maps of a mapping, or the variables of a Dataset, and of keywords, unless one is in both."""
+    if type(maps).__module__.partition(".")[0] == "xarray":
+        from ._xarray import variables_of
+
+        maps = variables_of(maps)
     twice = set(maps or {}) & set(named)
     if twice:
         raise Refused(f"the map {min(twice)} is given twice", status=2)

@@ -5,7 +5,7 @@ from __future__ import annotations
 
 import numbers
 from dataclasses import dataclass, field
-from typing import Any, Iterator, Mapping
+from typing import Any, Iterator, Mapping, NamedTuple
 
 import numpy as np
 
@@ -13,12 +13,12 @@ from ._crs import wkt_of
 from ._errors import BadMap
 from ._labels import flags_of
 from ._libraries import need
-from ._maps import BLOCK_CELLS, ArrayMap, Block, checked, in_region, whole_nodata
+from ._maps import BLOCK_CELLS, Block, checked, in_region, whole_nodata
 from ._masked import MaskedCells, filled
 from ._region import Region, Transform, six_numbers
 from ._text import NULL, range_of
 
-__all__ = ["data_array_of", "source_of_data_array"]
+__all__ = ["Flat", "data_array", "data_array_of", "flat_of", "is_lazy", "layers_of", "source_of_data_array", "variables_of"]
 
 _AXES = {
     "Y": {"Y", "y", "lat", "latitude", "northing", "projection_y_coordinate"},
@@ -62,38 +62,80 @@ class DataArrayMap:
             yield checked(self.name, cells, None, self.nodata_value, row)
 
 
-def source_of_data_array(name: str, array: Any) -> DataArrayMap | ArrayMap:
-    """A DataArray as a map.
+class Flat(NamedTuple):
+    """A DataArray of rows and columns, its rows from north to south, and what is known of its cells."""
+
+    array: Any
+    transform: Transform | None
+    crs: Any
+    nodata: float | None
+    labels: dict[int, str]
+
+
+def flat_of(name: str, array: Any) -> Flat:
+    """Return what a DataArray says of a map; no cell is read.
 
     Parameters
     ----------
     name : str
     array : xarray.DataArray
-        Of two dimensions (others have one element), by their names or their CF axes, else rows first; with coordinates of the centres of cells or none at all.
-        Null is NaN, and the value of `_FillValue`, `missing_value` or `nodata` among its attributes or its encoding. The
-        reference system is in rioxarray's coordinate `spatial_ref`; labels are CF's `flag_values` and `flag_meanings`.
+        Of two dimensions (others have one element), by their names or their CF axes, else rows first; with coordinates of the centres of
+        cells or none at all. Null is NaN, and the value of `_FillValue`, `missing_value` or `nodata` among its attributes or its encoding.
+        The reference system is in the coordinate that `grid_mapping` names, or in `spatial_ref`; labels are CF's `flag_values` and
+        `flag_meanings`.
 
     Raises
     ------
     BadMap
-        Where it can't be a map, or its coordinates are not evenly spaced.
+        It can't be a map, or its coordinates are not evenly spaced.
     """
     if not hasattr(array, "ndim"):
-        raise BadMap(name, f"a {type(array).__name__} of several variables: give one of them, as dataset[{next(iter(array), 'name')!r}]")
+        raise BadMap(name, f"a {type(array).__name__} of several variables: give it alone, or one of them, as dataset[{next(iter(array), 'name')!r}]")
     _check_scale(name, array)
     flat = _flat(name, array)
-    rows, cols = flat.shape
     transform = _transform_of(name, flat)
     if transform is not None and transform[4] > 0:
-        flat = flat[::-1]
         a, b, c, d, e, f = transform
-        transform = (a, b, c, d, -e, f + e * rows)
+        flat, transform = flat[::-1], (a, b, c, d, -e, f + e * flat.shape[0])
+    return Flat(flat, transform, _crs_of(array), _nodata_of(name, array), _flags_of(array))
+
+
+def source_of_data_array(name: str, array: Any) -> DataArrayMap:
+    """Return a DataArray as a map; `flat_of` says what it may be.
+
+    Raises
+    ------
+    BadMap
+        It can't be a map.
+    """
+    flat, transform, crs, nodata, labels = flat_of(name, array)
     if transform is None:
-        region = in_region(name, Region.of_cells, rows, cols)
-        transform = region.transform
+        region = in_region(name, Region.of_cells, *flat.shape)
     else:
-        region = in_region(name, Region.from_transform, transform, rows, cols)
-    return DataArrayMap(name, flat, region, transform, _crs_of(array), _nodata_of(name, array), _flags_of(array))
+        region = in_region(name, Region.from_transform, transform, *flat.shape)
+    return DataArrayMap(name, flat, region, transform or region.transform, crs, nodata, labels)
+
+
+def variables_of(dataset: Any) -> dict[str, Any]:
+    """Return the maps of a Dataset by their names: its variables but those that say where the cells are."""
+    described = {name: dataset[name] for name in dataset.data_vars}
+    places = {of.get("grid_mapping") for array in described.values() for of in (array.attrs, array.encoding)}
+    return {str(name): array.assign_coords({at: dataset[at] for at in places & set(described)})
+            for name, array in described.items() if name not in places and array.ndim > 1}
+
+
+def layers_of(array: Any) -> list[Any]:
+    """Return the maps that a DataArray of three dimensions has along the one that is neither rows nor columns."""
+    if getattr(array, "ndim", 0) != 3:
+        raise BadMap("raster", f"bands are of a DataArray of three dimensions, not of {getattr(array, 'ndim', 'several variables')}")
+    axes = [_axis_of(array, dim) for dim in array.dims]
+    across = array.dims[axes.index(None) if {"X", "Y"} <= set(axes) else 0]
+    return [array.isel({across: at}) for at in range(array.sizes[across])]
+
+
+def is_lazy(array: Any) -> bool:
+    """Whether Dask holds the cells of a DataArray."""
+    return getattr(array, "chunks", None) is not None
 
 
 def _flat(name: str, array: Any) -> Any:
@@ -177,7 +219,8 @@ def _spacing(name: str, coordinate: Any, told: tuple[float, float] | None) -> tu
 
 
 def _crs_of(array: Any) -> Any:
-    reference = array.coords.get("spatial_ref")
+    named = array.encoding.get("grid_mapping") or array.attrs.get("grid_mapping")
+    reference = array.coords.get(named, array.coords.get("spatial_ref"))
     attributes = {} if reference is None else reference.attrs
     return attributes.get("crs_wkt") or attributes.get("spatial_ref") or array.attrs.get("crs") or None
 
@@ -201,24 +244,39 @@ def _flags_of(array: Any) -> dict[int, str]:
 
 
 def data_array_of(array: MaskedCells, region: Region, transform: Transform, crs: Any, labels: Mapping[int, str], name: str) -> Any:
-    """A map as a DataArray of int32, with what xarray, rioxarray and CF know of rasters.
+    """Return a map in memory as a DataArray of int32."""
+    return data_array(filled(array, NULL).astype(np.int32, copy=False), transform, crs, labels, name)
 
-    Null is -2147483648, which `_FillValue` says.
+
+def data_array(cells: Any, transform: Transform, crs: Any, labels: Mapping[int, str], name: str, null: int = NULL, like: Any = None) -> Any:
+    """Return cells of numpy or Dask as a DataArray, with what xarray, rioxarray and CF know of rasters.
+
+    Parameters
+    ----------
+    cells : array of whole numbers, rows x cols
+    transform : tuple of six float
+    crs : any
+    labels : mapping of int to str
+    name : str
+    null : int
+        The cell that is null, which `_FillValue` says.
+    like : xarray.DataArray, optional
+        A map of the same rows and columns, whose dimensions and coordinates the result gets.
     """
     xarray = need("xarray", "xarray", "to return a DataArray")
-    a, _, c, _, e, f = transform
-    attributes: dict[str, Any] = {"_FillValue": np.int32(NULL)}
+    attributes: dict[str, Any] = {"_FillValue": cells.dtype.type(null)}
     if labels:
         attributes["flag_values"] = np.array(sorted(labels), np.int32)
         attributes["flag_meanings"] = " ".join("_".join(labels[category].split()) for category in sorted(labels))
+    a, _, c, _, e, f = transform
     reference = {"GeoTransform": " ".join(repr(number) for number in (c, a, 0.0, f, 0.0, e))}
     wkt = wkt_of(crs)
     if wkt:
         reference |= {"crs_wkt": wkt, "spatial_ref": wkt}
-    coordinates = {
-        "y": f + e * (np.arange(region.rows) + 0.5),
-        "x": c + a * (np.arange(region.cols) + 0.5),
-        "spatial_ref": xarray.Variable((), 0, reference),
-    }
-    cells = filled(array, NULL).astype(np.int32, copy=False)
-    return xarray.DataArray(cells, coordinates, ("y", "x"), name, attributes | {"grid_mapping": "spatial_ref"})
+    if like is None:
+        centres = f + e * (np.arange(cells.shape[0]) + 0.5), c + a * (np.arange(cells.shape[1]) + 0.5)
+        places, coordinates = ("y", "x"), dict(zip(("y", "x"), centres))
+    else:
+        places, coordinates = like.dims, {dim: like.coords[dim] for dim in like.dims if dim in like.coords}
+    coordinates["spatial_ref"] = xarray.Variable((), 0, reference)
+    return xarray.DataArray(cells, coordinates, places, name, attributes | {"grid_mapping": "spatial_ref"})

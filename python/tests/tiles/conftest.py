@@ -30,7 +30,7 @@ if not os.environ.get("RCELL") and not shutil.which("rcell"):
 
 from rcell._counts import counts_of  # noqa: E402
 from rcell._joiner import joined  # noqa: E402
-from rcell.tiles import NeedlessTiles, _tasks, joining, mosaic  # noqa: E402
+from rcell.tiles import NeedlessTiles, _tasks, joining  # noqa: E402
 from tests.merging import merge  # noqa: E402
 from tests.tiles import second  # noqa: E402
 
@@ -80,8 +80,8 @@ def sizes_added_by_both(whole: joining.Joined, tables: Sequence[bytes], categori
 def both_joiners_agree(monkeypatch: pytest.MonkeyPatch) -> None:
     """Whatever this process and its workers join in a test is joined by both."""
     monkeypatch.setattr(_tasks, "joined", joined_by_both)
-    monkeypatch.setattr(mosaic, "join", clumps_joined_by_both)
-    monkeypatch.setattr(mosaic, "sizes", sizes_added_by_both)
+    monkeypatch.setattr(_tasks, "join", clumps_joined_by_both)
+    monkeypatch.setattr(_tasks, "sizes", sizes_added_by_both)
 
 
 @pytest.fixture(scope="session")

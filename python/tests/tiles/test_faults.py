@@ -73,7 +73,7 @@ def test_maps_are_refused(tif: MakeTif, tmp_path: Path, scheduler: str) -> None:
     lc = tif("lc", CELLS)
     assert refusal().startswith("maps: no map is given")
     assert refusal(lc=str(tmp_path / "nowhere.tif")).startswith("lc: cannot open")
-    assert refusal(lc=CELLS) == "lc: tiles are read from files: a path that rasterio opens is needed, not ndarray"
+    assert refusal(lc=CELLS) == "lc: a path that rasterio opens, a band of rasterio, a DataArray or an array of Dask is needed, not ndarray"
     assert "rotated transform" in refusal(lc=tif("r", CELLS, transform=rasterio.Affine(1, 1, 0, 1, -1, 0)))
     assert "not from north to south, west to east" in refusal(lc=tif("w", CELLS, transform=rasterio.Affine(-1, 0, 0, 0, -1, 0)))
     assert "complex64" in refusal(lc=tif("c", CELLS.astype(np.complex64)))

@@ -6,7 +6,8 @@ import pytest
 from hypothesis import given
 from hypothesis import strategies as st
 
-from rcell.tiles._memory import clump_demand, grid_demand, patches_demand, places, size_for, table_demand
+from rcell.tiles._graph import cuts_of, places_of
+from rcell.tiles._memory import clump_demand, grid_demand, patches_demand, size_for, table_demand
 from rcell.tiles._scripts import NO_REACH, Reach
 from rcell.tiles._sheet import Sheet
 
@@ -38,7 +39,7 @@ def test_tiles_are_the_largest_that_fit(memory: int) -> None:
 
 def test_there_are_tiles_for_all_workers() -> None:
     rows, cols = size_for(table_demand(1, 1, NO_REACH), Sheet(20_000, 20_000, TRANSFORM), 10**12, 100)
-    assert len(list(places(Sheet(20_000, 20_000, TRANSFORM), (rows, cols)))) >= 361
+    assert len(places_of(cuts_of((20_000, 20_000), (rows, cols)))) >= 361
 
 
 def test_files_of_rows_are_cut_into_bands() -> None:
@@ -51,7 +52,7 @@ def test_files_of_rows_are_cut_into_bands() -> None:
 
 @given(st.integers(1, 300), st.integers(1, 300), st.integers(1, 300), st.integers(1, 300))
 def test_tiles_cover_each_cell_once(rows: int, cols: int, high: int, wide: int) -> None:
-    tiles = list(places(Sheet(rows, cols, TRANSFORM), (high, wide)))
+    tiles = places_of(cuts_of((rows, cols), (high, wide)))
     assert sum(tile.rows * tile.cols for tile in tiles) == rows * cols
     assert all(tile.top % high == 0 and tile.left % wide == 0 for tile in tiles)
     assert [(tile.top, tile.left) for tile in tiles] == sorted({(tile.top, tile.left) for tile in tiles})

@@ -8,9 +8,14 @@ borders. Each step of this code names its law. Tables are merged and clumps join
 from __future__ import annotations
 
 from .._counts import TooManyCells
-from ._cluster import ClusterFailed
-from ._engine import WorkerLost
-from .mosaic import Mosaic, NeedlessTiles, TooLittleMemory
-from .mosaic import open_mosaic as open
+from .._libraries import need
+
+for _library in ("dask.array", "distributed", "psutil", "tqdm"):
+    need(_library, "tiles", "for maps by tiles")
+
+from ._cluster import ClusterFailed  # noqa: E402
+from ._engine import WorkerLost  # noqa: E402
+from .mosaic import Mosaic, NeedlessTiles, TooLittleMemory  # noqa: E402
+from .mosaic import open_mosaic as open  # noqa: E402
 
 __all__ = ["ClusterFailed", "Mosaic", "NeedlessTiles", "TooLittleMemory", "TooManyCells", "WorkerLost", "open"]

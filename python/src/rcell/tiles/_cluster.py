@@ -27,6 +27,10 @@ from typing import Any
 from rcell_front.files import write_all
 from rcell_front.programs import close, pipe
 
+import distributed
+import psutil
+from distributed.system import MEMORY_LIMIT
+
 from .._errors import RcellError
 from .._libraries import need
 
@@ -66,14 +70,24 @@ class Room:
     """What one of the tasks of a worker may take while the others take as much."""
     most: int
     """What one task may take alone."""
-    told: bool
+    told: bool = False
     """Whether workers declare the resource `memory`; where they do not, tasks ask for none."""
+
+    @classmethod
+    def of_machine(cls) -> Room:
+        """Return what this machine has, for work that a cluster may do that is not known yet."""
+        tasks = os.cpu_count() or 1
+        memory = int(free_memory() * SHARE)
+        return cls(tasks, memory // tasks, memory)
+
+    def annotations(self, memory: int) -> dict[str, Any]:
+        """Return what Dask is told of tasks that take so much memory while they run."""
+        return {"resources": {RESOURCE: memory}} if self.told else {}
 
 
 def free_memory() -> int:
     """Return the bytes that this machine, or the limit that this process is under, has left."""
-    limit = need("distributed.system", "tiles", "for maps by tiles").MEMORY_LIMIT
-    return int(min(need("psutil", "tiles", "for maps by tiles").virtual_memory().available, limit))
+    return int(min(psutil.virtual_memory().available, MEMORY_LIMIT))
 
 
 class Cluster:
@@ -82,16 +96,18 @@ class Cluster:
     Parameters
     ----------
     scheduler : None, int, str or distributed.Client
-        Nothing for as many processes as this machine has processors, a number for so many, the address of a scheduler, or a client
-        of one, which stays open.
+        Nothing for the current client, or else as many processes as this machine has processors; a number for so many; the address of a
+        scheduler; or a client of one, which stays open.
     memory : int, optional
         The bytes that the tasks of this machine take together; 8/10 of what is free where it is not given.
     """
 
     def __init__(self, scheduler: Any = None, memory: int | None = None) -> None:
-        distributed = need("distributed", "tiles", "for maps by tiles")
         self._parent: subprocess.Popen[bytes] | None = None
         self._ends: list[int] = []
+        if scheduler is None:
+            with contextlib.suppress(ValueError):  # there is none
+                scheduler = distributed.default_client()
         self._is_own = not isinstance(scheduler, distributed.Client)
         self.client: Any = None if self._is_own else scheduler
         if not self._is_own:
@@ -108,7 +124,7 @@ class Cluster:
 
     def _start(self, workers: int, memory: int | None) -> tuple[str, Any]:
         need("cryptography", "tiles", "for a cluster that no other user of this machine can use")
-        security = need("distributed.security", "tiles", "for maps by tiles").Security.temporary()
+        security = distributed.Security.temporary()
         share = (memory or int(free_memory() * SHARE)) // workers
         command = [sys.executable, "-P", "-m", "rcell.tiles._cluster", str(workers), str(share)]
         (given, keys), (output, printed) = pipe(), pipe()
@@ -182,7 +198,6 @@ def _environment() -> dict[str, str]:
 
 def main(workers: int, memory: int) -> None:
     """Hold a cluster of so many workers, each of so many bytes, until standard input ends; its first line has the keys."""
-    distributed = need("distributed", "tiles", "for maps by tiles")
     security = distributed.Security(require_encryption=True, **json.loads(sys.stdin.readline()))
     with tempfile.TemporaryDirectory(prefix="rcell-tiles-", ignore_cleanup_errors=True) as folder:
         own = {"host": "127.0.0.1", "protocol": "tls://", "security": security, "dashboard": False, "dashboard_address": "127.0.0.1:0"}
@@ -199,7 +214,6 @@ def main(workers: int, memory: int) -> None:
 
 def _close(cluster: Any) -> None:
     """End the workers. Dask waits for one that is just being started, minutes on a busy machine: not so long."""
-    psutil = need("psutil", "tiles", "for maps by tiles")
     with contextlib.suppress(Exception):
         cluster.close(timeout=CLOSE_SECONDS)
     for child in psutil.Process().children(recursive=True):

@@ -1,32 +1,35 @@
 # SPDX-License-Identifier: Apache-2.0 OR GPL-2.0-or-later
-"""Tasks handed to Dask, and their answers taken back; what is lost on the way is Dask's business."""
+"""Delayed work handed to Dask, and its results taken back; what is lost on the way is Dask's business."""
 
 from __future__ import annotations
 
 import sys
-import threading
 import time
 from collections.abc import Callable, Iterable, Iterator, Sequence
 from contextlib import contextmanager
+from itertools import islice
 from typing import Any
 
+import distributed
+from distributed.comm import CommClosedError
+from tqdm import tqdm
+
 from .._errors import RcellError
-from .._libraries import need
-from ._cluster import RESOURCE, Cluster, Room
+from ._cluster import Cluster, Room
 
-__all__ = ["Engine", "WorkerLost"]
+__all__ = ["Engine", "Progress", "WorkerLost"]
 
-FAN = 16
-"""How many tables a task joins."""
+Progress = None | bool | Callable[[str, int, int], object]
+"""Who is told of progress: a bar where standard error is a terminal (None), a bar (True), nobody, or a call with the name of the work,
+how many tiles are done, and of how many."""
 
 AHEAD = 2
-"""Tasks under way, or done and not yet taken, for each that a cluster runs: so many answers wait in memory at most."""
-
+"""Tiles under way, or done and not yet taken, for each that a cluster works on: so many results wait in memory at most."""
 
 LONE_SECONDS = 90.0
-"""So long a cluster may have no worker at all; one that dies is started anew within seconds, where its machine is not overworked."""
+"""So long a cluster may have no worker at all; one that dies is started anew within seconds, unless its machine is overworked."""
 
-LOOK_SECONDS = 5.0
+LOOK_SECONDS = 1.0
 """How often that is looked at."""
 
 
@@ -41,18 +44,18 @@ class WorkerLost(RcellError):
     """
 
 
-def same(value: Any) -> Any:
-    """The value itself: a task that holds it for others."""
-    return value
+class _NoWorker(Exception):
+    """There has long been no worker."""
 
 
 class Engine:
-    """A cluster that is started when it is first needed, and the tasks of one mosaic."""
+    """A cluster that is started when it is first needed, and the work of one mosaic."""
 
-    def __init__(self, scheduler: Any) -> None:
+    def __init__(self, scheduler: Any, progress: Progress = None) -> None:
         self._scheduler = scheduler
+        self._progress = progress
         self._cluster: Cluster | None = None
-        self._room: Room | None = None
+        self._lone_since: float | None = None
 
     @property
     def cluster(self) -> Cluster:
@@ -62,154 +65,87 @@ class Engine:
         return self._cluster
 
     def close(self) -> None:
-        """Ends the processes of this machine, where they were started."""
+        """End the processes of this machine, if they were started."""
         if self._cluster is not None:
             self._cluster.close()
             self._cluster = None
 
     def room(self) -> Room:
-        """What the workers have that are there now; there must be one."""
-        self._room = self.cluster.room()
-        return self._room
+        """Return what the workers have that are there now; there must be one."""
+        return self.cluster.room()
 
-    def known_room(self) -> Room:
-        """What they had when they were last asked: in the middle of the work the only one may be gone, and come again."""
-        return self._room or self.room()
+    def stream(self, title: str, work: Sequence[Any], room: Room) -> Iterator[tuple[int, Any]]:
+        """Yield the results of delayed work as they come, with their places; few are under way at a time."""
+        ahead = AHEAD * room.tasks
+        waiting = iter(enumerate(work))
+        with self._under_way(title, len(work)) as (running, step):
+            while True:
+                if len(running) <= ahead // 2:
+                    batch = list(islice(waiting, ahead - len(running)))
+                    running.update(zip(self._asked([one for _, one in batch]), (place for place, _ in batch)))
+                if not running:
+                    return
+                for future in self._ended(running):
+                    result = future.result()
+                    yield running.pop(future), result
+                    step(1)
 
-    def shared(self, value: Any) -> Any:
-        """A value that many tasks take: sent once, and made again where a worker that had it is lost."""
-        return self.cluster.client.submit(same, value, pure=False)
+    def finish(self, title: str, root: Any, leaves: Sequence[Any]) -> Any:
+        """Return the result of delayed work, of which the leaves are most."""
+        with self._under_way(title, len(leaves)) as (running, step):
+            last, *open_leaves = self._asked([root, *leaves])
+            running[last] = 0
+            while not self._ended([last]):
+                still = [leaf for leaf in open_leaves if not leaf.done()]
+                step(len(open_leaves) - len(still))
+                open_leaves = still  # and their results are let go, which only the root's other parts need
+            step(len(open_leaves))
+            return last.result()
 
-    def completed(self, futures: Sequence[Any]) -> Any:
-        """Dask's iterator over tasks in the order of their ends; others may be added to it."""
-        return need("distributed", "tiles", "for maps by tiles").as_completed(futures, loop=self.cluster.client.loop)
+    def _asked(self, work: list[Any]) -> list[Any]:
+        return list(self.cluster.client.compute(work)) if work else []
 
-    def ask(self, function: Callable[..., Any], *arguments: Any, memory: int = 0) -> Any:
-        """A task that takes so much memory while it runs."""
-        resources = {RESOURCE: memory} if memory and self.known_room().told else None
-        return self.cluster.client.submit(function, *arguments, pure=False, resources=resources)
+    def _ended(self, futures: Iterable[Any]) -> set[Any]:
+        """Return the futures that have ended, after at most LOOK_SECONDS; Dask itself would wait for workers for ever."""
+        try:
+            with self.cluster.client.as_current():
+                return set(distributed.wait(list(futures), LOOK_SECONDS, "FIRST_COMPLETED").done)
+        except distributed.TimeoutError:
+            self._lone_since = None if self.cluster.has_workers() else self._lone_since or time.monotonic()
+            if self._lone_since is not None and time.monotonic() - self._lone_since >= LONE_SECONDS:
+                raise _NoWorker(f"no worker for {LONE_SECONDS:g} seconds") from None
+            return set()
 
     @contextmanager
-    def tasks(self, title: str, total: int) -> Iterator[Tasks]:
-        """Tasks that are all cancelled if one of them fails; progress is shown where standard error is a terminal."""
-        distributed = need("distributed", "tiles", "for maps by tiles")
-        lost = distributed.KilledWorker, distributed.CancelledError, need("distributed.comm", "tiles", "for maps by tiles").CommClosedError
-        tqdm = need("tqdm", "tiles", "for maps by tiles").tqdm
-        with tqdm(total=total, desc=title, unit="tile", disable=None, file=sys.stderr) as bar:
-            tasks = Tasks(self, bar.update)
-            guard = _Guard(self.cluster, tasks)
-            guard.start()
+    def _under_way(self, title: str, total: int) -> Iterator[tuple[dict[Any, int], Callable[[int], None]]]:
+        """Yield a dictionary for futures, which are cancelled if one of them fails, and a call for tiles that are done."""
+        running: dict[Any, int] = {}
+        self._lone_since = None
+        with _reported(self._progress, title, total) as step:
             try:
-                yield tasks
-            except lost as fault:
-                told = f"no worker for {LONE_SECONDS:g} seconds" if guard.has_ended_tasks else f"{type(fault).__name__}: {fault}"
-                raise WorkerLost(f"{title}: {told}") from fault
+                yield running, step
+            except (distributed.KilledWorker, distributed.CancelledError, CommClosedError) as fault:
+                raise WorkerLost(f"{title}: {type(fault).__name__}: {fault}") from fault
+            except _NoWorker as fault:
+                raise WorkerLost(f"{title}: {fault}") from None
             finally:
-                guard.end()
-                tasks.cancel()
+                if running and self.cluster.client is not None:
+                    self.cluster.client.cancel(list(running), force=True)
 
 
-class _Guard(threading.Thread):
-    """Ends tasks that would wait for ever: Dask waits for workers, also where none is left and none comes."""
+@contextmanager
+def _reported(progress: Progress, title: str, total: int) -> Iterator[Callable[[int], None]]:
+    """Yield a call for tiles that are done, which tells whoever wants to know."""
+    if progress is None or isinstance(progress, bool):
+        with tqdm(total=total, desc=title, unit="tile", disable=None if progress is None else not progress, file=sys.stderr) as bar:
+            yield bar.update
+        return
+    tell, done = progress, 0
 
-    def __init__(self, cluster: Cluster, tasks: Tasks) -> None:
-        super().__init__(daemon=True)
-        self.has_ended_tasks = False
-        self._cluster = cluster
-        self._tasks = tasks
-        self._done = threading.Event()
+    def step(count: int) -> None:
+        nonlocal done
+        done += count
+        if count:
+            tell(title, done, total)
 
-    def run(self) -> None:
-        lone_since = None
-        while not self._done.wait(min(LOOK_SECONDS, LONE_SECONDS)):
-            if self._cluster.has_workers():
-                lone_since = None
-            elif lone_since is None:
-                lone_since = time.monotonic()
-            elif time.monotonic() - lone_since >= LONE_SECONDS:
-                self.has_ended_tasks = True
-                self._tasks.cancel()
-                return
-
-    def end(self) -> None:
-        """Looks no longer."""
-        self._done.set()
-        self.join()
-
-
-class Tasks:
-    """What is asked for and not yet answered."""
-
-    def __init__(self, engine: Engine, progress: Callable[[int], Any]) -> None:
-        self._engine = engine
-        self._progress = progress
-        self._open: set[Any] = set()
-
-    def ask(self, function: Callable[..., Any], *arguments: Any, memory: int = 0) -> Any:
-        """A task that takes so much memory while it runs, and ends with the others."""
-        future = self._engine.ask(function, *arguments, memory=memory)
-        self._open.add(future)
-        return future
-
-    def shared(self, value: Any) -> Any:
-        """A value that many tasks take, and that is let go with them."""
-        future = self._engine.shared(value)
-        self._open.add(future)
-        return future
-
-    def take(self, future: Any) -> Any:
-        """The answer of a task, which is then forgotten by the workers."""
-        answer = future.result()
-        self._open.discard(future)
-        future.release()
-        return answer
-
-    def take_each(self, futures: Iterable[Any]) -> Iterator[Any]:
-        """The answers of tasks one after another, in their order."""
-        for future in futures:
-            yield self.take(future)
-            self._progress(1)
-
-    def watch(self, futures: Sequence[Any]) -> None:
-        """Wait for tasks whose answers others take; raises where one fails."""
-        for future in self._engine.completed(futures):
-            if future.status != "finished":
-                future.result()
-            self._open.discard(future)
-            self._progress(1)
-
-    def merged(self, futures: list[Any], merge: Callable[[list[Any]], Any]) -> Any:
-        """The answers of tasks merged in a tree, and that of its root (law `merges_merge`: the tree may have any shape)."""
-        leaves = futures
-        while len(futures) > 1:
-            futures = [self.ask(merge, futures[at:at + FAN]) for at in range(0, len(futures), FAN)]
-        self.watch(leaves)
-        return self.take(futures[0])
-
-    def stream(self, function: Callable[..., Any], calls: Iterable[tuple[Any, ...]], memory: int) -> Iterator[tuple[int, Any]]:
-        """The answers of calls with their places, as they come; only few tasks are asked for ahead."""
-        waiting = enumerate(calls)
-        places: dict[Any, int] = {}
-        done = self._engine.completed([])
-
-        def more() -> None:
-            place, arguments = next(waiting, (-1, ()))
-            if place >= 0:
-                future = self.ask(function, *arguments, memory=memory)
-                places[future] = place
-                done.add(future)
-
-        for _ in range(AHEAD * self._engine.known_room().tasks):
-            more()
-        for future in done:
-            place = places.pop(future)
-            yield place, self.take(future)
-            self._progress(1)
-            more()
-
-    def cancel(self) -> None:
-        """Ends what was asked for and is not yet answered."""
-        client = self._engine.cluster.client
-        if self._open and client is not None:
-            client.cancel(list(self._open), force=True)
-        self._open.clear()
+    yield step

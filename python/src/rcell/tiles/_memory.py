@@ -4,16 +4,14 @@
 from __future__ import annotations
 
 import math
-from collections.abc import Iterator
 from dataclasses import dataclass
 
 from .._region import CELL_LIMIT, SIDE_LIMIT
 from ._output import BLOCK
 from ._scripts import NO_REACH, Reach
 from ._sheet import Sheet
-from .joining import Rectangle
 
-__all__ = ["Demand", "clump_demand", "grid_demand", "patches_demand", "places", "size_for", "table_demand"]
+__all__ = ["Demand", "clump_demand", "grid_demand", "patches_demand", "size_for", "table_demand"]
 
 WORKER = 165 * 10**6
 """Bytes of a worker without a tile: Python, Dask, numpy and rasterio, the buffers of GDAL, of pipes and of text."""
@@ -64,6 +62,11 @@ class Demand:
     entry: int = 0
     reach: Reach = NO_REACH
 
+    @property
+    def halo(self) -> int:
+        """Rows or columns of the halo, whichever are more."""
+        return max(self.reach.up + self.reach.down, self.reach.left + self.reach.right)
+
     def bytes(self, rows: int, cols: int, runs: float = 1.0, share: float | None = None) -> int:
         """Bytes that a worker and the program take together, at their peak, for a tile of so many rows and columns.
 
@@ -110,20 +113,11 @@ def size_for(demand: Demand, sheet: Sheet, memory: int, tasks: int) -> tuple[int
     Squares whose side is a multiple of the blocks that are written; bands of all columns where the file keeps whole rows
     together, since each tile would have to read them whole.
     """
-    halo = max(demand.reach.up + demand.reach.down, demand.reach.left + demand.reach.right)
-    side = min(math.isqrt(CELL_LIMIT), SIDE_LIMIT) - halo
+    side = min(math.isqrt(CELL_LIMIT), SIDE_LIMIT) - demand.halo
     enough = math.ceil(math.sqrt(sheet.rows * sheet.cols / (tasks * TILES_EACH)) / BLOCK) * BLOCK
     side = min(side, enough) // BLOCK * BLOCK
     while side > BLOCK and demand.bytes(side, side) > memory:
         side -= BLOCK
-    if sheet.block[1] >= sheet.cols > side and sheet.cols + halo <= SIDE_LIMIT:
+    if sheet.block[1] >= sheet.cols > side and sheet.cols + demand.halo <= SIDE_LIMIT:
         return max(side * side // sheet.cols, 1), sheet.cols
     return side, side
-
-
-def places(sheet: Sheet, size: tuple[int, int]) -> Iterator[Rectangle]:
-    """The tiles, row by row; each cell is in one (law `grids_cover`)."""
-    rows, cols = size
-    for top in range(0, sheet.rows, rows):
-        for left in range(0, sheet.cols, cols):
-            yield Rectangle(top, left, min(rows, sheet.rows - top), min(cols, sheet.cols - left))

@@ -1,5 +1,5 @@
 # SPDX-License-Identifier: Apache-2.0 OR GPL-2.0-or-later
-"""The files of a mosaic: one grid of cells, read by windows."""
+"""The maps of a mosaic: one grid of cells, which files or Dask have."""
 
 from __future__ import annotations
 
@@ -13,14 +13,16 @@ import numpy as np
 
 from .._crs import common_crs, wkt_of
 from .._errors import BadMap, OtherRegion
+from .._labels import read_labels
 from .._libraries import need
 from .._maps import ArrayMap, checked
 from .._rasters import Layer, only_band, open_dataset, told_of_reading, upright
 from .._region import Region, Transform, differences_of, edges_of_transform, units_of
 from .._script import check_names
+from .._xarray import flat_of, is_lazy, variables_of
 from .joining import Rectangle
 
-__all__ = ["MapFile", "Sheet", "open_maps"]
+__all__ = ["MapCells", "MapFile", "Maps", "Sheet", "open_maps"]
 
 PURPOSE = "to read a raster"
 
@@ -116,41 +118,141 @@ class MapFile:
         return ArrayMap(self.name, block.cells, Region.of_cells(place.rows, place.cols), block.null, self.layer.nodata)
 
 
-def open_maps(paths: Mapping[str, Any], crs: Any = None) -> tuple[Sheet, list[MapFile]]:
-    """The grid of maps and their files, once it is certain that they have one grid.
+@dataclass(frozen=True)
+class MapCells:
+    """A map of a mosaic that is an array of Dask, which hands the cells of a tile to the task.
+
+    Attributes
+    ----------
+    name : str
+        The name in scripts.
+    dtype : dtype
+        Of its cells.
+    nodata : float or None
+        The value that is null, besides NaN.
+    """
+
+    name: str
+    dtype: np.dtype[Any]
+    nodata: float | None
+
+    @property
+    def bytes(self) -> int:
+        """Return what a cell takes: cells of more than two bytes are checked, with masks, and copied to int32."""
+        return self.dtype.itemsize if self.dtype.itemsize <= 2 else self.dtype.itemsize + 7
+
+    def of(self, cells: Any, place: Rectangle) -> ArrayMap:
+        """Return the cells of a rectangle as a map of its own, as `MapFile.read` does."""
+        block = checked(self.name, np.asarray(cells), None, self.nodata, place.top, place.left)
+        return ArrayMap(self.name, block.cells, Region.of_cells(place.rows, place.cols), block.null, self.nodata)
+
+
+@dataclass(frozen=True)
+class Maps:
+    """The maps of a mosaic.
+
+    Attributes
+    ----------
+    sheet : Sheet
+        The grid that they have in common.
+    files : dict of str to MapFile or MapCells
+        What tasks need to know of each.
+    arrays : dict of str to DataArray
+        Those that xarray has, rows first and from north to south, their cells with Dask.
+    labels : dict of str to mapping
+        The labels of the categories of those that xarray has; files are asked when labels are needed.
+    """
+
+    sheet: Sheet
+    files: dict[str, MapFile | MapCells]
+    arrays: dict[str, Any]
+    labels: dict[str, Mapping[int, str]]
+
+    @property
+    def like(self) -> Any:
+        """Return the DataArray whose dimensions and coordinates results get, or None."""
+        return next(iter(self.arrays.values()), None)
+
+    def labels_of(self, name: str) -> Mapping[int, str]:
+        """Return the labels that a map has."""
+        file = self.files[name]
+        return read_labels(file.path, file.layer.band) if isinstance(file, MapFile) else self.labels[name]
+
+
+def open_maps(given: Mapping[str, Any], crs: Any = None) -> Maps:
+    """Open maps, once it is certain that they have one grid.
 
     Raises
     ------
     ReadFailed
         A file that cannot be opened.
     BadMap
-        A file that is no map; no map at all.
+        A file or an array that is no map; no map at all.
     OtherCrs
         A map of another coordinate reference system, or without one.
     OtherRegion
         A map of another grid than the first.
     """
-    if not paths:
+    if not given:
         raise BadMap("maps", 'no map is given: name at least one, as lc="landcover.tif"')
-    check_names(paths)
-    opened = [_described(name, path) for name, path in paths.items()]
-    common = common_crs({file.name: sheet.crs for sheet, file in opened}, crs)
-    sheet, first = opened[0]
-    for other, file in opened[1:]:
-        told = sheet.differences(other)
+    check_names(given)
+    opened = {name: _opened(name, one) for name, one in given.items()}
+    common = common_crs({name: one.sheet.crs for name, one in opened.items()}, crs)
+    (first, one), *others = opened.items()
+    for name, other in others:
+        told = one.sheet.differences(other.sheet)
         if told:
-            raise OtherRegion(file.name, f"not of the region of `{first.name}`, and nothing is resampled: {'; '.join(told)}")
-    return replace(sheet, crs=wkt_of(common) or None), [file for _, file in opened]
+            raise OtherRegion(name, f"not of the region of `{first}`, and nothing is resampled: {'; '.join(told)}")
+    found = Maps(replace(one.sheet, crs=wkt_of(common) or None), {}, {}, {})
+    for each in opened.values():
+        found.files.update(each.files)
+        found.arrays.update(each.arrays)
+        found.labels.update(each.labels)
+    return found
 
 
-def _described(name: str, path: Any) -> tuple[Sheet, MapFile]:
-    if not isinstance(path, str | os.PathLike):
-        raise BadMap(name, f"tiles are read from files: a path that rasterio opens is needed, not {type(path).__name__}")
+def _opened(name: str, given: Any) -> Maps:
+    """Return a map alone."""
+    if isinstance(given, str | os.PathLike):
+        return _of_zarr(name, given) if os.fspath(given).rstrip("/").endswith(".zarr") else _of_file(name, given)
+    module = type(given).__module__.partition(".")[0]
+    if module == "rasterio" and hasattr(given, "bidx"):
+        return _of_file(name, given.ds.name, given.bidx)
+    if module == "dask" and hasattr(given, "ndim"):
+        given, module = need("xarray", "xarray", "for arrays of Dask").DataArray(given), "xarray"
+    if module != "xarray":
+        raise BadMap(name, f"a path that rasterio opens, a band of rasterio, a DataArray or an array of Dask is needed, not {type(given).__name__}")
+    return _of_array(name, given)
+
+
+def _of_zarr(name: str, path: str | os.PathLike[str]) -> Maps:
+    """Return the only map of a Zarr store, as it is stored: xarray would make floats of whole numbers with a nodata."""
+    xarray = need("xarray", "xarray", "to read Zarr")
+    need("zarr", "xarray", "to read Zarr")
+    with told_of_reading(name, "cannot open"):
+        found = variables_of(xarray.open_zarr(path, mask_and_scale=False))
+    if len(found) != 1:
+        raise BadMap(name, f"a store of {len(found)} maps ({', '.join(found)}): give one, as xarray.open_zarr(path, mask_and_scale=False)[name]")
+    return _of_array(name, *found.values())
+
+
+def _of_array(name: str, given: Any) -> Maps:
+    flat = flat_of(name, given)
+    array = flat.array if is_lazy(flat.array) else flat.array.chunk()
+    if array.dtype.kind not in "iufb":
+        raise BadMap(name, f"not a map of whole numbers: its cells are of the type {array.dtype}")
+    rows, cols = array.shape
+    block = (max(array.chunks[0]), max(array.chunks[1]))
+    sheet = Sheet(rows, cols, flat.transform or (1.0, 0.0, 0.0, 0.0, -1.0, float(rows)), wkt_of(flat.crs) or None, block)
+    return Maps(sheet, {name: MapCells(name, array.dtype, flat.nodata)}, {name: array}, {name: flat.labels})
+
+
+def _of_file(name: str, path: str | os.PathLike[str], band: int | None = None) -> Maps:
     file = os.fspath(path) if GDAL_NAME.match(os.fspath(path)) else os.path.abspath(path)
     enums = need("rasterio.enums", "gis", PURPOSE)
     with told_of_reading(name, "cannot open"), open_dataset(name, file) as dataset:
-        layer = Layer.of(name, dataset, only_band(name, dataset, enums), enums)
+        layer = Layer.of(name, dataset, band or only_band(name, dataset, enums), enums)
         transform, is_upside_down = upright(name, dataset)
         rows, cols = dataset.block_shapes[layer.band - 1]
         sheet = Sheet(dataset.height, dataset.width, transform, dataset.crs.to_wkt() if dataset.crs else None, (rows, cols))
-        return sheet, MapFile(name, file, layer, is_upside_down)
+        return Maps(sheet, {name: MapFile(name, file, layer, is_upside_down)}, {}, {})

@@ -4,7 +4,7 @@
 from __future__ import annotations
 
 import re
-from collections.abc import Iterator
+from collections.abc import Iterator, Mapping, Sequence
 from contextlib import contextmanager
 from dataclasses import dataclass, replace
 from typing import Any
@@ -19,10 +19,12 @@ from .._maps import ArrayMap, Source
 from .._program import execute, table_text
 from .._region import Region
 from ._scripts import NO_REACH, Assignment, Reach, Reclass, Stats, TileScript
-from ._sheet import MapFile, Sheet
-from .joining import Rectangle, TileNumbers, renumber
+from .._table import StatsTable
+from ._sheet import MapCells, MapFile, Sheet
+from .joining import Joined, Rectangle, TileNumbers, join, renumber, sizes
 
-__all__ = ["TileRun", "clumps_table", "grid_cells", "join_tables", "numbered_cells", "tile_border", "tile_table"]
+__all__ = ["ClumpRun", "TableForm", "TileRun", "clumps_table", "grid_cells", "join_borders", "join_tables", "numbered_cells", "numbers_of_tile",
+           "patches_frame", "tile_border", "tile_table"]
 
 Integers = npt.NDArray[Any]
 
@@ -44,15 +46,25 @@ def with_halo(place: Rectangle, reach: Reach, sheet: Sheet) -> Rectangle:
     return Rectangle(top, left, low - top, right - left)
 
 
+def read(file: MapFile | MapCells, place: Rectangle, sheet: Sheet, given: Iterator[Any]) -> ArrayMap:
+    """Return the cells of a map in a rectangle: read from its file, or the next of those that Dask has handed on."""
+    return file.read(place, sheet) if isinstance(file, MapFile) else file.of(next(given), place)
+
+
 @dataclass(frozen=True)
 class TileRun:
-    """A script and the files that it reads, for each tile of a sheet."""
+    """A script and the maps that it reads, for each tile of a sheet."""
 
     sheet: Sheet
-    files: tuple[MapFile, ...]
+    files: tuple[MapFile | MapCells, ...]
     script: TileScript
     inside: str
     """A name that no map has: of the map that is 1 in a tile and null in its halo."""
+
+    @property
+    def reach(self) -> Reach:
+        """The halo that a tile needs."""
+        return self.script.reach
 
     @property
     def made(self) -> int:
@@ -60,12 +72,34 @@ class TileRun:
         has_halo = isinstance(self.script.statements[-1], Stats) and self.script.reach != NO_REACH
         return len(self.files) + self.script.made + has_halo
 
-    def maps(self, outer: Rectangle) -> dict[str, Source]:
-        """The files' cells in a rectangle."""
-        found: dict[str, Source] = {file.name: file.read(outer, self.sheet) for file in self.files}
+    def maps(self, outer: Rectangle, cells: Sequence[Any]) -> dict[str, Source]:
+        """Return the maps in a rectangle."""
+        given = iter(cells)
+        found: dict[str, Source] = {file.name: read(file, outer, self.sheet, given) for file in self.files}
         if not found:  # a script of row() and the like reads no map, but its region has to come from one
             found[self.inside] = ArrayMap(self.inside, np.broadcast_to(np.uint8(0), outer[2:]), Region.of_cells(*outer[2:]))
         return found
+
+
+@dataclass(frozen=True)
+class ClumpRun:
+    """A map whose clumps are wanted, for each tile of a sheet."""
+
+    sheet: Sheet
+    file: MapFile | MapCells
+    diagonal: bool
+    dtype: str = "int32"
+    """Of numbers of the full map."""
+    reach: Reach = NO_REACH
+
+    @property
+    def line(self) -> str:
+        """The line of a script that clumps a tile."""
+        return f"r.clump {'-d ' if self.diagonal else ''}input=cells output=clumps"
+
+    def tile(self, place: Rectangle, cells: Sequence[Any]) -> ArrayMap:
+        """Return the map in a tile."""
+        return read(self.file, place, self.sheet, iter(cells))
 
 
 @contextmanager
@@ -85,12 +119,12 @@ def made_cells(text: str, maps: dict[str, Source], name: str) -> Integers:
     return cells
 
 
-def tile_table(task: TileRun, place: Rectangle) -> bytes:
+def tile_table(task: TileRun, place: Rectangle, cells: Sequence[Any]) -> bytes:
     """The table of a tile without its halo, as the program prints it."""
     stats = task.script.statements[-1]
     assert isinstance(stats, Stats)
     outer = with_halo(place, task.script.reach, task.sheet)
-    maps = task.maps(outer)
+    maps = task.maps(outer, cells)
     script = task.script
     if outer != place:
         # The cells of the halo are other tiles' to count: a map more, and of the table the entries where it is 1, which come first.
@@ -130,7 +164,26 @@ def join_tables(texts: list[bytes]) -> bytes:
     return joined(texts)
 
 
-def grid_cells(task: TileRun, place: Rectangle) -> Integers:
+@dataclass(frozen=True)
+class TableForm:
+    """What the table of the full map is made of, besides its text."""
+
+    stats: Stats
+    labels: Mapping[str, Mapping[int, str]] | None
+    sheet: Sheet
+    area: str | None
+    percent: bool
+
+    def frame(self, text: bytes) -> Any:
+        """Return the table as `rcell.table` returns it."""
+        counts = counts_of(text, len(self.stats.inputs))
+        cells = counts.cells if "c" in self.stats.flags else None
+        table = StatsTable("r.stats", self.stats.line, self.stats.inputs, counts.combinations, cells, self.labels, cell=self.sheet.cell, crs=self.sheet.crs)
+        table = table if self.area is None else table.with_area(self.area)
+        return (table.with_percent() if self.percent else table).frame()
+
+
+def grid_cells(task: TileRun, place: Rectangle, cells: Sequence[Any]) -> Integers:
     """The map that a script makes last, over a tile: int32, `NULL` where it is null."""
     outer = with_halo(place, task.script.reach, task.sheet)
     last = task.script.statements[-1]
@@ -138,35 +191,47 @@ def grid_cells(task: TileRun, place: Rectangle) -> Integers:
     text = task.script.text(outer, task.sheet.rows, task.sheet.cols)
     # Law `halo_is_enough`, or `reach_is_enough` where the script asks for rows and columns: inside of the halo the values
     # are those over the whole.
-    cells = made_cells(text, task.maps(outer), last.output)
-    return np.ascontiguousarray(inner(cells, place, outer))
+    made = made_cells(text, task.maps(outer, cells), last.output)
+    return np.ascontiguousarray(inner(made, place, outer))
 
 
-def clump_line(diagonal: bool) -> str:
-    """The line of a script that clumps a tile."""
-    return f"r.clump {'-d ' if diagonal else ''}input=cells output=clumps"
-
-
-def clumps_table(file: MapFile, sheet: Sheet, place: Rectangle, diagonal: bool) -> tuple[bytes, Integers]:
+def clumps_table(task: ClumpRun, place: Rectangle, cells: Sequence[Any]) -> tuple[bytes, Integers]:
     """The table of a tile's clump numbers, as the program prints it, and the category of each clump.
 
     The program prints a table of numbers and categories, since a clump has one category: it is left out of each line.
     """
-    maps: dict[str, Source] = {"cells": file.read(place, sheet)}
+    maps: dict[str, Source] = {"cells": task.tile(place, cells)}
     with told_of_size(maps):
-        text = table_text(f"{clump_line(diagonal)}\nr.stats -c -n input=clumps,cells", maps)
+        text = table_text(f"{task.line}\nr.stats -c -n input=clumps,cells", maps)
     return CATEGORY_OF_CLUMP.sub(rb"\1", text), counts_of(text, 2).combinations[:, 1].astype(np.int32)
 
 
-def tile_border(file: MapFile, sheet: Sheet, place: Rectangle, diagonal: bool) -> bytes:
+def tile_border(task: ClumpRun, place: Rectangle, cells: Sequence[Any]) -> bytes:
     """The border of a tile, by which rcell-join joins its clumps to those of other tiles."""
-    tile = replace(file.read(place, sheet), region=place.region)
+    tile = replace(task.tile(place, cells), region=place.region)
     with told_of_size({"cells": tile}):
-        return border_of(tile, diagonal)
+        return border_of(tile, task.diagonal)
 
 
-def numbered_cells(file: MapFile, sheet: Sheet, place: Rectangle, diagonal: bool, tile: TileNumbers, dtype: str) -> Integers:
+def join_borders(borders: list[bytes], diagonal: bool) -> Joined:
+    """Join the clumps of all tiles to those of the full map."""
+    return join(borders, diagonal)
+
+
+def numbers_of_tile(whole: Joined, tile: int) -> TileNumbers:
+    """Return what was joined of a tile."""
+    return whole.tiles[tile]
+
+
+def numbered_cells(task: ClumpRun, place: Rectangle, cells: Sequence[Any], tile: TileNumbers) -> Integers:
     """The cells of a tile with the numbers of the clumps of the full map, 0 where it is null."""
-    numbers = made_cells(clump_line(diagonal), {"cells": file.read(place, sheet)}, "clumps")
+    numbers = made_cells(task.line, {"cells": task.tile(place, cells)}, "clumps")
     np.maximum(numbers, 0, out=numbers)
-    return renumber(numbers, tile, out=numbers if numbers.dtype == dtype else np.empty(numbers.shape, dtype))
+    return renumber(numbers, tile, out=numbers if numbers.dtype == task.dtype else np.empty(numbers.shape, task.dtype))
+
+
+def patches_frame(whole: Joined, parts: Sequence[tuple[bytes, Integers]], sheet: Sheet) -> Any:
+    """Return the patches of the full map with their classes and their cells."""
+    categories, cells = sizes(whole, [table for table, _ in parts], [own for _, own in parts])
+    numbers = np.column_stack([np.arange(1, whole.clumps + 1), categories])
+    return StatsTable("r.clump", 0, ("patch", "class"), numbers, cells, cell=sheet.cell, crs=sheet.crs).frame()

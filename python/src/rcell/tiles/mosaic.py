@@ -1,46 +1,50 @@
 # SPDX-License-Identifier: Apache-2.0 OR GPL-2.0-or-later
-"""Maps larger than a machine: tiles of them, worked on by Dask, with the answers of the undivided map."""
+"""Maps larger than a machine: tiles of them, worked on by Dask, with the results of the full map."""
 
 from __future__ import annotations
 
+import logging
 import os
 import warnings
 import weakref
-from collections.abc import Iterable, Mapping
-from typing import Any
+from collections.abc import Mapping, Sequence
+from dataclasses import replace
+from typing import Any, NamedTuple
 
+import dask
 import numpy as np
 
 from rcell_front.files import is_same_file
 
-from .._counts import Counts, counts_of
 from .._errors import RcellError, Refused
 from .._joiner import check_files, find_joiner
-from .._labels import read_labels
-from .._libraries import has
+from .._maps import named_once
 from .._patches import check_connectivity
 from .._program import judge
-from .._region import SIDE_LIMIT
+from .._region import CELL_LIMIT, SIDE_LIMIT
 from .._script import labels_in
-from .._table import StatsTable
 from .._text import NULL
+from .._xarray import data_array
 from . import _tasks
-from ._cluster import SHARE, free_memory
-from ._engine import Engine
-from ._memory import Demand, clump_demand, grid_demand, patches_demand, places, size_for, table_demand
+from ._cluster import SHARE, Room, free_memory
+from ._engine import Engine, Progress
+from ._graph import Cuts, cuts_for, cuts_of, merged, over_tiles, places_of
+from ._memory import Demand, clump_demand, grid_demand, patches_demand, size_for, table_demand
 from ._output import tile_writer
 from ._scripts import COMMANDS, NO_REACH, Assignment, Clump, Reclass, Statement, Stats, TileScript, spare_name, statements
-from ._sheet import MapFile, Sheet, open_maps
-from .joining import Joined, Rectangle, join, sizes
+from ._sheet import MapCells, MapFile, Maps, open_maps
+from .joining import Joined, Rectangle
 
 __all__ = ["Mosaic", "NeedlessTiles", "TooLittleMemory", "open_mosaic"]
+
+_log = logging.getLogger(__name__)
 
 NO_CLUMP = 0
 """What stands for null in a map of clumps, whose numbers begin at 1."""
 
 
 class NeedlessTiles(UserWarning):
-    """The maps fit into the memory of this machine: one run of the program is as fast as tiles are.
+    """The files fit into the memory of this machine: one run of the program is as fast as tiles are.
 
     Examples
     --------
@@ -66,27 +70,31 @@ def refused(script: str, statement: Statement | None, text: str) -> Refused:
     return Refused(text, "script", line, 1, script.split("\n")[line - 1].rstrip("\r") if line else None)
 
 
-def open_mosaic(maps: Mapping[str, Any] | None = None, /, size: None | int | tuple[int, int] = None,
-                scheduler: Any = None, crs: Any = None, **named: Any) -> Mosaic:
+def open_mosaic(maps: Any = None, /, size: None | int | tuple[int, int] = None, scheduler: Any = None, crs: Any = None,
+                progress: Progress = None, **named: Any) -> Mosaic:
     """Open maps of one grid, of any size, to be worked on by tiles.
 
-    No cell is read before it is asked for. Tiles are for maps that do not fit into memory; where they do, a warning
-    `NeedlessTiles` says so, since one run of the program is as fast.
+    No cell is read before it is asked for. Tiles are for maps that do not fit into memory. If files do, a warning `NeedlessTiles` says so,
+    since one run of the program is as fast.
 
     Parameters
     ----------
-    maps : mapping, optional
-        Maps by name, as in `named`; for names that Python has no keyword for.
+    maps : mapping or xarray.Dataset, optional
+        Maps by name, as in `named`; for names that Python has no keyword for. A Dataset has its variables as maps.
     size : int or tuple of two ints, optional
-        Rows and columns of a tile, in cells. Where it is not given, each task has the largest tiles that the memory of a
-        worker has room for, in multiples of 256.
+        Rows and columns of a tile, in cells. By default the tiles are the chunks of the first map that xarray has, or else the largest
+        that the memory of a worker has room for, in multiples of 256.
     scheduler : int, str or distributed.Client, optional
         A client or the address of a Dask scheduler, whose workers have to see the files under the same paths and have this package
-        and the program; or a number of processes on this machine, one for each processor by default.
+        and the program; or a number of processes on this machine. By default the current client, or else a process for each processor.
     crs : any, optional
         The coordinate reference system of the maps that have none.
-    **named : str or path
-        What rasterio opens, one band each, by the names that scripts have for them.
+    progress : bool or callable, optional
+        Whether a bar shows how many tiles are done, by default if standard error is a terminal; or a call that gets the name of the work,
+        the number of tiles that are done, and of all.
+    **named : str, path, DataArray or array of Dask
+        What rasterio opens, one band each, the path of a Zarr store of one map, a DataArray of two dimensions, by the names that scripts
+        have for them. An array of Dask has cells of side 1.
 
     Returns
     -------
@@ -98,7 +106,7 @@ def open_mosaic(maps: Mapping[str, Any] | None = None, /, size: None | int | tup
     ReadFailed
         A file that cannot be opened.
     BadMap
-        A file that is no map: several bands, rotated, scaled.
+        What is no map: several bands, rotated, scaled.
     OtherCrs
         Maps of different coordinate reference systems.
     OtherRegion
@@ -114,17 +122,35 @@ def open_mosaic(maps: Mapping[str, Any] | None = None, /, size: None | int | tup
     1   2      3
     2   3      1
     """
-    twice = set(maps or {}) & set(named)
-    if twice:
-        raise Refused(f"the map {min(twice)} is given twice", status=2)
+    given = named_once(maps, named)
     if size is not None and min(np.atleast_1d(size)) < 1:
         raise Refused(f"a tile has at least one row and one column, not {size}", status=2)
-    sheet, files = open_maps({**(maps or {}), **named}, crs)
-    mosaic = Mosaic(sheet, files, (size, size) if isinstance(size, int) else size, scheduler)
+    mosaic = Mosaic(open_maps(given, crs), (size, size) if isinstance(size, int) else size, Engine(scheduler, progress))
     if mosaic.is_needless:
         warnings.warn("the maps fit into the memory of this machine: rcell.table and rcell.grid are as fast, without tiles",
                       NeedlessTiles, stacklevel=2)
     return mosaic
+
+
+class _Tiles(NamedTuple):
+    """The tiles of a call, which are chosen once: what memory is free changes while it works."""
+
+    cuts: Cuts
+    memory: int
+    """Bytes that the largest takes."""
+    room: Room
+    is_eager: bool
+    """Whether the cluster of the mosaic does the work now, and not whoever computes it later."""
+
+    @property
+    def places(self) -> list[Rectangle]:
+        """Return the tiles row by row."""
+        return places_of(self.cuts)
+
+
+def _parts(work: Any) -> list[Any]:
+    """Return the blocks of an array as delayed work, row by row of tiles."""
+    return list(work.to_delayed(optimize_graph=False).ravel())
 
 
 class Mosaic:
@@ -142,12 +168,13 @@ class Mosaic:
     <Mosaic of lc: 2 x 3 cells, tiles of 2 x 2 cells>
     """
 
-    def __init__(self, sheet: Sheet, files: list[MapFile], size: tuple[int, int] | None, scheduler: Any) -> None:
-        self.sheet = sheet
-        self._files = {file.name: file for file in files}
+    def __init__(self, maps: Maps, size: tuple[int, int] | None, engine: Engine) -> None:
+        self.sheet = maps.sheet
+        self._maps = maps
+        self._files = maps.files
         self._size = size
-        self._engine = Engine(scheduler)
-        self._end = weakref.finalize(self, self._engine.close)
+        self._engine = engine
+        self._end = weakref.finalize(self, engine.close)
 
     def __enter__(self) -> Mosaic:
         return self
@@ -167,7 +194,7 @@ class Mosaic:
         self._engine.close()
 
     def __repr__(self) -> str:
-        size = "chosen by memory" if self._size is None else f"of {self._size[0]} x {self._size[1]} cells"
+        size = "of {} x {} cells".format(*self._size) if self._size else "as the chunks" if self._maps.arrays else "chosen by memory"
         return f"<Mosaic of {', '.join(self._files)}: {self.sheet.rows} x {self.sheet.cols} cells, tiles {size}>"
 
     @property
@@ -196,7 +223,7 @@ class Mosaic:
 
     @property
     def is_needless(self) -> bool:
-        """Whether one run of the program has room for all maps, and a map made of them.
+        """Whether the maps are files, and one run of the program has room for all of them and a map made of them.
 
         Examples
         --------
@@ -204,36 +231,38 @@ class Mosaic:
         >>> rcell.tiles.open(lc="lc.tif").is_needless
         True
         """
-        if max(self.shape) > SIDE_LIMIT or self.sheet.rows * self.sheet.cols >= 2**31:
+        if self._maps.arrays or max(self.shape) > SIDE_LIMIT or self.sheet.rows * self.sheet.cols >= 2**31:
             return False
         demand = Demand(read=0, maps=len(self._files) + 1)
         return demand.bytes(*self.shape) < free_memory() * SHARE
 
-    def table(self, script: str, area: str | None = None, percent: bool = False) -> Any:
-        """The table of an r.stats over the whole; see `rcell.table`.
+    def table(self, script: str, area: str | None = None, percent: bool = False, compute: bool = True) -> Any:
+        """Return the table of an r.stats over the full map; see `rcell.table`.
 
-        Each tile's table comes from the program, with the statements before it in the script; the tables are joined in a
-        tree by rcell-join, which is proved. `r.mapcalc` may be among them, with offsets and with `row()` and its like, but no `r.clump`: areas go on
-        outside of tiles. `patches` counts those.
+        Each tile's table comes from the program, with the statements before it in the script; the tables are joined in a tree by
+        rcell-join, which is proved. `r.mapcalc` may be among them, with offsets and with `row()` and its like, but no `r.clump`: patches
+        continue outside a tile. `patches` counts those.
 
         Parameters
         ----------
         script : str
             With one r.stats, without `-1`.
         area : {'ha', 'km2', 'm2'}, optional
-            A column of areas beside the cells.
+            A column of areas.
         percent : bool
             A column of percentages.
+        compute : bool
+            False returns delayed work of Dask, whose result is the table.
 
         Returns
         -------
-        DataFrame, or a Table where pandas is not installed
-            As `rcell.table` answers.
+        DataFrame or Delayed
+            As `rcell.table` returns it.
 
         Raises
         ------
         Refused
-            As the program refuses the script.
+            As the program rejects the script.
         ReadFailed, WorkerLost, TooLittleMemory
 
         Examples
@@ -247,51 +276,40 @@ class Mosaic:
         2   3      1  16.666667
         """
         stats, run = self._table_run(script)
-        counts = self._counts(stats, run)
-        labels = self._labels(stats.inputs, script) if "l" in stats.flags else None
-        cells = counts.cells if "c" in stats.flags else None
-        answer = StatsTable("r.stats", stats.line, stats.inputs, counts.combinations, cells, labels, cell=self.sheet.cell, crs=self.sheet.crs)
-        answer = answer if area is None else answer.with_area(area)
-        answer = answer.with_percent() if percent else answer
-        return answer.frame() if has("pandas") else answer
-
-    def _counts(self, stats: Stats, run: _tasks.TileRun) -> Counts:
-        demand = table_demand(self._read(run), run.made, run.script.reach)
-        tiles = self._tiles(demand)
-        memory = self._memory(demand, tiles[0])
-        find_joiner()  # it is needed at the end, and missed at the beginning
-        with self._engine.tasks("table", len(tiles)) as tasks:
-            shared = tasks.shared(run)
-            leaves = [tasks.ask(_tasks.tile_table, shared, place, memory=memory) for place in tiles]
-            text: bytes = tasks.merged(leaves, _tasks.join_tables)
-        return counts_of(text, len(stats.inputs))
-
-    def _labels(self, names: Iterable[str], script: str) -> dict[str, Mapping[int, str]]:
-        """Labels of maps: those of the rules that made them, or those that their files have."""
         made = labels_in(script)
-        return {name: read_labels(self._files[name].path, self._files[name].layer.band) if name in self._files else made.get(name, {})
-                for name in names}
+        labels = {name: self._maps.labels_of(name) if name in self._files else made.get(name, {}) for name in stats.inputs}
+        form = _tasks.TableForm(stats, labels if "l" in stats.flags else None, self.sheet, area, percent)
+        tiles = self._tiles(table_demand(self._read(run), run.made, run.reach), compute)
+        find_joiner()  # it is needed at the end, and missed at the beginning
+        parts = _parts(self._over(_tasks.tile_table, run, tiles))
+        text = merged(_tasks.join_tables, parts)
+        return form.frame(self._engine.finish("table", text, parts)) if compute else dask.delayed(form.frame)(text)
 
-    def grid(self, script: str, path: str | os.PathLike[str]) -> None:
-        """Write the map of an expression as a GeoTIFF: tiled, compressed, int32, -2147483648 where it is null.
+    def grid(self, script: str, path: str | os.PathLike[str] | None = None) -> Any:
+        """Return the map of an expression as a DataArray of Dask, or write it as a GeoTIFF.
 
-        Each tile is read with a halo of the rows and columns that the expression reaches, taken from its offsets. The file
-        is written by windows, beside its name, read back, and renamed at the end: no process holds the whole.
+        Each tile is read with a halo of the rows and columns that the expression reaches, taken from its offsets. `row()`, `col()`,
+        `nrows()` and `ncols()` are those of the full map, whatever shape the tiles have (law `reach_is_enough`).
 
-        `row()`, `col()`, `nrows()` and `ncols()` are those of the whole, whatever shape the tiles have: each tile is told of
-        its place (law `reach_is_enough`).
+        A file is tiled, compressed, int32, -2147483648 where it is null. It is written by windows, beside its name, read back, and renamed
+        at the end: no process holds the whole.
 
         Parameters
         ----------
         script : str
             An assignment `NAME = EXPRESSION`, or statements of which the last makes the map: r.mapcalc and r.reclass.
-        path : str or path
+        path : str or path, optional
             The GeoTIFF to write.
+
+        Returns
+        -------
+        DataArray or None
+            Without a path a DataArray of int32, whose blocks are computed when they are asked for, by whoever asks.
 
         Raises
         ------
         Refused
-            As the program refuses the script.
+            As the program rejects the script.
         WriteFailed
             A full disk, a missing folder; nothing is left under `path`, and what was there before stays.
         ReadFailed, WorkerLost, TooLittleMemory
@@ -301,39 +319,41 @@ class Mosaic:
         >>> import rcell.tiles
         >>> with rcell.tiles.open(size=2, scheduler=scheduler, lc="lc.tif") as mosaic:
         ...     mosaic.grid("right = lc[0,1]", "right.tif")
+        ...     mosaic.grid("left = lc[0,-1]").values[:, 1:].tolist()
+        [[1, 1], [3, 2]]
         >>> rcell.grid("r.mapcalc same = right", "right", right="right.tif").array.tolist()
         [[1, 2, None], [2, 2, None]]
         """
         self._refuse_inputs(path)
-        run, labels = self._grid_run(script)
-        demand = grid_demand(self._read(run), run.made, run.script.reach)
-        tiles = self._tiles(demand)
-        with tile_writer(path, self.sheet, "int32", NULL, labels) as writer, self._engine.tasks("grid", len(tiles)) as tasks:
-            shared = tasks.shared(run)
-            memory = self._memory(demand, tiles[0])
-            for place, cells in tasks.stream(_tasks.grid_cells, ((shared, tile) for tile in tiles), memory):
-                writer.write(tiles[place], cells)
+        name, run, labels = self._grid_run(script)
+        tiles = self._tiles(grid_demand(self._read(run), run.made, run.reach), path is not None)
+        work = self._over(_tasks.grid_cells, run, tiles, dtype="int32")
+        if path is None:
+            return self._data_array(work, name, NULL, labels)
+        with tile_writer(path, self.sheet, "int32", NULL, labels) as writer:
+            for place, cells in self._engine.stream("grid", _parts(work), tiles.room):
+                writer.write(tiles.places[place], cells)
 
-    def clump(self, name: str, path: str | os.PathLike[str], connectivity: int = 4) -> int:
-        """Write the map of the patches of a map, its connected areas, as a GeoTIFF, 0 where it is null.
+    def clump(self, name: str, path: str | os.PathLike[str] | None = None, connectivity: int = 4) -> Any:
+        """Return the map of the patches of a map, its connected cells, as a DataArray of Dask, or write it as a GeoTIFF; 0 where it is null.
 
-        The numbers are those of `r.clump` over the undivided map: from 1, in the order of first cells. The file is of int32,
-        or of int64 where there are more than 2,147,483,647 patches. Each tile is clumped twice, first for the joining and then
-        for its cells: nothing of the size of the map is kept in between.
+        The numbers are those of `r.clump` over the full map: from 1, in the order of first cells. A file is of int32, or of int64 if there
+        are more than 2,147,483,647 patches. Each tile is clumped twice, first for the joining and then for its cells: nothing of the size
+        of the map is kept in between.
 
         Parameters
         ----------
         name : str
             One of the maps.
-        path : str or path
+        path : str or path, optional
             The GeoTIFF to write, as `grid` does.
         connectivity : {4, 8}
             4 connects cells that share an edge, 8 also those that share a corner.
 
         Returns
         -------
-        int
-            How many patches there are.
+        int or DataArray
+            With a path how many patches there are. Without one a DataArray, of int64 if the map has more than 2,147,483,647 cells.
 
         Raises
         ------
@@ -344,25 +364,31 @@ class Mosaic:
         >>> import rcell.tiles
         >>> with rcell.tiles.open(size=2, scheduler=scheduler, lc="lc.tif") as mosaic:
         ...     mosaic.clump("lc", "patches.tif")
+        ...     mosaic.clump("lc").values.tolist()
         3
+        [[1, 1, 2], [3, 2, 2]]
         """
         check_connectivity(connectivity)
         self._refuse_inputs(path)
-        file = self._file(name)
         # Before they are joined, it is not known how many clumps there are: at most as many as cells.
-        demand = clump_demand(file.bytes, 4 if self.sheet.rows * self.sheet.cols < 2**31 else 8)
-        tiles = self._tiles(demand)
-        memory = self._memory(demand, tiles[0])
-        whole = self._joined(file, tiles, connectivity == 8, memory)
-        dtype = "int32" if whole.clumps < 2**31 else "int64"
-        calls = ((file, self.sheet, place, connectivity == 8, tile, dtype) for place, tile in zip(tiles, whole.tiles))
-        with tile_writer(path, self.sheet, dtype, NO_CLUMP) as writer, self._engine.tasks("clump", len(tiles)) as tasks:
-            for at, cells in tasks.stream(_tasks.numbered_cells, calls, memory):
-                writer.write(tiles[at], cells)
+        widest = "int32" if self.sheet.rows * self.sheet.cols < 2**31 else "int64"
+        run = _tasks.ClumpRun(self.sheet, self._file(name), connectivity == 8, widest)
+        tiles = self._tiles(clump_demand(run.file.bytes, np.dtype(widest).itemsize), path is not None)
+        borders, joined = self._joined(run, tiles)
+        if path is None:
+            numbers = [dask.delayed(_tasks.numbers_of_tile)(joined, tile) for tile in range(len(borders))]
+            work = self._over(_tasks.numbered_cells, run, tiles, numbers, widest, joined)
+            return self._data_array(work, f"{name}_patches", NO_CLUMP, {})
+        whole: Joined = self._engine.finish("borders", joined, borders)
+        run = replace(run, dtype="int32" if whole.clumps < 2**31 else "int64")
+        work = self._over(_tasks.numbered_cells, run, tiles, whole.tiles, run.dtype)
+        with tile_writer(path, self.sheet, run.dtype, NO_CLUMP) as writer:
+            for place, cells in self._engine.stream("clump", _parts(work), tiles.room):
+                writer.write(tiles.places[place], cells)
         return whole.clumps
 
-    def patches(self, name: str, connectivity: int = 4) -> Any:
-        """The table of the patches of a map, its connected areas; the map of patches is never written.
+    def patches(self, name: str, connectivity: int = 4, compute: bool = True) -> Any:
+        """Return the table of the patches of a map, its connected cells; the map of patches is never written.
 
         Each tile is clumped twice, as by `clump`.
 
@@ -372,11 +398,13 @@ class Mosaic:
             One of the maps.
         connectivity : {4, 8}
             4 connects cells that share an edge, 8 also those that share a corner.
+        compute : bool
+            False returns delayed work of Dask, whose result is the table.
 
         Returns
         -------
-        DataFrame, or a Table where pandas is not installed
-            `patch` (the number that r.clump gives in the undivided map, ascending from 1), `class`, `cells`. This process
+        DataFrame or Delayed
+            `patch` (the number that r.clump gives in the full map, ascending from 1), `class`, `cells`. One worker, and then this process,
             holds it whole: 24 bytes for each patch, and up to 100 more while the sizes of tiles are added up.
 
         Raises
@@ -394,35 +422,32 @@ class Mosaic:
         2      3      3      1
         """
         check_connectivity(connectivity)
-        file = self._file(name)
-        demand = patches_demand(file.bytes)
-        tiles = self._tiles(demand)
-        memory = self._memory(demand, tiles[0])
-        whole = self._joined(file, tiles, connectivity == 8, memory)
-        with self._engine.tasks("patches", len(tiles)) as tasks:
-            calls = ((file, self.sheet, place, connectivity == 8) for place in tiles)
-            parts = sorted(tasks.stream(_tasks.clumps_table, calls, memory), key=lambda part: part[0])
-        categories, cells = sizes(whole, [table for _, (table, _) in parts], [own for _, (_, own) in parts])
-        numbers = np.column_stack([np.arange(1, whole.clumps + 1), categories])
-        answer = StatsTable("r.clump", 0, ("patch", "class"), numbers, cells, cell=self.sheet.cell, crs=self.sheet.crs)
-        return answer.frame() if has("pandas") else answer
+        run = _tasks.ClumpRun(self.sheet, self._file(name), connectivity == 8)
+        tiles = self._tiles(patches_demand(run.file.bytes), compute)
+        borders, joined = self._joined(run, tiles)
+        tables = _parts(self._over(_tasks.clumps_table, run, tiles))
+        table = dask.delayed(_tasks.patches_frame)(joined, tables, self.sheet)
+        return self._engine.finish("patches", table, borders + tables) if compute else table
 
-    def _joined(self, file: MapFile, tiles: list[Rectangle], diagonal: bool, memory: int) -> Joined:
-        """The clumps of tiles joined to those of the full map by rcell-join."""
+    def _joined(self, run: _tasks.ClumpRun, tiles: _Tiles) -> tuple[list[Any], Any]:
+        """Return the work of the borders of tiles, and that of rcell-join, which joins their clumps to those of the full map."""
         find_joiner()  # it is needed at the end, and missed at the beginning
-        check_files(len(tiles))
-        with self._engine.tasks("borders", len(tiles)) as tasks:
-            found = [tasks.ask(_tasks.tile_border, file, self.sheet, place, diagonal, memory=memory) for place in tiles]
-            return join(list(tasks.take_each(found)), diagonal)
+        borders = _parts(self._over(_tasks.tile_border, run, tiles))
+        check_files(len(borders))
+        return borders, dask.delayed(_tasks.join_borders)(borders, run.diagonal)
 
-    def _file(self, name: str) -> MapFile:
+    def _file(self, name: str) -> MapFile | MapCells:
         if name not in self._files:
             raise Refused(f"no map {name}: there are {', '.join(self._files)}", status=2)
         return self._files[name]
 
-    def _refuse_inputs(self, path: str | os.PathLike[str]) -> None:
-        if any(is_same_file(os.fspath(path), file.path) for file in self._files.values()):
+    def _refuse_inputs(self, path: str | os.PathLike[str] | None) -> None:
+        files = [file.path for file in self._files.values() if isinstance(file, MapFile)]
+        if path is not None and any(is_same_file(os.fspath(path), file) for file in files):
             raise Refused(f"{path}: the output file is the input file: choose another name", status=2)
+
+    def _data_array(self, cells: Any, name: str, null: int, labels: Mapping[int, str]) -> Any:
+        return data_array(cells, self.sheet.transform, self.sheet.crs, labels, name, null, self._maps.like)
 
     # Scripts
 
@@ -445,13 +470,13 @@ class Mosaic:
             raise refused(script, stats, "16 maps, where an expression with offsets leaves room for 15 when it is done by tiles")
         return stats, run
 
-    def _grid_run(self, script: str) -> tuple[_tasks.TileRun, Mapping[int, str]]:
+    def _grid_run(self, script: str) -> tuple[str, _tasks.TileRun, Mapping[int, str]]:
         lines = (line.split() for line in script.split("\n") if line.strip() and not line.lstrip().startswith("#"))
         text = script if next(lines, [""])[0] in COMMANDS else f"r.mapcalc {script.strip()}"
         found = self._judged(text)
         if not found or not isinstance(found[-1], Assignment | Reclass):
             raise refused(text, found[-1] if found else None, "the last line does not make a map by r.mapcalc or r.reclass")
-        return self._run(text, found), labels_in(text).get(found[-1].output, {})
+        return found[-1].output, self._run(text, found), labels_in(text).get(found[-1].output, {})
 
     def _run(self, script: str, found: list[Statement]) -> _tasks.TileRun:
         run = TileScript.of(found, self._files)
@@ -462,28 +487,37 @@ class Mosaic:
         taken = {*self._files, run.row, run.col, *(statement.output for statement in found if hasattr(statement, "output"))}
         return _tasks.TileRun(self.sheet, files, run, spare_name("inside", taken))
 
-    # Memory
+    # Tiles
 
     def _read(self, run: _tasks.TileRun) -> int:
         return sum(file.bytes for file in run.files)
 
-    def _tiles(self, demand: Demand) -> list[Rectangle]:
-        return list(places(self.sheet, self._size_for(demand)))
+    def _tiles(self, demand: Demand, is_eager: bool) -> _Tiles:
+        room = self._engine.room() if is_eager else Room.of_machine()
+        cuts = self._cuts(demand, room)
+        rows, cols = (max(lengths) for lengths in cuts)
+        memory = demand.bytes(rows, cols)
+        if is_eager and memory > room.most:
+            raise TooLittleMemory(f"a tile of {rows} x {cols} cells may take {memory:,} bytes, and a worker has {room.most:,}: give a smaller size")
+        return _Tiles(cuts, memory, room, is_eager)
 
-    def _size_for(self, demand: Demand) -> tuple[int, int]:
-        room = self._engine.room()
-        if self._size is None:
-            return size_for(demand, self.sheet, room.memory, room.tasks)
-        rows, cols = self._size_of_tiles(*self._size)
-        needed_bytes = demand.bytes(rows, cols)
-        if needed_bytes > room.most:
-            raise TooLittleMemory(f"a tile of {rows} x {cols} cells may take {needed_bytes:,} bytes, and a worker has {room.most:,}: "
-                                  "give a smaller size, or none")
-        return rows, cols
+    def _cuts(self, demand: Demand, room: Room) -> Cuts:
+        like = self._maps.like
+        if like is None:
+            return cuts_of(self.shape, self._size or size_for(demand, self.sheet, room.memory, room.tasks))
+        rows, cols = (max(lengths) for lengths in like.chunks)
+        is_fit = max(rows, cols) + demand.halo <= SIDE_LIMIT and rows * cols <= CELL_LIMIT and demand.bytes(rows, cols) <= room.memory
+        if self._size is None and is_fit:
+            return cuts_for(like.chunks, demand.reach)
+        return cuts_for(cuts_of(self.shape, self._size or size_for(demand, self.sheet, room.memory, room.tasks)), demand.reach)
 
-    def _size_of_tiles(self, rows: int, cols: int) -> tuple[int, int]:
-        """Rows and columns of the largest tile, where tiles of so many are asked for."""
-        return min(rows, self.sheet.rows), min(cols, self.sheet.cols)
-
-    def _memory(self, demand: Demand, place: Rectangle) -> int:
-        return demand.bytes(place.rows, place.cols)
+    def _over(self, function: Any, run: _tasks.TileRun | _tasks.ClumpRun, tiles: _Tiles, each: Sequence[Any] | None = None, dtype: Any = object,
+              once: Any = None) -> Any:
+        """Return the work of a function over tiles as an array of Dask; `over_tiles` says the rest."""
+        files = run.files if isinstance(run, _tasks.TileRun) else (run.file,)
+        arrays = [self._maps.arrays[file.name].data for file in files if isinstance(file, MapCells)]
+        arrays = list(dask.optimize(*arrays)) if tiles.is_eager else arrays
+        rows, cols = (max(lengths) for lengths in tiles.cuts)
+        _log.info("%s: %d tiles of up to %d x %d cells, %d bytes each", function.__name__, len(tiles.places), rows, cols, tiles.memory)
+        with dask.annotate(**tiles.room.annotations(tiles.memory) if tiles.is_eager else {}):
+            return over_tiles(function, run, tiles.cuts, arrays, each, dtype, once)
