@@ -6,19 +6,7 @@ import pytest
 from hypothesis import given
 from hypothesis import strategies as st
 
-from rcell.tiles._scripts import (
-    Assignment,
-    Clump,
-    Reach,
-    Reclass,
-    Stats,
-    TileScript,
-    Write,
-    reach_of,
-    reads_of,
-    spare_name,
-    statements,
-)
+from rcell.tiles._scripts import Reach, TileScript, reach_of, reads_of, spare_name, statements
 from rcell.tiles.joining import Rectangle
 
 
@@ -49,12 +37,16 @@ def test_statements_are_found() -> None:
     found = statements("# note\n r.reclass  output=b input=a\n# note\n\n 1 thru 3 = 7 low # class\n end \r\n"
                        "r.clump -d input=b output=c\nr.stats -cl -n input=b,c after=1,* separator=tab\n"
                        "r.out.ascii input=c null_value=-9\nr.mapcalc x=a==b")
-    assert found == [Reclass(2, "a", "b", ("1 thru 3 = 7 low # class",)), Clump(7, "b", "c", True),
-                     Stats(8, frozenset("cln"), ("b", "c"), ("1", "*")), Write(9, "c"), Assignment(10, "x", ("a", "==", "b"))]
+    assert [(one.line, one.command, one.inputs, one.output) for one in found] == [
+        (2, "r.reclass", ("a",), "b"), (7, "r.clump", ("b",), "c"), (8, "r.stats", ("b", "c"), None), (9, "r.out.ascii", ("c",), None),
+        (10, "r.mapcalc", ("a", "b"), "x")]
+    assert (found[2].flags, found[2].after) == (frozenset("cln"), ("1", "*"))
     assert reads_of(found) == {"a"}
-    assert [statement.text() for statement in found] == [
-        "r.reclass input=a output=b\n1 thru 3 = 7 low # class\nend", "r.clump -d input=b output=c",
-        "r.stats -c -l -n input=b,c after=1,*", "r.out.ascii input=c", "r.mapcalc x = a == b"]
+    assert [statement.text for statement in found] == [
+        "r.reclass output=b input=a\n1 thru 3 = 7 low # class\nend", "r.clump -d input=b output=c",
+        "r.stats -cl -n input=b,c after=1,* separator=tab", "r.out.ascii input=c null_value=-9", "r.mapcalc x=a==b"]
+    assert found[2].counting().text == "r.stats -c -n input=b,c after=1,*"
+    assert found[2].counting("inside").text == "r.stats -c -n input=inside,b,c after=1,1,*"
 
 
 def told(expression: str, names: list[str]) -> list[str]:
@@ -72,7 +64,7 @@ def test_row_and_its_like_are_told_of_the_whole() -> None:
 
 def test_only_what_the_last_line_stands_on_is_run() -> None:
     script = TileScript.of(statements("r.mapcalc a = lc[9,9]\nr.mapcalc b = ws\nr.stats -c input=b"), ["lc", "ws"])
-    assert [type(statement) for statement in script.statements] == [Assignment, Stats]
+    assert [statement.command for statement in script.statements] == ["r.mapcalc", "r.stats"]
     assert script.maps == {"ws"}
     assert script.reach == Reach()
     assert script.made == 1

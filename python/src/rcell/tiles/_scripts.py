@@ -1,5 +1,5 @@
 # SPDX-License-Identifier: Apache-2.0 OR GPL-2.0-or-later
-"""Scripts as tiles run them: how far they read, and what `row()` and its like are told.
+"""Scripts as tiles run them: how far they read, and where `row()` and its like count from.
 
 A script comes here after the program has taken it, so what is read here is known to be well formed: `statements` finds the
 parts of its lines, it does not judge them.
@@ -9,17 +9,19 @@ from __future__ import annotations
 
 import re
 from collections.abc import Iterable, Iterator
-from dataclasses import dataclass
+from dataclasses import dataclass, replace
 
 from .joining import Rectangle
 
-__all__ = ["Assignment", "Clump", "NO_REACH", "Reach", "Reclass", "Statement", "Stats", "TileScript", "Write", "reach_of", "reads_of",
-           "spare_name", "statements"]
+__all__ = ["COMMANDS", "NO_REACH", "Reach", "Statement", "TileScript", "reach_of", "reads_of", "spare_name", "statements"]
 
 BLANKS = " \t\r"
 COMMANDS = ("r.mapcalc", "r.reclass", "r.clump", "r.stats", "r.out.ascii")
-TOKEN = re.compile(r"[A-Za-z_][A-Za-z0-9_.]*|[0-9]+|&&&|\|\|\||&&|\|\||[<>=!]=|[^ \t\r]")
-NAME = re.compile(r"[A-Za-z_][A-Za-z0-9_.]*")
+OFFSET = r"([+-]?) ?([0-9]+)"
+READ = re.compile(rf"([A-Za-z_][A-Za-z0-9_.]*) ?(\(|\[ ?{OFFSET} ?, ?{OFFSET} ?\])?")
+"""A name of an expression in which blanks are single: of a function, if a parenthesis follows it."""
+
+CALL = re.compile(r"(?<![A-Za-z0-9_.])(row|col|nrows|ncols) ?\( ?\)")
 
 
 @dataclass(frozen=True)
@@ -44,111 +46,49 @@ NO_REACH = Reach()
 
 
 @dataclass(frozen=True)
-class Assignment:
-    """`r.mapcalc output = tokens`."""
+class Statement:
+    """A statement of a script.
+
+    Attributes
+    ----------
+    line : int
+        Its first line, from 1.
+    command : str
+    text : str
+        Its lines, blanks single and rules without comments.
+    reads : tuple of tuples of str, int and int
+        Each map that it reads, with its offsets down and to the right.
+    output : str or None
+        The map that it makes.
+    flags : frozenset of str
+    after : tuple of str or None
+        The categories of r.stats `after=`.
+    """
 
     line: int
-    output: str
-    tokens: tuple[str, ...]
+    command: str
+    text: str
+    reads: tuple[tuple[str, int, int], ...]
+    output: str | None = None
+    flags: frozenset[str] = frozenset()
+    after: tuple[str, ...] | None = None
 
-    def reads(self) -> Iterator[tuple[str, int, int]]:
-        """Each map that is read, with its offsets down and to the right."""
-        tokens = self.tokens
-        for place, token in enumerate(tokens):
-            after = tokens[place + 1] if place + 1 < len(tokens) else ""
-            if not NAME.fullmatch(token) or after == "(":
-                continue
-            if after != "[":
-                yield token, 0, 0
-                continue
-            end = tokens.index("]", place)
-            down, right = "".join(tokens[place + 2:end]).split(",")
-            yield token, int(down), int(right)
+    @property
+    def inputs(self) -> tuple[str, ...]:
+        """The names of the maps that it reads."""
+        return tuple(name for name, _, _ in self.reads)
 
     def calls(self, function: str) -> bool:
-        """Whether the expression has a call of a function."""
-        return any(token == function and after == "(" for token, after in zip(self.tokens, self.tokens[1:]))
+        """Whether it is an expression that has a call of `row` or its like."""
+        return self.command == "r.mapcalc" and function in CALL.findall(self.text)
 
-    def text(self) -> str:
-        """Its lines of a script."""
-        # At most 1000 tokens of 64 bytes, with a blank before each: within the 65,535 bytes of a line.
-        return f"r.mapcalc {self.output} = {' '.join(self.tokens)}"
-
-
-@dataclass(frozen=True)
-class Reclass:
-    """`r.reclass input=.. output=..` with the lines of its rules."""
-
-    line: int
-    input: str
-    output: str
-    rules: tuple[str, ...]
-
-    def reads(self) -> Iterator[tuple[str, int, int]]:
-        """Each map that is read, at no offset."""
-        yield self.input, 0, 0
-
-    def text(self) -> str:
-        """Its lines of a script."""
-        return "\n".join([f"r.reclass input={self.input} output={self.output}", *self.rules, "end"])
-
-
-@dataclass(frozen=True)
-class Clump:
-    """`r.clump`."""
-
-    line: int
-    input: str
-    output: str
-    diagonal: bool
-
-    def reads(self) -> Iterator[tuple[str, int, int]]:
-        """Each map that is read, at no offset."""
-        yield self.input, 0, 0
-
-    def text(self) -> str:
-        """Its lines of a script."""
-        return f"r.clump {'-d ' if self.diagonal else ''}input={self.input} output={self.output}"
-
-
-@dataclass(frozen=True)
-class Stats:
-    """`r.stats` with its flags, its maps and `after`."""
-
-    line: int
-    flags: frozenset[str]
-    inputs: tuple[str, ...]
-    after: tuple[str, ...] | None
-
-    def reads(self) -> Iterator[tuple[str, int, int]]:
-        """Each map that is read, at no offset."""
-        for name in self.inputs:
-            yield name, 0, 0
-
-    def text(self) -> str:
-        """Its lines of a script."""
-        flags = "".join(f" -{flag}" for flag in sorted(self.flags))
-        after = "" if self.after is None else f" after={','.join(self.after)}"
-        return f"r.stats{flags} input={','.join(self.inputs)}{after}"
-
-
-@dataclass(frozen=True)
-class Write:
-    """`r.out.ascii`."""
-
-    line: int
-    input: str
-
-    def reads(self) -> Iterator[tuple[str, int, int]]:
-        """Each map that is read, at no offset."""
-        yield self.input, 0, 0
-
-    def text(self) -> str:
-        """Its lines of a script."""
-        return f"r.out.ascii input={self.input}"
-
-
-Statement = Assignment | Reclass | Clump | Stats | Write
+    def counting(self, inside: str | None = None) -> Statement:
+        """Return an r.stats that prints plain categories and counts; where a map more is 1, if one is given, which comes first."""
+        inputs = self.inputs if inside is None else (inside, *self.inputs)
+        after = self.after if inside is None or self.after is None else ("1", *self.after)
+        words = [f"-{flag}" for flag in sorted(self.flags - {"l"} | {"c"})] + [f"input={','.join(inputs)}"]
+        words += [] if after is None else [f"after={','.join(after)}"]
+        return replace(self, text=" ".join(["r.stats", *words]), reads=tuple((name, 0, 0) for name in inputs))
 
 
 def statements(text: str) -> list[Statement]:
@@ -156,31 +96,34 @@ def statements(text: str) -> list[Statement]:
     found: list[Statement] = []
     lines = enumerate(text.split("\n"), 1)
     for number, raw in lines:
-        line = raw.strip(BLANKS)
+        line = _single(raw)
+        command, _, rest = line.partition(" ")
         if not line or line.startswith("#"):
             continue
-        command = re.split(f"[{BLANKS}]", line, maxsplit=1)[0]
-        rest = line[len(command):].strip(BLANKS)
         if command == "r.mapcalc":
-            output, expression = rest.split("=", 1)
-            found.append(Assignment(number, output.strip(BLANKS), tuple(TOKEN.findall(expression))))
-        else:
-            found.append(_with_options(number, command, rest, lines))
+            output, _, expression = rest.partition("=")
+            found.append(Statement(number, command, line, tuple(_offsets(expression)), output.strip()))
+            continue
+        words = rest.split(" ")
+        flags = frozenset("".join(word[1:] for word in words if word.startswith("-")))
+        options = dict(word.split("=", 1) for word in words if not word.startswith("-"))
+        whole = "\n".join([line, *_rules(lines), "end"]) if command == "r.reclass" else line
+        after = tuple(options["after"].split(",")) if "after" in options else None
+        reads = tuple((name, 0, 0) for name in options["input"].split(","))
+        found.append(Statement(number, command, whole, reads, options.get("output"), flags, after))
     return found
 
 
-def _with_options(number: int, command: str, rest: str, lines: Iterable[tuple[int, str]]) -> Statement:
-    words = [word for word in re.split(f"[{BLANKS}]+", rest) if word]
-    flags = frozenset("".join(word[1:] for word in words if word.startswith("-")))
-    options = dict(word.split("=", 1) for word in words if not word.startswith("-"))
-    if command == "r.reclass":
-        return Reclass(number, options["input"], options["output"], tuple(_rules(lines)))
-    if command == "r.clump":
-        return Clump(number, options["input"], options["output"], "d" in flags)
-    if command == "r.stats":
-        after = tuple(options["after"].split(",")) if "after" in options else None
-        return Stats(number, flags, tuple(options["input"].split(",")), after)
-    return Write(number, options["input"])
+def _single(line: str) -> str:
+    """Return a line with single blanks: at most 1000 tokens of 64 bytes, so what tiles add stays within the 65,535 bytes of a line."""
+    return re.sub(f"[{BLANKS}]+", " ", line).strip(" ")
+
+
+def _offsets(expression: str) -> Iterator[tuple[str, int, int]]:
+    for name, more, *numbers in READ.findall(expression):
+        if more != "(":
+            down, right = (int("".join(numbers[at : at + 2]) or "0") for at in (0, 2))
+            yield name, down, right
 
 
 def _rules(lines: Iterable[tuple[int, str]]) -> Iterator[str]:
@@ -195,39 +138,37 @@ def _rules(lines: Iterable[tuple[int, str]]) -> Iterator[str]:
 def reads_of(script: Iterable[Statement]) -> set[str]:
     """The maps that statements read and that none of them makes."""
     read: set[str] = set()
-    made: set[str] = set()
+    made: set[str | None] = set()
     for statement in script:
-        read |= {name for name, _, _ in statement.reads()} - made
-        if isinstance(statement, Assignment | Reclass | Clump):
-            made.add(statement.output)
+        read |= set(statement.inputs) - made
+        made.add(statement.output)
     return read
 
 
 def reach_of(script: Iterable[Statement]) -> Reach:
     """How far the last statement reads into the maps that no statement makes, through those that statements make."""
-    reach: dict[str, Reach] = {}
+    reach: dict[str | None, Reach] = {}
     last = NO_REACH
     for statement in script:
         last = NO_REACH
-        for name, down, right in statement.reads():
+        for name, down, right in statement.reads:
             last |= reach.get(name, NO_REACH).moved(down, right)
-        if isinstance(statement, Assignment | Reclass | Clump):
-            reach[statement.output] = last
+        reach[statement.output] = last
     return last
 
 
 def needed(script: list[Statement]) -> list[Statement]:
     """The last statement, and those before it that it stands on."""
     kept = [script[-1]]
-    wanted = {name for name, _, _ in script[-1].reads()}
+    wanted = set(script[-1].inputs)
     for statement in reversed(script[:-1]):
-        if isinstance(statement, Assignment | Reclass | Clump) and statement.output in wanted:
+        if statement.output in wanted:
             kept.append(statement)
-            wanted |= {name for name, _, _ in statement.reads()}
+            wanted |= set(statement.inputs)
     return kept[::-1]
 
 
-def spare_name(base: str, taken: Iterable[str]) -> str:
+def spare_name(base: str, taken: Iterable[str | None]) -> str:
     """A name that no map has."""
     known = set(taken)
     return next(name for name in (base + "_" * count for count in range(len(known) + 1)) if name not in known)
@@ -263,7 +204,7 @@ class TileScript:
     def of(cls, script: list[Statement], names: Iterable[str]) -> TileScript:
         """The last statement of a script, with those that it stands on, over maps of these names."""
         used = needed(script)
-        taken = set(names) | {statement.output for statement in script if isinstance(statement, Assignment | Reclass | Clump)}
+        taken = {*names, *(statement.output for statement in script)}
         return cls(tuple(used), reach_of(used), spare_name("tile_row", taken), spare_name("tile_col", taken))
 
     @property
@@ -274,31 +215,15 @@ class TileScript:
     @property
     def made(self) -> int:
         """How many maps it makes over a tile."""
-        told = sum(self._calls(function) for function in ("row", "col"))
-        return told + sum(isinstance(statement, Assignment | Reclass) for statement in self.statements)
+        return sum(self._calls(function) for function in ("row", "col")) + sum(statement.output is not None for statement in self.statements)
 
     def _calls(self, function: str) -> bool:
-        return any(statement.calls(function) for statement in self.statements if isinstance(statement, Assignment))
+        return any(statement.calls(function) for statement in self.statements)
 
     def text(self, place: Rectangle, rows: int, cols: int) -> str:
         """The script for a tile at a place, its halo included, of a whole of so many rows and columns."""
         lines = [f"r.mapcalc {name} = {call}() + {before}"
                  for name, call, before in ((self.row, "row", place.top), (self.col, "col", place.left)) if self._calls(call)]
         told = {"row": self.row, "col": self.col, "nrows": str(rows), "ncols": str(cols)}
-        for statement in self.statements:
-            lines.append(_told(statement, told).text())
+        lines += [CALL.sub(lambda call: told[call[1]], each.text) if each.command == "r.mapcalc" else each.text for each in self.statements]
         return "\n".join(lines) + "\n"
-
-
-def _told(statement: Statement, told: dict[str, str]) -> Statement:
-    if not isinstance(statement, Assignment):
-        return statement
-    tokens: list[str] = []
-    rest = iter(zip(statement.tokens, (*statement.tokens[1:], "")))
-    for token, after in rest:
-        if token in told and after == "(":
-            next(rest), next(rest)  # the parentheses, which have nothing in them
-            tokens.append(told[token])
-        else:
-            tokens.append(token)
-    return Assignment(statement.line, statement.output, tuple(tokens))

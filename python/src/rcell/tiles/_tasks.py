@@ -18,7 +18,7 @@ from .._joiner import border_of, joined
 from .._maps import ArrayMap, Source
 from .._program import execute, table_text
 from .._region import Region
-from ._scripts import NO_REACH, Assignment, Reach, Reclass, Stats, TileScript
+from ._scripts import NO_REACH, Reach, Statement, TileScript
 from .._table import StatsTable
 from ._sheet import MapCells, MapFile, Sheet
 from .joining import Joined, Rectangle, TileNumbers, join, renumber, sizes
@@ -69,7 +69,7 @@ class TileRun:
     @property
     def made(self) -> int:
         """How many maps the program has of a tile in all, those that it makes and the mask of a halo among them."""
-        has_halo = isinstance(self.script.statements[-1], Stats) and self.script.reach != NO_REACH
+        has_halo = self.script.statements[-1].command == "r.stats" and self.script.reach != NO_REACH
         return len(self.files) + self.script.made + has_halo
 
     def maps(self, outer: Rectangle, cells: Sequence[Any]) -> dict[str, Source]:
@@ -112,25 +112,22 @@ def told_of_size(maps: dict[str, Source]) -> Iterator[None]:
         raise OutOfMemory(f"{fault.text} for a tile of {rows} x {cols} cells: give a smaller size", fault.source, 0, 3) from None
 
 
-def made_cells(text: str, maps: dict[str, Source], name: str) -> Integers:
+def made_cells(text: str, maps: dict[str, Source], name: str | None) -> Integers:
     """The cells of a map that a script makes of a tile."""
     with told_of_size(maps):
-        cells: Integers = execute(text, maps, wanted=(name,))[-1].values
+        cells: Integers = execute(text, maps, wanted=[name] if name else [])[-1].values
     return cells
 
 
 def tile_table(task: TileRun, place: Rectangle, cells: Sequence[Any]) -> bytes:
     """The table of a tile without its halo, as the program prints it."""
     stats = task.script.statements[-1]
-    assert isinstance(stats, Stats)
     outer = with_halo(place, task.script.reach, task.sheet)
     maps = task.maps(outer, cells)
     script = task.script
     if outer != place:
         # The cells of the halo are other tiles' to count: a map more, and of the table the entries where it is 1, which come first.
-        after = None if stats.after is None else ("1", *stats.after)
-        counted = Stats(stats.line, stats.flags, (task.inside, *stats.inputs), after)
-        script = TileScript((*script.statements[:-1], counted), script.reach, script.row, script.col)
+        script = replace(script, statements=(*script.statements[:-1], stats.counting(task.inside)))
         maps[task.inside] = ArrayMap(task.inside, mask_of(place, outer), Region.of_cells(*outer[2:]), nodata_value=0)
     with told_of_size(maps):
         text = table_text(script.text(outer, task.sheet.rows, task.sheet.cols), maps)
@@ -168,7 +165,7 @@ def join_tables(texts: list[bytes]) -> bytes:
 class TableForm:
     """What the table of the full map is made of, besides its text."""
 
-    stats: Stats
+    stats: Statement
     labels: Mapping[str, Mapping[int, str]] | None
     sheet: Sheet
     area: str | None
@@ -186,12 +183,10 @@ class TableForm:
 def grid_cells(task: TileRun, place: Rectangle, cells: Sequence[Any]) -> Integers:
     """The map that a script makes last, over a tile: int32, `NULL` where it is null."""
     outer = with_halo(place, task.script.reach, task.sheet)
-    last = task.script.statements[-1]
-    assert isinstance(last, Assignment | Reclass)
     text = task.script.text(outer, task.sheet.rows, task.sheet.cols)
     # Law `halo_is_enough`, or `reach_is_enough` where the script asks for rows and columns: inside of the halo the values
     # are those over the whole.
-    made = made_cells(text, task.maps(outer, cells), last.output)
+    made = made_cells(text, task.maps(outer, cells), task.script.statements[-1].output)
     return np.ascontiguousarray(inner(made, place, outer))
 
 

@@ -31,7 +31,7 @@ from ._engine import Engine, Progress
 from ._graph import Cuts, cuts_for, cuts_of, merged, over_tiles, places_of
 from ._memory import Demand, clump_demand, grid_demand, patches_demand, size_for, table_demand
 from ._output import tile_writer
-from ._scripts import COMMANDS, NO_REACH, Assignment, Clump, Reclass, Statement, Stats, TileScript, spare_name, statements
+from ._scripts import COMMANDS, NO_REACH, Statement, TileScript, spare_name, statements
 from ._sheet import MapCells, MapFile, Maps, open_maps
 from .joining import Joined, Rectangle
 
@@ -456,16 +456,15 @@ class Mosaic:
         judge(script, self._files)
         return statements(script)
 
-    def _table_run(self, script: str) -> tuple[Stats, _tasks.TileRun]:
+    def _table_run(self, script: str) -> tuple[Statement, _tasks.TileRun]:
         found = self._judged(script)
-        tables = [statement for statement in found if isinstance(statement, Stats)]
+        tables = [statement for statement in found if statement.command == "r.stats"]
         if len(tables) != 1:
             raise Refused(f"{len(tables)} lines of r.stats, where one is needed", "script")
         stats = tables[0]
         if "1" in stats.flags:
             raise refused(script, stats, "-1 lists cells, of which there is no table to merge")
-        used = found[:found.index(stats)]
-        run = self._run(script, [*used, Stats(stats.line, stats.flags - {"l"} | {"c"}, stats.inputs, stats.after)])
+        run = self._run(script, [*found[: found.index(stats)], stats.counting()])
         if run.script.reach != NO_REACH and len(stats.inputs) > 15:
             raise refused(script, stats, "16 maps, where an expression with offsets leaves room for 15 when it is done by tiles")
         return stats, run
@@ -474,17 +473,18 @@ class Mosaic:
         lines = (line.split() for line in script.split("\n") if line.strip() and not line.lstrip().startswith("#"))
         text = script if next(lines, [""])[0] in COMMANDS else f"r.mapcalc {script.strip()}"
         found = self._judged(text)
-        if not found or not isinstance(found[-1], Assignment | Reclass):
-            raise refused(text, found[-1] if found else None, "the last line does not make a map by r.mapcalc or r.reclass")
-        return found[-1].output, self._run(text, found), labels_in(text).get(found[-1].output, {})
+        last = found[-1] if found else None
+        if last is None or last.output is None or last.command == "r.clump":
+            raise refused(text, last, "the last line does not make a map by r.mapcalc or r.reclass")
+        return last.output, self._run(text, found), labels_in(text).get(last.output, {})
 
     def _run(self, script: str, found: list[Statement]) -> _tasks.TileRun:
         run = TileScript.of(found, self._files)
         for statement in run.statements:
-            if isinstance(statement, Clump):
+            if statement.command == "r.clump":
                 raise refused(script, statement, "patches continue outside a tile: Mosaic.clump writes them, Mosaic.patches counts them")
         files = tuple(file for name, file in self._files.items() if name in run.maps)
-        taken = {*self._files, run.row, run.col, *(statement.output for statement in found if hasattr(statement, "output"))}
+        taken = {*self._files, run.row, run.col, *(statement.output for statement in found)}
         return _tasks.TileRun(self.sheet, files, run, spare_name("inside", taken))
 
     # Tiles
