@@ -1,6 +1,7 @@
 pub mod FieldLemmas
 pub mod LabelLemmas
 pub mod LabelledFieldLemmas
+pub mod LineNumberLemmas
 pub mod LinePartLemmas
 pub mod PlaceLemmas
 pub mod SequenceLemmas

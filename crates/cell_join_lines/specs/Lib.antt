@@ -4,6 +4,7 @@ pub mod AreasText
 pub mod ClearFormats
 pub mod LineFields
 pub mod LineLabels
+pub mod LineNumbers
 pub mod LineReading
 pub mod SourceLines
 pub mod TableLines

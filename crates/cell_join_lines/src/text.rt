@@ -180,6 +180,7 @@ impl<R: Source> TableText<R> {
             (λ coming. labelled_in format.now coming.bytes) (R.coming source)
             ≡ labelled_from format.now text) }
         ensures width { IfOk result (λ text. text.width ≡ width) }
+        ensures number { IfOk result (λ text. text.number ≡ 2) }
         // The source is asked only while it goes on, and an `Err` of it is told as Read: so far none was.
         ensures heard { IfOk result (λ text. text.heard ≡ heard_first (R.asked source)) }
         ensures fault { IfErr result (λ fault. fault.kind ≢ TableKind.Memory → IfSome (R.coming
@@ -241,6 +242,7 @@ impl<R: Source> TableText<R> {
         ensures labelled { OnOk result
             (labelled_behind format.now self.old ≡ labelled_from format.now self.new) }
         ensures width { self.new.width ≡ self.old.width }
+        ensures number { OnOk result (self.new.number ≡ line_after self.old.number) }
         // The source is asked only while it goes on, and an `Err` of it is told as Read.
         ensures heard { self.new.heard ≡ hears (says_read_fault result) self.old.heard }
         ensures fault { IfErr result (λ fault. fault.kind ≢ TableKind.Memory → IfSome

@@ -9,9 +9,8 @@ use Rattle.cell_join_lines.specs.declared.table_fault.TableFault.{TableFault}
 use Rattle.cell_join_lines.specs.declared.table_fault.TableKind.{TableKind}
 use Rattle.cell_join_lines.specs.declared.table_fault.TableKind.TheVariants as kinds
 use Rattle.cell_join_tables.specs.JoinedTexts.{HasFault, IsFirstFault, fault_place, last_combination}
-use Rattle.cell_join_tables.specs.JoinAnswers.{IsOpeningFault}
+use Rattle.cell_join_tables.specs.JoinAnswers.{IsOpeningFault, IsFaultOfText, StopsBehind}
 use Rattle.cell_join_tables.specs.TextHeads.{past, sum_if_any}
-use Rattle.cell_join_tables.specs.JoinAnswers.{IsFaultOfText, StopsBehind}
 use Rattle.cell_join_tables.specs.declared.join_fault.JoinFault.{JoinFault}
 use Rattle.cell_join_tables.specs.declared.join_fault.JoinFault.TheVariants.{Text, Memory}
 use Rattle.cell_join_tables.proofs.FaultOrderLemmas.{GoesOn}

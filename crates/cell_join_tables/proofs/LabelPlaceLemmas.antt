@@ -2,10 +2,8 @@
 use Rattle.std.proofs.Common.{◌≡◌, ◌≢◌, ℕ, zero, suc, ◌+◌, ◌<◌, ◌≤◌, List, [], ◌∷◌, length, map, get_or, slice_get}
 use Rattle.std.proofs.Common.{Bool, true, false}
 use Rattle.std.proofs.Common.{Option, Some, None, ⊎_elim, refl, ap, sym, ◌∙◌, arith, subst, option_map, ◌&&◌, not}
-use Rattle.std.proofs.lemmas.Bool.{cases_lt}
-use Rattle.std.proofs.lemmas.List.Sums.{fails_before_first, passes_at_first, position_or_len_is}
 use Rattle.std.proofs.lemmas.Slice.Eq.{bytes_eq-Decides}
-use Rattle.std.specs.List.{Contains, position_or_len}
+use Rattle.std.specs.List.{Contains}
 use Rattle.std.specs.Ordering.{eq_by_cmp, is_eq}
 use Rattle.std.specs.Prelude.{All, IfSome, bytes_eq}
 use Rattle.std.specs.declared.cmp.Ordering.TheVariants.{Less}
@@ -24,10 +22,6 @@ use Rattle.cell_join_tables.specs.declared.label_fault.OtherLabel.{OtherLabel}
 use Rattle.cell_join_tables.proofs.LabelledStepLemmas.{head-at}
 use Rattle.cell_join_tables.specs.parts.LabelSteps.{AgreesOn, AllAgree, DifferAt, labelled_heads, goes_on_with, is_other}
 use Rattle.cell_join_tables.specs.parts.LabelSteps.{is_combination, labelled_head}
-
--- ---- the first place of a text that passes a test
-
--- ---- what texts go on with
 
 module _ (format : FormatValue) (k : Combination) where
   -- what it has there
@@ -87,16 +81,6 @@ module _ (format : FormatValue) (k : Combination) where
   head-in (x ∷ xs) (suc i) d y within is =
       let at = head-in xs i d y (omega (arith, within)) is in
       (suc at.0, omega (arith, at.1), at.2)
-
-  module _ (texts : List TextValue) (first : ℕ) (x : TextValue) (labelled : List ℕ) (within : first < length texts)
-      (place : position_or_len (goes_on_with k) texts ≡ first) (at : x ≡ get_or texts first x)
-      (is : labelled ≡ labels_there x) where
-    there : goes_on_with k x ≡ true
-    there = ap (goes_on_with k) (at ∙ ap (λ n. get_or texts n x) (sym place))
-        ∙ passes_at_first (goes_on_with k) texts x (omega (arith, within, place))
-
-    own : labelled_head format (get_or texts first x) ≡ Some (k, labelled)
-    own = ap (labelled_head format) (sym at) ∙ at-head x there ∙ ap (λ ls. Some (k, ls)) (sym is)
 
 -- ---- other labels, told
 

@@ -24,8 +24,7 @@ use Rattle.cell_join_tables.specs.parts.LabelEnds.{IsLabelledEnd, StopsAtLabels}
 use Rattle.cell_join_tables.specs.parts.LabelSteps.{ArePassed, HasLabelledMerge, HasLabelledStep, PassesLines}
 use Rattle.cell_join_tables.specs.declared.label_fault.OtherLabel.{OtherLabel}
 use Rattle.cell_join_tables.proofs.LabelledStepLemmas.{all-passed, all-push, left-known, line-whole, none-left}
-use Rattle.cell_join_tables.proofs.LabelledStepLemmas.{none-passed}
-use Rattle.cell_join_tables.proofs.LabelledStepLemmas.{own-step, own-whole, passed-step}
+use Rattle.cell_join_tables.proofs.LabelledStepLemmas.{none-passed, own-step, own-whole, passed-step}
 
 text-more : (done : List LabelledEntry) (e : LabelledEntry)
     → counted_text done ++ counted_line e ≡ counted_text (done ++ e ∷ [])

@@ -25,10 +25,9 @@ use Rattle.cell_join_tables.proofs.MergeLemmas.{one-merge}
 use Rattle.cell_join_tables.proofs.StepLemmas.{merges-all}
 use Rattle.cell_join_tables.specs.JoinedLabels.{AreFirst, AreJoinedLabels, AreLabelledSo, AreOfTexts, HasJoinWritten}
 use Rattle.cell_join_tables.specs.JoinedLabels.{HasLabelledLines, HasLabelledPrefix, HasLabelledWritten, HasLine}
-use Rattle.cell_join_tables.specs.JoinedLabels.{HasOtherLabel}
-use Rattle.cell_join_tables.specs.JoinedLabels.{IsLabelFault, IsLabelledMerge, IsOfTexts, IsTold, LabelledEntry}
-use Rattle.cell_join_tables.specs.JoinedLabels.{counted_text, plain_entries}
-use Rattle.cell_join_tables.specs.JoinedLabels.{plain_entry, labelled_of, labels_of_texts}
+use Rattle.cell_join_tables.specs.JoinedLabels.{HasOtherLabel, IsLabelFault, IsLabelledMerge, IsOfTexts, IsTold}
+use Rattle.cell_join_tables.specs.JoinedLabels.{LabelledEntry, counted_text, plain_entries, plain_entry, labelled_of}
+use Rattle.cell_join_tables.specs.JoinedLabels.{labels_of_texts}
 use Rattle.cell_join_tables.specs.parts.LabelEnds.{EndsLabelled, HasOthers, answer_of, label_fault_of, other_of}
 use Rattle.cell_join_tables.specs.declared.label_fault.OtherLabel.{OtherLabel}
 use Rattle.cell_join_tables.specs.declared.label_fault.LabelFault.{LabelFault}

@@ -7,6 +7,7 @@ pub mod LabelPlaceLemmas
 pub mod LabelledEndLemmas
 pub mod LabelledJoinLemmas
 pub mod LabelledStepLemmas
+pub mod LineNumberLemmas
 pub mod MergeLemmas
 pub mod MergingLemmas
 pub mod OpeningLemmas

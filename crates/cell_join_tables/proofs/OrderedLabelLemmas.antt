@@ -1,5 +1,5 @@
 -- Labels of texts in order: those that go on with the least combination are in front.
-use Rattle.std.proofs.Common.{◌≡◌, ◌≢◌, ℕ, zero, suc, ◌+◌, ◌<◌, ◌≤◌, List, [], ◌∷◌, length, map, get_or, slice_get, Bool, true, false, Option, Some, None, ⊎_elim, refl, ap, sym, ◌∙◌, arith, subst, option_map, ◌&&◌, not, nat_lt}
+use Rattle.std.proofs.Common.{◌≡◌, ◌≢◌, ℕ, zero, suc, ◌+◌, ◌-◌, ◌<◌, ◌≤◌, List, [], ◌∷◌, length, map, get_or, slice_get, Bool, true, false, Option, Some, None, ⊎_elim, refl, ap, sym, ◌∙◌, arith, subst, option_map, ◌&&◌, not, nat_lt}
 use Rattle.std.proofs.lemmas.Bool.{cases_lt, ltb-true}
 use Rattle.std.proofs.lemmas.List.{get_or-map, length-map}
 use Rattle.std.proofs.lemmas.Slice.Eq.{bytes_eq-Decides}
@@ -12,12 +12,14 @@ use Rattle.cell_stats_combinations.specs.Combinations.{Combination, combination_
 use Rattle.cell_stats.specs.TableText.{FormatValue}
 use Rattle.cell_join_lines.specs.LineLabels.{Labelled, before_count}
 use Rattle.cell_join_lines.specs.TextReading.{TextValue, combination_of}
+use Rattle.cell_join_tables.specs.JoinedLabels.{HasNumberedLine}
 use Rattle.cell_join_tables.specs.parts.HeadOrder.{Ascends, BeginsWith, GoesFirst, IsOrder, before, goes_before, heads_of}
 use Rattle.cell_join_tables.specs.parts.LabelEnds.{StopsAtLabels}
-use Rattle.cell_join_tables.specs.parts.LabelSteps.{AgreeInFront, AllAgree, DifferAt, goes_on_with, is_combination, is_other, labelled_head, labelled_heads}
+use Rattle.cell_join_tables.specs.parts.LabelSteps.{AgreeInFront, AllAgree, DifferAt, StopsOnLine, goes_on_with, is_combination, is_other, labelled_head, labelled_heads}
 use Rattle.cell_join_tables.specs.declared.label_fault.OtherLabel.{OtherLabel}
 use Rattle.cell_join_tables.proofs.GoingLemmas.{starts-least}
-use Rattle.cell_join_tables.proofs.LabelPlaceLemmas.{agrees-where, at-head, head-in, head-there, slice-head, stops-at}
+use Rattle.cell_join_tables.proofs.LabelPlaceLemmas.{agrees-where, at-head, head-in, head-there, labels-there, slice-head, stops-at}
+use Rattle.cell_join_tables.proofs.LineNumberLemmas.{numbered-line}
 use Rattle.cell_join_tables.proofs.OrderLemmas.{lesser-or-same}
 use Rattle.cell_join_tables.proofs.PlaceLemmas.{all-ended, begins-with, first-or, goes, one-first}
 
@@ -232,3 +234,20 @@ module _ (format : FormatValue) (texts : List TextValue) where
           two = slice-head format k texts text x inside ∙ ap Some (at-head format k y parts.0);
           differ = apart;
         }
+
+    -- and its line is told
+    pub line-here : (text : ℕ) → text < length texts
+        → ((t : TextValue) → is_other format k labelled (get_or texts text t) ≡ true)
+        → (told : OtherLabel) → told.text ≡ text → told.combo ≡ k
+        → slice_get (map (λ (t : TextValue). before_count format.separator t.line) texts) text ≡ Some told.other.items
+        → slice_get (map (λ (t : TextValue). t.number - 1) texts) text ≡ Some told.line → StopsOnLine format texts told
+    line-here text inside other told is_text is_combo is_other_text is_line = λ wholes was.
+        let y : TextValue = get_or texts text x in
+        let line : Labelled = (k, before_count format.separator y.line) in
+        let goes_on = both-of (goes_on_with k y) (not (bytes_eq (before_count format.separator y.line) labelled)) (other x) in
+        let head = slice-head format k texts text x inside ∙ ap Some (at-head format k y goes_on.0) in
+        let own : line.1 ≡ told.other.items = labels-there format texts text line told.other.items head is_other_text in
+        let same : (text, line) ≡ (told.text, (told.combo, told.other.items)) =
+        λ i. (sym is_text i, (sym is_combo i, own i)) in
+        subst (λ (p : ℕ × Labelled). HasNumberedLine wholes p.0 told.line p.1) same
+        (numbered-line format wholes texts text line told.line was head is_line)

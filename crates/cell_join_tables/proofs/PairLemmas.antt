@@ -3,7 +3,7 @@ use Rattle.std.proofs.Common.{◌≡◌, ℕ, suc, ◌+◌, ◌<◌, ◌≤◌, 
 use Rattle.std.proofs.Math.Seq.{drop-cons, take-length}
 use Rattle.std.proofs.lemmas.List.{append-nil, drop-drop, drop_all, length-drop}
 use Rattle.std.proofs.lemmas.List.Elements.{All-cons, All-head, All-tail}
-use Rattle.std.proofs.lemmas.List.Sums.{sum_by-cons}
+use Rattle.std.proofs.lemmas.List.Sums.{sum_by-cons, sum_by-take-drop}
 use Rattle.std.specs.List.{AllByRecursion}
 use Rattle.std.specs.List.Sorted.{IsStrictlySortedBy}
 use Rattle.std.specs.Ordering.{ordering_reverse}
@@ -16,7 +16,6 @@ use Rattle.cell_stats_counts.specs.parts.HeldPlaces.{is_same}
 use Rattle.cell_stats_counts.proofs.HeldLemmas.{cond-add}
 use Rattle.cell_stats_counts.proofs.GatheredLemmas.{entry-le}
 use Rattle.cell_stats.specs.CategoryTables.{Pairs}
-use Rattle.std.proofs.lemmas.List.Sums.{sum_by-take-drop}
 use Rattle.cell_parts.specs.TableParts.{count_in, IsMerge}
 use Rattle.cell_parts.specs.Merging.{IsListing}
 use Rattle.cell_parts.proofs.ListingLemmas.{keys_of, listed-beside, beside-merge, IsMerge-from}

@@ -10,7 +10,7 @@ use Rattle.std.specs.Prelude.{All, IfSome}
 use Rattle.cell_stats_combinations.specs.Combinations.{Combination}
 use Rattle.cell_stats.specs.TableText.{FormatValue}
 use Rattle.cell_join_lines.specs.LineLabels.{labelled_behind, labelled_from}
-use Rattle.cell_join_lines.specs.LineReading.{stopped}
+use Rattle.cell_join_lines.specs.LineReading.{line_after, stopped}
 use Rattle.cell_join_lines.specs.TextReading.{TextValue, combination_of, reading_behind, reading_from}
 use Rattle.cell_join_lines.specs.declared.table_fault.TableFault.{TableFault}
 use Rattle.cell_join_lines.specs.declared.table_fault.TableKind.{TableKind}
@@ -317,14 +317,15 @@ module _ (texts : List TextValue) where
           (omega (arith, long, inside)))
 
       pub reads-on : (format : FormatValue) (y : TextValue) → reading_behind format x ≡ reading_from format y
-          → labelled_behind format x ≡ labelled_from format y
+          → labelled_behind format x ≡ labelled_from format y → y.number ≡ line_after x.number
           → (first : ℕ) → GoesFirst (heads_of texts) first → ReadsOn format texts first (set texts place y)
-      reads-on format y read lines first other = subst (λ (p : ℕ). ReadsOn format texts p (set texts place y))
+      reads-on format y read lines number first other = subst (λ (p : ℕ). ReadsOn format texts p (set texts place y))
           (one-first (heads_of texts) place first goes other)
           (record {
             text = y;
             read = ap (reading_behind format) (there y) ∙ read;
             labelled = ap (labelled_behind format) (there y) ∙ lines;
+            number = number ∙ ap (λ (t : TextValue). line_after t.number) (sym (there y));
             others = refl;
           })
 

@@ -19,8 +19,7 @@ use Rattle.cell_join_lines.specs.declared.table_fault.TableKind.{TableKind}
 use Rattle.cell_join_lines.specs.declared.table_fault.TableKind.TheVariants.{BadWidth, LongLine}
 use Rattle.cell_join_lines.specs.declared.table_fault.TheConstants.{MOST_BYTES}
 use Rattle.cell_parts.specs.Merging.{IsListing}
-use Rattle.cell_parts.proofs.ListingLemmas.{listing-none}
-use Rattle.cell_parts.proofs.ListingLemmas.{keys_of}
+use Rattle.cell_parts.proofs.ListingLemmas.{listing-none, keys_of}
 use Rattle.cell_join_tables.specs.JoinedTexts.{first_entry, readings_from, tables_of, width_behind}
 
 -- ---- a count is above 0

@@ -8,6 +8,7 @@ use Rattle.cell_stats.specs.CategoryTables.{Pairs}
 use Rattle.cell_stats.specs.TableText.{FormatValue}
 use Rattle.cell_parts.specs.TableParts.{IsMerge}
 use Rattle.cell_join_lines.specs.LineLabels.{Labelled, labelled_in}
+use Rattle.cell_join_lines.specs.LineNumbers.{IsNumberedLine}
 use Rattle.cell_join_lines.specs.LineReading.{TableReading}
 use Rattle.cell_join_tables.specs.JoinedTexts.{AreJoinedTexts, AreNoneBefore, AreTables, HasWritten, IsJoinFault, IsMergeOf, fault_place, readings_of, tables_of}
 use Rattle.cell_join_tables.specs.declared.join_fault.JoinFault.{JoinFault}
@@ -82,6 +83,15 @@ pub record HasOtherLabel (readings : List TableReading) (texts : List (List Labe
   pub other : HasLine texts told.text (told.combo, told.other.items)
   pub differ : told.other.items ≢ told.labelled.items
   pub none : AreNoneBefore told.combo (map fault_place readings)
+
+-- the text at this place has this on the line of this number
+abbrev pub HasNumberedLine : List (List Labelled) → (text number : ℕ) → Labelled → Type 0
+HasNumberedLine texts text number line = (lines : List Labelled) × ((slice_get texts text ≡ Some lines) × IsNumberedLine lines number line)
+
+-- other labels are on the line that is told
+abbrev pub IsOnLine : List (List Labelled) → LabelFault → Type 0
+IsOnLine texts (faults.Join fault) = Unit {0}
+IsOnLine texts (faults.OtherLabel told) = HasNumberedLine texts told.text told.line (told.combo, told.other.items)
 
 -- why texts with labels are not joined
 abbrev pub IsLabelFault : FormatValue → List Coming → LabelFault → Type 0

@@ -1,6 +1,6 @@
 //! The labels that texts have for the combination that they go on with.
 
-ghost use Rattle.std.specs.Prelude.{◌≡◌, ◌<◌, not, bytes_eq, length, map, slice_get, slice_index_or, All, None, Some, IfOk, IfErr, IfSome, true};
+ghost use Rattle.std.specs.Prelude.{◌≡◌, ◌<◌, ◌-◌, not, bytes_eq, length, map, slice_get, slice_index_or, All, None, Some, IfOk, IfErr, IfSome, true};
 ghost use Rattle.cell_join_lines.specs.LineLabels.{before_count};
 ghost use Rattle.cell_join_lines.specs.TextReading.{TextValue};
 ghost use Rattle.cell_join_tables.specs.parts.LabelSteps.{AgreeInFront, goes_on_with, is_other};
@@ -79,6 +79,8 @@ pub(crate) fn other_label<R: Source>(
     ensures other { IfOk result (λ told. slice_get
         (map (λ text. before_count format.now.separator text.line) texts.now) text
         ≡ Some told.other.items) }
+    ensures line { IfOk result (λ told. slice_get (map (λ text. text.number - 1) texts.now) text
+        ≡ Some told.line) }
     ensures memory { IfErr result (λ fault. fault ≡ JoinFault.Memory) }
 {
     let at = &texts[text];

@@ -1,14 +1,14 @@
 //! The least entry that texts go on with.
 
 ghost use Rattle.std.specs.Prelude.{◌≡◌, ◌≢◌, ℕ, List, [], ◌∷◌, All, IfErr, IfOk, IfSome, None, Ok, OnOk, Some, map, option_map};
-ghost use Rattle.cell_join_lines.specs.LineLabels.{labelled_from};
+ghost use Rattle.cell_join_lines.specs.LineLabels.{Labelled, labelled_from};
 ghost use Rattle.cell_join_lines.specs.LineReading.{TableReading};
 ghost use Rattle.cell_join_lines.specs.TextReading.{reading_from};
 ghost use Rattle.cell_join_tables.specs.TextHeads.{head_count, past_labelled};
 ghost use Rattle.cell_join_tables.specs.parts.MergeEnds.{AreEnded};
 ghost use Rattle.cell_join_tables.specs.parts.Taking.{HasTaken, IsStepFault, StepFails, TakesEntries};
 ghost use Rattle.cell_join_tables.specs.parts.HeadOrder.{BeginsWith};
-ghost use Rattle.cell_join_tables.specs.parts.LabelSteps.{LeavesLines};
+ghost use Rattle.cell_join_tables.specs.parts.LabelSteps.{AreBehind, LeavesLines};
 ghost use Rattle.cell_join_tables.specs.parts.LeastEntries.{HasGone};
 
 use crate::join_fault::JoinFault;
@@ -45,6 +45,8 @@ fn take_others<R: Source>(
         → HasGone (λ text. reading_from format.now text) combo.now readings texts.old (Some count) 1
         → OnOk result (map (λ text. labelled_from format.now text) texts.new
         ≡ map (λ text. option_map (past_labelled combo.now) (labelled_from format.now text)) texts.old) }
+    ensures behind { (wholes : List (List Labelled)) → AreBehind format.now wholes texts.old
+        → OnOk result (AreBehind format.now wholes texts.new) }
     ensures fault { (readings : List TableReading)
         → HasGone (λ text. reading_from format.now text) combo.now readings texts.old (Some count) 1
         → IfErr result (IsStepFault readings) }
@@ -83,6 +85,8 @@ pub(crate) fn take_least<R: Source>(
         (λ text. reading_from format.now text) texts.old texts.new (entry ∷ []))) }
     ensures labelled { IfOk result (λ taken. IfSome taken
         (λ entry. LeavesLines format.now entry.0 texts.old texts.new)) }
+    ensures behind { (wholes : List (List Labelled)) → AreBehind format.now wholes texts.old
+        → IfOk result (λ taken. IfSome taken (λ entry. AreBehind format.now wholes texts.new)) }
     ensures begins { IfOk result (λ taken. IfSome taken
         (λ entry. (n : ℕ) × BeginsWith texts.old (entry.0, n))) }
     ensures none { result ≡ Ok None → AreEnded (λ text. reading_from format.now text) texts.old }

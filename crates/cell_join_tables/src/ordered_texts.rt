@@ -5,7 +5,7 @@ ghost use Rattle.std.specs.List.{Contains, insert};
 ghost use Rattle.cell_stats_combinations.specs.Combinations.{Combination};
 ghost use Rattle.cell_join_lines.specs.TextReading.{combination_of};
 ghost use Rattle.cell_join_tables.specs.parts.LabelEnds.{StopsAtLabels};
-ghost use Rattle.cell_join_tables.specs.parts.LabelSteps.{AllAgree, labelled_heads};
+ghost use Rattle.cell_join_tables.specs.parts.LabelSteps.{AllAgree, StopsOnLine, labelled_heads};
 ghost use Rattle.cell_join_tables.specs.parts.HeadOrder.{Ascends, AreBefore, BeginsWith, GoesFirst, IsFaultBehind, ReadsOn, goes_before, heads_of};
 
 use crate::join_fault::JoinFault;
@@ -168,7 +168,8 @@ impl<R: Source> OrderedTexts<R> {
         ensures own { result ≡ Ok None → (entry : Combination × ℕ) → BeginsWith self.now entry
             → Contains (labelled_heads format.now self.now)
             (Some (entry.0, labelled.new.items)) }
-        ensures other { IfOk result (λ told. IfSome told (StopsAtLabels format.now self.now)) }
+        ensures other { IfOk result (λ told. IfSome told
+            (λ told. StopsAtLabels format.now self.now told × StopsOnLine format.now self.now told)) }
         ensures memory { IfErr result (λ fault. fault ≡ JoinFault.Memory) }
     {
         let Some(first) = self.order.as_slice().first() else {

@@ -1,19 +1,19 @@
 //! Texts of tables joined to one text.
 
-ghost use Rattle.std.specs.Prelude.{◌≡◌, ◌≢◌, List, All, Ok, Err, None, Some, IfErr, IfSome, OnErr, map, false, true};
+ghost use Rattle.std.specs.Prelude.{◌≡◌, ◌≢◌, List, All, Ok, Err, None, Some, IfErr, IfOk, IfSome, OnErr, map, false, true};
 ghost use Rattle.std.specs.List.{Contains};
 ghost use Rattle.cell_core_devices.specs.Blocks.{Appends};
 ghost use Rattle.cell_core_devices.specs.Device.{Coming, after_flush, append_known, has_failed};
 ghost use Rattle.cell_stats_combinations.specs.Combinations.{Combination};
 ghost use Rattle.cell_stats.specs.CategoryTables.{Pairs};
-ghost use Rattle.cell_join_lines.specs.LineLabels.{labelled_from, labelled_in};
+ghost use Rattle.cell_join_lines.specs.LineLabels.{Labelled, labelled_from, labelled_in};
 ghost use Rattle.cell_join_lines.specs.LineReading.{TableReading};
 ghost use Rattle.cell_join_lines.specs.TableLines.{entries_text};
 ghost use Rattle.cell_join_lines.specs.TextReading.{reading_from};
-ghost use Rattle.cell_join_tables.specs.JoinedLabels.{AreJoinedLabels, HasLabelledWritten, IsLabelFault, IsLabelledMerge, IsPlainly, IsTold, LabelledEntry, counted_line, counted_text};
+ghost use Rattle.cell_join_tables.specs.JoinedLabels.{AreJoinedLabels, HasLabelledWritten, IsLabelFault, IsLabelledMerge, IsOnLine, IsPlainly, IsTold, LabelledEntry, counted_line, counted_text, labels_of_texts};
 ghost use Rattle.cell_join_tables.specs.JoinedTexts.{Give, IsFaultyAtOnce, IsMergeOf, readings_of};
 ghost use Rattle.cell_join_tables.specs.parts.LabelEnds.{IsLabelledEnd, StopsAtLabels, answer_of, label_fault_of, other_of};
-ghost use Rattle.cell_join_tables.specs.parts.LabelSteps.{HasLabelledStep};
+ghost use Rattle.cell_join_tables.specs.parts.LabelSteps.{AreBehind, HasLabelledStep, StopsOnLine};
 ghost use Rattle.cell_join_tables.specs.parts.MergeEnds.{AreEnded};
 ghost use Rattle.cell_join_tables.specs.parts.Taking.{StepFails};
 
@@ -73,8 +73,10 @@ fn write_least<R: Source, W: Sink>(
         × All (λ text. text.head ≡ None) texts.old
         × (out.new ≡ out.old) × (block.new ≡ block.old) }
     ensures other { (told : OtherLabel) → result ≡ Ok (JoinStep.Other told)
-        → StopsAtLabels format.now texts.old told
+        → (StopsAtLabels format.now texts.old told × StopsOnLine format.now texts.old told)
         × (out.new ≡ out.old) × (block.new ≡ block.old) }
+    ensures behind { (wholes : List (List Labelled)) → AreBehind format.now wholes texts.old
+        → result ≡ Ok JoinStep.Line → AreBehind format.now wholes texts.new }
     ensures fault { IfErr result (StepFails (λ text. reading_from format.now text) texts.old) }
     ensures unwritten { IfErr result (λ fault. fault ≢ JoinFault.Write) }
     ensures err { OnErr result ((out.new ≡ out.old) × (block.new ≡ block.old)) }
@@ -104,6 +106,7 @@ fn merge_texts<R: Source, W: Sink>(
 ) -> Result<Option<OtherLabel>, JoinFault>
     ensures end { IsLabelledEnd format.now texts.old
         W.taken W.faults out.old block.old out.new block.new result }
+    ensures line { IfOk result (λ other. IfSome other (StopsOnLine format.now texts.old)) }
     ensures write { result ≡ Err JoinFault.Write → block.new.failed ≡ true }
 {
     let mut labelled = Vec::new(alloc);
@@ -131,6 +134,7 @@ fn merge_opened<R: Source + Drop, W: Sink>(
 ) -> Result<Option<OtherLabel>, JoinFault>
     ensures end { IsLabelledEnd format.now texts.items
         W.taken W.faults out.old block.old out.new block.new result }
+    ensures line { IfOk result (λ other. IfSome other (StopsOnLine format.now texts.items)) }
     ensures write { result ≡ Err JoinFault.Write → block.new.failed ≡ true }
 {
     match OrderedTexts::from_texts(alloc, texts) {
@@ -177,6 +181,8 @@ fn join_opened<R: Source + Drop, W: Sink>(
         ≡ map (λ coming. Some (labelled_in format.now coming.bytes)) comings
         → IsTold format.now comings (W.taken out.old) (W.taken out.new) result.written
         result.fault }
+    ensures line { (wholes : List (List Labelled)) → AreBehind format.now wholes texts.items
+        → IfSome result.fault (IsOnLine wholes) }
     ensures sound { result.fault ≡ None
         → W.faults out.new ≡ after_flush (W.faults out.old) false }
     ensures write { result.fault ≡ Some (LabelFault.Join JoinFault.Write)
@@ -215,6 +221,9 @@ pub fn join_texts<R: Source + Drop, W: Sink>(
     // lesser combination than one whose counts are; or two texts have other labels for a combination.
     ensures fault { (texts : List Coming) → Give R.coming sources.items texts
         → IfSome result.fault (IsLabelFault format.now texts) }
+    // Other labels are told with the line that has them in its text.
+    ensures line { (texts : List Coming) → Give R.coming sources.items texts
+        → IfSome result.fault (IsOnLine (labels_of_texts format.now texts)) }
     // With a fault the sink has taken the lines of the first entries, or a prefix of them where a write failed.
     ensures written { (texts : List Coming) → Give R.coming sources.items texts
         → IfSome result.fault (HasLabelledWritten format.now texts (W.taken out.old)

@@ -52,6 +52,7 @@ pub fn open_texts<R: Source + Drop>(
         → Give R.coming sources.items comings
         → map (λ text. labelled_from format.now text) texts.items
         ≡ map (λ coming. Some (labelled_in format.now coming.bytes)) comings) }
+    ensures number { IfOk result (λ texts. All (λ text. text.number ≡ 2) texts.items) }
     ensures fault { IfErr result (λ fault. (comings : List Coming)
         → Give R.coming sources.items comings
         → IsOpeningFault (readings_of format.now comings) fault) }

@@ -6,7 +6,7 @@ use Rattle.std.specs.declared.cmp.Ordering.TheVariants.{Less, Equal, Greater}
 use Rattle.cell_stats_combinations.specs.Combinations.{Combination, combination_cmp}
 use Rattle.cell_stats.specs.TableText.{FormatValue}
 use Rattle.cell_join_lines.specs.LineLabels.{labelled_behind, labelled_from}
-use Rattle.cell_join_lines.specs.LineReading.{stopped}
+use Rattle.cell_join_lines.specs.LineReading.{line_after, stopped}
 use Rattle.cell_join_lines.specs.TextReading.{TextValue, combination_of, reading_behind, reading_from}
 use Rattle.cell_join_tables.specs.declared.join_fault.JoinFault.{JoinFault}
 use Rattle.cell_join_tables.specs.declared.join_fault.JoinFault.TheVariants.{Text, TooMany, TooLong, Memory, Write}
@@ -62,6 +62,7 @@ pub record ReadsOn (format : FormatValue) (old : List TextValue) (place : ℕ) (
   pub text : TextValue
   pub read : reading_behind format (slice_index_or old place text) ≡ reading_from format text
   pub labelled : labelled_behind format (slice_index_or old place text) ≡ labelled_from format text
+  pub number : text.number ≡ line_after (slice_index_or old place text).number
   pub others : new ≡ slice_set old place text
 
 -- why a text at a place could not read its next entry; of being out of memory nothing is said

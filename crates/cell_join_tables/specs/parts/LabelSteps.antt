@@ -9,11 +9,13 @@ use Rattle.cell_stats.specs.TableText.{FormatValue}
 use Rattle.cell_parts.specs.Merging.{IsListing}
 use Rattle.cell_join_lines.specs.LineReading.{TableReading}
 use Rattle.cell_join_lines.specs.LineLabels.{Labelled, before_count, labelled_from}
+use Rattle.cell_join_lines.specs.LineNumbers.{IsBehind}
 use Rattle.cell_join_lines.specs.TextReading.{TextValue, combination_of, reading_from}
 use Rattle.cell_join_tables.specs.TextHeads.{past_labelled}
 use Rattle.cell_join_tables.specs.JoinedTexts.{tables_of}
+use Rattle.cell_join_tables.specs.declared.label_fault.OtherLabel.{OtherLabel}
 use Rattle.cell_join_tables.specs.parts.Taking.{TakesEntries}
-use Rattle.cell_join_tables.specs.JoinedLabels.{AreOfTexts, LabelledEntry, counted_line, counted_text, plain_entries, plain_entry, labelled_of}
+use Rattle.cell_join_tables.specs.JoinedLabels.{AreOfTexts, HasNumberedLine, LabelledEntry, counted_line, counted_text, plain_entries, plain_entry, labelled_of}
 
 -- whether a combination that may be is this one
 abbrev pub is_combination : Combination → Option Combination → Bool
@@ -100,3 +102,14 @@ pub record HasLabelledMerge {S : Type 0} (format : FormatValue) (old new : List 
   pub takes : TakesEntries (λ text. reading_from format text) old new (plain_entries done)
   pub passes : PassesLines format old new done
   pub appends : Appends taken faults out block (counted_text done) now after
+
+-- of these lines of texts, those before their heads were read
+abbrev pub AreBehind : FormatValue → List (List Labelled) → List TextValue → Type 0
+AreBehind format [] [] = Unit {0}
+AreBehind format [] (text ∷ texts) = ⊥
+AreBehind format (whole ∷ wholes) [] = ⊥
+AreBehind format (whole ∷ wholes) (text ∷ texts) = IsBehind format whole text × AreBehind format wholes texts
+
+-- other labels are told with their line, of whatever lines the texts have
+abbrev pub StopsOnLine : FormatValue → List TextValue → OtherLabel → Type 0
+StopsOnLine format texts told = (wholes : List (List Labelled)) → AreBehind format wholes texts → HasNumberedLine wholes told.text told.line (told.combo, told.other.items)

@@ -1,8 +1,9 @@
-use Rattle.std.proofs.Common.{ℕ, sym, ◌∙◌, subst}
+use Rattle.std.proofs.Common.{◌≡◌, ℕ, None, Some, sym, ◌∙◌, subst}
 use Rattle.cell_stats_combinations.specs.Combinations.{Combination}
 use Rattle.cell_join_tables.proofs.TakingLemmas.{all-ended}
 use Rattle.cell_join_tables.specs.parts.HeadOrder.{BeginsWith}
 use Rattle.cell_join_tables.proofs.GoingLemmas.{fault-first, gone-first, lines-first}
+use Rattle.cell_join_tables.proofs.LineNumberLemmas.{behind-on}
 use Rattle.cell_join_tables.proofs.least_entry.take_least.Goals as goal
 
 pub returns-in-Ok-take_others-clause-some : goal.returns-in-Ok-take_others-clause-some
@@ -52,3 +53,11 @@ returns-in-Ok-take_others-clause-begins g c = (
 
 pub returns-in-None-clause-ended : goal.returns-in-None-clause-ended
 returns-in-None-clause-ended g c = λ e. c.in-None.ensures
+
+pub returns-in-Ok-take_others-clause-behind : goal.returns-in-Ok-take_others-clause-behind
+returns-in-Ok-take_others-clause-behind g c = λ wholes was.
+    let starts = c.in-Some.ensures in
+    c.in-Ok-take_others.ensures.behind wholes
+    (behind-on c.args.format.now wholes c.args.texts.now c.advance.new.self starts.first
+    (λ text none. (let both : None ≡ Some c.in-Some.field-0.now = sym none ∙ starts.is text in cc))
+    (c.in-Ok-advance.ensures.reads starts.first starts.goes) was)

@@ -1,4 +1,4 @@
-use Rattle.std.proofs.Common.{◌≡◌, [], map, Some, Err, append-nil, ap, sym, ◌∙◌, subst}
+use Rattle.std.proofs.Common.{◌≡◌, [], map, Option, Some, Err, append-nil, ap, sym, ◌∙◌, subst}
 use Rattle.cell_core_devices.specs.Blocks.{Appended}
 use Rattle.cell_core_devices.specs.Device.{Coming}
 use Rattle.cell_core_devices.proofs.BlockLemmas.{appends_then}
@@ -6,11 +6,14 @@ use Rattle.cell_join_lines.specs.LineLabels.{labelled_in}
 use Rattle.cell_join_tables.specs.JoinAnswers.{IsAnswered, answered, settled}
 use Rattle.cell_join_tables.specs.JoinedTexts.{readings_of}
 use Rattle.cell_join_tables.specs.declared.join_fault.JoinFault.TheVariants.{Write}
-use Rattle.cell_join_tables.specs.JoinedLabels.{IsTold, counted_text}
+use Rattle.cell_join_tables.specs.JoinedLabels.{IsOnLine, IsTold, counted_text}
 use Rattle.cell_join_tables.specs.parts.LabelEnds.{answer_of, label_fault_of}
 use Rattle.cell_join_tables.proofs.JoinLemmas.{no-fault-sound, write-failed}
 use Rattle.cell_join_tables.proofs.ReadingLemmas.{readings-listing}
 use Rattle.cell_join_tables.proofs.LabelledJoinLemmas.{answer-write, label-none, label-write, some-each, told-so}
+use Rattle.cell_join_tables.proofs.LineNumberLemmas.{line-told}
+use Rattle.cell_join_tables.specs.declared.label_fault.LabelFault.{LabelFault}
+use Rattle.std.specs.Prelude.{IfSome}
 use Rattle.cell_join_tables.proofs.table_joining.join_opened.Goals as goal
 
 pub returns-clause-told : goal.returns-clause-told
@@ -80,3 +83,10 @@ returns-clause-write g c = λ is.
     c.finish-fault.result (λ e. c.settle-settled.ensures.keeps
     (c.merge_opened-merged.ensures.write (answer-write c.merge_opened-merged.result e))) so
     (label-write c.finish-fault.result _ (sym c.label_fault.ensures ∙ is))
+
+pub returns-clause-line : goal.returns-clause-line
+returns-clause-line g c = λ wholes behind.
+    subst (λ (f : Option LabelFault). IfSome f (IsOnLine wholes))
+    (sym (c.label_fault.ensures ∙ ap (label_fault_of c.finish-fault.result) c.parted-answer.ensures.other))
+    (line-told wholes c.args.format.now c.args.texts.items behind c.finish-fault.result c.merge_opened-merged.result
+    c.merge_opened-merged.ensures.line)

@@ -7,6 +7,8 @@ use Rattle.cell_join_tables.proofs.ReadingLemmas.{readings-listing}
 use Rattle.cell_join_tables.proofs.TakingLemmas.{not-at-once}
 use Rattle.cell_join_tables.proofs.LabelledJoinLemmas.{fault-told, joined-told, opening-told, wholly-labelled, written-told}
 use Rattle.cell_join_tables.proofs.PlainLemmas.{plain-told, plainly-whole}
+use Rattle.cell_join_tables.proofs.LineNumberLemmas.{behind-first}
+use Rattle.cell_join_tables.specs.JoinedLabels.{labels_of_texts}
 use Rattle.cell_join_tables.proofs.table_joining.join_texts.Goals as goal
 
 pub returns-in-Ok-clause-joined : goal.returns-in-Ok-clause-joined
@@ -59,16 +61,14 @@ returns-in-Ok-clause-plain_headline g c = λ texts merged give none whole memory
 pub returns-in-Err-clause-fault : goal.returns-in-Err-clause-fault
 returns-in-Err-clause-fault g c = λ texts give.
     let format = c.args.format.now in
-    let told = opening-told format texts (readings-listing format 0 texts) (g.W.Sink.taken c.args.out.now) c.in-Err.fault
-    (c.in-Err.ensures.fault texts give) in
-    told.0
+    (opening-told format texts (readings-listing format 0 texts) (g.W.Sink.taken c.args.out.now) c.in-Err.fault
+    (c.in-Err.ensures.fault texts give)).0
 
 pub returns-in-Err-clause-written : goal.returns-in-Err-clause-written
 returns-in-Err-clause-written g c = λ texts give.
     let format = c.args.format.now in
-    let told = opening-told format texts (readings-listing format 0 texts) (g.W.Sink.taken c.args.out.now) c.in-Err.fault
-    (c.in-Err.ensures.fault texts give) in
-    told.1
+    (opening-told format texts (readings-listing format 0 texts) (g.W.Sink.taken c.args.out.now) c.in-Err.fault
+    (c.in-Err.ensures.fault texts give)).1
 
 pub returns-in-Err-clause-plain : goal.returns-in-Err-clause-plain
 returns-in-Err-clause-plain g c = λ texts give none.
@@ -99,3 +99,9 @@ returns-in-Err-clause-plain_headline g c = λ texts merged give none whole memor
     plainly-whole format texts (g.W.Sink.taken c.args.out.now) (g.W.Sink.taken c.args.out.now) 0 none (readings-listing format 0 texts) merged whole
     (has_failed (g.W.Sink.faults c.args.out.now)) (Some (faults.Join c.in-Err.fault)) told
     (λ is. absurd (c.in-Err.ensures.unwritten (let same : c.in-Err.fault ≡ Write = cc in same))) memory good
+
+pub returns-in-Ok-clause-line : goal.returns-in-Ok-clause-line
+returns-in-Ok-clause-line g c = λ texts give.
+    c.join_opened.ensures.line (labels_of_texts c.args.format.now texts)
+    (behind-first c.args.format.now c.in-Ok.texts.items texts (c.in-Ok.ensures.labelled texts give)
+    c.in-Ok.ensures.number)

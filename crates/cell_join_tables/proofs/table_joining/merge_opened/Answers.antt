@@ -13,3 +13,6 @@ returns-in-Err-clause-end g c =
 
 pub returns-in-Ok-clause-end : goal.returns-in-Ok-clause-end
 returns-in-Ok-clause-end g c = rw (sym c.in-Ok.ensures) c.merge_texts.ensures.end
+
+pub returns-in-Ok-clause-line : goal.returns-in-Ok-clause-line
+returns-in-Ok-clause-line g c = rw (sym c.in-Ok.ensures) c.merge_texts.ensures.line

@@ -1,4 +1,6 @@
 use Rattle.std.proofs.Common.{rules, ◌≡◌, ◌++◌, ◌∷◌, [], ℕ, List, length, arith, ap, sym, ◌∙◌, subst}
+use Rattle.std.proofs.lemmas.List.Elements.{All-push}
+use Rattle.std.specs.Prelude.{All}
 use Rattle.std.specs.Vec.Iter.{into_iter_items}
 use Rattle.cell_join_lines.specs.LineLabels.{labelled_from, labelled_in}
 use Rattle.cell_join_lines.specs.TextReading.{TextValue, reading_from}
@@ -49,6 +51,8 @@ loop-source-preserved g c =
           (seen-more g.R.Source.coming (λ (text : TextValue). labelled_from format text)
           (λ coming. labelled_in format coming.bytes) c.in-Some.source left (into_iter_items at.source-iterator)
           at.texts.items text comings is (at.invariant.seen comings give) c.in-Ok.ensures.labelled);
+      number = subst (λ (texts : List TextValue). All (λ (t : TextValue). t.number ≡ 2) texts) (sym items)
+          (All-push (λ (t : TextValue). t.number ≡ 2) at.texts.items text at.invariant.number c.in-Ok.ensures.number);
       len = let was = at.invariant.len in
           let gone = c.in-Some.ensures.steps.1 in
           let short = ap (λ l. length l) is in
@@ -72,3 +76,6 @@ returns-clause-labelled g c = λ comings give.
     let none : left ≡ [] = no-more left (sym at.invariant.len ∙ c.in-None.ensures.steps.0) in
     seen-all g.R.Source.coming (λ (text : TextValue). labelled_from format text) (λ coming. labelled_in format coming.bytes)
     left at.texts.items comings none (at.invariant.seen comings give)
+
+pub returns-clause-number : goal.returns-clause-number
+returns-clause-number g c = c.loop-source.invariant.number

@@ -60,7 +60,7 @@ returns-clause-reads g c =
     (elim c.match-read.branch [
       | in-Ok w ↦ (rw w.result-is (reads-on i.texts.items i.order.items c.self.invariant c.in-Some.first.now
           (c.in-Some.ensures.value ∙ ap (λ xs. slice_get xs 0) c.as_slice.ensures.value) c.index_mut.result.now
-          c.index_mut.ensures.value c.args.format.now c.next-read.new.self w.in-Ok.ensures.read w.in-Ok.ensures.labelled))
+          c.index_mut.ensures.value c.args.format.now c.next-read.new.self w.in-Ok.ensures.read w.in-Ok.ensures.labelled w.in-Ok.ensures.number))
       | in-Err w ↦ rw w.result-is tt
     ])
 

@@ -1,8 +1,8 @@
-use Rattle.std.proofs.Common.{◌≡◌, ◌++◌, ◌<◌, ℕ, List, Some, true, length, map, get_or, slice_get, ap, sym, ◌∙◌, subst}
+use Rattle.std.proofs.Common.{◌≡◌, ◌++◌, ◌<◌, ◌-◌, ℕ, List, Some, true, length, map, get_or, slice_get, ap, sym, ◌∙◌, subst}
 use Rattle.cell_join_lines.specs.LineLabels.{before_count}
 use Rattle.cell_join_lines.specs.TextReading.{TextValue}
 use Rattle.cell_join_tables.specs.parts.LabelSteps.{AgreeInFront, is_other}
-use Rattle.cell_join_tables.proofs.OrderedLabelLemmas.{all-agree, first-labels, none-begins, stops-here}
+use Rattle.cell_join_tables.proofs.OrderedLabelLemmas.{all-agree, first-labels, line-here, none-begins, stops-here}
 use Rattle.cell_join_tables.proofs.ordered_texts.OrderedTexts.compare_labels.Goals as goal
 
 pub returns-in_default-head-clause-agree : goal.returns-in_default-head-clause-agree
@@ -13,7 +13,7 @@ returns-in_default-head-clause-agree g c =
     let place = c.in-Some.first.now in
     let x = c.index-texts-first.result in
     let is = c.in-Some.ensures.value ∙ ap (λ xs. slice_get xs 0) c.as_slice.ensures.value in
-    let at : x ≡ get_or texts place x = c.index-texts-first.is ∙ ap (λ (ts : List TextValue). get_or ts place x) c.as_slice-texts.ensures.value in
+    let at = c.index-texts-first.is ∙ ap (λ (ts : List TextValue). get_or ts place x) c.as_slice-texts.ensures.value in
     rw (← c.self.view_is) (λ e entry begins. absurd (none-begins c.args.format.now texts order c.self.invariant place is x at
     (sym c.head.ensures ∙ c.in_default-head.is) entry begins))
 
@@ -25,7 +25,7 @@ returns-in_default-head-clause-own g c =
     let place = c.in-Some.first.now in
     let x = c.index-texts-first.result in
     let is = c.in-Some.ensures.value ∙ ap (λ xs. slice_get xs 0) c.as_slice.ensures.value in
-    let at : x ≡ get_or texts place x = c.index-texts-first.is ∙ ap (λ (ts : List TextValue). get_or ts place x) c.as_slice-texts.ensures.value in
+    let at = c.index-texts-first.is ∙ ap (λ (ts : List TextValue). get_or ts place x) c.as_slice-texts.ensures.value in
     rw (← c.self.view_is) (λ e entry begins. absurd (none-begins c.args.format.now texts order c.self.invariant place is x at
     (sym c.head.ensures ∙ c.in_default-head.is) entry begins))
 
@@ -37,7 +37,7 @@ returns-in_default-other_at-clause-agree g c =
     let place = c.in-Some.first.now in
     let x = c.index-texts-first.result in
     let is = c.in-Some.ensures.value ∙ ap (λ xs. slice_get xs 0) c.as_slice.ensures.value in
-    let at : x ≡ get_or texts place x = c.index-texts-first.is ∙ ap (λ (ts : List TextValue). get_or ts place x) c.as_slice-texts.ensures.value in
+    let at = c.index-texts-first.is ∙ ap (λ (ts : List TextValue). get_or ts place x) c.as_slice-texts.ensures.value in
     let format = c.args.format.now in
     let k = c.in-Some-head.combo in
     let items = c.extend_from_slice.new.self.items in
@@ -62,7 +62,7 @@ returns-in_default-other_at-clause-own g c =
     let place = c.in-Some.first.now in
     let x = c.index-texts-first.result in
     let is = c.in-Some.ensures.value ∙ ap (λ xs. slice_get xs 0) c.as_slice.ensures.value in
-    let at : x ≡ get_or texts place x = c.index-texts-first.is ∙ ap (λ (ts : List TextValue). get_or ts place x) c.as_slice-texts.ensures.value in
+    let at = c.index-texts-first.is ∙ ap (λ (ts : List TextValue). get_or ts place x) c.as_slice-texts.ensures.value in
     let format = c.args.format.now in
     let k = c.in-Some-head.combo in
     let items = c.extend_from_slice.new.self.items in
@@ -81,7 +81,7 @@ returns-in-Ok-other_label-clause-other g c =
     let place = c.in-Some.first.now in
     let x = c.index-texts-first.result in
     let is = c.in-Some.ensures.value ∙ ap (λ xs. slice_get xs 0) c.as_slice.ensures.value in
-    let at : x ≡ get_or texts place x = c.index-texts-first.is ∙ ap (λ (ts : List TextValue). get_or ts place x) c.as_slice-texts.ensures.value in
+    let at = c.index-texts-first.is ∙ ap (λ (ts : List TextValue). get_or ts place x) c.as_slice-texts.ensures.value in
     let format = c.args.format.now in
     let k = c.in-Some-head.combo in
     let items = c.extend_from_slice.new.self.items in
@@ -100,7 +100,13 @@ returns-in-Ok-other_label-clause-other g c =
     (subst (λ (ts : List TextValue). (t : TextValue) → is_other format k c.deref.result.now (get_or ts text t) ≡ true) value
     c.in-Some-other_at.ensures.other.1) in
     let inside : text < length texts = subst (λ (ts : List TextValue). text < length ts) value c.in-Some-other_at.ensures.other.0 in
-    rw (← c.self.view_is) (stops-here format texts order c.self.invariant place is x at (k, c.in-Some-head.field-0-1) has items own
-    text inside other told of.0 of.1 of.2 (of.3 ∙ again)
-    (ap (λ (ts : List TextValue). slice_get (map (λ (t : TextValue). before_count format.separator t.line) ts) text) (sym value)
-    ∙ c.in-Ok-other_label.ensures.other))
+    let there = ap (λ (ts : List TextValue). slice_get (map (λ (t : TextValue). before_count format.separator t.line) ts) text)
+    (sym value) ∙ c.in-Ok-other_label.ensures.other in
+    rw (← c.self.view_is) (
+      stops-here format texts order c.self.invariant place is x at (k, c.in-Some-head.field-0-1) has items own
+          text inside other told of.0 of.1 of.2 (of.3 ∙ again) there,
+      line-here format texts order c.self.invariant place is x at (k, c.in-Some-head.field-0-1) has items own
+          text inside other told of.1 of.2 there
+          (ap (λ (ts : List TextValue). slice_get (map (λ (t : TextValue). t.number - 1) ts) text) (sym value)
+          ∙ c.in-Ok-other_label.ensures.line),
+    )

@@ -1,0 +1,20 @@
+-- The numbers of the lines of a text.
+use Rattle.std.specs.Prelude.{ℕ, ◌≡◌, ◌+◌, ◌-◌, ◌^◌, min, List, ◌∷◌, ◌++◌, length, Some}
+use Rattle.cell_stats.specs.TableText.{FormatValue}
+use Rattle.cell_join_lines.specs.LineLabels.{Labelled, labelled_from}
+use Rattle.cell_join_lines.specs.TextReading.{TextValue}
+
+-- the line of this number among those of a text; from 2^64 - 2 on lines are not told apart
+pub record IsNumberedLine (lines : List Labelled) (number : ℕ) (line : Labelled) : Type 0 where
+  pub before : List Labelled
+  pub behind : List Labelled
+  pub is : lines ≡ before ++ line ∷ behind
+  pub numbered : number ≡ min (length before + 1) (2 ^ 64 - 2)
+
+-- of these lines of a text, those before its head were read, and its number counts them
+pub record IsBehind (format : FormatValue) (lines : List Labelled) (text : TextValue) : Type 0 where
+  pub passed : List Labelled
+  pub left : List Labelled
+  pub known : labelled_from format text ≡ Some left
+  pub is : lines ≡ passed ++ left
+  pub number : text.number ≡ min (length passed + 2) (2 ^ 64 - 1)
