@@ -115,7 +115,7 @@ def main() -> int:
     """Makes a location without a projection, and runs the cases within it."""
     with tempfile.TemporaryDirectory(prefix="rcell-grass-") as room:
         os.mkdir(f"{room}/path")
-        os.symlink(os.environ["RCELL"], f"{room}/path/rcell")
+        os.symlink(pathlib.Path(os.environ["RCELL"]).with_name("rcell-pipe"), f"{room}/path/rcell-pipe")
         os.symlink(HERE.parent / "grass/r.rcell/r.rcell.py", f"{room}/path/r.rcell")
         environment = {**os.environ, "PATH": f"{room}/path:/usr/bin:/bin", "HOME": room}
         subprocess.run(["grass", "-e", "-c", "XY", f"{room}/here"], env=environment, capture_output=True)

@@ -281,16 +281,13 @@ def answer_of_qgis(asked: Asked) -> Answer:
 
 
 def answer_of_grass(asked: Asked) -> Answer:
-    from test_without_grass import rcell as module
+    from test_without_grass import handing_out, rcell
 
-    def text_of(path: str) -> bytes:
-        cells = np.fromfile(f"{path}.cells", np.int32)
-        known = cells[cells != NULL]
-        text = module.CellWords(int(known.min()) if known.size else 0, int(known.max()) if known.size else 0)
-        sides = {"n": asked.rows, "s": 0, "e": asked.cols, "w": 0, "rows": asked.rows, "cols": asked.cols}
-        return bytes(module.header_of(sides, text.null) + text.text(cells, asked.cols))
-
-    return answer_of_program(asked, text_of)
+    region = {"n": asked.rows, "s": 0, "e": asked.cols, "w": 0, "rows": asked.rows, "cols": asked.cols}
+    inputs = [rcell.Input(name, f"{path}.cells") for name, path in zip(asked.names, asked.paths)]
+    with handing_out():
+        own = rcell.run(asked.script, inputs, [], {}, {}, region)[0]
+    return parsed(asked, b"".join(bytes(piece) for frame in own for piece in rcell.printed(frame, region))), {}
 
 
 def answer_of_shell(asked: Asked) -> Answer:
@@ -315,8 +312,13 @@ def answer_of_program(asked: Asked, text_of: Callable[[str], bytes]) -> Answer:
     ran = subprocess.run(words, capture_output=True, check=False)
     if ran.returncode:
         raise ValueError(ran.stderr.decode())
-    lines, size = ran.stdout.replace(b"*", b"%d" % NULL).split(b"\n"), asked.rows * asked.cols
-    return [np.array(b" ".join(part).split(), np.int64) for part in (lines[:size], lines[size + 6:])], {}
+    return parsed(asked, ran.stdout), {}
+
+
+def parsed(asked: Asked, text: bytes) -> list[Any]:
+    """The cells that are printed, as a list and as a grid."""
+    lines, size = text.replace(b"*", b"%d" % NULL).split(b"\n"), asked.rows * asked.cols
+    return [np.array(b" ".join(part).split(), np.int64) for part in (lines[:size], lines[size + 6:])]
 
 
 def work(answer: Callable[[Asked], Answer]) -> None:

@@ -4,6 +4,7 @@
 #     gate.sh [PROGRAM]
 cd "$(dirname "$0")/.." || exit 1
 program=$(realpath "${1:-bin/rcell}")
+pipe=$(dirname "$program")/rcell-pipe
 room=$(mktemp -d) || exit 1
 trap 'rm -rf "$room"' EXIT
 . tools/counting.sh
@@ -12,7 +13,7 @@ python=/usr/bin/python3
 [ -x "$python" ] || python=python3
 
 session() {
-    mkdir "$room/path" "$room/session" && cp "$program" "$room/path/rcell" && ln -s "$PWD/grass/r.rcell/r.rcell.py" "$room/path/r.rcell"
+    mkdir "$room/path" "$room/session" && ln -s "$pipe" "$room/path/rcell-pipe" && ln -s "$PWD/grass/r.rcell/r.rcell.py" "$room/path/r.rcell"
     grass -e -c XY "$room/here" > /dev/null 2>&1
     PATH=$room/path:/usr/bin:/bin timeout 1200 grass "$room/here/PERMANENT" --exec sh "$PWD/grass/tests/session.sh" "$PWD" "$room/session"
 }

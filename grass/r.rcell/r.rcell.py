@@ -60,7 +60,6 @@
 
 import atexit
 import errno
-import itertools
 import os
 import re
 import shutil
@@ -71,44 +70,23 @@ import sys
 import tempfile
 import time
 from collections import namedtuple
+from contextlib import contextmanager
 
 import grass.script as gs
 from grass.exceptions import CalledModuleError
 
-try:
-    import numpy as np
-except ImportError:  # cells then travel as text
-    np = None
-
 NULL = -2147483648  # of r.out.bin and r.in.bin; no category has this value
 MOST_SIDE = 65535  # rows or columns that rcell takes
 MOST_CELLS = 2147483647
-MOST_SCRIPT = 1048576  # bytes
-MOST_TABLE = 262144  # categories between the least and the greatest that get a table of words
-BLOCK_CELLS = 1 << 20  # cells that are converted at a time
+BLOCK_CELLS = 1 << 20  # cells that are sent at a time
 SECONDS_OF_A_STEP = 0.5  # of the line of progress
 BLANKS = b" \t\r"
 NAME = re.compile(r"[A-Za-z_][A-Za-z0-9_.]{0,63}")
-WORD = re.compile(rb"[^ \t\r]+")
-SEPARATOR = re.compile(rb"pipe|comma|space|tab|[!-~]")
-NULL_TEXT = re.compile(rb"[!-~]{1,64}")
-MOST_MAPS = 16  # of a table
-FLAGS = {b"r.stats": b"clnN1", b"r.clump": b"d"}
-KEYS = {
-    b"r.stats": (b"input", b"separator", b"null_value", b"after"),
-    b"r.out.ascii": (b"input", b"null_value"),
-    b"r.clump": (b"input", b"output"),
-    b"r.reclass": (b"input", b"output"),
-}
-ONE_CELL = b"north: 1\nsouth: 0\neast: 1\nwest: 0\nrows: 1\ncols: 1\n0\n"
-MESSAGE = re.compile(r"rcell: ([^:]*):(\d+): (.*)")
-COLUMN = re.compile(r" at column (\d+)$")
-# Kinds of numbers as wide as a word of cells with the blank behind it.
-KINDS = {2: "u2", 4: "u4", 8: "u8", 16: "c16"}
+COLUMN = re.compile(r" at column \d+$")
+BYTES = {"u8": 1, "i32": 4}  # of a cell, by the types of maps that come back
 
 Input = namedtuple("Input", "name map")  # the name in the script, the raster map
 Output = namedtuple("Output", "name map")
-Statement = namedtuple("Statement", "line command text rules")
 
 
 class Stopped(Exception):
@@ -122,223 +100,79 @@ class Stopped(Exception):
 # Scripts
 
 
-def statements_of(script):
-    """The statements of a script, and whether the rules of its last r.reclass are closed by `end`."""
-    found, rules, is_closed = [], None, True
-    for number, line in enumerate(script.split(b"\n"), 1):
-        text = line.strip(BLANKS)
-        if not is_closed:
-            is_closed = text == b"end"
-            rules += [] if is_closed else [text]
-        elif text and not text.startswith(b"#"):
-            rules, command = [], words_of(text)[0]
-            found.append(Statement(number, command, text, rules))
-            is_closed = command != b"r.reclass"
-    return found, is_closed
-
-
-def words_of(text):
-    """The words of a line, between the blanks that rcell knows."""
-    return WORD.findall(text)
-
-
-def bad_option(line):
-    """The first word of a statement that is no option of its command, and its place; None if none is found."""
-    words = list(WORD.finditer(line))
-    command, flags, keys = words[0][0], b"", []
-    for word in words[1:]:
-        key, equals, value = word[0].partition(b"=")
-        if key.startswith(b"-"):
-            is_bad = word[0] == b"-" or not set(word[0][1:]) <= set(FLAGS.get(command, b""))
-            flags += word[0][1:]
-        else:
-            is_bad = not equals or key in keys or key not in KEYS.get(command, ()) or not is_good_value(command, key, value)
-            keys.append(key)
-        if is_bad or (b"1" in flags and (b"c" in flags or b"after" in keys)):
-            return word[0], word.start()
-    return None
-
-
-def is_good_value(command, key, value):
-    """Whether an option may have a value; names of maps are judged elsewhere."""
-    if key == b"null_value":
-        return bool(NULL_TEXT.fullmatch(value)) and not (command == b"r.out.ascii" and b":" in value)
-    if key == b"separator":
-        return bool(SEPARATOR.fullmatch(value))
-    return command != b"r.stats" or key != b"input" or value.count(b",") < MOST_MAPS
-
-
-def option_of(statement, key):
-    """The value of an option of a statement, or b''."""
-    words = [word for word in words_of(statement.text)[1:] if word.startswith(key + b"=")]
-    return words[0][len(key) + 1 :] if words else b""
-
-
-def made_by(statement):
-    """The name of the map that a statement makes, or b''."""
-    if statement.command == b"r.mapcalc":
-        return statement.text[len(statement.command) :].split(b"=")[0].strip(BLANKS)
-    return option_of(statement, b"output")
-
-
-def has_flag(statement, flag):
-    return any(word.startswith(b"-") and flag in word for word in words_of(statement.text)[1:])
-
-
-def has_labels(statement):
-    """Whether a rule of an r.reclass has a label."""
-    return any(len(words_of(rule.partition(b"=")[2])) > 1 for rule in statement.rules)
-
-
-def with_labels(script):
+def with_labels(script, outline):
     """The script with the flag -l in each r.stats that lacks it."""
-    lines = script.split(b"\n")
-    for statement in statements_of(script)[0]:
-        if statement.command == b"r.stats" and not has_flag(statement, b"l"):
-            before, _, after = lines[statement.line - 1].partition(b"r.stats")
-            lines[statement.line - 1] = before + b"r.stats -l" + after
-    return b"\n".join(lines)
+    lines = script.split("\n")
+    for frame in outline.frames:
+        listing = outline.listings.get(frame.line)
+        if "l" not in listing.flags if listing else getattr(frame, "labels", ()) is None:
+            lines[frame.line - 1] = lines[frame.line - 1].replace("r.stats", "r.stats -l", 1)
+    return "\n".join(lines)
 
 
-def labelled_inputs(statements, names):
-    """The inputs that a table with labels reads, or that are handed out as they are."""
-    tables = [it for it in statements if it.command == b"r.stats" and has_flag(it, b"l")]
-    return {name for it in tables for name in option_of(it, b"input").decode(errors="replace").split(",")} & set(names)
+def labelled_maps(outline):
+    """The maps of the tables with labels."""
+    listed = [name for listing in outline.listings.values() if "l" in listing.flags for name in listing.maps]
+    return set(listed + [name for frame in outline.frames if getattr(frame, "labels", None) is not None for name in frame.names])
 
 
-def unused(form, text):
-    """The first word of a form with a number in it that does not occur in a text."""
-    return next(word for word in (form % number for number in range(1, len(text) + 2)) if word not in text)
+def stopped(end, script, names):
+    """What rcell says of a script or a map, with the line of the user's script beneath."""
+    lines = script.split("\n")
+    if end.source == "request" and end.map < len(names):
+        return Stopped("rcell: %s:%d: %s" % (names[end.map], end.line, end.text))
+    if not 0 < end.line <= len(lines):
+        return Stopped("rcell: script:%d: %s" % (end.line, end.text))
+    line = lines[end.line - 1].rstrip("\r")
+    column, advice = advice_on(script, names, end)
+    found = COLUMN.search(end.text)
+    is_option = end.text == "bad option" and column is not None and column > 1  # 1: two options that exclude each other
+    place = int(found[0].split()[-1]) if found else column if is_option else None
+    word = ""
+    if is_option:
+        word = ": " + line.encode("utf-8", "surrogateescape")[column - 1 :].split()[0].decode(errors="replace")
+    beneath = "    %s\n" % shown(line)
+    if place:
+        beneath += "    " + " " * len(shown(line.encode("utf-8", "surrogateescape")[: place - 1].decode(errors="replace"))) + "^\n"
+    return Stopped("rcell: script:%d: %s%s" % (end.line, end.text, word), beneath + ("    try: %s\n" % advice if advice else ""))
 
 
-class Request:
-    """What rcell is given: rules for the labels of inputs, the user's script, and what hands out the maps.
-
-    A map of nulls prints its null text as the only line of its table. With a word that is nowhere in the script it
-    is the mark that stands before each map that is handed out, and before the labels of each.
-    """
-
-    def __init__(self, script, shown, names, labels, outputs, null):
-        body = script if script.endswith(b"\n") or not script else script + b"\n"
-        statements, is_closed = statements_of(script)
-        everything = b"\n".join([body, *names, *(label for pairs in labels.values() for _category, label in pairs)])
-        self.mark = unused(b"--rcell-%d--", everything)
-        self.names = [name.decode(errors="replace") for name in names]
-        nothing = unused(b"_nothing_%d", everything)
-        self.grids = {name: unused(b"_cells_%d_%%d" % at, everything).decode() for at, name in enumerate(labels)}
-        before = b"".join(self.rules(name, pairs) for name, pairs in labels.items())
-        self.added = before.count(b"\n")
-        self.lines = shown.split(b"\n")  # as the user wrote them
-        self.labelled = {made_by(it).decode(errors="replace") for it in statements if has_labels(it)} | set(labels)
-        after = b""
-        if outputs and is_closed:  # an open r.reclass would take them for rules; rcell refuses it by itself
-            after = b"r.mapcalc %s = null()\n" % nothing
-            marked = b"r.stats input=%s null_value=%s\n" % (nothing, self.mark)
-            for output in outputs:
-                name = output.name.encode()
-                after += marked + b"r.out.ascii input=%s null_value=%s\n" % (name, null)
-                if output.name in self.labelled:
-                    after += marked + b"r.stats -ln input=%s separator=tab\n" % name
-        self.text = before + body + after
-
-    def rules(self, name, pairs):
-        """An r.reclass that gives a grid its labels, and its name in the script."""
-        lines = [b"%s = %s %s\n" % (category, category, label) for category, label in pairs]
-        head = b"r.reclass input=%s output=%s\n* = *\n" % (self.grids[name].encode(), name.encode())
-        return head + b"".join(lines) + b"end\n"
-
-    def stopped(self, message):
-        """A message of rcell as the user's script has it, with its line beneath."""
-        found = MESSAGE.match(message)
-        if not found:
-            return Stopped(message or _("rcell ended without a message"))
-        source, line, text = found[1], int(found[2]), found[3]
-        names = {grid: name for name, grid in self.grids.items()}
-        if source != "script" or line == 0:
-            return Stopped("rcell: %s:%d: %s" % (names.get(source, source), line, text))
-        own = line - self.added
-        if own < 1:
-            return Stopped(_("rcell: the labels of the raster maps: {}").format(text))
-        if own > len(self.lines) - (not self.lines[-1]):
-            return Stopped(_("rcell: while it wrote the maps: {}").format(COLUMN.sub("", text)))
-        shown = self.lines[own - 1].decode(errors="replace").rstrip("\r").replace("\t", " ")
-        column, bad = COLUMN.search(text), bad_option(self.lines[own - 1]) if text == "bad option" else None
-        place = int(column[1]) - 1 if column else bad[1] if bad else None
-        caret = "" if place is None else "    " + " " * len(self.lines[own - 1][:place].decode(errors="replace")) + "^\n"
-        word = ": " + bad[0].decode(errors="replace") if bad else ""
-        return Stopped("rcell: script:%d: %s%s" % (own, text, word), "    %s\n%s%s" % (shown, caret, self.advice(own, text)))
-
-    def advice(self, line, text):
-        """A line that says what to write instead, if rcell's package for Python is installed."""
-        try:
-            from rcell_front.mending import advice
-
-            instead = advice(b"\n".join(self.lines), self.names, line, COLUMN.sub("", text))[1]
-        except Exception:  # advice must not hide the message
-            return ""
-        return "    try: %s\n" % instead if instead else ""
+def shown(text):
+    """A text as a terminal takes it."""
+    return text.encode("utf-8", "surrogateescape").decode(errors="replace").replace("\t", " ")
 
 
-# Cells as text
+def advice_on(script, names, end):
+    """The column that an error is about, and what to write instead; None if they are not known."""
+    try:
+        from rcell_front.mending import advice
+
+        return advice(script.encode("utf-8", "surrogateescape"), names, end.line, COLUMN.sub("", end.text))
+    except Exception:  # advice must not hide the message
+        return None, None
 
 
-class CellWords:
-    """Texts of the cells of a map, all of one width, so that a block of rows becomes text by one look-up.
-
-    Zeros fill a category up to the width: rcell reads words with one blank between them fastest.
-    """
-
-    def __init__(self, least, greatest):
-        longest = max(len(str(least)), len(str(greatest)))
-        self.size = next(size for size in sorted(KINDS) if size > longest)
-        self.width, self.least = self.size - 1, least
-        self.null = b"*" * self.width
-        self.span = greatest - least + 1
-        self.words = self.table(range(least, greatest + 1)) if self.span <= MOST_TABLE else None
-
-    def table(self, categories):
-        """The word of each category in an array, and last that of null."""
-        words = b"".join(b"%0*d " % (self.width, category) for category in categories)
-        return np.frombuffer(words + self.null + b" ", dtype=KINDS[self.size])
-
-    def looked_up(self, block):
-        """The table of words for a block, and the place of each cell in it."""
-        if self.words is not None:
-            # Modulo 2^32 null, and whatever else is not from the least to the greatest, comes out behind all words.
-            places = block.view(np.uint32) - np.uint32(self.least & 0xFFFFFFFF)
-            np.minimum(places, np.uint32(self.span), out=places)
-            if np.count_nonzero(places == self.span) == np.count_nonzero(block == NULL):
-                return self.words, places
-        categories, places = np.unique(block, return_inverse=True)
-        has_null = int(categories[0] == NULL)
-        found = categories[has_null:].tolist()
-        if max((len(str(category)) for category in found[:1] + found[-1:]), default=0) > self.width:
-            raise Stopped(_("A raster map has categories beyond the range that r.info reports; r.support -s repairs it"))
-        table = self.table(found)
-        return (table, (places - 1) % len(table)) if has_null else (table, places)
-
-    def text(self, block, cols):
-        """The text of whole rows, a line for each."""
-        table, places = self.looked_up(block)
-        words = table[places].view(np.uint8).reshape(-1, cols * self.size)
-        words[:, -1] = ord("\n")
-        return words.tobytes()
+# Maps that go in
 
 
-def header_of(region, null):
-    """The header of a grid of the region, its edges as decimals."""
-    edges = [("north", "n"), ("south", "s"), ("east", "e"), ("west", "w")]
-    lines = ["%s: %.8f" % (key, region[short]) for key, short in edges]
-    lines += ["rows: %d" % region["rows"], "cols: %d" % region["cols"]]
-    return "\n".join(lines).encode() + b"\nnull: " + null + b"\n"
+def edge_texts(region):
+    """North, south, east and west as decimals."""
+    texts = (("%.8f" % region[edge]).rstrip("0").rstrip(".") for edge in "nsew")
+    return tuple("0" if text == "-0" else text for text in texts)
 
 
-def binary_texts(raster, region):
-    """The text of a raster map in blocks of rows, by r.out.bin; the header comes first."""
+def source_of(it, labels, region, progress):
+    """A raster map as rcell-pipe gets it; its rows come by r.out.bin while they are read."""
+    from rcell_front.pipe import Map
+
     rows, cols = region["rows"], region["cols"]
-    told = gs.raster_info(raster)
-    words = CellWords(int(told["min"] or 0), int(told["max"] or 0))
-    yield header_of(region, words.null), 0
+    return Map(it.name, edge_texts(region), rows, cols, "i32", blocks_of(it.map, rows, cols, progress), NULL, labels=labels)
+
+
+def blocks_of(raster, rows, cols, progress):
+    """The rows of a raster map."""
+    from rcell_front.pipe import Block
+
     module = gs.pipe_command("r.out.bin", flags="i", input=raster, output="-", bytes=4, null=NULL, quiet=True)
     at_once = max(1, BLOCK_CELLS // cols)
     for first in range(0, rows, at_once):
@@ -346,16 +180,8 @@ def binary_texts(raster, region):
         cells = module.stdout.read(4 * cols * count)
         if len(cells) < 4 * cols * count:
             break
-        yield words.text(np.frombuffer(cells, dtype=np.int32), cols), count
-    end_of(module, raster)
-
-
-def ascii_texts(raster, region):
-    """The same by r.out.ascii, row by row."""
-    yield header_of(region, b"*"), 0
-    module = gs.pipe_command("r.out.ascii", flags="h", input=raster, output="-", null_value="*", quiet=True)
-    for line in module.stdout:
-        yield line, 1
+        yield Block(cells)
+        progress.add(count)
     end_of(module, raster)
 
 
@@ -369,34 +195,30 @@ def end_of(module, raster):
 # What rcell writes
 
 
-def copy_to_mark(stream, mark, target):
-    """Copies lines up to the mark, or to the end."""
-    for line in stream:
-        if line == mark + b"\n":
-            return
-        target.write(line)
+def printed(frame, region):
+    """The text of a table, a list of cells or a grid, as rcell prints it, piece by piece."""
+    if hasattr(frame, "text"):
+        yield frame.text
+        return
+    if not hasattr(frame, "rows"):
+        yield frame.printed()
+        return
+    edges = "north: %s\nsouth: %s\neast: %s\nwest: %s\n" % edge_texts(region)
+    yield ("%srows: %d\ncols: %d\n" % (edges, frame.rows, frame.cols)).encode()
+    if frame.null_text != b"*":
+        yield b"null: %s\n" % frame.null_text
+    for first in range(0, len(frame.cells), frame.cols):
+        row = frame.cells[first : first + frame.cols].tolist()
+        yield b" ".join(frame.null_text if cell == frame.null else b"%d" % cell for cell in row) + b"\n"
 
 
-def grid_rows(stream, rows):
-    """The rows of a grid that stands next in the output of rcell; a mark is skipped."""
-    line = stream.readline()
-    while line and not line.startswith(b"null: "):
-        line = stream.readline()
-    for _row in range(rows):
-        yield stream.readline()
-
-
-def label_lines(stream, mark):
-    """The lines of a table of labels that have a label, up to the mark or the end."""
-    found = []
-    for line in stream:
-        if line == mark + b"\n":
-            break
-        category, _tab, label = line.rstrip(b"\n").partition(b"\t")
+def label_lines(frame):
+    """The lines of r.category for a table of categories with labels."""
+    found = [(category, label) for category, label in zip(frame.cells.tolist(), frame.labels) if label]
+    for category, label in found:
         if b"\t" in label:
-            raise Stopped(_("The label of category {} has a tab, which r.category does not take").format(category.decode()))
-        found += [line] if label else []
-    return found
+            raise Stopped(_("The label of category {} has a tab, which r.category does not take").format(category))
+    return [b"%d\t%s\n" % pair for pair in found]
 
 
 class Imports:
@@ -416,45 +238,19 @@ class Imports:
     def edges(self):
         return {key: "%.15g" % self.region[key[0]] for key in ("north", "south", "east", "west")}
 
-    def add(self, output, rows, progress):
-        """Imports the rows of a grid."""
+    def add(self, output, frame, progress):
+        """Imports a map by r.in.bin, which takes no pipe: it asks for the size of its file."""
         name = "rcell_%d_%d" % (os.getpid(), len(self.names))
         self.names[name] = output
-        (self.from_binary if np else self.from_ascii)(name, rows, progress)
-        gs.run_command("r.region", flags="c", map=name, quiet=True)
-        return name
-
-    def from_binary(self, name, rows, progress):
-        """By r.in.bin, which takes no pipe: it asks for the size of its file."""
-        path, cols = os.path.join(self.room, "cells"), self.region["cols"]
-        at_once = max(1, BLOCK_CELLS // cols)
+        path = os.path.join(self.room, "cells")
         with open(path, "wb") as file:
-            for first in range(0, self.region["rows"], at_once):
-                lines = list(itertools.islice(rows, min(at_once, self.region["rows"] - first)))
-                np.fromstring(b"".join(lines), dtype=np.int32, sep=" ").tofile(file)
-                progress.add(len(lines))
-        if os.path.getsize(path) < 4 * cols * self.region["rows"]:
-            raise EOFError
-        sides = {key: self.region[key] for key in ("rows", "cols")}
-        gs.run_command("r.in.bin", flags="s", input=path, output=name, bytes=4, anull=NULL, quiet=True, **sides, **self.edges())
+            file.write(frame.cells)
+        sides, flags = {"rows": frame.rows, "cols": frame.cols}, "s" if frame.null == NULL else ""
+        gs.run_command("r.in.bin", flags=flags, input=path, output=name, bytes=BYTES[frame.type], anull=frame.null, quiet=True, **sides, **self.edges())
         os.remove(path)
-
-    def from_ascii(self, name, rows, progress):
-        """By r.in.ascii, from a pipe."""
-        module = gs.feed_command("r.in.ascii", input="-", output=name, type="CELL", null_value=str(NULL), quiet=True)
-        head = "".join("%s: %s\n" % edge for edge in self.edges().items())
-        module.stdin.write(("%srows: %d\ncols: %d\n" % (head, self.region["rows"], self.region["cols"])).encode())
-        count = 0
-        for line in rows:
-            module.stdin.write(line)
-            count += bool(line)
-            progress.add(1)
-        module.stdin.close()
-        if count < self.region["rows"]:
-            module.wait()
-            raise EOFError
-        if module.wait():
-            raise Stopped(_("Raster map <{}> could not be written").format(self.names[name].map))
+        gs.run_command("r.region", flags="c", map=name, quiet=True)
+        progress.add(frame.rows)
+        return name
 
     def label(self, name, lines):
         """Gives a map its labels."""
@@ -497,112 +293,69 @@ class Progress:
 # The run
 
 
-class Rcell:
-    """A run of rcell whose grids and script come through pipes, in the order in which it reads them."""
-
-    def __init__(self, names):
-        ends = [os.pipe() for _ in ["script", *names]]  # above 2: main opens the standard streams
-        words = ["/dev/fd/%d" % ends[0][0]] + ["%s=/dev/fd/%d" % (name, end[0]) for name, end in zip(names, ends[1:])]
-        reading = [end[0] for end in ends]
-        self.process = subprocess.Popen([program(), *words], pass_fds=reading, stdin=subprocess.DEVNULL,
-                                        stdout=subprocess.PIPE, stderr=subprocess.PIPE)
-        for end in reading:
-            os.close(end)
-        self.sinks = [os.fdopen(end[1], "wb") for end in ends[1:] + ends[:1]]
-
-    def feed(self, texts, progress):
-        """Writes a grid for each list of texts, and last the script; a reader that has gone says why by itself."""
-        for sink, blocks in zip(self.sinks, texts):
-            try:
-                with sink:
-                    for text, rows in blocks:
-                        sink.write(text)
-                        progress.add(rows)
-            except BrokenPipeError:
-                return
-
-    def end(self):
-        """The status, and the line on standard error."""
-        self.process.stdout.close()
-        told = self.process.stderr.read().decode(errors="replace").strip()
-        return self.process.wait(), told
-
-    def stop(self):
-        for sink in self.sinks:
-            try:
-                sink.close()
-            except BrokenPipeError:
-                pass
-        if self.process.poll() is None:
-            self.process.kill()
-            self.process.wait()
-
-
 def program():
     """The program on the path; a folder of the path that is not absolute does not count."""
     folders = [folder for folder in os.get_exec_path() if os.path.isabs(folder)]
-    return shutil.which("rcell", path=os.pathsep.join(folders)) if folders else None
+    return shutil.which("rcell-pipe", path=os.pathsep.join(folders)) if folders else None
 
 
-def judge(request, names):
-    """Raises what rcell says of a script, if it refuses it over maps of one cell."""
-    rcell = Rcell(names)
+def find_front(path):
+    """Finds rcell_front: in the release of the program, in its sources, or installed."""
+    folder = os.path.dirname(os.path.dirname(os.path.realpath(path)))
+    for modules in ("share/rcell", "python/src"):
+        if os.path.isdir(os.path.join(folder, modules, "rcell_front")):
+            sys.path.insert(0, os.path.join(folder, modules))
+            break
     try:
-        rcell.feed([[(ONE_CELL, 0)] for _name in names] + [[(request.text, 0)]], Progress(0))
-        rcell.process.stdout.read()
-        status, told = rcell.end()
-    finally:
-        rcell.stop()
-    if status:
-        raise request.stopped(told)
+        import rcell_front.outlines  # noqa: F401
+    except ImportError:
+        raise Stopped(_("The Python modules of {} are not in ../share/rcell next to it").format(path)) from None
 
 
-def run(request, inputs, outputs, region, table):
-    """Runs the request; returns the maps that were imported, not yet with their last names."""
-    names = [request.grids.get(it.name, it.name) for it in inputs]
+def judged(script, names):
+    """The outline of a script, if rcell accepts it."""
+    from rcell_front.outlines import outline_of
+
+    with told(script, names):
+        return outline_of(program(), script, names)
+
+
+@contextmanager
+def told(script, names):
+    """What goes wrong in a run of rcell-pipe, as a sentence."""
+    from rcell_front.pipe import Killed, NoAnswer, Rejected
+
+    try:
+        yield
+    except Rejected as end:
+        raise stopped(end, script, names) from None
+    except (Killed, NoAnswer) as fault:
+        raise Stopped(_("{} failed: {}").format(program(), fault)) from None
+
+
+def run(script, inputs, outputs, labels, made, region):
+    """Runs a script; returns what it writes, the cells of the outputs, and the labels of some, by their names."""
+    from rcell_front import pipe
+
+    names = [it.name for it in inputs]
+    labelled = [it.name for it in outputs if made.get(it.name) == "reclass" or labels.get(it.name)]
+    lines = [*("r.out.ascii input=%s" % it.name for it in outputs), *("r.stats -l -n input=%s" % name for name in labelled)]
     progress = Progress(region["rows"] * (len(inputs) + len(outputs)))
-    imports, rcell = Imports(region), Rcell(names)
-    texts = [(binary_texts if np else ascii_texts)(it.map, region) for it in inputs]
-    try:
-        rcell.feed(texts + [[(request.text, 0)]], progress)
-        stream = rcell.process.stdout
-        copy_to_mark(stream, request.mark, table)
-        is_whole = take_maps(stream, request, outputs, imports, progress)
-        status, told = rcell.end()
-    finally:
-        rcell.stop()
-        progress.end()
-    if status or not is_whole:
-        raise request.stopped(told)
-    return imports
-
-
-def take_maps(stream, request, outputs, imports, progress):
-    """Imports the maps that follow in the output of rcell; whether all were there."""
-    try:
-        for at, output in enumerate(outputs):
-            if not stream.peek(1):
-                return False
-            name = imports.add(output, grid_rows(stream, imports.region["rows"]), progress)
-            is_labelled = output.name in request.labelled
-            if is_labelled:
-                stream.readline()  # the mark
-                lines = label_lines(stream, request.mark)
-                if lines:
-                    imports.label(name, lines)
-            elif at + 1 < len(outputs):
-                stream.readline()  # the mark
-    except EOFError:
-        return False
-    return True
+    with told(script, names):
+        sources = [source_of(it, labels.get(it.name, {}), region, progress) for it in inputs]
+        frames = pipe.run(program(), sources, "\n".join([script, *lines]).encode("utf-8", "surrogateescape"))
+    own = len(frames) - len(lines)
+    cells = frames[own : own + len(outputs)]
+    return frames[:own], cells, dict(zip(labelled, frames[own + len(outputs) :])), progress
 
 
 def labels_of(raster):
-    """The categories of a raster map that have a label, each with it."""
+    """The labels of a raster map by their categories."""
     module = gs.pipe_command("r.category", map=raster, separator="tab", quiet=True)
     pairs = [line.rstrip(b"\n").partition(b"\t")[::2] for line in module.stdout]
     end_of(module, raster)
-    return [(category, label.strip(BLANKS)) for category, label in pairs if label.strip(BLANKS)]
+    labels = {int(category): label.strip(BLANKS).decode("utf-8", "surrogateescape") for category, label in pairs}
+    return {category: label for category, label in labels.items() if label}
 
 
 # What is looked up before anything runs
@@ -634,15 +387,14 @@ def look_up_inputs(inputs):
                             "r.mapcalc \"cells = round({0})\"").format(it.map))
 
 
-def look_up_outputs(outputs, statements, inputs):
+def look_up_outputs(outputs, made, inputs):
     """Each is made by the script, and has a name that is free. Returns them with their names in this mapset."""
-    made = [made_by(it).decode(errors="replace") for it in statements]
-    known = [name for name in made if name] + [it.name for it in inputs]
+    known = [*made, *(it.name for it in inputs)]
     here, found = gs.gisenv()["MAPSET"], []
     for it in outputs:
         raster, _at, mapset = it.map.partition("@")
         if it.name not in known:
-            others = ", ".join(filter(None, made)) or _("none")
+            others = ", ".join(made) or _("none")
             raise Stopped(_("The script makes no map <{}>; it makes {}").format(it.name, others))
         if mapset not in ("", here) or not raster or not gs.legal_name(raster):
             raise Stopped(_("<{}> is no name for a raster map of this mapset").format(it.map))
@@ -666,24 +418,11 @@ def look_up_region():
 def read_script(path):
     try:
         if path == "-":
-            return sys.stdin.buffer.read()
-        with open(path, "rb") as file:
+            return sys.stdin.buffer.read().decode("utf-8", "surrogateescape")
+        with open(path, encoding="utf-8", errors="surrogateescape", newline="") as file:
             return file.read()
     except OSError as fault:
         raise Stopped(_("The script <{}> cannot be read: {}").format(path, fault.strerror)) from None
-
-
-def request_of(script, shown, statements, inputs, outputs):
-    """The request, with the labels of the inputs that need them."""
-    names = [it.name for it in inputs]
-    wanted = labelled_inputs(statements, names) | {it.name for it in outputs if it.name in names}
-    labels = {it.name: labels_of(it.map) for it in inputs if it.name in wanted}
-    labels = {name: pairs for name, pairs in labels.items() if pairs}
-    request = Request(script, shown, [name.encode() for name in names], labels, outputs, b"%d" % NULL)
-    size = len(request.text)
-    if size > MOST_SCRIPT >= len(script):
-        raise Stopped(_("The script with the labels of its maps has {} bytes; rcell takes {}").format(size, MOST_SCRIPT))
-    return request
 
 
 class Table:
@@ -760,27 +499,35 @@ def open_standard_streams():
 def done(options, flags):
     """All of a run: what is wrong is found before rcell begins, and what is made gets its name at the end."""
     if not program():
-        raise Stopped(_("The program rcell is not on the path"))
+        raise Stopped(_("The program rcell-pipe is not on the path: install rcell, or add its folder bin to PATH"))
+    find_front(program())
     inputs, asked = pairs_of(options["maps"], Input), pairs_of(options["output"], Output)
     look_up_inputs(inputs)
-    given = read_script(options["script"])
-    script = with_labels(given) if flags["l"] else given
-    statements, _closed = statements_of(script)
-    try:
-        outputs = look_up_outputs(asked, statements, inputs)
-    except Stopped:
-        # What seems to make no map may be misspelled.
-        judge(Request(given, given, [it.name.encode() for it in inputs], {}, [], b""), [it.name for it in inputs])
-        raise
+    script, names = read_script(options["script"]), [it.name for it in inputs]
+    outline = judged(script, names)
+    if flags["l"]:
+        script = with_labels(script, outline)
+        outline = judged(script, names)
+    outputs = look_up_outputs(asked, outline.made, inputs)
     region = look_up_region()
-    if not outputs and not any(it.command in (b"r.stats", b"r.out.ascii") for it in statements):
+    if not outputs and not outline.frames:
         gs.warning(_("The script writes no table, and no map is asked for by output="))
-    request = request_of(script, given, statements, inputs, outputs)
+    wanted = labelled_maps(outline) | {it.name for it in outputs}
+    labels = {it.name: labels_of(it.map) for it in inputs if it.name in wanted}
     table = Table(options["table"], options["script"])
-    imports = run(request, inputs, outputs, region, table.file)
+    own, cells, texts, progress = run(script, inputs, outputs, labels, outline.made, region)
+    for frame in own:
+        table.file.writelines(printed(frame, region))
+    imports = Imports(region)
+    for output, frame in zip(outputs, cells):
+        name = imports.add(output, frame, progress)
+        lines = label_lines(texts[output.name]) if output.name in texts else []
+        if lines:
+            imports.label(name, lines)
+    progress.end()
     if table.is_stream:  # which may fail, and then no map gets its name
         table.finish()
-    imports.finish({made_by(it).decode(errors="replace") for it in statements if it.command == b"r.clump"})
+    imports.finish({name for name, command in outline.made.items() if command == "clump"})
     if not table.is_stream:
         table.finish()
 

@@ -1,10 +1,11 @@
-"""What r.rcell does without GRASS: how it reads scripts, gives rcell its request, and parts what comes back.
+"""What r.rcell does without GRASS: how it reads scripts, hands maps to rcell-pipe, and prints what comes back.
 
-The module of GRASS is imported over stubs of its Python packages. rcell itself is run, as RCELL names it.
+The module of GRASS is imported over stubs of its Python packages. rcell-pipe itself is run, next to the program that RCELL names.
 """
+import array
 import builtins
+import contextlib
 import importlib.util
-import io
 import os
 import re
 import stat
@@ -17,8 +18,9 @@ from unittest import mock
 
 HERE = os.path.dirname(os.path.abspath(__file__))
 ROOT = os.path.dirname(os.path.dirname(HERE))
-PROGRAM = os.environ.get("RCELL", f"{ROOT}/bin/rcell")
-GRID = "north: 2\nsouth: 0\neast: 3\nwest: 0\nrows: 2\ncols: 3\n1 2 *\n1 1 2\n"
+PROGRAM = os.path.realpath(os.environ.get("RCELL") or f"{ROOT}/bin/rcell")
+REGION = {"n": 2, "s": 0, "e": 3, "w": 0, "rows": 2, "cols": 3}
+HEAD = "north: 2\nsouth: 0\neast: 3\nwest: 0\nrows: 2\ncols: 3\n"
 
 
 def add_on():
@@ -36,41 +38,90 @@ def add_on():
 
 
 rcell = add_on()
-NULL = b"%d" % rcell.NULL
+NULL = rcell.NULL
+rcell.find_front(PROGRAM)
 
 
-def request(script, outputs=(), labels=None, names=("a",)):
-    pairs = [rcell.Output(name, name) for name in outputs]
-    return rcell.Request(script, script, [name.encode() for name in names], labels or {}, pairs, NULL)
+class Opened:
+    """A module of GRASS that hands out a file."""
+
+    def __init__(self, path):
+        self.stdout = open(path, "rb")
+
+    def wait(self):
+        return 0
 
 
-class Scripts(unittest.TestCase):
-    def test_statements(self):
-        script = b"# r.clump input=a output=no\n\n\tr.reclass input=a output=b\n1 = 2 = three\n end \nr.mapcalc c = b == 1\r\nr.stats -c input=c"
-        found, is_closed = rcell.statements_of(script)
-        self.assertEqual([(it.line, it.command) for it in found], [(3, b"r.reclass"), (6, b"r.mapcalc"), (7, b"r.stats")])
-        self.assertEqual([rcell.made_by(it) for it in found], [b"b", b"c", b""])
-        self.assertTrue(is_closed)
-        self.assertEqual(found[0].rules, [b"1 = 2 = three"])
+@contextlib.contextmanager
+def handing_out():
+    """A session in which maps are files of cells, and rcell-pipe is on the path."""
+    with mock.patch.object(rcell, "program", lambda: os.path.join(os.path.dirname(PROGRAM), "rcell-pipe")), \
+            mock.patch.object(rcell.gs, "pipe_command", lambda *_, input, **__: Opened(input), create=True), \
+            mock.patch.object(rcell.gs, "percent", lambda *_: None, create=True):
+        yield
 
-    def test_open_rules(self):
-        for script in (b"r.reclass input=a output=b\n1 = 2\n", b"r.reclass input=a output=b", b"r.reclass\nend of it\n"):
-            self.assertFalse(rcell.statements_of(script)[1])
-            self.assertEqual(request(script, ["b"]).text.strip(), script.strip())
 
-    def test_labels_of_rules(self):
-        for rule, has_labels in ((b"1 = 2 wood", True), (b"1 = 2", False), (b"* = *", False), (b"1 = 2 = x", True), (b"nonsense", False)):
-            statement = rcell.statements_of(b"r.reclass input=a output=b\n" + rule + b"\nend\n")[0][0]
-            self.assertEqual(rcell.has_labels(statement), has_labels, rule)
+class Session(unittest.TestCase):
+    def setUp(self):
+        session = contextlib.ExitStack()
+        self.addCleanup(session.close)
+        self.room = session.enter_context(tempfile.TemporaryDirectory())
+        session.enter_context(handing_out())
+        with open(f"{self.room}/a", "wb") as file:
+            array.array("i", [1, 2, NULL, 1, 1, 2]).tofile(file)
 
+    def outline(self, script, names=("a",)):
+        return rcell.judged(script, list(names))
+
+    def run_(self, script, outputs=(), labels=None):
+        inputs, wanted = [rcell.Input("a", f"{self.room}/a")], [rcell.Output(name, name) for name in outputs]
+        own, cells, texts, _ = rcell.run(script, inputs, wanted, {"a": labels or {}}, self.outline(script).made, REGION)
+        return b"".join(bytes(piece) for frame in own for piece in rcell.printed(frame, REGION)).decode(), cells, texts
+
+    def refused(self, script, names=("a",)):
+        with self.assertRaises(rcell.Stopped) as caught:
+            self.outline(script, names)
+        return str(caught.exception), caught.exception.beneath
+
+
+class Scripts(Session):
     def test_flag_of_labels(self):
-        script = b"r.stats -c input=a\n  r.stats -nl input=a\nr.stats input=a separator=-l\r\n#r.stats\nr.mapcalc x = 1"
-        wanted = b"r.stats -l -c input=a\n  r.stats -nl input=a\nr.stats -l input=a separator=-l\r\n#r.stats\nr.mapcalc x = 1"
-        self.assertEqual(rcell.with_labels(script), wanted)
+        script = "r.stats -c input=a\n  r.stats -nl input=a\nr.stats input=a separator=-\r\n#r.stats\nr.mapcalc x = 1\nr.stats -1 input=a\nr.stats -l1 input=a"
+        wanted = ("r.stats -l -c input=a\n  r.stats -nl input=a\nr.stats -l input=a separator=-\r\n#r.stats\nr.mapcalc x = 1\nr.stats -l -1 input=a\n"
+                  "r.stats -l1 input=a")
+        self.assertEqual(rcell.with_labels(script, self.outline(script)), wanted)
 
-    def test_inputs_with_labels(self):
-        statements, _closed = rcell.statements_of(b"r.stats -cl input=a,c\nr.stats -c input=b\nr.stats -l input=b2\n")
-        self.assertEqual(rcell.labelled_inputs(statements, ["a", "b", "c", "d"]), {"a", "c"})
+    def test_maps_of_tables_with_labels(self):
+        outline = self.outline("r.stats -cl input=a,c\nr.stats -c input=b\nr.out.ascii input=e\nr.stats -1l input=d\nr.stats -1 input=b", "abcde")
+        self.assertEqual(rcell.labelled_maps(outline), {"a", "c", "d"})
+
+    def test_errors_have_the_lines_of_the_user(self):
+        self.assertEqual(self.refused("r.stats -c input=a\n\tr.mapcalc x = a + ab"),
+                         ("rcell: script:2: unknown map at column 20", "     r.mapcalc x = a + ab\n                       ^\n    try: r.mapcalc x = a + a\n"))
+        self.assertEqual(self.refused('r.mapcalc "x = a * 2"')[0], "rcell: script:1: bad byte at column 11")
+        self.assertEqual(self.refused("r.reclass input=a output=b\n1 = 2")[0], "rcell: script:1: missing end")
+
+    def test_the_word_that_is_no_option_is_named(self):
+        for line, word in (("r.stats -cn a", "a"), ("r.stats in=a", "in=a"), ("r.clump -n input=a output=b", "-n"),
+                           ("r.stats input=a input=a", "input=a"), ("r.out.ascii input=a null_value=a:b", "null_value=a:b"),
+                           ("r.stats -c input=a output=t.txt", "output=t.txt"), ("r.stats input=a separator=ab", "separator=ab")):
+            told, beneath = self.refused(line)
+            self.assertEqual(told, "rcell: script:1: bad option: " + word)
+            self.assertEqual(beneath.split("    try: ")[0], "    %s\n    %s^\n" % (line.replace("\t", " "), " " * line.rindex(word)))
+        self.assertEqual(self.refused("\tr.stats -c -1 input=a"), ("rcell: script:1: bad option", "     r.stats -c -1 input=a\n    try: one of the two\n"))
+        self.assertEqual(self.refused("r.stats -cn a")[1].split("    try: ")[1], "r.stats -cn input=a\n")
+
+    def test_errors_of_other_places(self):
+        from rcell_front.pipe import Rejected
+
+        for end, text in ((Rejected(3, "request", 0, 0, 0, "no memory"), "rcell: a:0: no memory"), (Rejected(3, "", 0, 0, 0, "no memory"), "rcell: script:0: no memory"),
+                          (Rejected(1, "request", 0, 7, 0, "cell out of range"), "rcell: a:7: cell out of range")):
+            self.assertEqual(str(rcell.stopped(end, "r.stats input=a\n", ["a"])), text)
+
+    def test_another_program(self):
+        with mock.patch.object(rcell, "program", lambda: "/bin/true"), self.assertRaises(rcell.Stopped) as caught:
+            self.outline("r.stats input=a")
+        self.assertEqual(str(caught.exception), "/bin/true failed: the program ended in status 0 and said: nothing")
 
 
 class Names(unittest.TestCase):
@@ -85,126 +136,38 @@ class Names(unittest.TestCase):
                 rcell.pairs_of(text, rcell.Input)
 
 
-class Words(unittest.TestCase):
-    """Cells as text, where numpy is there."""
+class Runs(Session):
+    """Maps go through rcell-pipe."""
 
-    def setUp(self):
-        if rcell.np is None:
-            self.skipTest("numpy is not installed")
-
-    def text(self, cells, least, greatest):
-        words = rcell.CellWords(least, greatest)
-        block = rcell.np.array(cells, dtype=rcell.np.int32)
-        return words.text(block.reshape(-1), block.shape[1]).decode().replace(words.null.decode(), "*")
-
-    def test_words(self):
-        n = rcell.NULL
-        for cells in ([[1, 2], [n, 3]], [[-5, 1000], [n, n]], [[n, n]], [[2147483647, -2147483647], [0, n]], [[7, 700000], [5, n]]):
-            known = [cell for row in cells for cell in row if cell != n] or [0]
-            found = self.text(cells, min(known), max(known))
-            self.assertEqual([[None if word == "*" else int(word) for word in line.split(" ")] for line in found.splitlines()],
-                             [[None if cell == n else cell for cell in row] for row in cells])
-
-    def test_a_range_that_is_not_true(self):
-        self.assertEqual(self.text([[1, 9]], 2, 3), "1 9\n")
-        with self.assertRaises(rcell.Stopped):
-            self.text([[1, 12345]], 2, 3)
-
-
-class Streams(unittest.TestCase):
-    """A request is run by rcell, and what it writes is parted."""
-
-    def output(self, asked, grids=None):
-        with tempfile.TemporaryDirectory() as room:
-            paths = {}
-            for name, text in {"script": asked.text.decode(), **(grids or {"a": GRID})}.items():
-                paths[name] = f"{room}/{name}"
-                with open(paths[name], "w", encoding="utf-8") as file:
-                    file.write(text)
-            words = [PROGRAM, paths.pop("script"), *(f"{name}={path}" for name, path in paths.items())]
-            return subprocess.run(words, capture_output=True)
-
-    def test_parts(self):
-        asked = request(b"r.stats -c input=a\nr.reclass input=a output=b\n1 = 5 five, \"5\"\n* = *\nend\n"
-                        b"r.stats -n input=a\nr.mapcalc c = null()\nr.stats -cn input=c\nr.out.ascii input=b", ["b", "c"])
-        done = self.output(asked)
-        self.assertEqual((done.returncode, done.stderr), (0, b""))
-        stream, table = io.BufferedReader(io.BytesIO(done.stdout)), io.BytesIO()
-        rcell.copy_to_mark(stream, asked.mark, table)
-        head = GRID[: GRID.index("1 2")].encode()
-        self.assertEqual(table.getvalue(), b"1 3\n2 2\n* 1\n1\n2\n" + head + b"5 2 *\n5 5 2\n")
-        self.assertEqual(list(rcell.grid_rows(stream, 2)), [b"5 2 " + NULL + b"\n", b"5 5 2\n"])
-        self.assertEqual(stream.readline(), asked.mark + b"\n")
-        self.assertEqual(rcell.label_lines(stream, asked.mark), [b'5\tfive, "5"\n'])
-        self.assertEqual(list(rcell.grid_rows(stream, 2)), [b" ".join([NULL] * 3) + b"\n"] * 2)
-        self.assertEqual(stream.read(), b"")
-
-    def test_marks_are_nowhere_in_a_script(self):
-        script = b"# --rcell-1-- _nothing_1\nr.reclass input=a output=b\n1 = 2 --rcell-2--\nend\nr.stats -l input=b\n"
-        asked = request(script, ["b"])
-        self.assertNotIn(asked.mark, script)
-        self.assertEqual(self.output(asked).returncode, 0)
-        labels = {"a": [(b"1", b"--rcell-3--"), (b"2", b"_cells_0_1")]}
-        asked = request(script, ["b"], labels)
-        self.assertNotIn(asked.mark, script + b"--rcell-3--")
-        self.assertEqual(asked.grids, {"a": "_cells_0_2"})
-        self.assertEqual(self.output(asked, {"_cells_0_2": GRID}).returncode, 0)
+    def test_what_is_printed(self):
+        text, cells, texts = self.run_("r.stats -c input=a\nr.reclass input=a output=b\n1 = 5 five, \"5\"\n* = *\nend\nr.stats -n input=a\nr.mapcalc c = null()\n"
+                                       "r.stats -cn input=c\nr.out.ascii input=b\nr.stats -1l input=b separator=:\nr.out.ascii input=b null_value=-9", ["b", "c"])
+        listed = "5:five, \"5\"\n2:\n*:no data\n" + "5:five, \"5\"\n" * 2 + "2:\n"
+        self.assertEqual(text, f"1 3\n2 2\n* 1\n1\n2\n{HEAD}5 2 *\n5 5 2\n{listed}{HEAD}null: -9\n5 2 -9\n5 5 2\n")
+        self.assertEqual([(frame.type, frame.null, frame.cells.tolist()) for frame in cells], [("u8", 255, [5, 2, 255, 5, 5, 2]), ("u8", 255, [255] * 6)])
+        self.assertEqual({name: rcell.label_lines(frame) for name, frame in texts.items()}, {"b": [b'5\tfive, "5"\n']})
 
     def test_labels_go_there_and_back(self):
-        labels = {"a": [(b"1", b"town, old"), (b"2", "groß: \"x\" | y".encode())]}
-        asked = request(b"r.stats -cl input=a separator=tab\n", ["a"], labels)
-        done = self.output(asked, {asked.grids["a"]: GRID})
-        stream, table = io.BufferedReader(io.BytesIO(done.stdout)), io.BytesIO()
-        rcell.copy_to_mark(stream, asked.mark, table)
-        self.assertEqual(table.getvalue().decode(), "1\ttown, old\t3\n2\tgroß: \"x\" | y\t2\n*\tno data\t1\n")
-        self.assertEqual(len(list(rcell.grid_rows(stream, 2))), 2)
-        self.assertEqual(stream.readline(), asked.mark + b"\n")
-        self.assertEqual(rcell.label_lines(stream, asked.mark), ["1\ttown, old\n".encode(), "2\tgroß: \"x\" | y\n".encode()])
-
-    def test_messages_have_the_lines_of_the_user(self):
-        script = b"r.stats -c input=a\n\tr.mapcalc x = a + ab"
-        for labels in ({}, {"a": [(b"1", b"one"), (b"2", b"two")]}):
-            asked = request(script, [], labels)
-            done = self.output(asked, {asked.grids.get("a", "a"): GRID})
-            told = asked.stopped(done.stderr.decode().strip())
-            self.assertEqual(str(told), "rcell: script:2: unknown map at column 20")
-            self.assertEqual(told.beneath, "     r.mapcalc x = a + ab\n                       ^\n")
-
-    def test_the_word_that_is_no_option_is_named(self):
-        for line, word in ((b"r.stats -cn a", b"a"), (b"r.stats in=a", b"in=a"), (b"\tr.stats -c -1 input=a", b"-1"), (b"r.clump -n input=a output=b", b"-n"),
-                           (b"r.stats input=a input=a", b"input=a"), (b"r.out.ascii input=a null_value=a:b", b"null_value=a:b"),
-                           (b"r.stats -c input=a output=t.txt", b"output=t.txt"), (b"r.stats input=a separator=ab", b"separator=ab")):
-            asked = request(line)
-            told = asked.stopped(self.output(asked).stderr.decode().strip())
-            self.assertEqual(str(told), "rcell: script:1: bad option: " + word.decode())
-            self.assertEqual(told.beneath, "    %s\n    %s^\n" % (line.decode().replace("\t", " "), " " * line.rindex(word)))
-
-    def test_quotes_are_reported_by_rcell(self):
-        with tempfile.TemporaryDirectory() as room:
-            os.symlink(PROGRAM, f"{room}/rcell")
-            with mock.patch.dict(os.environ, {"PATH": f"bin:{room}:{os.environ['PATH']}"}), self.assertRaises(rcell.Stopped) as caught:
-                self.assertEqual(rcell.program(), f"{room}/rcell")
-                rcell.judge(request(b'r.mapcalc "x = a * 2"'), ["a"])
-        self.assertEqual(str(caught.exception), "rcell: script:1: bad byte at column 11")
-        self.assertEqual(caught.exception.beneath, '    r.mapcalc "x = a * 2"\n              ^\n')
-
-    def test_advice_comes_from_the_package_for_python(self):
-        asked = request(b"r.stats -cn a", ["a"])
-        with mock.patch.dict(sys.modules), mock.patch.object(sys, "path", [os.path.join(HERE, "../../python/src"), *sys.path]):
-            beneath = asked.stopped("rcell: script:1: bad option").beneath
-        self.assertEqual(beneath, "    r.stats -cn a\n                ^\n    try: r.stats -cn input=a\n")
-
-    def test_messages_of_other_places(self):
-        asked = request(b"r.stats -c input=a\n", ["a"], {"a": [(b"1", b"one")]})
-        self.assertEqual(str(asked.stopped("rcell: _cells_0_1:0: no memory")), "rcell: a:0: no memory")
-        self.assertEqual(str(asked.stopped("rcell: script:2: no memory")), "rcell: the labels of the raster maps: no memory")
-        self.assertEqual(str(asked.stopped("rcell: script:9: no memory")), "rcell: while it wrote the maps: no memory")
-        self.assertEqual(str(asked.stopped("rcell: output:0: write failed after 9 bytes")), "rcell: output:0: write failed after 9 bytes")
-        self.assertEqual(str(asked.stopped("")), "rcell ended without a message")
-
-    def test_labels_with_tabs(self):
+        labels = {1: "town, old", 2: "gro\u00df: \"x\" | y", 7: "\udcff"}
+        text, _, texts = self.run_("r.stats -cl input=a separator=tab\n", ["a"], labels)
+        self.assertEqual(text, "1\ttown, old\t3\n2\tgro\u00df: \"x\" | y\t2\n*\tno data\t1\n")
+        self.assertEqual(rcell.label_lines(texts["a"]), [b"1\ttown, old\n", "2\tgro\u00df: \"x\" | y\n".encode()])
         with self.assertRaises(rcell.Stopped):
-            rcell.label_lines(io.BytesIO(b"1\ta\tb\n"), b"mark")
+            rcell.label_lines(self.run_("r.reclass input=a output=b\n1 = 2 a\tb\nend", ["b"])[2]["b"])
+
+    def test_wide_categories(self):
+        text, [frame], _ = self.run_("r.mapcalc b = a * -1000000000\nr.out.ascii input=b", ["b"])
+        self.assertEqual(text, HEAD + "-1000000000 -2000000000 *\n-1000000000 -1000000000 -2000000000\n")
+        self.assertEqual((frame.type, frame.null, frame.cells[2]), ("i32", NULL, NULL))
+
+    def test_a_map_that_ends_early(self):
+        os.truncate(f"{self.room}/a", 4)
+        with mock.patch.object(Opened, "wait", lambda _: 1), self.assertRaises(rcell.Stopped):
+            self.run_("r.stats input=a")
+
+    def test_edges(self):
+        region = {"n": 41, "s": 41 - 1 / 3, "e": 1e-9, "w": -1e-9}
+        self.assertEqual(rcell.edge_texts(region), ("41", "40.66666667", "0", "0"))
 
 
 class Tables(unittest.TestCase):
@@ -268,8 +231,6 @@ class Form(unittest.TestCase):
 
 if __name__ == "__main__":
     result = unittest.TextTestRunner(verbosity=1).run(unittest.TestLoader().loadTestsFromModule(sys.modules[__name__]))
-    for test, why in result.skipped:
-        print(f"skipped  grass: {test}: {why}; install: apt-get install python3-numpy")
     wrong = len(result.failures) + len(result.errors)
-    print(f"{result.testsRun - wrong - len(result.skipped)} passed, {wrong} failed, {len(result.skipped)} skipped")
+    print(f"{result.testsRun - wrong} passed, {wrong} failed, 0 skipped")
     sys.exit(bool(wrong))

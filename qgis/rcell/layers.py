@@ -18,10 +18,10 @@ from qgis.PyQt.QtGui import QColor
 
 from .core.errors import BadMap, Refused
 from .core.rasters import Raster
-from .core.script import NAME
 
 # What the legends of this plugin add to a label.
 _COUNT = re.compile(r" \(\d+ cells(, [\d.e+]+ (ha|km2))?\)$")
+_NAME = re.compile(r"[A-Za-z_][A-Za-z0-9_.]{0,63}")
 _LEAST, _GREATEST = float("-inf"), float("inf")
 
 
@@ -117,7 +117,7 @@ def names_of(layers: Sequence[QgsRasterLayer], given: str) -> list[str]:
     if len(names) != len(layers):
         raise Refused(f"{len(names)} names are given, and {len(layers)} rasters", status=2)
     for at, name in enumerate(names):
-        if not NAME.fullmatch(name):
+        if not _NAME.fullmatch(name):
             better = _made_names([name])[0]
             raise Refused(f"'{name}' is no name of a map: 1 to 64 letters, digits, _ and ., a letter or _ first; write {better}", status=2)
         if name in names[:at]:
@@ -129,7 +129,7 @@ def _made_names(titles: Sequence[str]) -> list[str]:
     names: list[str] = []
     for title in titles:
         plain = re.sub(r"[^A-Za-z0-9_.]", "_", title)[:60] or "_"
-        base = plain if NAME.fullmatch(plain) else f"_{plain}"
+        base = plain if _NAME.fullmatch(plain) else f"_{plain}"
         number, name = 2, base
         while name in names:
             number, name = number + 1, f"{base}_{number}"

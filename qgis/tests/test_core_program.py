@@ -47,7 +47,7 @@ class ProgramTest(unittest.TestCase):
         for variables in ({"RCELL_PIPE": copy}, {"RCELL_PIPE": "", "RCELL": os.path.join(self.room, "rcell")}):
             with mock.patch.dict(os.environ, variables):
                 self.assertEqual(program.find_program(ANSWERING), ANSWERING)
-                self.assertEqual(program.find_program(os.path.join(os.path.dirname(ANSWERING), "rcell")), ANSWERING)
+                self.assertEqual(os.path.basename(program.find_program(os.path.join(os.path.dirname(ANSWERING), "rcell"))), "rcell-pipe")
                 self.assertEqual(program.find_program(), copy)
         with mock.patch.dict(os.environ, {**UNSET, "PATH": f"{self.room}:{os.environ['PATH']}"}):
             self.assertEqual(program.find_program(), copy)

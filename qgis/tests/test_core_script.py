@@ -11,9 +11,8 @@ import made
 from rcell.core import answers
 from rcell.core.errors import Refused
 from rcell.core.front.pipe import NULL
-from rcell.core.program import find_program
+from rcell.core.program import find_program, outline_of
 from rcell.core.rasters import Raster
-from rcell.core.script import outline_of
 
 
 class ScriptTest(unittest.TestCase):

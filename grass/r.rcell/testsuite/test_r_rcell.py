@@ -195,23 +195,6 @@ class TestRcell(TestCase):
             self.runModule("g.remove", flags="f", type="region", name="t_whole")
         self.assertEqual([made[key] for key in ("north", "south", "east", "west")], [here[key] for key in "nsew"])
 
-    def test_without_numpy_the_answers_are_the_same(self):
-        script = "r.clump input=cover output={0}\nr.mapcalc {0}_w = wide\nr.stats -cl input=zones,cover\n"
-        ours = self.rcell(script.format("t_a"), maps="cover,zones,wide", output="t_a,t_a_w")
-        folder = os.path.join(self.room.name, "without")
-        os.makedirs(folder, exist_ok=True)
-        with open(os.path.join(folder, "numpy.py"), "w", encoding="ascii") as file:
-            file.write("raise ImportError\n")
-        words = ["r.rcell", "script=" + self.script(script.format("t_b")), "maps=cover,zones,wide", "output=t_b,t_b_w"]
-        environment = dict(os.environ, PYTHONPATH=folder + ":" + os.environ.get("PYTHONPATH", ""))
-        found = subprocess.run(words, env=environment, stdout=subprocess.PIPE, check=True)
-        self.assertMultiLineEqual(found.stdout.decode(), ours)
-        self.assert_same("t_a", "t_b")
-        self.assert_same("t_a_w", "t_b_w")
-        self.assert_same("t_b_w", "wide")
-
-    # What is refused
-
     def test_inputs_and_outputs_are_looked_up_first(self):
         self.runModule("r.mapcalc", overwrite=True, expression="taken = 1")
         script = "r.mapcalc x = cover\nr.stats -c input=x\n"

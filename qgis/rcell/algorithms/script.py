@@ -23,10 +23,10 @@ from ..core import answers
 from ..core.answers import Answers, Table
 from ..core.errors import RcellError, Refused, WriteFailed
 from ..core.files import check_target, write_raster, write_table
+from ..core.front.outlines import Outline
 from ..core.front.pipe import GridFrame
-from ..core.program import Watch, find_program
+from ..core.program import Watch, find_program, outline_of
 from ..core.rasters import Raster, fitted
-from ..core.script import Outline, outline_of
 from ..layers import names_of, raster_of
 from ..results import counted_classes, put_legend
 from ..translation import tr

@@ -11,10 +11,10 @@ from numpy.typing import NDArray
 
 from .errors import Refused
 from .front import pipe
+from .front.outlines import Listing
 from .front.pipe import NULL
-from .program import Watch, frames_of
+from .program import Watch, frames_of, outline_of
 from .rasters import Raster, fitted
-from .script import Listing, outline_of
 from .sizes import UNITS
 
 # Of categories that lie within so many each is counted at its place, in place of being sorted.

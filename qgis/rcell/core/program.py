@@ -16,7 +16,8 @@ from typing import Any, Callable, Iterator, Mapping, Sequence
 import numpy as np
 
 from .errors import Cancelled, Killed, MissingProgram, OutOfMemory, RcellError, Refused, WrongProgram
-from .front import pipe
+from .front import outlines, pipe
+from .front.outlines import Outline
 from .front.pipe import NULL
 from .front.programs import Started, above_standard, found_on_path
 from .rasters import Cells, Mask, Raster, Warn
@@ -128,16 +129,17 @@ def _probe(path: str) -> None:
 # Runs
 
 
-def judge(program: str, script: str, names: Sequence[str], watch: Watch) -> list[pipe.Frame]:
-    """Run a script over maps of one null cell with these names, and return what its statements write.
+def outline_of(program: str, script: str, names: Sequence[str], watch: Watch | None = None) -> Outline:
+    """Return the outline of a script over maps of some names.
 
     Raises
     ------
     Refused
         The program rejects the script.
     """
-    maps = [pipe.Map(name, ("1", "0", "1", "0"), 1, 1, "u8", [pipe.Block(b"\0")], nodata=0) for name in names]
-    return _run(program, maps, script, script, watch)
+    with _errors_of(script, names):
+        outline: Outline = outlines.outline_of(program, script, names, (watch or Watch()).check)
+    return outline
 
 
 def frames_of(program: str, maps: Mapping[str, Raster], script: str, sent: str, watch: Watch) -> list[pipe.Frame]:
@@ -166,21 +168,24 @@ def frames_of(program: str, maps: Mapping[str, Raster], script: str, sent: str, 
     words = [f"{name}={shlex.quote(raster.path)}" for name, raster in maps.items()]
     watch.command("\n".join([f"rcell script {' '.join(words)}", *(f"  {line}" for line in script.split("\n"))]))
     sender = _Sender(program, maps, watch)
-    frames = _run(program, [sender.map_of(name, raster) for name, raster in maps.items()], script, sent, watch)
+    with _errors_of(script, list(maps)):
+        sources = [sender.map_of(name, raster) for name, raster in maps.items()]
+        frames: list[pipe.Frame] = pipe.run(program, sources, sent.encode("utf-8", "surrogateescape"), watch=watch.check)
     watch.progress(1.0)
     return frames
 
 
-def _run(program: str, maps: Sequence[pipe.Map], script: str, sent: str, watch: Watch) -> list[pipe.Frame]:
+@contextlib.contextmanager
+def _errors_of(script: str, names: Sequence[str]) -> Iterator[None]:
+    """Raise the errors of rcell-pipe as errors of this plugin."""
     try:
-        frames: list[pipe.Frame] = pipe.run(program, maps, sent.encode("utf-8", "surrogateescape"), watch=watch.check)
+        yield
     except pipe.Rejected as end:
-        raise _fault(end, script, [each.name for each in maps]) from None
+        raise _fault(end, script, names) from None
     except pipe.Killed as error:
         raise Killed(int(error.args[0])) from None
     except pipe.NoAnswer as error:
         raise WrongProgram(str(error)) from None
-    return frames
 
 
 class _Sender:
