@@ -1,0 +1,324 @@
+-- The reads of an expression are its reach, and each map stands once.
+use Rattle.std.proofs.Common.{◌≡◌, ℕ, zero, suc, ℤ, ◌+◌, ◌<◌, ◌≤◌, max, List, [], ◌∷◌, ◌++◌, map, Bool, true, false}
+use Rattle.std.proofs.Common.{◌||◌, refl, ap, sym, ◌∙◌, arith}
+use Rattle.std.specs.Prelude.{All, ◌==◌, nat_lt, flat_map, if◌then◌else◌}
+use Rattle.std.proofs.lemmas.List.Elements.{All-nil, All-cons, All-head, All-tail, All-weaker, All-push}
+use Rattle.cell_core.specs.Grid.{Grid, CellValue}
+use Rattle.cell_calc_tokens.specs.declared.function.Function.{Function}
+use Rattle.cell_calc_tokens.specs.declared.function.Function.TheVariants as function
+use Rattle.cell_calc_operators.specs.Applied.{Spot, negated_cell, inverted_cell, operator_value, call_result}
+use Rattle.cell_calc_grammar.specs.Tree.{fold_maps}
+use Rattle.cell_calc_steps.specs.declared.step.Step.{Step}
+use Rattle.cell_calc_steps.specs.declared.step.Step.TheVariants as step
+use Rattle.cell_calc_steps.specs.Postfix.{postfix, at_step, fold_steps}
+use Rattle.cell_calc_steps.proofs.PostfixLemmas.{fold-postfix}
+use Rattle.cell_calc_binding.proofs.Steps.{greatest}
+use Rattle.cell_calc_binding.specs.Formula.{Formula, Number, Map, Negated, Not, Binary, Call, Formulas, NoTrees, Then}
+use Rattle.cell_calc_binding.specs.Reach.{up_at, down_at}
+use Rattle.cell_calc_binding.specs.Value.{value, argument_values}
+use Rattle.cell_calc_law.specs.HaloParts.{left_at, right_at, calls, call_any, value_told, values_told}
+use Rattle.cell_calc_law.specs.LocalLaw.{asks_where}
+use Rattle.rcell_script_commands.specs.declared.command.Command.{Command}
+use Rattle.rcell_script_commands.specs.declared.command.Command.TheVariants.{Mapcalc, Reclass, Clump, Stats, OutAscii}
+use Rattle.rcell_script.specs.declared.statement.Statement.{Statement}
+use Rattle.rcell_plan.specs.declared.needs.Need.{Need}
+use Rattle.rcell_plan.specs.declared.planning.Plan.{Plan}
+use Rattle.rcell_plan.specs.Needs.{own, joined, wholly, with_need, with_needs}
+use Rattle.rcell_plan.specs.Plans.{step_reads, expression_reads, command_reads, needs_at, needs_of_read}
+use Rattle.rcell_plan.specs.Plans.{command_needs, makes_map, needs_after, plan_of, plans_of, given_from, given_needs}
+use Rattle.rcell_plan.specs.ReadsLaw.{ReadsAreReach, AscendPast, Ascend, PlansAscend, NoFlagNoPosition}
+
+-- ---- the order of places
+
+past_with_need : (place : ℕ) (xs : List Need) (n : Need) → place < n.place → AscendPast place xs
+    → AscendPast place (with_need xs n)
+past_with_need place [] n lt h = (lt, tt)
+past_with_need place (x ∷ xs) n lt h = by_case (nat_lt x.place n.place) refl (nat_lt n.place x.place) refl
+    (λ less. past_with_need x.place xs n less h.1)
+  where
+    by_case : (b : Bool) → nat_lt x.place n.place ≡ b → (c : Bool) → nat_lt n.place x.place ≡ c
+        → (x.place < n.place → AscendPast x.place (with_need xs n))
+        → AscendPast place (if b then x ∷ with_need xs n else (if c then n ∷ x ∷ xs else joined x n ∷ xs))
+    by_case true e c f behind = (h.0, behind (grind arith))
+    by_case false e true f behind = (lt, (grind arith, h.1))
+    by_case false e false f behind = (h.0, h.1)
+
+ascend_with_need : (xs : List Need) (n : Need) → Ascend xs → Ascend (with_need xs n)
+ascend_with_need [] n h = tt
+ascend_with_need (x ∷ xs) n h = by_case (nat_lt x.place n.place) refl (nat_lt n.place x.place) refl
+  where
+    by_case : (b : Bool) → nat_lt x.place n.place ≡ b → (c : Bool) → nat_lt n.place x.place ≡ c
+        → Ascend (if b then x ∷ with_need xs n else (if c then n ∷ x ∷ xs else joined x n ∷ xs))
+    by_case true e c f = past_with_need x.place xs n (grind arith) h
+    by_case false e true f = (grind arith, h)
+    by_case false e false f = h
+
+ascend_with_needs : (xs ns : List Need) → Ascend xs → Ascend (with_needs xs ns)
+ascend_with_needs xs [] h = h
+ascend_with_needs xs (n ∷ ns) h = ascend_with_needs (with_need xs n) ns (ascend_with_need xs n h)
+
+past_wholly : (place : ℕ) (xs : List Need) → AscendPast place xs → AscendPast place (map wholly xs)
+past_wholly place [] h = tt
+past_wholly place (x ∷ xs) h = (h.0, past_wholly x.place xs h.1)
+
+ascend_wholly : (xs : List Need) → Ascend xs → Ascend (map wholly xs)
+ascend_wholly [] h = tt
+ascend_wholly (x ∷ xs) h = past_wholly x.place xs h
+
+reads_ascend : (c : Command) → Ascend (command_reads c)
+reads_ascend (Mapcalc target f) = ascend_with_needs [] (flat_map step_reads (postfix f)) tt
+reads_ascend (Reclass place target rules) = tt
+reads_ascend (Clump place target joining) = tt
+reads_ascend (Stats places options) = ascend_with_needs [] (map own places) tt
+reads_ascend (OutAscii place null_text) = tt
+
+at_ascends : (known : List (List Need)) (place : ℕ) → All Ascend known → Ascend (needs_at known place)
+at_ascends [] place h = tt
+at_ascends (k ∷ known) zero h = All-head Ascend k known h
+at_ascends (k ∷ known) (suc place) h = at_ascends known place (All-tail Ascend k known h)
+
+needs_ascend : (known : List (List Need)) (c : Command) → All Ascend known → Ascend (command_needs known c)
+needs_ascend known (Mapcalc target f) h = ascend_with_needs [] (flat_map (needs_of_read known) (expression_reads f)) tt
+needs_ascend known (Reclass place target rules) h = at_ascends known place h
+needs_ascend known (Clump place target joining) h = ascend_wholly (needs_at known place) (at_ascends known place h)
+needs_ascend known (Stats places options) h = ascend_with_needs []
+    (flat_map (needs_of_read known) (with_needs [] (map own places))) tt
+needs_ascend known (OutAscii place null_text) h = at_ascends known place h
+
+after_ascends : (known : List (List Need)) (c : Command) → All Ascend known → All Ascend (needs_after known c)
+after_ascends known c h = by_case (makes_map c)
+  where
+    by_case : (b : Bool) → All Ascend (if b then known ++ command_needs known c ∷ [] else known)
+    by_case true = All-push Ascend known (command_needs known c) h (needs_ascend known c h)
+    by_case false = h
+
+given_ascend : (first count : ℕ) → All Ascend (given_from first count)
+given_ascend first zero = All-nil Ascend
+given_ascend first (suc count) = All-cons Ascend (own first ∷ []) (given_from (first + 1) count) tt
+    (given_ascend (first + 1) count)
+
+all_ascend : (known : List (List Need)) (statements : List Statement) → All Ascend known
+    → All (λ p. Ascend p.reads × Ascend p.needs) (plans_of known statements)
+all_ascend known [] h = All-nil (λ (p : Plan). Ascend p.reads × Ascend p.needs)
+all_ascend known (s ∷ ss) h =
+    All-cons (λ (p : Plan). Ascend p.reads × Ascend p.needs) (plan_of known s)
+    (plans_of (needs_after known s.command) ss)
+    (reads_ascend s.command, needs_ascend known s.command h)
+    (all_ascend (needs_after known s.command) ss (after_ascends known s.command h))
+
+pub plans_ascend : PlansAscend
+plans_ascend count statements = all_ascend (given_needs count) statements (given_ascend 0 count)
+
+-- ---- the largest of a place
+
+module _ (g : Need → ℕ) where
+  abbrev here : ℕ → Need → ℕ
+  here i n = if i == n.place then g n else 0
+
+  abbrev most : ℕ → List Need → ℕ
+  most i [] = 0
+  most i (n ∷ ns) = max (here i n) (most i ns)
+
+  none_past : (i place : ℕ) (xs : List Need) → i ≤ place → AscendPast place xs → most i xs ≡ 0
+  none_past i place [] le h = refl
+  none_past i place (x ∷ xs) le h =
+      let less : i < x.place = omega (arith, le, h.0) in
+      let other : (i == x.place) ≡ false = grind arith in
+      let rest : most i xs ≡ 0 = none_past i x.place xs (omega (arith, less)) h.1 in
+      rw (other, rest) refl
+
+  itself : (n : Need) → here n.place n ≡ g n
+  itself n = let same : (n.place == n.place) ≡ true = grind arith in rw same refl
+
+  -- in ascending needs each has the largest of its place
+  alone_past : (place : ℕ) (xs : List Need) → AscendPast place xs
+      → All (λ n. (place < n.place) × (g n ≡ most n.place xs)) xs
+  alone_past place [] h = All-nil (λ n. (place < n.place) × (g n ≡ most n.place []))
+  alone_past place (x ∷ xs) h =
+      All-cons (λ n. (place < n.place) × (g n ≡ most n.place (x ∷ xs))) x xs (
+        h.0,
+        (let none : most x.place xs ≡ 0 = none_past x.place x.place xs (omega arith) h.1 in
+            rw (none, itself x) (omega arith)),
+      )
+      (All-weaker (λ n. (x.place < n.place) × (g n ≡ most n.place xs))
+      (λ n. (place < n.place) × (g n ≡ most n.place (x ∷ xs)))
+      (λ n k.
+      let before = h.0 in
+      let after = k.0 in
+      let other : (n.place == x.place) ≡ false = grind arith in
+      (omega (arith, before, after), rw other (k.1 ∙ omega arith))) xs (alone_past x.place xs h.1))
+
+  pub alone : (xs : List Need) → Ascend xs → All (λ n. g n ≡ most n.place xs) xs
+  alone [] h = All-nil (λ n. g n ≡ most n.place [])
+  alone (x ∷ xs) h =
+      All-cons (λ n. g n ≡ most n.place (x ∷ xs)) x xs
+      (let none : most x.place xs ≡ 0 = none_past x.place x.place xs (omega arith) h in
+      rw (none, itself x) (omega arith))
+      (All-weaker (λ n. (x.place < n.place) × (g n ≡ most n.place xs)) (λ n. g n ≡ most n.place (x ∷ xs))
+      (λ n k.
+      let after = k.0 in
+      let other : (n.place == x.place) ≡ false = grind arith in
+      rw other (k.1 ∙ omega arith)) xs (alone_past x.place xs h))
+
+  module _ (joins : (a b : Need) → g (joined a b) ≡ max (g a) (g b)) where
+    most_with_need : (i : ℕ) (xs : List Need) (n : Need) → most i (with_need xs n) ≡ max (most i xs) (here i n)
+    most_with_need i [] n = omega arith
+    most_with_need i (x ∷ xs) n = by_case (nat_lt x.place n.place) refl (nat_lt n.place x.place) refl
+        (most_with_need i xs n)
+      where
+        both : x.place ≡ n.place → here i (joined x n) ≡ max (here i x) (here i n)
+        both same = by_place (i == x.place) refl
+          where
+            by_place : (b : Bool) → (i == x.place) ≡ b → here i (joined x n) ≡ max (here i x) (here i n)
+            by_place true e = let f : (i == n.place) ≡ true = ap (λ p. i == p) (sym same) ∙ e in
+                rw (e, f, joins x n) refl
+            by_place false e = let f : (i == n.place) ≡ false = ap (λ p. i == p) (sym same) ∙ e in rw (e, f) refl
+
+        by_case : (b : Bool) → nat_lt x.place n.place ≡ b → (c : Bool) → nat_lt n.place x.place ≡ c
+            → most i (with_need xs n) ≡ max (most i xs) (here i n)
+            → most i (if b then x ∷ with_need xs n else (if c then n ∷ x ∷ xs else joined x n ∷ xs)) ≡ max
+            (max (here i x) (most i xs)) (here i n)
+        by_case true e c f behind = rw behind (omega arith)
+        by_case false e true f behind = omega arith
+        by_case false e false f behind =
+            let same : x.place ≡ n.place = grind arith in
+            let joint : here i (joined x n) ≡ max (here i x) (here i n) = both same in
+            rw joint (omega arith)
+
+    most_with_needs : (i : ℕ) (xs ns : List Need) → most i (with_needs xs ns) ≡ max (most i xs) (most i ns)
+    most_with_needs i xs [] = omega arith
+    most_with_needs i xs (n ∷ ns) = most_with_needs i (with_need xs n) ns ∙ rw (most_with_need i xs n) (omega arith)
+
+    most-append : (i : ℕ) (xs ys : List Need) → most i (xs ++ ys) ≡ max (most i xs) (most i ys)
+    most-append i [] ys = omega arith
+    most-append i (x ∷ xs) ys = rw (most-append i xs ys) (omega arith)
+
+    -- the largest of a place among what steps read
+    pub most_steps : (at : ℕ → ℤ → ℤ → ℕ) (i : ℕ) → ((s : Step ℕ) → most i (step_reads s) ≡ at_step at 0 s)
+        → (f : Formula)
+        → most i (expression_reads f) ≡ fold_steps at 0 max (postfix f)
+    most_steps at i one f = most_with_needs i [] (flat_map step_reads (postfix f)) ∙ steps (postfix f)
+      where
+        steps : (ss : List (Step ℕ)) → max 0 (most i (flat_map step_reads ss)) ≡ fold_steps at 0 max ss
+        steps [] = omega arith
+        steps (s ∷ ss) =
+            let rest : max 0 (most i (flat_map step_reads ss)) ≡ fold_steps at 0 max ss = steps ss in
+            let first : most i (step_reads s) ≡ at_step at 0 s = one s in
+            rw (most-append i (step_reads s) (flat_map step_reads ss), first, ← rest) (omega arith)
+
+-- ---- what an expression reads is its reach
+
+step_up : (i : ℕ) (s : Step ℕ) → most (λ n. n.margin.up) i (step_reads s) ≡ at_step (up_at i) 0 s
+step_up i (step.Map j down right) = omega arith
+step_up i (step.Number n) = refl
+step_up i step.Negated = refl
+step_up i step.Not = refl
+step_up i (step.Binary op) = refl
+step_up i (step.Call f n) = refl
+
+step_down : (i : ℕ) (s : Step ℕ) → most (λ n. n.margin.down) i (step_reads s) ≡ at_step (down_at i) 0 s
+step_down i (step.Map j down right) = omega arith
+step_down i (step.Number n) = refl
+step_down i step.Negated = refl
+step_down i step.Not = refl
+step_down i (step.Binary op) = refl
+step_down i (step.Call f n) = refl
+
+step_left : (i : ℕ) (s : Step ℕ) → most (λ n. n.margin.left) i (step_reads s) ≡ at_step (left_at i) 0 s
+step_left i (step.Map j down right) = omega arith
+step_left i (step.Number n) = refl
+step_left i step.Negated = refl
+step_left i step.Not = refl
+step_left i (step.Binary op) = refl
+step_left i (step.Call f n) = refl
+
+step_right : (i : ℕ) (s : Step ℕ) → most (λ n. n.margin.right) i (step_reads s) ≡ at_step (right_at i) 0 s
+step_right i (step.Map j down right) = omega arith
+step_right i (step.Number n) = refl
+step_right i step.Negated = refl
+step_right i step.Not = refl
+step_right i (step.Binary op) = refl
+step_right i (step.Call f n) = refl
+
+module _ (f : Formula) where
+  -- in each direction
+  toward : (g : Need → ℕ) → ((a b : Need) → g (joined a b) ≡ max (g a) (g b)) → (at : ℕ → ℕ → ℤ → ℤ → ℕ)
+      → ((i : ℕ) (s : Step ℕ) → most g i (step_reads s) ≡ at_step (at i) 0 s)
+      → All (λ n. g n ≡ fold_maps (at n.place) 0 max f) (expression_reads f)
+  toward g joins at one =
+      All-weaker (λ n. g n ≡ most g n.place (expression_reads f)) (λ n. g n ≡ fold_maps (at n.place) 0 max f)
+      (λ n is. is ∙ most_steps g joins (at n.place) n.place (one n.place) f
+      ∙ fold-postfix (at n.place) 0 max greatest f)
+      (expression_reads f) (alone g (expression_reads f) (ascend_with_needs [] (flat_map step_reads (postfix f)) tt))
+
+pub reads_are_reach : ReadsAreReach
+reads_are_reach f =
+    let up = toward f (λ n. n.margin.up) (λ a b. refl) up_at step_up in
+    let down = toward f (λ n. n.margin.down) (λ a b. refl) down_at step_down in
+    let left = toward f (λ n. n.margin.left) (λ a b. refl) left_at step_left in
+    let right = toward f (λ n. n.margin.right) (λ a b. refl) right_at step_right in
+    λ k d lt. λ i. record { up = up k d lt i; down = down k d lt i; left = left k d lt i; right = right k d lt i }
+
+-- ---- the position
+
+silent : (f : Function) (here told : Spot) (xs : List CellValue) → asks_where f ≡ false
+    → call_result f told xs ≡ call_result f here xs
+silent function.If here told xs h = refl
+silent function.IsNull here told xs h = refl
+silent function.Null here told xs h = refl
+silent function.Abs here told xs h = refl
+silent function.Min here told xs h = refl
+silent function.Max here told xs h = refl
+silent function.Mode here told xs h = refl
+silent function.Row here told xs h = cc
+silent function.Column here told xs h = cc
+silent function.RowCount here told xs h = cc
+silent function.ColumnCount here told xs h = cc
+silent function.Eval here told xs h = refl
+silent function.KnownMin here told xs h = refl
+silent function.KnownMax here told xs h = refl
+silent function.KnownMode here told xs h = refl
+
+or-left : (a b : Bool) → (a || b) ≡ false → a ≡ false
+or-left true b h = cc
+or-left false b h = refl
+
+or-right : (a b : Bool) → (a || b) ≡ false → b ≡ false
+or-right true b h = cc
+or-right false b h = h
+
+module _ (maps : List Grid) (here told : Spot) where
+  mutual
+    told_same : (f : Formula) → calls asks_where f ≡ false → value_told f maps here told ≡ value f maps here
+    told_same (Number n) h = refl
+    told_same (Map i down right) h = refl
+    told_same (Negated a) h = ap negated_cell (told_same a h)
+    told_same (Not a) h = ap inverted_cell (told_same a h)
+    told_same (Binary op a b) h =
+        let first : value_told a maps here told ≡ value a maps here = told_same a
+        (or-left (calls asks_where a) (calls asks_where b) h) in
+        let second : value_told b maps here told ≡ value b maps here = told_same b
+        (or-right (calls asks_where a) (calls asks_where b) h) in
+        ap (λ v. operator_value op v (value_told b maps here told)) first
+        ∙ ap (λ v. operator_value op (value a maps here) v) second
+    told_same (Call f xs) h =
+        silent f here told (values_told xs maps here told) (or-left (asks_where f) (call_any asks_where xs) h)
+        ∙ ap (λ vs. call_result f here vs) (all_told xs (or-right (asks_where f) (call_any asks_where xs) h))
+
+    all_told : (xs : Formulas) → call_any asks_where xs ≡ false
+        → values_told xs maps here told ≡ argument_values xs maps here
+    all_told NoTrees h = refl
+    all_told (Then a xs) h =
+        let first : value_told a maps here told ≡ value a maps here = told_same a
+        (or-left (calls asks_where a) (call_any asks_where xs) h) in
+        let rest : values_told xs maps here told ≡ argument_values xs maps here = all_told xs
+        (or-right (calls asks_where a) (call_any asks_where xs) h) in
+        ap (λ (v : CellValue). v ∷ values_told xs maps here told) first
+        ∙ ap (λ (vs : List CellValue). value a maps here ∷ vs) rest
+
+no_flag : (b : Bool) → ◌≡◌ {A = ℕ} (if b then 8 else 0) 0 → b ≡ false
+no_flag true h = absurd (omega (arith, h))
+no_flag false h = refl
+
+pub no_flag_no_position : NoFlagNoPosition
+no_flag_no_position f h maps here told = told_same maps here told f (no_flag (calls asks_where f) h)

@@ -1,0 +1,6 @@
+-- What statements read, what they need of the maps that are given, and that they need no more.
+pub mod Needs
+pub mod NeedsLaw
+pub mod Plans
+pub mod ReadsLaw
+pub mod parts

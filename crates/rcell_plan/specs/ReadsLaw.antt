@@ -1,0 +1,40 @@
+-- What reads and flags say of an expression.
+use Rattle.std.specs.Prelude.{ℕ, ◌≡◌, ◌<◌, List, [], ◌∷◌, All}
+use Rattle.cell_core.specs.Grid.{Grid}
+use Rattle.cell_calc_operators.specs.Applied.{Spot}
+use Rattle.cell_calc_binding.specs.Formula.{Formula}
+use Rattle.cell_calc_binding.specs.Reach.{up_of, down_of}
+use Rattle.cell_calc_binding.specs.Value.{value}
+use Rattle.cell_calc_law.specs.HaloParts.{left_of, right_of, value_told}
+use Rattle.rcell_script.specs.declared.statement.Statement.{Statement}
+use Rattle.rcell_plan.specs.declared.needs.Margin.{Margin}
+use Rattle.rcell_plan.specs.declared.needs.Need.{Need}
+use Rattle.rcell_plan.specs.Plans.{expression_reads, plans_of, given_needs, position_flag}
+
+-- how far an expression reads the map at a place
+abbrev pub reach_at : Formula → ℕ → Margin
+reach_at f i = record { up = up_of i f; down = down_of i f; left = left_of i f; right = right_of i f }
+
+-- among the reads of an expression, each map has the reach of the expression in it, and no more
+abbrev pub ReadsAreReach : Type 0
+ReadsAreReach = (f : Formula) → All (λ n. n.margin ≡ reach_at f n.place) (expression_reads f)
+
+-- places ascend, from past one on
+abbrev pub AscendPast : ℕ → List Need → Type 0
+AscendPast place [] = Unit {0}
+AscendPast place (n ∷ ns) = (place < n.place) × AscendPast n.place ns
+
+-- places ascend, so that each map stands once
+abbrev pub Ascend : List Need → Type 0
+Ascend [] = Unit {0}
+Ascend (n ∷ ns) = AscendPast n.place ns
+
+-- the maps of each plan stand once, in the order of their places
+abbrev pub PlansAscend : Type 0
+PlansAscend = (count : ℕ) (statements : List Statement)
+    → All (λ p. Ascend p.reads × Ascend p.needs) (plans_of (given_needs count) statements)
+
+-- without the flag of the position an expression has one value, whatever spot row() and its like are told of
+abbrev pub NoFlagNoPosition : Type 0
+NoFlagNoPosition = (f : Formula) → position_flag f ≡ 0 → (maps : List Grid) (here told : Spot)
+    → value_told f maps here told ≡ value f maps here

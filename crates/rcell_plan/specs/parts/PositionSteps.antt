@@ -1,0 +1,14 @@
+-- Which steps ask for the position.
+use Rattle.std.specs.Prelude.{ℕ, Bool, false}
+use Rattle.cell_calc_steps.specs.declared.step.Step.{Step}
+use Rattle.cell_calc_steps.specs.declared.step.Step.TheVariants.{Number, Map, Negated, Not, Binary, Call}
+use Rattle.cell_calc_law.specs.LocalLaw.{asks_where}
+
+-- row() and col(), nrows() and ncols()
+abbrev pub step_asks : Step ℕ → Bool
+step_asks (Call f n) = asks_where f
+step_asks (Number n) = false
+step_asks (Map i down right) = false
+step_asks Negated = false
+step_asks Not = false
+step_asks (Binary op) = false
