@@ -253,6 +253,9 @@ fn read_row<R: Source>(cells: &mut CellReader<R>, row: &mut [Cell]) -> Result<()
 
 /// A grid text whose header was read, and whose cells are read row by row from the north.
 ///
+/// The contracts of its calls are about what it keeps, and the contract of [`read_map`] is about the full text. Both follow from
+/// one table of the places of errors.
+///
 /// After a refusal it answers `Failed`, with line 0, from then on.
 #[derive(Drop)]
 pub struct GridReader<R: Source> {

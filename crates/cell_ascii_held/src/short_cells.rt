@@ -376,6 +376,8 @@ fn next_cells_in(
 }
 
 // The same as `cells_in`, in one of the two ways.
+//
+// Each way says the same of the cells, so nothing is proved of the pace.
 fn some_cells_in(
     held: &[u8],
     words: &mut WordTable,

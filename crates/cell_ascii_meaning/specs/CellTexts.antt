@@ -57,7 +57,7 @@ abbrev pub data_from : HeaderValue → At → Result (List (List CellValue)) Gri
 data_from h at =
     many (many (cell_from h) h.region.cols) h.region.rows at >>= (λ x. end_of (grid_start x.1.line x.1.run x.1.coming) >>= (λ _. Ok x.0))
 
--- the map that a text denotes, or the first fault
+-- the map that a text denotes, or the first fault; it goes forward over the bytes to come, as each call of a reader has to
 unfoldable pub grid_of : Coming → Result Grid GridFault
 grid_of c =
     header_of_text c >>= (λ o. data_from o.header o.at >>= (λ rows. Ok (record { region = o.header.region; rows = rows; labels = no_labels })))

@@ -158,7 +158,7 @@ line_from rest keys (Begins line c) =
     word_from line [] c
     >>= (λ w. if has_colon w.0 then key_line line keys w.0 w.1 >>= after_line rest line else opened_text keys line (Some w.0) w.1)
 
--- The header from a line on. Each header line gives a key that did not stand, so fuel for one line more than there are keys is enough.
+-- The header from a line on. Each line gives a new key, so fuel for ten lines is enough; to count the keys left would take a proof here.
 unfoldable pub header_from : ℕ → KeyValues → ℕ → ℕ → Coming → Result OpenedText GridFault
 header_from zero keys line run c = Err (grid_fault BadHeader line)
 header_from (suc fuel) keys line run c = line_from (λ k l r d. header_from fuel k l r d) keys (grid_start line run c)

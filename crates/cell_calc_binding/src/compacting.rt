@@ -83,6 +83,9 @@ fn steps_over_read_maps(
 impl Bound {
     /// The same expression over a list of just the maps that it reads, and the place of each of these in the list of all.
     ///
+    /// `eval_row` takes a window for each place up to the largest. Over all maps of a shelf, the steps of a script in which each
+    /// map is made from the one before would grow with the square of its statements.
+    ///
     /// # Errors
     ///
     /// [`Memory`] where memory was refused.

@@ -56,6 +56,8 @@ enum Turn<'a> {
 }
 
 /// What has been read of an expression: its steps so far, and what waits for more.
+///
+/// What waits is in a list, since a recursive reader took stack for each level: 1.7 MB for 998 open parentheses.
 #[derive(Drop)]
 struct Reader<'a> {
     frames: Vec<Frame<'a>>,

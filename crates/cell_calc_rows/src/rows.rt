@@ -31,6 +31,8 @@ pub(crate) fn each<F: Fn(Cell) -> Cell>(row: &mut [Cell], f: F)
 }
 
 /// Changes each cell of a row by that of another.
+///
+/// Callers pass named functions, since a closure would be proved by itself at each place.
 pub(crate) fn combine<F: Fn(Cell, Cell) -> Cell>(row: &mut [Cell], other: &[Cell], f: F)
     requires callable { F.IsAlwaysCallable f }
     requires width { length other.now ≡ length row.old }

@@ -87,6 +87,9 @@ fn alike_in_all(windows: &[RowWindow], from: usize, left: usize) -> usize
 
 /// The widths of the stretches of the windows' rows, unless there are many.
 ///
+/// They are found in the rows that windows hold, not in the runs of maps, so that the clauses of `eval_row` are about windows
+/// alone. A row with many is given up near its left end.
+///
 /// # Errors
 ///
 /// [`Memory`] where memory was refused.

@@ -9,7 +9,7 @@ use cell_core::cell::Cell;
 use cell_core::memory::Memory;
 use std::alloc::Global;
 
-// How many cells are known at a time.
+// How many cells are known at a time. All that clauses say of them is that each is right, so the number can be tuned.
 const PLACES: usize = 1024;
 
 // A cell, and what the rules make of it.

@@ -15,6 +15,8 @@ use std::alloc::Global;
 use std::collections::BTreeMap;
 
 // The output of each piece by the place where it begins. The last may begin after the greatest category.
+//
+// Clauses say nothing of the order of the entries, only which look-ups find a beginning.
 #[derive(Drop)]
 pub(crate) struct Pieces {
     starts: BTreeMap<i64, Option<Output>>,

@@ -54,6 +54,9 @@ fn label_row(
 }
 
 /// The table of the labels of a map, once those of each two adjacent cells of one category were joined.
+///
+/// No cell's label is kept. `number_cells` walks the map again, and meets the cells that share no label with earlier neighbours
+/// in the same order. The table says which labels are joined, so no row of labels is rewritten.
 pub fn label_cells(alloc: Global, map: &CellMap, joining: Joining) -> Result<Vec<u32>, Memory>
     ensures { IfOk result (λ table. AreLabels joining map.now table.items) }
 {

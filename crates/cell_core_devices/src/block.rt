@@ -14,6 +14,9 @@ const ROOM: usize = 4096;
 /// Bytes held until they fill a block, the number of bytes that the sink took, and whether it refused a put.
 ///
 /// It takes no memory. After a refused put nothing more is put.
+///
+/// Functions that write through it return nothing. When each returned a failed put, it had four to six more clauses and three
+/// times the lines of proof. A buffered writer of std would count bytes that it merely holds.
 #[derive(Drop)]
 pub struct OutputBlock {
     bytes: [u8; ROOM],

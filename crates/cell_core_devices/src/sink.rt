@@ -7,7 +7,7 @@ use crate::device::DeviceFault;
 use std::io::Write;
 use std::marker::Model;
 
-/// How often a sink was flushed.
+/// How often a sink was flushed. A number would need a clause that nobody flushes 2^64 times.
 #[derive(Clone, Copy, Debug, PartialEq, Eq)]
 pub enum Flushes {
     /// Not yet.

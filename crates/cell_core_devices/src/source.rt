@@ -9,6 +9,9 @@ use std::io::Read;
 use std::marker::Model;
 
 /// How far a source was asked.
+///
+/// No `requires` forbids asking a source again after its end, since a caller may have reasons to. It is no invariant of a
+/// reader, since a reader may be given a source that has ended.
 #[derive(Clone, Copy, Debug, PartialEq, Eq)]
 pub enum Asked {
     /// Each call gave bytes, or there was none yet.

@@ -122,7 +122,7 @@ impl Name {
 pub struct Names {
     alloc: Global,
     names: Vec<Name>,
-    // The place of each name, by a copy of its bytes.
+    // The place of each name, by a copy of its bytes. A script may make tens of thousands of maps, so the list is not searched.
     places: BTreeMap<Vec<u8>, usize>,
 }
 

@@ -56,7 +56,7 @@ pub(crate) fn add_size(sizes: &mut Vec<u64>, number: u64, size: u64) -> Result<(
     }
 }
 
-// The first number without a size.
+// The first number without a size: each clump has cells, so the numbering leaves this number out.
 pub(crate) fn first_without_size(sizes: &[u64]) -> Option<u64>
     ensures all { result ≡ None → (n : ℕ) → n < length sizes.now → 0 < slice_index sizes.now n }
     ensures first { IfSome result (IsFirstWithoutSize sizes.now) }

@@ -138,6 +138,7 @@ impl TileJoiner {
             last,
             right: _,
         } = joined;
+        // This seam is one line over the full width, so corners where four tiles meet need no case of their own.
         add_meetings(&mut pairs, joining, &above, &first)?;
         Ok(TileJoiner {
             joining,

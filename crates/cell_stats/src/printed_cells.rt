@@ -21,6 +21,9 @@ use std::alloc::Global;
 use std::marker::Model;
 
 /// The memory for a walk over the cells of several maps of a shelf. It is seen as their number.
+///
+/// It is taken before the walk, since `-1` of r.stats prints during it, and a statement that runs out of memory has written
+/// nothing.
 #[derive(Drop)]
 pub struct CellWalk<'a> {
     cursors: Vec<Cursor<'a>>,

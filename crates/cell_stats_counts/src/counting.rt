@@ -32,6 +32,8 @@ const NEAR: usize = 12;
 const WIDEST: usize = 16;
 
 // How many cells of a combination are not in the map yet, and the combination, followed by nulls.
+//
+// Clauses say only that the sums of the places and of the list are the counts, so the choice of a place can be tuned.
 #[derive(Clone, Copy)]
 pub(crate) struct CountPlace {
     count: u64,

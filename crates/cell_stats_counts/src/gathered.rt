@@ -29,6 +29,9 @@ const LOW: u64 = u32::MAX as u64;
 
 // Counts of combinations, and the places of an index: each that is taken has the lower half of the number of a combination,
 // and below it where its entry stands. What is pending is counted too.
+//
+// Nothing is proved of the index, since what it names is compared. A combination that it misses gets one more entry, and equal
+// entries are added up in place at the end.
 #[derive(Drop)]
 pub(crate) struct Gathered {
     entries: Vec<(Combo, u64)>,

@@ -59,6 +59,9 @@ fn read_statements<R: Source + Drop>(
 
 // Flushes the sink unless it refused a put, and answers. A flush that fails turns a run that is done into a failed write,
 // and changes no other answer.
+//
+// No clause of `run` sees that memory ran out. If the statements that are left write nothing, only this contract and a test
+// distinguish it from a failed write.
 fn finish_run<W: Sink>(executed: Result<u64, Stopped>, out: &mut W) -> Outcome
     ensures taken { W.taken out.new ≡ W.taken out.old }
     ensures ends { Ends executed (W.faults out.old) (W.faults out.new) result }

@@ -61,6 +61,8 @@ fn has_no_command(words: &[String]) -> bool
 }
 
 // The words that clap takes: a command and what is behind it, with hyphens or without.
+//
+// They are one list: to say what clap does with a flag between paths would take its whole walk over the words.
 fn command<'a>(alloc: Global) -> Result<Command<'a>, AllocError>
     ensures { IfOk result (λ command. app_of command ≡ command_line) }
 {
@@ -183,7 +185,7 @@ fn is_flag(flag: &str, word: &[u8]) -> bool
     word == flag.as_bytes()
 }
 
-// Whether one of the words is this flag.
+// Whether one of the words is this flag. It may be repeated, as flags of GRASS commands may.
 fn contains_flag(flag: &str, words: &[&str]) -> bool
     ensures { result ≡ list_any (λ word. is_flag flag.now word.now) words.now }
 {

@@ -81,6 +81,8 @@ fn open_grids<R: Files + AllocGlobal>(
 
 /// Opens the script and then each grid in order.
 ///
+/// No clause says that a source has the bytes of the file at its path, since nothing is assumed about files.
+///
 /// # Errors
 ///
 /// [`Refusal::ScriptFile`] or [`Refusal::GridFile`] of the first that can't be opened; [`Refusal::Usage`] where the request

@@ -18,6 +18,7 @@ use rcell_script_options::maps::input_places;
 use rcell_script_options::options::{Form, Options, options_of};
 use std::alloc::Global;
 
+// `-n` also leaves out all combinations that `-N` leaves out, so it stands for both.
 fn skip_of(no_null: bool, no_all_null: bool) -> Skip
     ensures { result ≡ skip_of no_null no_all_null }
 {
