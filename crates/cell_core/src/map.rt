@@ -53,7 +53,8 @@ impl CellMap {
         self.region
     }
 
-    /// The cell at a row and a column.
+    /// The cell at a row and a column. It walks the runs of the row, since a run keeps its length and not its end: to read many
+    /// cells, take `copy_row` or `runs`.
     pub fn cell(&self, row: u32, col: u32) -> Cell
         requires row_in_range { row < self.now.region.rows }
         requires col_in_range { col < self.now.region.cols }
@@ -102,7 +103,8 @@ impl CellMap {
         self.rows[row as usize].bytes()
     }
 
-    /// Says that each cell of a map is null or a category. Does nothing.
+    /// Says that each cell of a map is null or a category. Does nothing. It is a call of its own, so that only a law that needs
+    /// the range carries the fact.
     pub fn cells_are_in_range(&self)
         ensures { AreCells self.now.rows }
     {
@@ -131,6 +133,7 @@ impl CellMap {
             (self.new ≡ record self.old { labels = insert self.old.labels category text.now }) }
         ensures err { OnErr result (self.new ≡ self.old) }
     {
+        // The copy and the entry may both run out of memory, so the copy is made before the labels change.
         let label = Vec::from_slice(self.alloc, text)?;
         self.labels.insert(category, label)?;
         Ok(())
