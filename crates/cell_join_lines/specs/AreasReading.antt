@@ -67,7 +67,7 @@ stretch_if (Some band) (Some first) (Some last) number = Ok (record { band = ban
 abbrev pub stretch_of_entry : Combination × ℕ → Result Stretch AreasKind
 stretch_of_entry entry = stretch_if (number_in_column entry.0 0) (number_in_column entry.0 1) (number_in_column entry.0 2) entry.1
 
--- the first clump of a tile comes next, or the clump behind those of another run of it
+-- the first clump of a tile comes next, or the clump behind those of another run of it; a run that could continue the one before is accepted, since it says the same
 abbrev pub comes_next : Option Stretch → Stretch → Bool
 comes_next None s = s.first == 1
 comes_next (Some before) s = if before.band == s.band then s.first == before.last + 1 else s.first == 1
@@ -79,7 +79,7 @@ in_sequence before s = if nat_lt s.last s.first then Err areas_kinds.Reversed el
 abbrev pub next_stretch : Option Stretch → Combination × ℕ → Result Stretch AreasKind
 next_stretch before entry = stretch_of_entry entry >>= in_sequence before
 
--- what a numbering is read as: the runs before its first fault, and that fault
+-- what a numbering is read as: the runs before its first fault, and that fault; no count of tiles, since a tile without clumps has no line
 pub record AreasReading : Type 0 where
   pub stretches : List Stretch
   pub fault : Option AreasFault

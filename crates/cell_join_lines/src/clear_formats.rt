@@ -22,7 +22,8 @@ fn is_without(text: &[u8], byte: u8) -> bool
 }
 
 /// Whether what is printed so can be read back: the separator stands in no field, nor in the label of null where labels are
-/// printed, and the null text is no category.
+/// printed, and the null text is no category. With labels a blank is no separator that can be read back, since the label of null
+/// is `no data`.
 pub fn is_clear(format: &Format) -> bool
     ensures { result ≡ is_clear format.now }
 {

@@ -71,7 +71,8 @@ fn count_before<R: Source>(
     low
 }
 
-// Puts the first place behind so many others.
+// Puts the first place behind so many others. Places move by one, 8 bytes a text, as in GNU `sort -m`. A heap moves fewer and
+// looks at twice as many heads.
 fn put_first(places: &mut [usize], others: usize)
     requires { others < length places.old }
     ensures { places.new ≡ insert (drop 1 places.old) others (slice_index places.old 0) }
