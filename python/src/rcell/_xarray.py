@@ -118,6 +118,8 @@ def source_of_data_array(name: str, array: Any) -> DataArrayMap:
 
 def variables_of(dataset: Any) -> dict[str, Any]:
     """Return the maps of a Dataset by their names: its variables but those that say where the cells are."""
+    if not hasattr(dataset, "data_vars"):
+        raise BadMap("maps", "a DataArray that is no map of a name: give it one, as lc=array")
     described = {name: dataset[name] for name in dataset.data_vars}
     places = {of.get("grid_mapping") for array in described.values() for of in (array.attrs, array.encoding)}
     return {str(name): array.assign_coords({at: dataset[at] for at in places & set(described)})

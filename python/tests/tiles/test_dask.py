@@ -161,6 +161,8 @@ def test_what_is_no_map_is_refused() -> None:
         rcell.tiles.open(lc=array_of(CELLS.astype(complex), (16, 10)))
     with pytest.raises(rcell.BadMap, match="a DataArray of 3 dimensions"):
         rcell.tiles.open(lc=xarray.DataArray(np.ones((2, 3, 4), np.uint8), dims=("band", "y", "x")))
+    with pytest.raises(rcell.BadMap, match="give it one, as lc=array"):
+        rcell.tiles.open(array_of(CELLS, -1))
     with pytest.raises(rcell.BadMap, match="2 maps"):
         xarray.Dataset({"a": array_of(CELLS, -1), "b": array_of(CELLS, -1)}).rcell.clump()
     with pytest.raises(rcell.OtherRegion, match="rows is 39, not 40"):

@@ -497,7 +497,7 @@ class Mosaic:
         cuts = self._cuts(demand, room)
         rows, cols = (max(lengths) for lengths in cuts)
         memory = demand.bytes(rows, cols)
-        if is_eager and memory > room.most:
+        if is_eager and memory > room.most and (self._size or room.told):  # else the task would wait for such a worker for ever
             raise TooLittleMemory(f"a tile of {rows} x {cols} cells may take {memory:,} bytes, and a worker has {room.most:,}: give a smaller size")
         return _Tiles(cuts, memory, room, is_eager)
 
