@@ -8,7 +8,7 @@ from typing import Any
 import numpy as np
 from numpy.typing import NDArray
 
-__all__ = ["MaskedCells", "compressed", "data_of", "filled", "is_masked_array", "mask_of", "masked"]
+__all__ = ["MaskedCells", "compressed", "data_of", "filled", "is_masked_array", "mask_of", "masked", "unmasked"]
 
 MaskedCells = np.ma.MaskedArray[Any, Any]
 _ma: Any = np.ma
@@ -83,3 +83,14 @@ def mask_of(array: MaskedCells) -> NDArray[np.bool_]:
     """
     answer: NDArray[np.bool_] = _ma.getmaskarray(array)
     return answer
+
+
+def unmasked(cells: Any) -> tuple[NDArray[Any], NDArray[np.bool_] | None]:
+    """Return the cells of an array and which of them are masked, None if it is no masked array.
+
+    Examples
+    --------
+    >>> unmasked(masked(np.array([1, 2]), np.array([False, True])))[1].tolist()
+    [False, True]
+    """
+    return (data_of(cells), mask_of(cells)) if is_masked_array(cells) else (np.asarray(cells), None)

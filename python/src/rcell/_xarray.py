@@ -14,7 +14,7 @@ from ._errors import BadMap
 from ._labels import flags_of
 from ._libraries import need
 from ._maps import BLOCK_CELLS, Block, checked, in_region, whole_nodata
-from ._masked import MaskedCells, filled
+from ._masked import MaskedCells, filled, unmasked
 from ._region import Region, Transform, six_numbers
 from ._text import NULL, range_of
 
@@ -58,8 +58,9 @@ class DataArrayMap:
         chunks = self.array.chunks
         step = max(1, BLOCK_CELLS // cols, chunks[0][0] if chunks else 1)
         for row in range(0, rows, step):
-            cells = np.ascontiguousarray(self.array[row : row + step].values)
-            yield checked(self.name, cells, None, self.nodata_value, row)
+            cells = self.array[row : row + step].data
+            cells, null = unmasked(cells.compute() if is_lazy(self.array) else cells)
+            yield checked(self.name, np.ascontiguousarray(cells), null, self.nodata_value, row)
 
 
 class Flat(NamedTuple):

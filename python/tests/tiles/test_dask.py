@@ -149,6 +149,14 @@ def test_types_of_cells(dtype: str, nodata: Any) -> None:
     assert array.rcell.table("r.stats -c input=lc").equals(rcell.table("r.stats -c input=lc", lc=rcell.Map(cells, nodata=nodata)))
 
 
+def test_masked_cells_of_dask_are_null() -> None:
+    array = dask.ma.masked_equal(dask.from_array(CELLS, chunks=(16, 10)), 200)
+    expected = rcell.table("r.mapcalc x = lc[0,1]\nr.stats -c input=x,lc", lc=rcell.Map(CELLS, nodata=200))
+    for maps in ({"lc": array}, {"lc": xarray.DataArray(array, dims=("y", "x"))}):
+        assert rcell.tiles.open(maps).table("r.mapcalc x = lc[0,1]\nr.stats -c input=x,lc", compute=False).compute().equals(expected)
+        assert rcell.table("r.mapcalc x = lc[0,1]\nr.stats -c input=x,lc", maps).equals(expected)
+
+
 def test_a_cell_that_is_none_is_named_by_its_place_in_the_map() -> None:
     cells = CELLS.astype(np.float32)
     cells[37, 21] = 0.5

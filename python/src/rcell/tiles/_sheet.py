@@ -16,6 +16,7 @@ from .._errors import BadMap, OtherRegion
 from .._labels import read_labels
 from .._libraries import need
 from .._maps import ArrayMap, checked
+from .._masked import unmasked
 from .._rasters import Layer, only_band, open_dataset, told_of_reading, upright
 from .._region import Region, Transform, differences_of, edges_of_transform, units_of
 from .._script import check_names
@@ -143,7 +144,7 @@ class MapCells:
 
     def of(self, cells: Any, place: Rectangle) -> ArrayMap:
         """Return the cells of a rectangle as a map of its own, as `MapFile.read` does."""
-        block = checked(self.name, np.asarray(cells), None, self.nodata, place.top, place.left)
+        block = checked(self.name, *unmasked(cells), self.nodata, place.top, place.left)
         return ArrayMap(self.name, block.cells, Region.of_cells(place.rows, place.cols), block.null, self.nodata)
 
 
