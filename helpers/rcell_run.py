@@ -24,17 +24,17 @@ class Missing(Exception):
     """There is no rcell."""
 
 
-def found_program(folder):
-    """RCELL, or the program beside the helper, in bin beside its folder, or on the path."""
-    named = os.environ.get("RCELL")
+def found_program(folder, name="rcell", variable="RCELL"):
+    """The program that the variable names, or next to the helper, in bin next to its folder, or on the path."""
+    named = os.environ.get(variable)
     if named:
         return os.path.abspath(named)
-    for path in (os.path.join(folder, "rcell"), os.path.join(os.path.dirname(folder), "bin", "rcell")):
+    for path in (os.path.join(folder, name), os.path.join(os.path.dirname(folder), "bin", name)):
         if os.access(path, os.X_OK) and os.path.isfile(path):
             return path
-    found = found_on_path("rcell")
+    found = found_on_path(name)
     if found is None:
-        raise Missing("rcell is neither next to this program nor on the path; set RCELL to its path")
+        raise Missing("%s is neither next to this program nor on the path; set %s to its path" % (name, variable))
     return found
 
 

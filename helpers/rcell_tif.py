@@ -1,9 +1,9 @@
 # SPDX-License-Identifier: Apache-2.0 OR GPL-2.0-or-later
 """Rasters that GDAL reads as grids of rcell, and grids as GeoTIFFs. Needs numpy; GDAL's Python only where a file is opened.
 
-    CellText(null_values).of(block, null)   a block of an array as the rows of a grid
+    CellText(program, null_values).of(..)   a block of an array as the rows of a grid, as rcell-pipe lists them
     Region.of_transform(..), .header()      edges as rcell takes them, exactly from a geotransform
-    write_grid(dataset, number, write, ..)  a band of an open dataset as a grid, block by block
+    write_grid(program, dataset, number, ..) a band of an open dataset as a grid, block by block
     read_header(read), read_cells(..)       a grid's header, and its cells as arrays of 32 bits
     write_tif(grid, path, ..)               a grid as a GeoTIFF
 
@@ -15,13 +15,15 @@ from fractions import Fraction
 
 import numpy as np
 
+from rcell_front import pipe
+
 GREATEST = 2147483647  # of a cell, either way
 NULL = -GREATEST - 1  # of arrays that a grid is read into, and of the GeoTIFFs that are written
 GREATEST_SIDE, MOST_CELLS = 65535, 2147483647
 EDGE_DIGITS, EDGE_DECIMALS = 10, 8
 EDGES = ("north", "south", "east", "west")
-BLOCK_CELLS = 1 << 22  # cells that are turned at once
-WIDEST_TABLE = 1 << 18  # categories from the least to the greatest that a table of words is made for
+BLOCK_CELLS = 1 << 20  # cells that are turned at once
+LINES_JOINED = bytes.maketrans(b"\n", b" ")
 PIECE = 1 << 22  # bytes of a grid that are read at once
 MOST_HEADER = 1 << 16  # bytes within which the header of a grid ends
 
@@ -107,107 +109,48 @@ class Region:
 # Cells to text
 
 
-def words_of(texts):
-    """Texts with a separator behind each, as an array of numbers of 2, 4 or 8 bytes, filled up with NUL bytes."""
-    longest = max(len(text) for text in texts) + 1
-    width = next(width for width in (2, 4, 8, 16) if longest <= width)
-    table = np.array([text + b" " for text in texts], "S%d" % width)
-    return table.view("u%d" % width) if width <= 8 else table
-
-
-def four_digits(number, is_padded):
-    return b"%04d" % number if is_padded else b"%d" % number
-
-
 class CellText:
-    """Blocks of cells as the rows of a grid: categories of a narrow range by a table of words, others by their digits."""
+    """Turns blocks of cells into the rows of a grid: rcell-pipe lists them."""
 
-    _parts = None
-
-    def __init__(self, null_values=()):
+    def __init__(self, program, null_values=()):
         """Cells of these whole numbers are null."""
-        self.null_values = sorted(set(null_values))
-        self.table, self.least, self.greatest = None, 0, -1
+        self.program, self.null_values = program, null_values
 
     def of(self, block, null=None):
         """The text of a block of two dimensions of a whole-number type; null are the cells where `null` is true, too."""
         kind = np.iinfo(block.dtype)
-        values = [value for value in self.null_values if kind.min <= value <= kind.max]
-        least, greatest = int(block.min()), int(block.max())
-        if greatest - least >= WIDEST_TABLE or least < -GREATEST or greatest > GREATEST:
-            null = self.all_nulls(block, values, null)
-            kept = block[~null]
-            least, greatest = (int(kept.min()), int(kept.max())) if kept.size else (0, 0)
-            self.check(block, null, least, greatest)
-            block, values = np.where(null, block.dtype.type(least), block), []
-        if greatest - least >= WIDEST_TABLE:
-            return self.by_digits(block, null)
-        return self.by_table(block, null, least, greatest)
+        for value in self.null_values:
+            if kind.min <= value <= kind.max:
+                here = block == block.dtype.type(value)
+                null = here if null is None else null | here
+        self.check(block, null)
+        cells = np.ascontiguousarray(block.astype(np.int32))
+        if null is not None:
+            cells[null] = NULL
+        return self.listed(cells)
 
     @staticmethod
-    def all_nulls(block, values, null):
-        null = np.zeros(block.shape, bool) if null is None else null
-        for value in values:
-            null = null | (block == block.dtype.type(value))
-        return null
-
-    @staticmethod
-    def check(block, null, least, greatest):
-        if least < -GREATEST or greatest > GREATEST:
-            bad = ~null & ((block > GREATEST) | (block < -GREATEST) if block.dtype.kind == "i" else block > GREATEST)
+    def check(block, null):
+        if block.min() >= -GREATEST and block.max() <= GREATEST:
+            return
+        bad = (block > GREATEST) | (block < -GREATEST) if block.dtype.kind == "i" else block > GREATEST
+        bad = bad if null is None else bad & ~null
+        if bad.any():
             row, col = np.argwhere(bad)[0]
             raise BadCell(int(row), int(col), "%d is beyond %d" % (int(block[row, col]), GREATEST))
 
-    def by_table(self, block, null, least, greatest):
-        if self.table is None or least < self.least or greatest > self.greatest:
-            self.least = least if self.table is None else min(least, self.least)
-            self.greatest = greatest if self.table is None else max(greatest, self.greatest)
-            if self.greatest - self.least >= WIDEST_TABLE:
-                self.least, self.greatest = least, greatest
-            nulls = set(self.null_values)
-            texts = [b"*" if value in nulls else b"%d" % value for value in range(self.least, self.greatest + 1)]
-            self.table = words_of(texts + [b"*"])
-            self.is_even = len({len(text) for text in texts}) == 1 == len(texts[0])
-        index = block.astype(np.intp)
-        index -= self.least
-        if null is not None:
-            index[null] = len(self.table) - 1
-        words = np.take(self.table, index, mode="clip")
-        width = words.dtype.itemsize
-        return joined(words.view(np.uint8).reshape(block.shape[0], block.shape[1], width), self.is_even and width == 2)
-
-    @classmethod
-    def parts(cls):
-        """Words of the first two digits with the sign, and of four digits with and without leading zeros."""
-        if cls._parts is None:
-            signed = [sign + (b"%d" % top if top else b"") for sign in (b"", b"-") for top in range(22)]
-            tables = [np.array(signed + [b"*"], "S4").view("u4")]
-            padded = [b"%04d" % number for number in range(10000)]
-            plain = [b"%d" % number for number in range(10000)]
-            tables.append(np.array([b""] + plain[1:] + padded + [b""], "S4").view("u4"))
-            tables.append(np.array(plain + padded + [b""], "S4").view("u4"))
-            cls._parts = tables
-        return cls._parts
-
-    def by_digits(self, block, null):
-        top_words, middle_words, low_words = self.parts()
-        size = np.abs(block.astype(np.int64)).astype(np.uint32)
-        upper = size // 10000
-        top = upper // 10000
-        text = np.empty(block.shape + (4,), np.uint32)
-        text[..., 0] = top_words[np.where(null, 44, top + (block < 0) * np.uint32(22))]
-        text[..., 1] = middle_words[np.where(null, 20000, upper - top * 10000 + (top > 0) * np.uint32(10000))]
-        text[..., 2] = low_words[np.where(null, 20000, size - upper * 10000 + (upper > 0) * np.uint32(10000))]
-        text[..., 3] = np.frombuffer(b" \0\0\0", np.uint32)[0]
-        return joined(text.view(np.uint8).reshape(block.shape[0], block.shape[1], 16), False)
-
-
-def joined(text, is_full):
-    """The bytes of words, a line feed after each row, without the NUL bytes that fill them up."""
-    last = text[:, -1]
-    ends = (last == 32).argmax(axis=1)
-    last[np.arange(len(last)), ends] = 10
-    return text.tobytes() if is_full else text.tobytes().translate(None, b"\0")
+    def listed(self, cells):
+        """The program lists a cell a line; the lines of a row are joined here."""
+        rows, cols = cells.shape
+        sent = pipe.Map("g", (str(rows), "0", str(cols), "0"), rows, cols, "i32", [pipe.Block(cells.data)], NULL)
+        try:
+            [frame] = pipe.run(self.program, [sent], b"r.stats -1 input=g\n")
+        except (pipe.Rejected, pipe.Killed, pipe.NoAnswer) as fault:
+            raise Refused("%s failed: %s" % (self.program, getattr(fault, "text", fault))) from None
+        row_ends = np.flatnonzero(np.frombuffer(frame.text, np.uint8) == ord("\n"))[cols - 1 :: cols]
+        text = frame.text.translate(LINES_JOINED)
+        np.frombuffer(text, np.uint8)[row_ends] = ord("\n")
+        return text
 
 
 class BadCell(Refused):
@@ -287,8 +230,8 @@ def blocks_of(band, is_turned):
     return [(start, min(step, rows - start)) for start in (reversed(starts) if is_turned else starts)]
 
 
-def write_grid(dataset, number, write, nodata=None, like=None, like_name="the other grid"):
-    """Writes a band of a dataset as a grid: its region, edges exactly from the geotransform, then its cells block by block."""
+def write_grid(program, dataset, number, write, nodata=None, like=None, like_name="the other grid"):
+    """Writes a band of a dataset as a grid: its region, edges exactly from the geotransform, then its cells block by block by rcell-pipe."""
     band = dataset.GetRasterBand(number)
     region, is_turned = Region.of_transform(dataset.GetGeoTransform(can_return_null=True), band.YSize, band.XSize)
     if like is not None:
@@ -296,7 +239,7 @@ def write_grid(dataset, number, write, nodata=None, like=None, like_name="the ot
     check_meaning(dataset, band)
     values, masks = null_values_of(band, nodata), masks_of(dataset, number, nodata)
     whole = [int(value) for value in values if value == value and abs(value) < 2**64 and value == int(value)]
-    texts = CellText(whole)
+    texts = CellText(program, whole)
     write(region.header())
     for first, count in blocks_of(band, is_turned):
         block = read_block(band, first, count)
@@ -316,7 +259,7 @@ def text_of(block, null, values, texts, is_turned):
         block, null = block[::-1], null if null is None else null[::-1]
     if block.dtype.kind == "f":
         block, null = whole_cells(block, values, null)
-        texts = CellText()
+        texts = CellText(texts.program)
     return texts.of(block, null)
 
 

@@ -229,7 +229,7 @@ class TestRcell(TestCase):
             self.assertIn("rcell: script:5: unknown map at column 20", told)
             self.assertIn("     r.mapcalc y = x + coverr\n                       ^\n", told)
         told = self.refused("r.stats -c input=zones --quiet\n", maps="zones", flags="l")
-        self.assertIn("rcell: script:1: bad option\n    r.stats -c input=zones --quiet\n", told)
+        self.assertIn("rcell: script:1: bad option: --quiet\n    r.stats -c input=zones --quiet\n", told)
         told = self.refused("r.reclass input=zones output=t_x\n1 = 1\n", maps="zones", output="t_x")
         self.assertIn("rcell: script:1: missing end", told)
 
