@@ -32,6 +32,7 @@ HERE = pathlib.Path(__file__).resolve().parent
 FRONTS = ("python", "shell", "r", "qgis", "grass")
 GROUP = 16
 SHORT = 800  # rasters of the gate
+LARGE = 100_000  # cells
 PROGRESS = 5000
 MOST_CATEGORY = 2147483647
 NULL = -2147483648  # among cells that come back
@@ -80,7 +81,10 @@ class Made:
 
 
 def place_of(random: Any) -> Place:
-    rows, cols = (int(size) for size in random.integers(1, 19, 2)) if random.random() < 0.9 else (int(random.integers(1, 60)), 40)
+    chance = random.random()
+    rows, cols = (int(size) for size in random.integers(1, 19, 2)) if chance < 0.9 else (int(random.integers(1, 60)), 40)
+    if chance > 0.99:
+        rows, cols = int(random.integers(900, 1500)), 1000  # more than a package reads at once
     width, height = (float(size) for size in random.choice([0.5, 1, 10, 25, 30, 1 / 3, 1 / 120, 1000], 2))
     west, north = float(random.integers(-1000, 1000)), float(random.integers(-1000, 1000)) / 3
     usual = (west, width, 0.0, north, 0.0, -height)
@@ -184,7 +188,7 @@ def make(random: Any, place: Place, path: str, projection: str) -> Made:
     known = None if reason else np.where(null, NULL, np.where(null, 0, cells).astype(np.int64)).astype(np.int32).reshape(-1)
     is_wide = kind in (gdal.GDT_Int64, gdal.GDT_UInt64) and nodata is not None and abs(nodata) >= EXACT_FLOAT
     labels = {str(number): name for number, name in enumerate(form.labels) if name}
-    return Made(path, known, place.reason or reason, labels, form.mask is not None, is_wide)
+    return Made(path, known, "|".join(filter(None, (place.reason, reason))), labels, form.mask is not None, is_wide)
 
 
 def write(place: Place, path: str, projection: str, cells: Any, nodata: Any, form: Form) -> None:
@@ -395,7 +399,8 @@ def try_group(seed: int, number: int, room: str, fronts: list[Front], last: list
     random = np.random.default_rng([seed, number])
     place = place_of(random)
     projection = projection_of(place.epsg)
-    rasters = [make(random, place, f"{room}/{number}_{at}.tif", projection) for at in range(GROUP)]
+    count = GROUP if place.rows * place.cols < LARGE else 2
+    rasters = [make(random, place, f"{room}/{number}_{at}.tif", projection) for at in range(count)]
     if any(front.name == "grass" for front in fronts):
         for made in rasters:
             if made.cells is not None:
