@@ -1,17 +1,15 @@
-# Times the package for R beside terra, and beside other ways of writing and reading cells: nanoseconds of the processor (user and
-# system, children too) a cell, by turns in one run, the least of the rounds.
+# Times the package for R beside terra: nanoseconds of the processor (user and system, children too) a cell, by turns in one run, the
+# least of the rounds.
 #
-#     RCELL=bin/rcell Rscript bench/r.R [--short] [--texts]      maps of 2000 x 2000 cells, or of 300 x 300; the texts alone
+#     RCELL=bin/rcell Rscript bench/r.R [--short]      maps of 2000 x 2000 cells, or of 300 x 300
 #
 # The package rcell must be installed, and the reference for all ratios is what stands in the same line.
 
 suppressMessages({
   library(terra)
   library(rcell)
-  library(data.table)
 })
 terraOptions(progress = 0)
-setDTthreads(1)
 SHORT <- "--short" %in% commandArgs(TRUE)
 SIDE <- if (SHORT) 300L else 2000L
 # terra's time for patches of noise grows with the square of the cells.
@@ -55,58 +53,6 @@ made <- function(side, is_patchy, classes = CLASSES) {
   path
 }
 
-# Cells of so many digits, as a vector, a raster in memory and a file.
-cells_of_digits <- function(digits) {
-  set.seed(digits)
-  cells <- sample.int(10L^digits - 1L, SIDE * SIDE, TRUE)
-  raster <- rast(nrows = SIDE, ncols = SIDE, xmin = 0, xmax = SIDE, ymin = 0, ymax = SIDE, crs = "")
-  values(raster) <- cells
-  path <- file.path(room, sprintf("digits%d.tif", digits))
-  writeRaster(raster, path, datatype = if (digits < 5L) "INT2S" else "INT4S", overwrite = TRUE)
-  list(cells = cells, words = as.character(seq_len(10L^digits)), raster = raster, path = path, digits = digits)
-}
-
-# What the package does, by its own functions.
-own <- asNamespace("rcell")
-sent <- function(given, file) own$send_map(own$source_of("x", given), file)
-received <- function(file) own$numbers_in(list(program = ""), file, 1L)[[1]]
-
-ways_out <- function(of) {
-  file <- file.path(room, "cells")
-  plain <- function(cells, ...) fwrite(cells, file, na = "*", col.names = FALSE, quote = FALSE, ...)
-  by_turns(list(
-    "**the package**, of a raster in memory" = function() sent(of$raster, file),
-    "**the package**, of a GeoTIFF" = function() sent(of$path, file),
-    "`fwrite` of one column, `eol = \" \"`, which is its last step" = function() plain(list(of$cells), eol = " "),
-    "the same, `eol = \"\\n\"`" = function() plain(list(of$cells)),
-    "`fwrite` of the matrix by rows" = function() plain(as.data.table(matrix(of$cells, SIDE, byrow = TRUE)), sep = " "),
-    "`writeLines` of a table of words" = function() writeLines(of$words[of$cells], file),
-    "`write.table` of the matrix" = function() write.table(matrix(of$cells, SIDE, byrow = TRUE), file, col.names = FALSE, row.names = FALSE),
-    "`writeRaster` of terra as AAIGrid" = function() writeRaster(of$raster, paste0(file, ".asc"), datatype = "INT4S", overwrite = TRUE)), SIDE^2)
-}
-
-ways_back <- function(of) {
-  file <- file.path(room, "lines")
-  rows <- file.path(room, "rows")
-  fwrite(list(of$cells), file, col.names = FALSE)
-  fwrite(as.data.table(matrix(of$cells, SIDE, byrow = TRUE)), rows, sep = " ", col.names = FALSE)
-  stopifnot(identical(received(file), of$cells))
-  by_turns(list(
-    "**the package**: `fread` of a cell a line" = function() received(file),
-    "`fread` of rows, `as.matrix`, turned" = function() as.vector(t(as.matrix(fread(rows, header = FALSE)))),
-    "`scan`" = function() scan(file, 0L, quiet = TRUE)), SIDE^2)
-}
-
-# Cells out and back, without the program.
-texts <- function() {
-  all <- lapply(c(1L, 3L, 6L), cells_of_digits)
-  for (ways in list(out = ways_out, back = ways_back)) {
-    found <- lapply(all, ways)
-    cat("\n| Way | 1 digit | 3 digits | 6 digits |\n| --- | --- | --- | --- |\n")
-    for (way in names(found[[1]])) show(way, vapply(found, `[[`, 0, way))
-  }
-}
-
 adjacency_by_table <- function(map) {
   cells <- matrix(values(map, mat = FALSE), nrow(map), byrow = TRUE)
   across <- table(cells[, -ncol(cells)], cells[, -1])
@@ -142,12 +88,10 @@ small_calls <- function(path) {
   show(sprintf("perimeters, %d x %d (`perim` of `as.polygons`)", SMALL, SMALL), pair(perimeters, function() rcell_patches(path, 4), SMALL^2))
 }
 
-cat(sprintf("R %s, terra %s, data.table %s; %d x %d cells; ns a cell of the processor\n", getRversion(), packageVersion("terra"),
-  packageVersion("data.table"), SIDE, SIDE))
-texts()
+cat(sprintf("R %s, terra %s; %d x %d cells; ns a cell of the processor\n", getRversion(), packageVersion("terra"), SIDE, SIDE))
 patchy <- made(SIDE, TRUE)
 noise <- made(SIDE, FALSE)
-for (kind in if ("--texts" %in% commandArgs(TRUE)) character() else c("patchy", "noise")) {
+for (kind in c("patchy", "noise")) {
   cat(sprintf("\n| %s | terra | rcell |\n| --- | --- | --- |\n", if (kind == "patchy") "Patchy land cover" else "Noise"))
   path <- if (kind == "patchy") patchy else noise
   calls(path, if (kind == "patchy") noise else patchy)

@@ -14,7 +14,7 @@ install -m 644 LICENSE.md "$inst/COPYRIGHTS"
 sed -i "s/^Version: .*/Version: $version/" "$room/source/rcell/DESCRIPTION"
 # R warns of a program in a package unless it is declared.
 printf 'inst/bin/%s\n' rcell rcell-pipe > "$room/source/rcell/BinaryFiles"
-(cd "$room/source" && env -u RCELL LC_ALL=C.UTF-8 LANGUAGE=en TZ=UTC R CMD build rcell > build.log 2>&1) || { cat "$room/source/build.log" >&2; exit 1; }
+(cd "$room/source" && env -u RCELL -u RCELL_PIPE LC_ALL=C.UTF-8 LANGUAGE=en TZ=UTC R CMD build rcell > build.log 2>&1) || { cat "$room/source/build.log" >&2; exit 1; }
 # R notes who packed it and when.
 tar -C "$room" -xzf "$room/source/rcell_$version.tar.gz"
 sed -i "s/^Packaged: .*/Packaged: $(date -u -d "@$SOURCE_DATE_EPOCH" '+%Y-%m-%d %H:%M:%S UTC'); the Nibzoqel authors/" "$room/rcell/DESCRIPTION"

@@ -5,7 +5,7 @@ cd "$(dirname "$0")/.." || exit 1
 package=$PWD/dist/rcell_$(cat VERSION).tar.gz
 room=$(mktemp -d) || exit 1
 trap 'rm -rf "$room"' EXIT
-unset RCELL R_LIBS R_LIBS_USER
+unset RCELL RCELL_PIPE R_LIBS R_LIBS_USER
 # No repository is asked for anything.
 export R_REPOSITORIES=NULL LC_ALL=C.UTF-8 _R_CHECK_CRAN_INCOMING_=FALSE
 . tools/counting.sh
@@ -27,6 +27,6 @@ check 'R CMD check' checked
 add 'tests within R CMD check' counted
 mkdir "$room/library"
 check 'the package is installed' R CMD INSTALL --library="$room/library" "$package"
-check 'the program is in the package' test -x "$room/library/rcell/bin/rcell"
+for program in rcell rcell-pipe; do check "$program is in the package" test -x "$room/library/rcell/bin/$program"; done
 add 'blocks of docs/r.md' env R_LIBS="$room/library" Rscript r/check_docs.R docs/r.md
 closing

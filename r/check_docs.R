@@ -13,6 +13,8 @@ copied <- file.copy(list.files("examples/rasters", full.names = TRUE), room)
 setwd(room)
 options(width = 110L, digits = 7L)
 Sys.setenv(LANGUAGE = "en")
+# The messages are those of the package, whatever Python has.
+options(rcell.python = "")
 suppressMessages(library(terra))
 terraOptions(progress = 0)
 world <- new.env(parent = globalenv())

@@ -20,12 +20,12 @@ rcell_align <- function(x, to, resample = NULL, filename = "", overwrite = FALSE
   is_same <- !any(nzchar(systems)) || same_crs(map$crs, target$crs)
   if (is.null(resample)) check_alignment(map, target, is_same)
   place <- if (is_same) places_by_side(map$template, target$template) else places_by_centre(map$template, target$template)
-  cells <- all_cells(map, program)
-  found <- cells[place$index]
+  cells <- all_cells(map)
+  found <- if (is.null(place$index)) as.vector(cells[place$cols, place$rows]) else cells[place$index]
   raster <- rast(target$template, vals = found)
   if (length(map$labels$codes)) levels(raster) <- data.frame(value = map$labels$codes, label = map$labels$labels)
   raster <- written(raster, filename)
-  attr(raster, "aligned") <- facts_of(place, cells)
+  attr(raster, "aligned") <- facts_of(place, cells, found)
   raster
 }
 
@@ -57,7 +57,7 @@ shift_of <- function(from, to) {
   ifelse(abs(shift - round(shift)) <= SHIFT_TOLERANCE, round(shift), shift)
 }
 
-# For each cell of `to` the cell of `from` in which its centre lies, NA for none.
+# For each row and each column of `to` the row and the column of `from` in which its centres lie, NA for none.
 places_by_side <- function(from, to) {
   shift <- shift_of(from, to)
   along <- function(shift, ratio, count, most) {
@@ -67,10 +67,10 @@ places_by_side <- function(from, to) {
   ratio <- res(to) / res(from)
   rows <- along(shift[[1]], ratio[[2]], nrow(to), nrow(from))
   cols <- along(shift[[2]], ratio[[1]], ncol(to), ncol(from))
-  list(index = as.vector(outer(cols, (rows - 1) * ncol(from), `+`)), shift = shift)
+  list(rows = rows, cols = cols, shift = shift)
 }
 
-# The same in another reference system, by the centres of cells.
+# For each cell of `to` the cell of `from` in which its centre lies, where the reference systems differ.
 places_by_centre <- function(from, to) {
   centres <- project(xyFromCell(to, seq_len(ncell(to))), from = crs(to), to = crs(from))
   row <- floor((ymax(from) - centres[, 2]) / res(from)[[2]] + BORDER_TOLERANCE)
@@ -80,10 +80,22 @@ places_by_centre <- function(from, to) {
 }
 
 # How many cells of the map that have a value are in the result, are in it more than once, and are not in it.
-facts_of <- function(place, cells) {
-  times <- tabulate(place$index, length(cells))[!is.na(cells)]
-  data.frame(shift_rows = place$shift[[1]], shift_columns = place$shift[[2]], cells_used = sum(times > 0L), cells_repeated = sum(times > 1L),
-    cells_lost = sum(times == 0L))
+facts_of <- function(place, cells, found) {
+  with_value <- function(cells) length(cells) - sum(is.na(cells))
+  # Without repetitions the result has each cell that is used.
+  used <- once <- with_value(found)
+  if (!is.null(place$index)) {
+    times <- tabulate(place$index, length(cells))[!is.na(cells)]
+    used <- sum(times > 0L)
+    once <- sum(times == 1L)
+  } else if (anyDuplicated(na.omit(place$rows)) || anyDuplicated(na.omit(place$cols))) {
+    rows <- tabulate(place$rows, ncol(cells))
+    cols <- tabulate(place$cols, nrow(cells))
+    used <- with_value(cells[cols > 0L, rows > 0L])
+    once <- with_value(cells[cols == 1L, rows == 1L])
+  }
+  data.frame(shift_rows = place$shift[[1]], shift_columns = place$shift[[2]], cells_used = used, cells_repeated = used - once,
+    cells_lost = with_value(cells) - used)
 }
 
 # The call that moves a map onto the first one of a run, to be pasted.

@@ -67,29 +67,26 @@ areas_of <- function(cells, template, unit) {
   cells * cell_sizes(template) / UNITS[[unit]]
 }
 
-# Runs a script of r.stats -cn, each of some maps, and reads all tables at once, as `measured` has them. In a map in degrees cells
+# The tables of a script of r.stats -cn, each of some maps, as `measured` has them. In a map in degrees cells
 # are counted by rows as well, in the tables for which `by_row` says so.
 count_cells <- function(sources, combinations, area = NULL, before = character(), by_row = rep(TRUE, length(combinations)),
-                        null = FALSE, program = NULL, read = identity) {
+                        null = FALSE, program = NULL) {
   template <- sources[[1]]$template
   by_row <- by_row & !is.null(area) & is_in_degrees(template)
-  rows <- unused_name(c(before, unlist(combinations)), names(sources))
+  rows <- unused_name("row_number", c(before, unlist(combinations)), names(sources))
   lines <- Map(function(maps, adds) sprintf("r.stats -c%s input=%s", if (null) "" else "n", paste(c(maps, if (adds) rows), collapse = ",")), combinations, by_row)
   script <- c(before, if (any(by_row)) sprintf("r.mapcalc %s = row()", rows), unlist(lines))
-  run_script(script, sources, program = program, read = function(answer) {
-    read(lapply(seq_along(combinations), function(place) measured(output_of(answer, place), area, template, by_row[[place]])))
-  })
+  unname(Map(measured, run_own(script, sources, program), list(area), list(template), by_row))
 }
 
 # A table of counts as its columns of codes, the cells and, if a unit is given, the areas. Where the last map is the row, the rows of
 # each combination are added up, weighed by the size of their cells.
-measured <- function(table, area, template, by_row) {
-  columns <- unname(as.list(table))
-  count <- length(columns)
-  found <- list(codes = columns[-count], cells = columns[[count]])
+measured <- function(frame, area, template, by_row) {
+  found <- frame[c("codes", "cells")]
   if (by_row) {
-    row <- columns[[count - 1L]]
-    codes <- columns[seq_len(count - 2L)]
+    count <- length(found$codes)
+    row <- found$codes[[count]]
+    codes <- found$codes[-count]
     group <- rleidv(codes)
     cells <- as.numeric(found$cells)
     sums <- rowsum(cbind(cells, cells * cell_sizes(template)[row]), group, reorder = FALSE)

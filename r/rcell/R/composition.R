@@ -8,16 +8,14 @@ rcell_composition <- function(x, zones = NULL, area = "ha", labels = NULL, zone_
   labels <- labels_from(labels, sources$map$labels)
   zone_labels <- labels_from(zone_labels, sources$zones$labels, "zone_labels")
   names <- rev(names(sources))
-  count_cells(sources, list(names), area, null = null, program = program, read = function(tables) {
-    table <- tables[[1]]
-    has_zones <- length(names) > 1L
-    if (has_zones) table <- kept_rows(table, !is.na(table$codes[[1]]))
-    zone <- if (has_zones) table$codes[[1]] else rep(1L, length(table$cells))
-    class <- table$codes[[length(names)]]
-    check_legend(labels, class, "map")
-    check_legend(zone_labels, zone, "zones", "zone_labels")
-    frame_of(c(if (has_zones) coded("zone", zone, zone_labels), coded("class", class, labels, "label"), sized(table, area, zone)))
-  })
+  table <- count_cells(sources, list(names), area, null = null, program = program)[[1]]
+  has_zones <- length(names) > 1L
+  if (has_zones) table <- kept_rows(table, !is.na(table$codes[[1]]))
+  zone <- if (has_zones) table$codes[[1]] else rep(1L, length(table$cells))
+  class <- table$codes[[length(names)]]
+  check_legend(labels, class, "map")
+  check_legend(zone_labels, zone, "zones", "zone_labels")
+  frame_of(c(if (has_zones) coded("zone", zone, zone_labels), coded("class", class, labels, "label"), sized(table, area, zone)))
 }
 
 # The sources of a map and, if they are given, its zones.
@@ -29,7 +27,7 @@ zoned_sources <- function(x, zones, zone_field, crs, name = "map") {
 
 rcell_cross <- function(..., area = "ha", labels = NULL, null = FALSE, crs = NULL, maps = list(), program = NULL) {
   check_unit(area)
-  sources <- sources_of(list(...), maps, crs)
+  sources <- sources_of(named_maps(list(...), maps), crs)
   by_row <- !is.null(area) && is_in_degrees(sources[[1]]$template)
   if (length(sources) > MAPS_LIMIT - by_row) {
     refuse(sprintf("%d maps, and a table has at most %d%s", length(sources), MAPS_LIMIT - by_row,
@@ -40,16 +38,14 @@ rcell_cross <- function(..., area = "ha", labels = NULL, null = FALSE, crs = NUL
     refuse("labels= are legends by the names of the maps, as list(lc = \"legend.csv\")", "labels", status = 2L)
   }
   legends <- lapply(sources, function(source) labels_from(labels[[source$name]], source$labels))
-  count_cells(sources, list(names), area, null = null, program = program, read = function(tables) {
-    table <- tables[[1]]
-    columns <- do.call(c, Map(function(name, code, legend) {
-      check_legend(legend, code, name)
-      coded(name, code, legend)
-    }, names, table$codes, legends, USE.NAMES = FALSE))
-    columns <- c(columns, sized(table, area))
-    names(columns) <- unique_titles(names(columns))
-    frame_of(columns)
-  })
+  table <- count_cells(sources, list(names), area, null = null, program = program)[[1]]
+  columns <- do.call(c, Map(function(name, code, legend) {
+    check_legend(legend, code, name)
+    coded(name, code, legend)
+  }, names, table$codes, legends, USE.NAMES = FALSE))
+  columns <- c(columns, sized(table, area))
+  names(columns) <- unique_titles(names(columns))
+  frame_of(columns)
 }
 
 rcell_change <- function(before, after = NULL, years = NULL, area = "ha", labels = NULL, crs = NULL, program = NULL) {
@@ -58,17 +54,16 @@ rcell_change <- function(before, after = NULL, years = NULL, area = "ha", labels
   if (!is.list(maps) || length(maps) < 2L) refuse("two maps or more: rcell_change(before, after), or a list of maps", status = 2L)
   check_years(years, length(maps))
   names(maps) <- if (length(maps) == 2L) c("before", "after") else sprintf("map_%d", seq_along(maps))
-  sources <- sources_of(list(), maps, crs)
+  sources <- sources_of(maps, crs)
   given <- if (!is.null(labels)) legend_of(labels, "labels")
   # Maps without labels have those of the first map with labels.
   shared <- Find(function(labels) length(labels$codes) > 0L, lapply(sources, `[[`, "labels"))
   pairs <- lapply(seq_len(length(maps) - 1L), function(first) {
     pair <- sources[first + 0:1]
-    legends <- lapply(pair, function(source) if (!is.null(given)) given else if (length(source$labels$codes) == 0L && !is.null(shared)) shared else source$labels)
-    count_cells(pair, list(names(pair)), area, program = program, read = function(tables) {
-      for (side in 1:2) check_legend(given, tables[[1]]$codes[[side]], names(pair)[[side]])
-      change_of(tables[[1]], legends, area, sources[[1]]$template, years[first + 0:1])
-    })
+    legends <- lapply(pair, function(source) if (!is.null(given)) given else if (length(source$labels$codes)) source$labels else shared)
+    table <- count_cells(pair, list(names(pair)), area, program = program)[[1]]
+    for (side in 1:2) check_legend(given, table$codes[[side]], names(pair)[[side]])
+    change_of(table, legends, area, sources[[1]]$template, years[first + 0:1])
   })
   parts <- function(part) do.call(rbind, lapply(pairs, `[[`, part))
   matrices <- lapply(pairs, `[[`, "matrix")

@@ -12,21 +12,17 @@ print.rcell_error <- function(x, ...) {
   invisible(x)
 }
 
-# A map, a script or a request was refused, and nothing was answered. `content` is the line of the script itself.
-refuse <- function(text, source = "arguments", line = 0L, status = 1L, content = NULL, class = NULL) {
-  column <- column_in(text)
+# A map, a script or a request was refused, and nothing was answered. `content` is the line of the script itself, `bad` the word
+# of it that the text is about, with its column, and `advice` what to write instead.
+refuse <- function(text, source = "arguments", line = 0L, status = 1L, content = NULL, class = NULL, bad = NULL, advice = "") {
+  column <- if (is.null(bad)) column_in(text) else bad$column
   place <- if (line > 0L) sprintf("%s, line %d", source, line) else source
-  message <- paste0(place, ": ", text)
-  # The program names no word of a statement whose options are wrong.
-  bad <- if (identical(text, "bad option") && !is.null(content)) bad_option(content)
-  if (!is.null(bad)) {
-    column <- bad$column
-    message <- paste0(message, ": ", bad$word)
-  }
+  message <- paste0(place, ": ", text, if (!is.null(bad)) paste0(": ", bad$word))
   if (!is.null(content)) {
     message <- paste0(message, "\n  ", content)
     if (!is.na(column)) message <- paste0(message, "\n  ", mark_under(content, column))
   }
+  if (nzchar(advice)) message <- paste0(message, "\n  try: ", gsub("\n", "\n       ", advice, fixed = TRUE))
   signal(c(class, "rcell_refused"), message,
     source = source, line = line, column = column, text = text, status = status, content = content)
 }

@@ -1,6 +1,8 @@
 # SPDX-License-Identifier: Apache-2.0 OR GPL-2.0-or-later
 # Maps that are written: in a folder of their own first, and a file has its name only when all of it is there.
 
+PIECE_BYTES <- 4194304L
+
 # What GDAL reads with a raster, and what of an older raster would change what a new one says.
 SIDECARS <- c(".msk", ".aux.xml", ".ovr")
 
@@ -27,6 +29,32 @@ check_inputs <- function(filename, sources) {
     if (nzchar(source$path) && identical(normalizePath(native_path(source$path), mustWork = FALSE), target)) {
       refuse("the output file is the input file: give another filename=", status = 2L)
     }
+  }
+}
+
+# Writes a file by calls of the function that `fill` is given, each with bytes or with integers of 32 bits.
+write_file <- function(path, fill) {
+  failed <- function(e) write_failed(path, conditionMessage(e))
+  size <- 0
+  to <- tryCatch(file(path, "wb"), error = failed, warning = failed)
+  is_open <- TRUE
+  on.exit(if (is_open) close(to))
+  fill(function(numbers) {
+    # What its evaluation ends in is no failure of writing.
+    force(numbers)
+    tryCatch(writeBin(numbers, to, endian = "little"), error = failed, warning = failed)
+    size <<- size + length(numbers) * (if (is.raw(numbers)) 1 else 4)
+  })
+  is_open <- FALSE
+  tryCatch(close(to), error = failed, warning = failed)
+  check_size(path, size)
+}
+
+# A disk may be full only when a file is closed, and R tells no one: the size does.
+check_size <- function(path, size) {
+  there <- file.size(path)
+  if (!identical(as.numeric(there), as.numeric(size))) {
+    write_failed(path, sprintf("%.0f of its %.0f bytes are there, the disk may be full", if (is.na(there)) 0 else there, size))
   }
 }
 

@@ -27,14 +27,13 @@ rcell_patches <- function(x, connectivity = 4, area = "ha", zones = NULL, classe
   if (is_degrees) warning("perimeters are not computed in degrees", call. = FALSE)
   combinations <- list(c("patch", "map"), c("patch", "core"), c("patch", "side"), c("patch", "rows"), c("patch", "cols"), if (!is.null(zones)) c("patch", "zones"))
   combinations <- Filter(Negate(is.null), combinations)
-  count_cells(sources, combinations, area, before = patch_lines(connectivity, core_depth), by_row = seq_along(combinations) <= 2L,
-    program = program, read = function(tables) {
-      found <- patch_table(tables, sources$map$template, area, labels, zone_labels)
-      check_legend(labels, found$class, "map")
-      found <- found[(is.null(classes) | found$class %in% classes) & found$cells >= max(least, 0), , drop = FALSE]
-      rownames(found) <- NULL
-      found
-    })
+  tables <- count_cells(sources, combinations, area, before = patch_lines(connectivity, core_depth), by_row = seq_along(combinations) <= 2L,
+    program = program)
+  found <- patch_table(tables, sources$map$template, area, labels, zone_labels)
+  check_legend(labels, found$class, "map")
+  found <- found[(is.null(classes) | found$class %in% classes) & found$cells >= max(least, 0), , drop = FALSE]
+  rownames(found) <- NULL
+  found
 }
 
 # The patches of a map; for each cell how many of its sides above and below, and three times how many at its left and right, end its
@@ -88,20 +87,20 @@ most_frequent <- function(table, patch) {
 rcell_adjacency <- function(x, program = NULL) {
   script <- c("r.mapcalc right = map[0,1]", "r.mapcalc below = map[1,0]", "r.stats -cn input=map,right", "r.stats -cn input=map,below",
     "r.stats -n input=map")
-  run_script(script, sources_of(list(map = x), list()), adjacency_of, program = program)
+  sources <- sources_of(list(map = x))
+  adjacency_of(run_own(script, sources, program), sources$map$labels)
 }
 
-adjacency_of <- function(answer) {
-  pairs <- lapply(1:2, function(place) output_of(answer, place))
+adjacency_of <- function(frames, labels) {
   # A class whose cells touch no other cell has a row of zeros.
-  codes <- output_of(answer, 3L)[[1]]
+  codes <- frames[[3]]$codes[[1]]
   matrix <- matrix(0, length(codes), length(codes))
-  for (pair in pairs) {
+  for (pair in frames[1:2]) {
     one <- matrix(0, length(codes), length(codes))
-    one[cbind(match(pair[[1]], codes), match(pair[[2]], codes))] <- pair$cells
+    one[cbind(match(pair$codes[[1]], codes), match(pair$codes[[2]], codes))] <- pair$cells
     matrix <- matrix + one + t(one)
   }
-  labels <- labels_for(answer$labels[["map"]], codes)
+  labels <- labels_for(labels, codes)
   titles <- ifelse(is.na(labels), as.character(codes), labels)
   dimnames(matrix) <- list(titles, titles)
   matrix
@@ -111,17 +110,14 @@ rcell_majority <- function(x, size = 3, fill = FALSE, filename = "", overwrite =
   if (!is_whole(size) || !(size %in% SIZES)) refuse(sprintf("size= is odd, 3 to 15, not %s", paste(format(size), collapse = " ")), status = 2L)
   if (!isTRUE(fill) && !isFALSE(fill)) refuse("fill= is TRUE or FALSE", status = 2L)
   check_filename(filename, overwrite)
-  sources <- sources_of(list(map = x), list(), crs)
+  sources <- sources_of(list(map = x), crs)
   check_inputs(filename, sources)
-  run <- function(script, ...) run_script(script, sources, ..., program = program)
   script <- if (size <= SIZE_OF_AN_EXPRESSION) window_lines(size) else
-    class_lines(size, run("r.stats -n input=map", read = function(answer) output_of(answer, 1L)[[1]]))
-  script <- c(script, if (fill) "r.mapcalc majority = commonest" else "r.mapcalc majority = if(isnull(map), null(), commonest)")
-  read <- function(answer) {
-    answer$labels[["majority"]] <- answer$labels[["map"]]
-    grid_of(answer, length(answer$outputs))
-  }
-  written(run(script, read = read, wanted = "majority"), filename)
+    class_lines(size, run_own("r.stats -n input=map", sources, program)[[1]]$codes[[1]])
+  script <- c(script, if (fill) "r.mapcalc majority = commonest" else "r.mapcalc majority = if(isnull(map), null(), commonest)",
+    "r.out.ascii input=majority")
+  answer <- list(frames = run_own(script, sources, program), template = sources$map$template, labels = list(majority = sources$map$labels))
+  written(raster_of(answer, "majority"), filename)
 }
 
 # The commonest class of a window as one expression.

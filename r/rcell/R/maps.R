@@ -1,7 +1,7 @@
 # SPDX-License-Identifier: Apache-2.0 OR GPL-2.0-or-later
 # Maps that go in: rasters of terra, paths and matrices, and grids of the program's own form.
 
-BLOCK_CELLS <- 1048576L
+BLOCK_CELLS <- 131072L
 HEADER_BYTES <- 65536L
 CATEGORY_LIMIT <- 2147483647
 EXACT_FLOAT <- 16777216
@@ -11,8 +11,8 @@ HEADER_LINE <- "^[ \t\r\n]*(north|south|east|west|rows|cols|null|type|multiplier
 # 64-bit cells come from terra as floats: a null value from here on may stand for another number as well.
 INEXACT_FLOAT <- 2^53
 
-# The maps of a call: those of `...` and of `maps`, each by its name; `crs` states the reference system of those that have none.
-sources_of <- function(dots, maps, crs = NULL) {
+# The maps of a call, each by its name: those of `...` and of `maps`.
+named_maps <- function(dots, maps) {
   given <- c(maps, dots)
   if (!length(given) || is.null(names(given)) || any(!nzchar(names(given)))) {
     refuse("a map without a name, or none at all: name them, as lc = \"landcover.tif\"", status = 2L)
@@ -20,18 +20,23 @@ sources_of <- function(dots, maps, crs = NULL) {
   twice <- names(given)[duplicated(names(given))]
   if (length(twice)) refuse(sprintf("the map %s is given twice", twice[[1]]), status = 2L)
   check_names(names(given))
-  fitted_sources(Map(source_of, names(given), given), crs)
+  given
 }
+
+# Maps by their names as sources; `crs` states the reference system of those that have none.
+sources_of <- function(maps, crs = NULL) fitted_sources(Map(source_of, names(maps), maps), crs)
 
 # Sources of one reference system and one region, by their names.
 fitted_sources <- function(sources, crs) {
   stated <- stated_crs(crs)
   sources <- lapply(sources, with_stated, stated)
-  names(sources) <- vapply(sources, function(source) source$name, "")
+  names(sources) <- names_of(sources)
   check_crs(sources, stated)
   check_regions(sources)
   sources
 }
+
+names_of <- function(sources) vapply(sources, function(source) source$name, "")
 
 check_names <- function(names) {
   bad <- names[!is_name(names)]
@@ -155,7 +160,7 @@ path_source <- function(name, path) {
   if (is_file && !dir.exists(path)) {
     if (file.access(path, 4L) != 0L) read_failed(name, sprintf("cannot open: %s: Permission denied", path))
     head <- readBin(path, "raw", HEADER_BYTES)
-    if (!any(head == 0L) && grepl(HEADER_LINE, rawToChar(head), useBytes = TRUE)) return(text_source(name, path, rawToChar(head)))
+    if (!any(head == 0L) && grepl(HEADER_LINE, rawToChar(head), useBytes = TRUE)) return(text_source(name, path))
   }
   raster_source(name, open_raster(name, path), is_opened_here = TRUE)
 }
@@ -174,39 +179,38 @@ open_raster <- function(name, path) {
 
 told <- function(e) sub("^\\[[a-zA-Z]+\\] ", "", conditionMessage(e))
 
-# A grid of the program's own form goes to it as it is. (GDAL would read it too, and take the null text `*` for 0.)
-text_source <- function(name, path, head) {
-  region <- header_region(head)
-  template <- NULL
-  if (!is.null(region)) {
-    edges <- as.numeric(region$edges)
-    template <- rast(nrows = region$rows, ncols = region$cols, xmin = edges[[4]], xmax = edges[[3]], ymin = edges[[2]],
-      ymax = edges[[1]], crs = "")
-  }
-  list(name = name, path = normalizePath(path), template = template, region = region, crs = "")
+# A grid of the program's own form is read by the program `rcell`, which writes its header and its cells again in one form. (GDAL would
+# read it too, and take the null text `*` for 0.)
+text_source <- function(name, path) {
+  folder <- new_folder()
+  on.exit(unlink(folder, recursive = TRUE))
+  writeLines(sprintf("r.out.ascii input=%s null_value=NA", name), file.path(folder, "script"))
+  rcell <- find_rcell(rcell_program()$path)
+  ran <- execute(rcell, folder, c("script", paste0(name, "=", normalizePath(path))))
+  if (ran$status != 0L) grid_fault(ran)
+  out <- file.path(folder, "out")
+  header <- readLines(out, length(EDGES) + 2L)
+  values <- sub("^[a-z]+: ", "", header)
+  region <- list(edges = vapply(values[seq_along(EDGES)], decimals_of, "", USE.NAMES = FALSE), rows = as.integer(values[[5]]), cols = as.integer(values[[6]]))
+  cells <- fread(file = out, skip = length(header) + 1L, header = FALSE, sep = if (region$cols > 1L) " " else "\n", na.strings = "NA",
+    colClasses = rep("integer", region$cols), showProgress = FALSE)
+  edges <- as.numeric(region$edges)
+  list(name = name, path = normalizePath(path), cells = as.vector(t(as.matrix(cells))), region = region, crs = "",
+    template = rast(nrows = region$rows, ncols = region$cols, xmin = edges[[4]], xmax = edges[[3]], ymin = edges[[2]], ymax = edges[[1]], crs = ""))
 }
 
-# The region of a header; NULL where it is not one, which the program then says in its own words.
-header_region <- function(head) {
-  lines <- trimws(strsplit(head, "\n", fixed = TRUE, useBytes = TRUE)[[1]])
-  cells <- which(nzchar(lines) & !grepl("^[^ \t]*:", lines, useBytes = TRUE))
-  if (length(cells)) lines <- lines[seq_len(cells[[1]] - 1L)]
-  value <- function(key) sub(paste0("^", key, ":[ \t]*"), "", grep(paste0("^", key, ":"), lines, value = TRUE, useBytes = TRUE))
-  edges <- lapply(EDGES, value)
-  sides <- lapply(c("rows", "cols"), value)
-  is_edge <- vapply(edges, function(text) length(text) == 1L && grepl("^[-+]?[0-9]{1,10}(\\.[0-9]{0,8})?$", text), NA)
-  is_side <- vapply(sides, function(text) length(text) == 1L && grepl("^[0-9]{1,5}$", text), NA)
-  if (!all(is_edge, is_side)) return(NULL)
-  region <- list(edges = vapply(edges, decimals_of, ""), rows = as.integer(sides[[1]]), cols = as.integer(sides[[2]]))
-  if (inherits(try(check_region("", region), silent = TRUE), "try-error") || region$rows < 1L || region$cols < 1L) return(NULL)
-  region
+# The error that the program `rcell` tells of a grid.
+grid_fault <- function(ran) {
+  found <- regmatches(ran$stderr, regexec("^rcell: ([^:]*):([0-9]+): ([^\n]*)", ran$stderr))[[1]]
+  if (length(found) != 4L) wrong_program(sprintf("the program rcell ended in status %d and said: %s", ran$status, ran$stderr))
+  refuse(found[4], found[2], as.integer(found[3]), ran$status, class = if (ran$status == 3L) "rcell_out_of_memory")
 }
 
-# The text of an edge with eight decimals, digit by digit: a double has too few.
+# A coordinate with eight decimals, digit by digit: a double has too few.
 decimals_of <- function(text) {
-  parts <- regmatches(text, regexec("^([-+]?)0*([0-9]+)\\.?([0-9]*)$", text))[[1]]
-  number <- paste0(parts[[3]], ".", substr(paste0(parts[[4]], "00000000"), 1L, DECIMALS))
-  if (parts[[2]] == "-" && grepl("[1-9]", number)) paste0("-", number) else number
+  parts <- strsplit(text, ".", fixed = TRUE)[[1]]
+  decimals <- if (length(parts) > 1L) parts[[2]] else ""
+  paste0(parts[[1]], ".", decimals, strrep("0", DECIMALS - nchar(decimals)))
 }
 
 # Labels by category. They never go through the program.
@@ -220,20 +224,9 @@ labels_of <- function(raster) {
   list(codes = codes[kept], labels = labels[kept])
 }
 
-# Writes the text of a map by blocks of rows. A map of the program's own form is linked.
-send_map <- function(source, path) {
-  if (is.null(source$raster)) {
-    if (!file.symlink(source$path, path)) write_failed(path, "a link cannot be made")
-    return(invisible())
-  }
-  write_text(c(header_of(source$region), ""), path)
-  each_block(source, function(cells) tryCatch(
-    fwrite(list(cells), path, append = TRUE, eol = " ", na = "*", col.names = FALSE, quote = FALSE, showProgress = FALSE),
-    error = function(e) write_failed(path, conditionMessage(e))))
-}
-
-# Calls a function with the cells of each block of rows of a raster, as whole numbers.
+# Calls a function with the cells of each block of rows, as whole numbers.
 each_block <- function(source, use) {
+  if (!is.null(source$cells)) return(use(source$cells))
   raster <- source$raster
   is_exact <- is_exact_type(raster)
   is_float <- datatype(raster) %in% "FLT4S"
@@ -249,15 +242,13 @@ each_block <- function(source, use) {
   }
 }
 
-# All cells of a map, row by row; the program reads a map of its own form.
-all_cells <- function(source, program = NULL) {
-  if (is.null(source$raster)) {
-    own <- list(map = replace(source, "name", "map"))
-    return(run_script("r.out.ascii input=map", own, function(answer) cells_of(answer, 1L), program = program))
-  }
+# All cells of a map, each row of it in a column.
+all_cells <- function(source) {
   blocks <- list()
   each_block(source, function(cells) blocks[[length(blocks) + 1L]] <<- cells)
-  unlist(blocks)
+  cells <- unlist(blocks)
+  dim(cells) <- c(source$region$cols, source$region$rows)
+  cells
 }
 
 warn_of_floats <- function(name) {

@@ -1,19 +1,17 @@
 # SPDX-License-Identifier: Apache-2.0 OR GPL-2.0-or-later
-# The program: where it is, and a run of it in a temporary folder of its own.
+# The programs: where they are, and a run of one in a temporary folder of its own.
 
 known_programs <- new.env(parent = emptyenv())
 
-PROBE_GRID <- "north: 1\nsouth: 0\neast: 3\nwest: 0\nrows: 1\ncols: 3\n7 * 12 "
-PROBE_SCRIPT <- "r.clump -d input=g output=k\nr.stats -c input=g,k after=7,1\nr.stats -1 input=k null_value=NA\n"
-PROBE_ANSWER <- c("12 2 1", "* * 1", "1", "NA", "2")
+PROBE_SCRIPT <- "r.clump -d input=g output=k\nr.stats -c input=g,k after=7,1\nr.out.ascii input=k"
 
 rcell_program <- function(program = NULL) {
   path <- if (is.null(program)) find_program() else program
   if (!is.character(path) || length(path) != 1L || is.na(path)) refuse("program= is the path of a program", status = 2L)
   if (!nzchar(path)) {
     missing_program(paste(
-      "the program rcell was not found: neither by the option rcell.program, nor in the environment variable RCELL,",
-      "nor in this package, nor on the path"))
+      "the program rcell-pipe was not found: neither by the option rcell.program, nor in the environment variable RCELL_PIPE,",
+      "nor next to the program of RCELL, nor in this package, nor on the path"))
   }
   if (dir.exists(path) || file.access(path, 1L) != 0L) {
     missing_program(sprintf("the program %s is not there, or may not be executed", path))
@@ -25,36 +23,51 @@ rcell_program <- function(program = NULL) {
     probe(path)
     assign(path, stamp, envir = known_programs)
   }
-  is_bundled <- identical(path, bundled_program())
+  is_bundled <- identical(path, bundled_program(PIPE))
   list(path = path, version = if (is_bundled) as.character(packageVersion("rcell")) else NA_character_)
 }
 
-missing_program <- function(text) signal("rcell_missing", text)
+PIPE <- "rcell-pipe"
+REMEDY <- "\n  try: install the package with its programs (docs/r.md), or Sys.setenv(RCELL_PIPE = \"/path/to/rcell-pipe\")"
+
+missing_program <- function(text) signal("rcell_missing", paste0(text, REMEDY))
 wrong_program <- function(text) signal("rcell_wrong_program", text)
 
-# The first of: the option, the environment variable, the program of this package, the one on the path.
+# The first of: the option, the environment variable, next to the program of RCELL, the program of this package, the one on the path.
 find_program <- function() {
-  candidates <- c(getOption("rcell.program", ""), Sys.getenv("RCELL"), bundled_program(), Sys.which("rcell")[[1]])
-  candidates <- candidates[nzchar(candidates)]
-  if (length(candidates)) candidates[[1]] else ""
+  rcell <- Sys.getenv("RCELL")
+  beside <- if (nzchar(rcell)) file.path(dirname(rcell), sub("^rcell", PIPE, basename(rcell))) else ""
+  first_of(c(getOption("rcell.program", ""), Sys.getenv("RCELL_PIPE"), if (file.exists(beside)) beside, bundled_program(PIPE), Sys.which(PIPE)[[1]]))
 }
 
-bundled_program <- function() {
-  path <- system.file("bin", "rcell", package = "rcell")
+# The program `rcell`, which reads grids of its own form.
+find_rcell <- function(pipe) {
+  beside <- file.path(dirname(pipe), sub(PIPE, "rcell", basename(pipe), fixed = TRUE))
+  path <- first_of(c(Sys.getenv("RCELL"), if (beside != pipe && file.exists(beside)) beside, bundled_program("rcell"), Sys.which("rcell")[[1]]))
+  if (!nzchar(path) || file.access(path, 1L) != 0L) missing_program("the program rcell, which reads grids of its own form, was not found")
+  normalizePath(path)
+}
+
+first_of <- function(candidates) c(candidates[nzchar(candidates)], "")[[1]]
+
+bundled_program <- function(name) {
+  path <- system.file("bin", name, package = "rcell")
   if (nzchar(path)) normalizePath(path) else ""
 }
 
-# Runs the program once on a grid of three cells, with all that this package makes use of.
+# Runs the program once on three cells, with all that this package makes use of.
 probe <- function(path) {
-  folder <- new_folder()
-  on.exit(unlink(folder, recursive = TRUE))
-  write_text(PROBE_GRID, file.path(folder, "g.txt"))
-  write_text(PROBE_SCRIPT, file.path(folder, "script"))
-  ran <- execute(path, folder, c("script", "g=g.txt"))
-  answer <- readLines(file.path(folder, "out"), warn = FALSE)
-  if (ran$status != 0L || !identical(answer, PROBE_ANSWER)) {
-    wrong_program(sprintf("%s is not a program rcell of a version that this package knows", path))
-  }
+  wrong <- function(e) wrong_program(sprintf("%s is not a program rcell-pipe of a version that this package knows", path))
+  found <- tryCatch(run_pipe(path, list(small_map("g", c(7L, NA, 12L))), PROBE_SCRIPT),
+    rcell_wrong_program = wrong, rcell_killed = wrong, rcell_refused = wrong)
+  table <- list(list(c(12L, NA), c(2L, NA)), c(1L, 1L))
+  if (!identical(lapply(found, `[[`, "kind"), list("TABL", "GRID")) || !identical(unname(found[[1]][c("codes", "cells")]), table) ||
+      !identical(found[[2]]$cells, c(1L, NA, 2L))) wrong()
+}
+
+# A map of a few cells in one row.
+small_map <- function(name, cells) {
+  list(name = name, cells = cells, region = list(edges = c("1", "0", as.character(length(cells)), "0"), rows = 1L, cols = length(cells)))
 }
 
 # A folder whose files have ASCII names, so that no locale can get in the way.
@@ -62,21 +75,6 @@ new_folder <- function() {
   folder <- tempfile("rcell-")
   if (!dir.create(folder, showWarnings = FALSE)) write_failed(folder, "the temporary folder cannot be made")
   folder
-}
-
-write_text <- function(text, path) {
-  bytes <- charToRaw(paste(text, collapse = "\n"))
-  failed <- function(e) write_failed(path, conditionMessage(e))
-  tryCatch(writeBin(bytes, path), error = failed, warning = failed)
-  check_size(path, length(bytes))
-}
-
-# A disk may be full only when a file is closed, and R tells no one: the size does.
-check_size <- function(path, size) {
-  there <- file.size(path)
-  if (!identical(as.numeric(there), as.numeric(size))) {
-    write_failed(path, sprintf("%.0f of its %.0f bytes are there, the disk may be full", if (is.na(there)) 0 else there, size))
-  }
 }
 
 # The words before a command that end it with R, also where R itself is killed; none where the system has no such command.
@@ -90,12 +88,13 @@ guard_words <- function() {
   known_programs[[" guard"]]
 }
 
-# Runs the program in the folder, its output to the file `out` there. An interrupt ends it, and is passed on.
-execute <- function(path, folder, words) {
+# Runs a program in the folder, its input from a file there, its output to the file `out`. An interrupt ends it, and is passed on.
+execute <- function(path, folder, words = character(), input = NULL) {
   command <- c(guard_words(), path, words)
   failed <- function(text) missing_program(sprintf("the program %s cannot be executed: %s", path, trimws(text)))
   child <- tryCatch(
-    process$new(command[[1]], command[-1], stdout = file.path(folder, "out"), stderr = "|", wd = folder, cleanup = TRUE),
+    process$new(command[[1]], command[-1], stdin = if (!is.null(input)) file.path(folder, input), stdout = file.path(folder, "out"),
+      stderr = "|", wd = folder, cleanup = TRUE),
     rlib_error = function(e) failed(conditionMessage(e)))
   on.exit(child$kill())
   # (processx::run would keep what is said in a file, which a full disk does not take.)
@@ -107,26 +106,49 @@ execute <- function(path, folder, words) {
   child$wait()
   status <- child$get_exit_status()
   if (status != 0L && startsWith(told, "setpriv: ")) failed(sub("^setpriv: ", "", told))
-  list(status = status, stderr = told)
+  if (status < 0L) killed(-status)
+  if (status > 128L) killed(status - 128L)
+  list(status = status, stderr = trimws(told))
 }
 
-# The error of a run that ended in another status than 0, with the line of the caller's script.
-fault <- function(ran, plan) {
-  if (ran$status < 0L) killed(-ran$status)
-  if (ran$status > 128L) killed(ran$status - 128L)
-  found <- regmatches(ran$stderr, regexec("^rcell: ([^:]*):([0-9]+): ([^\n]*)", ran$stderr))[[1]]
-  if (length(found) != 4L) {
-    said <- trimws(ran$stderr)
-    wrong_program(sprintf("the program ended in status %d and said: %s", ran$status, if (nzchar(said)) said else "nothing"))
+# Runs a script over maps, and returns its frames, the last of which says how it ended.
+ask_pipe <- function(path, sources, script) {
+  folder <- new_folder()
+  on.exit(unlink(folder, recursive = TRUE))
+  write_request(file.path(folder, "request"), sources, script)
+  ran <- execute(path, folder, input = "request")
+  unlink(file.path(folder, "request"))
+  out <- file.path(folder, "out")
+  wrong <- function() {
+    if (ran$status == 4L) write_failed(out, "the disk may be full")
+    if (ran$status == 0L) wrong_program(sprintf("%s has written what this package does not understand", path))
+    wrong_program(sprintf("the program ended in status %d and said: %s", ran$status, if (nzchar(ran$stderr)) ran$stderr else "nothing"))
   }
-  line <- as.integer(found[3])
-  content <- NULL
-  if (found[2] == "script" && line > 0L && line <= length(plan$numbers)) {
-    line <- plan$numbers[[line]]
-    if (line > 0L) content <- sub("\r$", "", plan$script[[line]], useBytes = TRUE)
-  }
-  if (!is.null(content)) Encoding(content) <- "UTF-8"
-  is_memory <- ran$status == 3L || found[4] == "no memory"
-  kind <- if (found[2] == "output") "rcell_write_failed" else if (is_memory) "rcell_out_of_memory"
-  refuse(found[4], found[2], line, ran$status, content, kind)
+  frames <- tryCatch(read_response(out, wrong), rcell_error = function(e) stop(e), error = function(e) wrong())
+  if (end_of(frames)$status != ran$status) wrong()
+  frames
+}
+
+end_of <- function(frames) frames[[length(frames)]]
+
+# The same without the last frame. An error of the script is one of the caller's lines.
+run_pipe <- function(path, sources, script, lines = script) {
+  frames <- ask_pipe(path, sources, script)
+  if (end_of(frames)$status != 0) fault(end_of(frames), path, sources, lines)
+  frames[-length(frames)]
+}
+
+# The error that ended a run.
+fault <- function(end, path, sources, lines) {
+  status <- as.integer(end$status)
+  kind <- if (status == 3L) "rcell_out_of_memory"
+  line <- if (end$source == 1) 0L else as.integer(end$line)
+  is_of_map <- end$source == 1 && end$maps < length(sources)
+  if (!(line %in% seq_along(lines))) refuse(end$text, if (is_of_map) sources[[end$maps + 1]]$name else "script", status = status, class = kind)
+  content <- sub("\r$", "", lines[[line]], useBytes = TRUE)
+  Encoding(content) <- "UTF-8"
+  names <- names_of(sources)
+  # The program names no word of a statement whose options are wrong.
+  bad <- if (end$text == "bad option") bad_word(path, lines, line, names)
+  refuse(end$text, "script", line, status, content, kind, bad, advice_on(lines, line, end$text, names))
 }

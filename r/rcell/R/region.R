@@ -38,10 +38,6 @@ check_region <- function(name, region) {
   }
 }
 
-header_of <- function(region) {
-  c(sprintf("%s: %s", EDGES, region$edges), sprintf("rows: %d", region$rows), sprintf("cols: %d", region$cols))
-}
-
 # Without the zeros at its end.
 short_edge <- function(text) sub("\\.$", "", sub("0+$", "", text))
 

@@ -7,17 +7,15 @@ rcell_zonal <- function(values, zones, quantiles = 0.5, zone_labels = NULL, zone
   }
   sources <- zoned_sources(values, zones, zone_field, crs, "values")
   zone_labels <- labels_from(zone_labels, sources$zones$labels, "zone_labels")
-  count_cells(sources, list(c("zones", "values")), program = program, read = function(tables) {
-    table <- tables[[1]]
-    zone <- unique(table$codes[[1]])
-    check_legend(zone_labels, zone, "zones", "zone_labels")
-    rows <- split(seq_along(table$cells), match(table$codes[[1]], zone))
-    found <- vapply(unname(rows), function(at) statistics(table$codes[[2]][at], as.numeric(table$cells[at]), quantiles), numeric(6L + length(quantiles)))
-    columns <- lapply(seq_len(nrow(found)), function(at) found[at, ])
-    names(columns) <- c("cells", "sum", "mean", "minimum", "maximum", "variance", quantile_titles(quantiles))
-    columns$cells <- as.integer(columns$cells)
-    frame_of(c(coded("zone", zone, zone_labels), columns))
-  })
+  table <- count_cells(sources, list(c("zones", "values")), program = program)[[1]]
+  zone <- unique(table$codes[[1]])
+  check_legend(zone_labels, zone, "zones", "zone_labels")
+  rows <- split(seq_along(table$cells), match(table$codes[[1]], zone))
+  found <- vapply(unname(rows), function(at) statistics(table$codes[[2]][at], as.numeric(table$cells[at]), quantiles), numeric(6L + length(quantiles)))
+  columns <- lapply(seq_len(nrow(found)), function(at) found[at, ])
+  names(columns) <- c("cells", "sum", "mean", "minimum", "maximum", "variance", quantile_titles(quantiles))
+  columns$cells <- as.integer(columns$cells)
+  frame_of(c(coded("zone", zone, zone_labels), columns))
 }
 
 # Of values in ascending order and how many cells have each.

@@ -7,15 +7,15 @@
 The composition of maps, cross tables, change between years, patches with sizes and perimeters, statistics by zone, majorities,
 alignment, adjacency matrices, reclassifications and map algebra of rasters of whole numbers. Rasters of \pkg{terra} go in; data frames and rasters of \pkg{terra} come out; every number is counted by the
 program rcell, which is proved from the bytes of its input to the bytes of its output. What the package adds is tested and not
-proved: that a raster becomes the text of the same cells, that numbers are read back as they were written, and that labels, areas
-and percentages are joined to the right rows.
+proved: that the cells of a raster become the bytes of the same cells, that the bytes that come back are read as they are meant, and
+that labels, areas and percentages are joined to the right rows.
 }
 \section{Maps}{
 A map is given by its name. It is one of:
 \itemize{
 \item a \code{SpatRaster} of one layer, in memory or of a file;
 \item a path, URL or \code{/vsi..} path of anything that terra opens;
-\item a path of a grid of the program's own form, which goes to the program as it is;
+\item a path of a grid of the program's own form, which the program rcell reads;
 \item a matrix of numbers: cells of side 1, the bottom left corner at 0, 0, no reference system.
 }
 Cells are whole numbers from -2147483647 to 2147483647; \code{NA} and \code{NaN} are null. Floats are accepted if they are whole
@@ -31,7 +31,8 @@ All errors are of the class \code{rcell_error}, and of one of these:
 \tabular{ll}{
 \code{rcell_refused} \tab a script, a map or a request is invalid; fields \code{source} (the name of a map,
 \code{"script"}, \code{"arguments"} or \code{"output"}), \code{line} (0 for none), \code{column} (in bytes, or \code{NA}),
-\code{text}, \code{status}, \code{content} (the line of the script). If an option is bad, the message names the word \cr
+\code{text}, \code{status}, \code{content} (the line of the script). If an option is bad, the message names the word. If Python's
+package rcell is installed, the message ends with what to write instead; \code{options(rcell.python = "")} turns this off \cr
 \code{rcell_bad_map} \tab a map is not one of whole numbers, is rotated, has several layers; fields \code{name}, \code{row},
 \code{column}, \code{value}; also \code{rcell_refused} \cr
 \code{rcell_other_crs} \tab a map has another coordinate reference system than the first, or none; also \code{rcell_bad_map} \cr
@@ -41,8 +42,7 @@ message is a call of \code{\link{rcell_align}} to paste \cr
 \code{rcell_out_of_memory} \tab the program had no memory; also \code{rcell_refused} \cr
 \code{rcell_killed} \tab the program was ended by a signal (field \code{signal}) \cr
 \code{rcell_missing}, \code{rcell_wrong_program} \tab there is no program, or one that this package does not know \cr
-\code{rcell_write_failed} \tab a file could not be written (field \code{path}); nothing of it is left. Where the program could not
-write its output, the disk of the temporary folder is full: also \code{rcell_refused}, source \code{"output"} \cr
+\code{rcell_write_failed} \tab a file could not be written (field \code{path}); nothing of it is left \cr
 }
 An interrupt ends the program and is passed on. No call leaves a process or a temporary file, whatever happens: a file that was
 being written is removed also if R itself is killed, and only R's own temporary folder stays then; the program ends with it where the system has \command{setpriv} (util-linux), and else runs to

@@ -1,7 +1,7 @@
 \name{rcell_program}
 \alias{rcell_program}
 \title{The Program That Counts}
-\description{Tells which program is run.}
+\description{Returns the path of the program \command{rcell-pipe}, which runs all scripts.}
 \usage{
 rcell_program(program = NULL)
 }
@@ -9,9 +9,10 @@ rcell_program(program = NULL)
 \item{program}{the path of a program; \code{NULL} looks for one.}
 }
 \details{
-It is the first of: what the option \code{rcell.program} names, what the environment variable \code{RCELL} names, the program that
-this package includes, the one on the path. Before its first use it is run on three cells, to see that it works as this package
-needs it.
+It is the first of: the path in the option \code{rcell.program}, the path in the environment variable \code{RCELL_PIPE}, the program
+next to the one that the environment variable \code{RCELL} names, the program in this package, the one on the path. Before its first
+use it is run on three cells, to see that it works as this package needs it. Grids of the program's own form are read by the program
+\command{rcell}, which is looked up in \code{RCELL}, next to \command{rcell-pipe}, in this package and on the path.
 }
 \value{
 A list of \code{path} and \code{version}. The program does not print its version. So the version is known only of the program in this

@@ -15,8 +15,9 @@ a call have one and others have none, as a matrix or a grid of the program's own
 }
 \details{
 The lines are commands of the program: \code{r.mapcalc}, \code{r.reclass}, \code{r.clump}, \code{r.stats} and \code{r.out.ascii}, after
-the modules of GRASS of these names. The script goes to the program as it is, except that a line of r.stats or r.out.ascii is asked
-for plain numbers, and that a line which ends an output is added after each; an error names the line of your script.
+the modules of GRASS of these names. The program judges the script before a map is read, and an error names its line. Then maps and
+script go to the program, and its response comes back, as bytes: null is \code{NA} on both sides. The package joins the labels, and
+the cells that \code{r.stats -1} prints come as maps.
 }
 \value{
 A list of the outputs in order, named by their maps: a data frame for each r.stats and a \code{SpatRaster} for each r.out.ascii. A data

@@ -5,6 +5,8 @@ suppressMessages({
   library(rcell)
 })
 terraOptions(progress = 0)
+# The messages are those of this package, whatever Python has.
+options(rcell.python = "")
 
 # A map of some classes with nulls: noise, or patches as smooth as land cover.
 made_map <- function(rows, cols, classes, is_patchy = FALSE, seed = 1, cell = c(30, 30)) {

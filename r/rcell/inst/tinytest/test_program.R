@@ -18,17 +18,19 @@ expect_inherits(refusal(rcell_program(file.path(room, "nowhere"))), "rcell_missi
 expect_inherits(refusal(rcell_program(room)), "rcell_missing")
 expect_inherits(refusal(rcell_program("/bin/true")), "rcell_wrong_program")
 before <- options(rcell.program = "/nowhere/rcell")
-expect_identical(conditionMessage(refusal(rcell_run("", lc = lc))), "the program /nowhere/rcell is not there, or may not be executed")
+lines <- strsplit(conditionMessage(refusal(rcell_run("", lc = lc))), "\n")[[1]]
+expect_identical(lines[[1]], "the program /nowhere/rcell is not there, or may not be executed")
+expect_true(startsWith(lines[[2]], "  try: "))
 options(before)
-old <- Sys.getenv("RCELL", NA)
-Sys.setenv(RCELL = "/nowhere/by/environment")
+old <- Sys.getenv("RCELL_PIPE", NA)
+Sys.setenv(RCELL_PIPE = "/nowhere/by/environment")
 options(rcell.program = NULL)
 expect_true(grepl("by/environment", conditionMessage(refusal(rcell_program()))))
-if (is.na(old)) Sys.unsetenv("RCELL") else Sys.setenv(RCELL = old)
+if (is.na(old)) Sys.unsetenv("RCELL_PIPE") else Sys.setenv(RCELL_PIPE = old)
 options(before)
 
 # A program that is killed, that speaks another language, that runs out of memory. Each answers the first run as the program does.
-good <- sprintf("if grep -q 'after=7,1' script; then exec '%s' \"$@\"; fi", mine)
+good <- sprintf("if grep -aq 'after=7,1' /dev/stdin; then exec '%s' < /dev/stdin; fi", mine)
 death <- script("killed", c(good, "kill -9 $$"))
 dead <- refusal(rcell_run("r.stats input=lc", lc = lc, program = death))
 expect_inherits(dead, "rcell_killed")
@@ -41,12 +43,43 @@ odd <- script("odd", c(good, "echo what >&2; exit 3"))
 expect_inherits(refusal(rcell_run("r.stats input=lc", lc = lc, program = odd)), "rcell_wrong_program")
 short <- script("short", c(good, "echo 1"))
 expect_inherits(refusal(rcell_grid("", "lc", lc = lc, program = short)), "rcell_wrong_program")
-cut <- script("cut", c(good, "printf '1 4\\n2'"))
+# A response that ends too early, at whatever byte, or has a byte more, is none; of status 4, the disk is full.
+cut <- script("cut", c(good, sprintf("'%s' < /dev/stdin | head -c 157", mine)))
 expect_inherits(refusal(rcell_table("r.stats -c input=lc", lc = lc, program = cut)), "rcell_wrong_program")
-full <- script("full", c(good, "echo 'rcell: output:0: write failed after 12 bytes' >&2; exit 4"))
+own <- asNamespace("rcell")
+own$write_request(file.path(room, "request"), list(own$small_map("lc", c(1L, NA))), "r.stats -cl input=lc\nr.stats -1 input=lc\nr.out.ascii input=lc")
+processx::run(mine, stdin = file.path(room, "request"), stdout = file.path(room, "response"))
+bytes <- readBin(file.path(room, "response"), "raw", 1e4)
+is_read <- function(bytes) {
+  writeBin(bytes, file.path(room, "response"))
+  tryCatch(length(own$read_response(file.path(room, "response"), function() stop("wrong"))) == 4L, error = function(e) FALSE)
+}
+expect_true(is_read(bytes))
+expect_false(any(vapply(seq_along(bytes) - 1L, function(size) is_read(bytes[seq_len(size)]), NA)))
+expect_false(is_read(c(bytes, as.raw(0))))
+more <- script("more", c(good, sprintf("'%s' < /dev/stdin; echo", mine)))
+expect_inherits(refusal(rcell_table("r.stats -c input=lc", lc = lc, program = more)), "rcell_wrong_program")
+other <- script("other", c(good, sprintf("'%s' < /dev/stdin; exit 1", mine)))
+expect_inherits(refusal(rcell_table("r.stats -c input=lc", lc = lc, program = other)), "rcell_wrong_program")
+full <- script("full", c(good, "printf 'RCELLA1\\nTABL'; exit 4"))
 expect_inherits(refusal(rcell_table("r.stats -c input=lc", lc = lc, program = full)), "rcell_write_failed")
-memory <- script("memory", c(good, "echo 'rcell: script:1: no memory' >&2; exit 3"))
-expect_inherits(refusal(rcell_run("r.stats input=lc", lc = lc, program = memory)), "rcell_out_of_memory")
+number <- function(value) sprintf("\\%o\\0\\0\\0\\0\\0\\0\\0", value)
+ended <- paste(vapply(c(3L, 0L, 0L, 1L, 0L, 9L), number, ""), collapse = "")
+memory <- script("memory", c(good, sprintf("printf 'RCELLA1\\nDONE%sno memory'; exit 3", ended)))
+found <- refusal(rcell_run("r.stats input=lc", lc = lc, program = memory))
+expect_identical(found[c("source", "line", "text", "status")], list(source = "script", line = 1L, text = "no memory", status = 3L))
+expect_inherits(found, "rcell_out_of_memory")
+
+# What rcell-explain would write instead ends the message, where a Python has it.
+advisor <- script("advisor", "printf 'r.stats input=%s' \"$6\"")
+before <- options(rcell.python = advisor)
+expect_identical(conditionMessage(refusal(rcell_run("r.stats input=lend", lc = lc))),
+  "script, line 1: unknown map\n  r.stats input=lend\n  try: r.stats input=lc")
+for (python in c(script("failing", "exit 1"), "/nowhere/python3", script("silent", ":"))) {
+  options(rcell.python = python)
+  expect_identical(conditionMessage(refusal(rcell_run("r.stats input=lend", lc = lc))), "script, line 1: unknown map\n  r.stats input=lend")
+}
+options(before)
 
 # An interrupt of R alone ends the program, and leaves nothing.
 slow <- script("slow", c(good, sprintf("echo $$ > '%s'; exec sleep 600", file.path(room, "pid"))))

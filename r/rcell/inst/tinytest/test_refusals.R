@@ -36,9 +36,12 @@ expect_identical(refusal(rcell_patches(lc, classes = 3e9))$text, "classes= are w
 expect_identical(refusal(rcell_patches(lc, least = NA))$text, "least= is a number of cells")
 expect_identical(refusal(rcell_majority(lc, filename = NA))$text, "filename= is one path")
 
-# Marks may not make a script too long without a word.
-long <- paste(c(rep("r.stats input=lc", 2), rep(paste0("#", strrep("x", 60000)), 17), "#", strrep("#", 28500)), collapse = "\n")
-expect_inherits(refusal(rcell_run(long, lc = lc)), "rcell_refused")
+# A script that is too long, also with the line that asks for a map.
+long <- paste(c(rep(paste0("#", strrep("x", 60000)), 17), "#", strrep("#", 28536)), collapse = "\n")
+expect_identical(rcell_run(long, lc = lc), structure(list(), names = character()))
+too_long <- list(source = "script", text = "script too long")
+expect_identical(refusal(rcell_grid(long, "lc", lc = lc))[c("source", "text")], too_long)
+expect_identical(refusal(rcell_run(paste0(long, strrep("x", 20)), lc = lc))[c("source", "text")], too_long)
 expect_identical(leftovers(), character())
 
 # R completes names of arguments: a map may be called `s` or `n`, and a script is never given by name.

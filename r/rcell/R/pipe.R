@@ -1,0 +1,120 @@
+# SPDX-License-Identifier: Apache-2.0 OR GPL-2.0-or-later
+# The bytes of `rcell-pipe`: a request of maps and a script, and the frames of its response. docs/pipe.md defines both.
+
+REQUEST_MAGIC <- charToRaw("RCELLQ1\n")
+RESPONSE_MAGIC <- charToRaw("RCELLA1\n")
+TYPE_U8 <- 1L
+TYPE_I32 <- 6L
+HAS_NODATA <- 1L
+NULL_BYTE <- 255L
+
+bytes_of <- function(numbers) writeBin(as.integer(numbers), raw(), endian = "little")
+
+short_text <- function(text) {
+  bytes <- charToRaw(text)
+  c(as.raw(length(bytes)), bytes)
+}
+
+# Cells go as integers of 32 bits, in which NA has the bits of -2147483648. It is the nodata value, an integer of 64 bits. Labels
+# stay here: they may be any text.
+map_head <- function(name, region) {
+  c(short_text(name), unlist(lapply(region$edges, short_text)), bytes_of(c(region$rows, region$cols)),
+    as.raw(c(TYPE_I32, HAS_NODATA)), bytes_of(c(NA, -1L, 0L)))
+}
+
+# Writes a request to a file. A source has `cells`, or a raster that is read in blocks of rows.
+write_request <- function(path, sources, script) {
+  text <- charToRaw(paste(script, collapse = "\n"))
+  write_file(path, function(write) {
+    write(c(REQUEST_MAGIC, bytes_of(length(sources))))
+    for (source in sources) {
+      write(map_head(source$name, source$region))
+      each_block(source, write)
+    }
+    write(c(bytes_of(length(text)), text))
+  })
+}
+
+# Reads the fields of a response one after another. `wrong` is called if the file ends before a field does.
+reader_of <- function(from, size, wrong) {
+  left <- size
+  take <- function(kind, count, width) {
+    # `count` may itself be read here.
+    size <- count * width
+    left <<- left - size
+    if (is.na(left) || left < 0) wrong()
+    readBin(from, kind, count, width, endian = "little")
+  }
+  numbers <- function(count = 1) {
+    halves <- matrix(as.numeric(take("integer", 2 * count, 4L)), 2L)
+    halves[is.na(halves)] <- -2^31
+    halves[2L, ] * 2^32 + halves[1L, ] %% 2^32
+  }
+  bytes <- function(count) take("raw", count, 1L)
+  text <- function() {
+    found <- rawToChar(bytes(numbers()))
+    Encoding(found) <- "UTF-8"
+    found
+  }
+  list(bytes = bytes, integers = function(count) take("integer", count, 4L), numbers = numbers, text = text, is_at_end = function() left == 0)
+}
+
+table_frame <- function(reader) {
+  head <- reader$numbers(3)
+  entries <- head[[2]]
+  width <- head[[3]]
+  has <- as.integer(reader$bytes(3))
+  reader$text()
+  maps <- vapply(seq_len(width), function(at) reader$text(), "")
+  counts <- if (has[[1]]) as.integer(reader$numbers(entries))
+  cells <- matrix(reader$integers(entries * width), width)
+  if (has[[2]]) for (at in seq_len(entries * width)) reader$text()
+  list(kind = "TABL", line = as.integer(head[[1]]), maps = maps, codes = lapply(seq_len(width), function(at) cells[at, ]),
+    cells = counts)
+}
+
+grid_frame <- function(reader) {
+  line <- as.integer(reader$numbers())
+  reader$text()
+  name <- reader$text()
+  count <- prod(reader$numbers(2))
+  is_small <- as.integer(reader$bytes(1)) == TYPE_U8
+  list(kind = "GRID", line = line, maps = name, cells = if (is_small) integers_of(reader$bytes(count)) else reader$integers(count))
+}
+
+# Bytes as integers, null as NA.
+integers_of <- function(bytes) {
+  cells <- as.integer(bytes)
+  cells[which(bytes == as.raw(NULL_BYTE))] <- NA
+  cells
+}
+
+text_frame <- function(reader) {
+  line <- as.integer(reader$numbers())
+  reader$bytes(reader$numbers())
+  list(kind = "TEXT", line = line)
+}
+
+end_frame <- function(reader) {
+  numbers <- reader$numbers(5)
+  list(kind = "DONE", status = numbers[[1]], source = numbers[[2]], maps = numbers[[3]], line = numbers[[4]], column = numbers[[5]], text = reader$text())
+}
+
+FRAMES <- list(TABL = table_frame, GRID = grid_frame, TEXT = text_frame, DONE = end_frame)
+
+# The frames of a response, the last of which is DONE. `wrong` is called where it is none, or not whole.
+read_response <- function(path, wrong) {
+  from <- file(path, "rb")
+  on.exit(close(from))
+  reader <- reader_of(from, file.size(path), wrong)
+  if (!identical(reader$bytes(length(RESPONSE_MAGIC)), RESPONSE_MAGIC)) wrong()
+  frames <- list()
+  repeat {
+    frame <- FRAMES[[rawToChar(reader$bytes(4L))]]
+    if (is.null(frame)) wrong()
+    frames[[length(frames) + 1L]] <- frame(reader)
+    if (frames[[length(frames)]]$kind == "DONE") break
+  }
+  if (!reader$is_at_end()) wrong()
+  frames
+}
