@@ -71,8 +71,9 @@ def find_program(setting: str = "") -> str:
     """
     if sys.platform == "win32":
         raise MissingProgram("the program rcell-pipe runs on Linux alone")
-    named = _beside(setting) or os.environ.get("RCELL_PIPE", "") or _beside(os.environ.get("RCELL", ""))
-    path = named or (BUNDLED if os.path.isfile(BUNDLED) else "") or found_on_path("rcell-pipe")
+    named = _beside(setting) if os.path.basename(setting) == "rcell" else setting or os.environ.get("RCELL_PIPE", "")
+    places = [_beside(os.environ["RCELL"])] if os.environ.get("RCELL") else []
+    path = named or next(filter(os.path.isfile, [*places, BUNDLED]), "") or found_on_path("rcell-pipe")
     if not path:
         raise MissingProgram("the program rcell-pipe was not found: install the plugin from its zip, which contains it; or set the path under "
                              "Settings > Options > Processing > Providers > rcell, or in the environment variable RCELL_PIPE")
@@ -93,9 +94,8 @@ _known: dict[str, tuple[int, int, int]] = {}
 
 
 def _beside(path: str) -> str:
-    """The rcell-pipe next to a path of rcell; another path as it is."""
-    folder, name = os.path.split(path)
-    return os.path.join(folder, "rcell-pipe") if name == "rcell" else path
+    """The rcell-pipe next to a program."""
+    return os.path.join(os.path.dirname(path), "rcell-pipe")
 
 
 def _set_executable(path: str) -> None:
