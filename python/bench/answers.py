@@ -4,8 +4,8 @@
     answers.py [--cells N] [--rounds N] [--show]
 
 Each figure is seconds of the processor (user and system, all processes), the smallest of the rounds. The maps are the patchy land cover,
-its zones and a second year as GeoTIFF, made by speed.py, and the land cover again in degrees. `program` is rcell alone, on the grids
-and the script that the package sends it (for align, which sends none, a table of the map), its output thrown away; `reading` is rasterio's read of the GeoTIFFs. A call may cost at
+its zones and a second year as GeoTIFF, made by speed.py, and the land cover again in degrees. `program` is rcell-pipe alone, on the
+request that the package sends it (for align, which sends none, a table of the map), its output thrown away; `reading` is rasterio's read of the GeoTIFFs. A call may cost at
 most the reading and twice the program. With --show the table is printed and no file is written.
 """
 
@@ -13,11 +13,10 @@ from __future__ import annotations
 
 import argparse
 import functools
-import pathlib
 import subprocess
 import tempfile
 import warnings
-from typing import Any, Callable, Mapping
+from typing import Any, Callable, Mapping, Sequence
 
 import numpy as np
 import rasterio
@@ -27,8 +26,7 @@ import rcell
 from page import load, put
 from rcell import _program
 from rcell._geotiff import profile_of
-from rcell._script import plan_of
-from rcell._text import Words
+from rcell_front.pipe import request
 from speed import TRANSFORM, Task, by_turns, made_maps
 
 DEGREES = (0.001, 0.0, 5.0, 0.0, -0.001, 50.0)
@@ -37,44 +35,34 @@ Maps = dict[str, str]
 
 
 class Recorder:
-    """What the package sends to the program during a call: the script, and the grids as files."""
+    """The requests that the package sends to the program during a call, as files."""
 
     def __init__(self, folder: str) -> None:
         self._folder = folder
-        self.words: list[list[str]] = []
+        self.requests: list[str] = []
 
     def record(self, call: Task) -> None:
-        """Run a call and keep its scripts and grids."""
-        answered = _program._answered
+        """Run a call and keep its requests."""
+        asked = _program._frames
 
-        def recording(script: str, maps: Mapping[str, Any], wanted: Any, *rest: Any) -> Any:
-            self._keep(plan_of(script, maps, wanted).text, maps)
-            return answered(script, maps, wanted, *rest)
+        def recording(script: str, maps: Mapping[str, Any], wanted: Sequence[str] = (), *rest: Any) -> Any:
+            self.requests.append(f"{self._folder}/request{len(self.requests)}")
+            lines = [script, *(f"r.out.ascii input={name}" for name in wanted)]
+            with open(self.requests[-1], "wb") as file:
+                file.writelines(request([_program._sent(*each) for each in maps.items()], "\n".join(lines).encode()))
+            return asked(script, maps, wanted, *rest)
 
-        _program._answered = recording  # type: ignore[assignment]
+        _program._frames = recording  # type: ignore[assignment]
         try:
             call()
         finally:
-            _program._answered = answered
-
-    def _keep(self, script: bytes, maps: Mapping[str, Any]) -> None:
-        stem = f"{self._folder}/run{len(self.words)}"
-        pathlib.Path(f"{stem}.script").write_bytes(script)
-        words = [rcell.program(), f"{stem}.script"]
-        for name, source in maps.items():
-            low, high = source.range()
-            text = Words(low, high, source.nodata)
-            with open(f"{stem}.{name}", "wb") as file:
-                file.write(source.region.header().encode() + b"null: " + text.null + b"\n")
-                for block in source.blocks():
-                    file.writelines(text.pieces(block.cells, block.null))
-            words.append(f"{name}={stem}.{name}")
-        self.words.append(words)
+            _program._frames = asked
 
     def program(self) -> None:
         """Run the program as the call did."""
-        for words in self.words:
-            subprocess.run(words, check=True, stdout=subprocess.DEVNULL)
+        for path in self.requests:
+            with open(path, "rb") as file:
+                subprocess.run([_program.find_pipe()], stdin=file, check=True, stdout=subprocess.DEVNULL)
 
 
 def maps_of(folder: str, side: int) -> Maps:
@@ -155,7 +143,7 @@ def lines_of(maps: Maps, folder: str, rounds: int) -> list[str]:
     for name, (paths, call, (peer, by_peer)) in calls_of(maps).items():
         recorder = Recorder(folder)
         recorder.record(call)
-        if not recorder.words:  # alignment does not run the program: what a table of the map takes stands in its place
+        if not recorder.requests:  # alignment does not run the program: what a table of the map takes stands in its place
             recorder.record(lambda: rcell.composition(maps["land"]))
         reading = functools.partial(read, *paths)
         found = by_turns({"answer": call, "program": recorder.program, "reading": reading, "peer": by_peer}, 10**9, rounds)

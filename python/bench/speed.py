@@ -5,7 +5,7 @@
 
 Each figure is nanoseconds of the processor (user and system, all processes) a cell, the least of the rounds. Maps are made: patchy
 land cover of 15 classes, noise of 12, a mask of 4 classes with long runs, zones of 900 numbers, and numbers of six digits; each
-a GeoTIFF (deflate, tiles of 256 x 256). Real ones stand beside them: the countries of examples/rasters, the GeoTIFFs that are
+a GeoTIFF (deflate, tiles of 256 x 256), and land cover as arrays of several types. Real ones stand beside them: the countries of examples/rasters, the GeoTIFFs that are
 named, and the grids that bench/real_maps.py has written under bench/out. With --show the tables are printed and no file is written.
 """
 
@@ -25,14 +25,15 @@ import rasterio
 import rcell
 from page import load, put
 from rcell._geotiff import profile_of
+from rcell._masked import masked
 from rcell._rasters import open_raster
-from rcell._text import Words, numbers_of, range_of
+from rcell._program import _sent, find_pipe
+from rcell_front.pipe import request
 
 HERE = pathlib.Path(__file__).resolve().parent
 ROOT = HERE.parent.parent
 TRANSFORM = (25.0, 0.0, 500_000.0, 0.0, -25.0, 5_500_000.0)
 CODES = np.array([11, 12, 21, 22, 23, 24, 31, 41, 42, 43, 52, 71, 81, 82, 90])
-TEXT_CELLS = 500_000
 # Rows that the two commands of GDAL are given: they take so long that a part of a map says enough.
 GDAL_ROWS = 200
 # What bench/real_maps.py writes, by what it is.
@@ -111,38 +112,30 @@ def shape_of(path: str) -> tuple[int, int]:
 # From a GeoTIFF to its table
 
 
-def write_same_text(path: str, text: str) -> None:
-    """The text that the program gets of a raster, as a file."""
-    source = open_raster("lc", path)
-    words = Words(*source.range(), source.nodata)
-    with open(text, "wb") as file:
-        file.write(source.region.header().encode() + b"null: " + words.null + b"\n")
-        for block in source.blocks():
-            file.writelines(words.pieces(block.cells, block.null))
-
-
 class Contest:
     """From a GeoTIFF to the table of its categories, by several ways."""
 
     def __init__(self, folder: str, path: str) -> None:
         self.path = path
         self.rows, self.cols = shape_of(path)
-        self._asc, self._grid, self._text = (f"{folder}/{name}" for name in ("map.asc", "map.txt", "same.txt"))
+        self._asc, self._grid, self._request = (f"{folder}/{name}" for name in ("map.asc", "map.txt", "request"))
         self._script = f"{folder}/counts"
         pathlib.Path(self._script).write_text("r.stats -c input=lc\n")
-        write_same_text(path, self._text)
+        with open(self._request, "wb") as file:
+            file.writelines(request([_sent("lc", open_raster("lc", path))], b"r.stats -c input=lc\n"))
 
     def table(self) -> None:
         rcell.table("r.stats -c input=lc", lc=self.path)
 
-    def program(self, text: str = "") -> None:
-        subprocess.run([rcell.program(), self._script, f"lc={text or self._text}"], check=True, stdout=subprocess.DEVNULL)
+    def program(self) -> None:
+        with open(self._request, "rb") as file:
+            subprocess.run([find_pipe()], stdin=file, check=True, stdout=subprocess.DEVNULL)
 
     def gdal(self) -> None:
         window = ["-srcwin", "0", "0", str(self.cols), str(self.gdal_rows)]
         subprocess.run(["gdal_translate", "-q", "-of", "AAIGrid", "-ot", "Int32", *window, self.path, self._asc], check=True)
         subprocess.run(["python3", str(ROOT / "helpers" / "rcell-aaigrid"), self._asc, self._grid], check=True, stderr=subprocess.DEVNULL)
-        self.program(self._grid)
+        subprocess.run([rcell.program(), self._script, f"lc={self._grid}"], check=True, stdout=subprocess.DEVNULL)
 
     @property
     def gdal_rows(self) -> int:
@@ -182,69 +175,52 @@ def milliseconds_of_a_call(rounds: int) -> float:
         return by_turns({"table": lambda: rcell.table("r.stats -c input=lc", lc=path)}, 1, rounds)["table"] / 1e6
 
 
-# Text out and in
+# Arrays in and out
 
 
-def text_out_and_in(folder: str, rounds: int) -> list[str]:
-    """Cells to text and text to cells, to a file and from one; a line for each number of digits."""
-    random = np.random.default_rng(2)
+def from_arrays(cells: int, cols: int, rounds: int) -> list[str]:
+    """From an array to its table, and a map in and out; a line for each type of array."""
+    land = patchy(cells // cols, cols, 12, 24, 9, np.random.default_rng(2)).astype(np.uint8)
+    arrays = {
+        "u8": land, "u8, masked": masked(land, land == 3), "i16": land.astype(np.int16), "i32": land.astype(np.int32),
+        "i64": land.astype(np.int64), "float32": land.astype(np.float32),
+    }
     lines = []
-    for digits, greatest, dtype in ((1, 9, "uint8"), (3, 999, "int16"), (6, 999_999, "int32")):
-        cells = random.integers(0, greatest + 1, (TEXT_CELLS // 1_000, 1_000)).astype(dtype)
-        found = by_turns(_texts(folder, cells), TEXT_CELLS, rounds)
-        lines.append(
-            f"| {digits} | {found['out']:.1f} | {found['savetxt']:.0f} | {found['out'] / found['savetxt']:.2f} | {found['gdal']:.0f} "
-            f"| {found['in']:.1f} | {found['loadtxt']:.0f} | {found['in'] / found['loadtxt']:.2f} |"
-        )
+    for name, array in arrays.items():
+        found = by_turns(_of_array(array), array.size, rounds)
+        lines.append(f"| {name} | {found['table']:.1f} | {found['grid']:.1f} | {found['copy']:.2f} | {found['bincount']:.1f} | {found['unique']:.1f} |")
         print(lines[-1], flush=True)
     return lines
 
 
-def _texts(folder: str, cells: Any) -> dict[str, Task]:
-    path, text, lines = f"{folder}/text.tif", f"{folder}/text", f"{folder}/lines"
-    nodata = 255 if cells.dtype == np.uint8 else -1
-    rows, cols = cells.shape
-    with rasterio.open(path, "w", **profile_of(rows, cols, TRANSFORM, None, cells.dtype.name, nodata)) as dataset:
-        dataset.write(cells, 1)
-    pathlib.Path(lines).write_bytes("".join(f"{cell}\n" for cell in cells.reshape(-1).tolist()).encode())
-
-    def out() -> None:
-        words = Words(*range_of(cells))
-        with open(text, "wb") as file:
-            for row in range(0, len(cells), 500):
-                file.writelines(words.pieces(cells[row : row + 500]))
-
-    def into() -> None:
-        with open(lines, "rb") as file:
-            numbers_of(file.read(), np.int32)
-
-    to_asc = ["gdal_translate", "-q", "-of", "AAIGrid", "-ot", "Int32", path, f"{text}.asc"]
+def _of_array(array: Any) -> dict[str, Task]:
+    plain = np.asarray(array)
     return {
-        "out": out,
-        "savetxt": lambda: np.savetxt(text, cells, fmt="%d"),
-        "gdal": lambda: subprocess.run(to_asc, check=True),
-        "in": into,
-        "loadtxt": lambda: np.loadtxt(lines, dtype=np.int32),
+        "table": lambda: rcell.run("r.stats -c input=lc", lc=array),
+        "grid": lambda: rcell.run("r.out.ascii input=lc", lc=array),
+        "copy": plain.copy,
+        "bincount": lambda: np.bincount(plain.reshape(-1) if plain.dtype.kind != "f" else plain.reshape(-1).astype(np.int64)),
+        "unique": lambda: np.unique(plain, return_counts=True),
     }
 
 
-def section(rounds: int, call: float, geotiff: list[str], text: list[str]) -> str:
+def section(rounds: int, call: float, geotiff: list[str], arrays: list[str]) -> str:
     return f"""Measured on {load()}.
 
 Nanoseconds of the processor a cell (user and system, all processes), the least of {rounds} rounds in which each had its turn.
-From a GeoTIFF to the table of its categories: `rcell.table` answers a DataFrame; "program alone" is the program on a text that is
-there already, word for word the one that it gets through the pipe; "reading alone" is `rasterio`'s `read(1)`. The way by
+From a GeoTIFF to the table of its categories: `rcell.table` returns a DataFrame; "program alone" is rcell-pipe on a file with the
+request that it gets from the package; "reading alone" is `rasterio`'s `read(1)`. The way by
 gdal_translate, rcell-aaigrid and the program was gone once, on the first {GDAL_ROWS} rows. A call takes {call:.1f} ms whatever its map.
 
 | Map | million cells | rcell.table | program alone | times | reading alone | gdal_translate, aaigrid, program | rasterio and numpy.unique |
 |---|---|---|---|---|---|---|---|
 {chr(10).join(geotiff)}
 
-Cells to a text file and numbers from one, {TEXT_CELLS / 1e6:g} million cells; `gdal_translate -of AAIGrid` reads its GeoTIFF, too.
+From an array of patchy land cover of 12 classes to its table, and to the same map as an array again:
 
-| Digits | out | numpy.savetxt | of it | gdal_translate | in | numpy.loadtxt | of it |
-|---|---|---|---|---|---|---|---|
-{chr(10).join(text)}
+| Array | table | map in and out | copying it | numpy.bincount | numpy.unique |
+|---|---|---|---|---|---|
+{chr(10).join(arrays)}
 """
 
 
@@ -259,11 +235,11 @@ def main() -> int:
     rows = settings.cells // cols
     call = milliseconds_of_a_call(20)
     with tempfile.TemporaryDirectory(prefix="rcell-speed-") as folder:
-        text = text_out_and_in(folder, settings.rounds)
+        arrays = from_arrays(settings.cells, cols, settings.rounds)
         paths = made_maps(folder, rows, cols) | real_maps(folder) | {f"real: {pathlib.Path(path).stem}": path for path in settings.maps}
         geotiff = from_geotiff(paths, folder, settings.rounds)
     if not settings.show:
-        put("From Python", section(settings.rounds, call, geotiff, text))
+        put("From Python", section(settings.rounds, call, geotiff, arrays))
     return 0
 
 

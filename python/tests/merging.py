@@ -9,7 +9,7 @@ import numpy as np
 import numpy.typing as npt
 
 from rcell._counts import MOST_CELLS, Counts, TooManyCells
-from rcell._numbers import NULL
+from rcell_front.pipe import NULL
 
 Integers = npt.NDArray[Any]
 

@@ -80,7 +80,7 @@ def test_arrays_of_other_kinds() -> None:
     xarray = pytest.importorskip("xarray")
     dask = pytest.importorskip("dask.array")
     assert cells(dask.from_array(LAND, chunks=2)) == LAND.tolist()
-    assert "several variables: give one of them, as dataset['lc']" in str(refusal(xarray.Dataset({"lc": data_array()})))
+    assert "several variables: give it alone, or one of them, as dataset['lc']" in str(refusal(xarray.Dataset({"lc": data_array()})))
 
 
 # Rasters
@@ -274,8 +274,8 @@ def test_a_pivot_tells_classes_of_one_label_apart() -> None:
 
 
 def test_modules_without_their_libraries(monkeypatch: pytest.MonkeyPatch) -> None:
-    code = ("import sys; sys.modules['scipy'] = sys.modules['psutil'] = None; from rcell import *; import rcell, rcell.tiles, numpy\n"
-            "try: rcell.tiles._cluster.free_memory()\nexcept rcell.MissingLibrary as error: print(error.library)\n")
+    code = ("import sys; sys.modules['scipy'] = sys.modules['psutil'] = None; from rcell import *; import rcell, numpy\n"
+            "try: rcell.tiles\nexcept rcell.MissingLibrary as error: print(error.library)\n")
     ran = subprocess.run([sys.executable, "-c", code], capture_output=True, text=True, env=environment(), check=False)
     assert (ran.stdout.split(), ran.stderr) == (["psutil"], "")
 

@@ -16,8 +16,8 @@ import numpy as np
 import rcell
 from rcell._grid import Grid
 from rcell._libraries import has
-from rcell._program import execute
-from rcell._script import labels_in, plan_of, statements_of
+from rcell._program import execute, find_pipe
+from rcell._script import labels_in, statements_of
 
 
 def by_files(script: str, **grids: bytes) -> tuple[int, bytes, str]:
@@ -273,32 +273,44 @@ class Scripts(unittest.TestCase):
             labels = labels_in(script).get("k", {})
             self.assertEqual({category: label for category, label in told.items() if label}, {c: labels[c] for c in told if c in labels}, rules)
 
-    def test_no_line_of_an_output_is_a_mark(self) -> None:
-        script = "\n".join(f"r.stats -c input=lc,lc null_value={text}" for text in ("end", "e", "en", "nd")) + "\nr.stats -l input=lc,lc separator=e null_value=d"
-        plan = plan_of(script, ["lc"])
-        self.assertEqual([mark for mark in plan.marks], [b"end"] * 4 + [None])
-        sent = [line for line in plan.text.decode().split("\n") if line.startswith("r.stats") and "nothing" not in line]
-        self.assertEqual(sent, ["r.stats -c input=lc,lc"] * 4 + ["r.stats input=lc,lc"])
-        self.assertEqual([table.rows[0] for table in rcell.run(script, lc=rcell.Map(LAND, labels={0: "end"})).tables], [(0, 0, 1)] * 4 + [(0, "end", 0, "end")])
+    def test_texts_of_the_printed_table_change_no_value(self) -> None:
+        script = "\n".join(f"r.stats -c input=lc,lc null_value={text}" for text in ("end", "1", "-9", "*")) + "\nr.stats -l input=lc,lc separator=e null_value=d"
+        script += "\nr.stats -1nl input=lc,lc separator=1 null_value=1\nr.out.ascii input=lc null_value=2"
+        result = rcell.run(script, lc=rcell.Map(LAND, nodata=0, labels={1: "end"}))
+        tables = result.tables
+        self.assertEqual([table.rows[-1] for table in tables[:4]], [(None, None, 1)] * 4)
+        self.assertEqual([tables[4].rows[0], tables[5].rows[0], len(tables[5])], [(1, "end", 1, "end"), (1, "end", 1, "end"), 11])
+        self.assertEqual(result.grids["lc"].array.tolist()[0], [1, 1, 2, None])
 
-    def test_the_mark_s_map_has_a_name_of_its_own(self) -> None:
-        script = "r.mapcalc nothing_0 = lc\nr.stats -c input=nothing_0\nr.stats -c input=lc"
-        self.assertEqual(len(rcell.run(script, lc=LAND, nothing_1=LAND)), 2)
-
-    def test_a_script_that_the_marks_make_too_long(self) -> None:
+    def test_the_longest_script(self) -> None:
         script = "r.stats -c input=lc\n" * 3 + "#" * 60_000 + "\n"
         script += ("#" * 65_000 + "\n") * 15
-        script += "#" * (1_048_576 - len(script.encode()) - 1)
+        script += "#" * (1_048_576 - len(script.encode()))
+        self.assertEqual(len(rcell.run(script, lc=LAND)), 3)
         with self.assertRaises(rcell.Refused) as caught:
-            rcell.run(script, lc=LAND)
-        self.assertIn("with the marks that part its outputs", str(caught.exception))
+            rcell.run(script + "#", lc=LAND)
+        self.assertEqual((str(caught.exception), caught.exception.line), ("script: script too long", 0))
+
+    def test_rules_without_an_end(self) -> None:
+        for lines in ("", "r.stats -1 input=lc\n"):
+            with self.assertRaises(rcell.Refused) as caught:
+                rcell.grid(f"{lines}r.reclass input=lc output=k\n1 = 1", "k", lc=LAND)
+            self.assertEqual((caught.exception.text, caught.exception.line), ("missing end", 2 if lines else 1))
 
     def test_statements(self) -> None:
-        known = {script: statements_of(script)[0].is_known for script in (
-            "r.stats -cn input=a,b after=1,*", "r.stats -c in=a", "r.stats input=a b", "r.stats -z input=a", "r.mapcalc x = 1", "r.mapcalc = 1", "r.clump input=a,b output=c",
-            "r.out.ascii input=a null_value=:", "r.stats input=a null_value=" + "x" * 65, "g.region", "r.stats input=a" + " " * 65_535,
-        )}
-        self.assertEqual(list(known.values()), [True, False, False, False, True, False, False, False, False, False, False])
+        script = "r.mapcalc x = 1\n  r.stats -c -n\tinput=a,b after=1,* \r\n# r.stats\nr.reclass input=a output=b\nr.stats input=c\nend\nr.stats -1 input=b"
+        found = [(each.line, each.command, each.flags, each.maps, each.output) for each in statements_of(script)]
+        self.assertEqual(found[0], (1, "r.mapcalc", "", (), "x"))
+        self.assertEqual(found[1], (2, "r.stats", "cn", ("a", "b"), None))
+        self.assertEqual(found[2], (4, "r.reclass", "", ("a",), "b"))
+        self.assertEqual(found[3:], [(7, "r.stats", "1", ("b",), None)])
+
+
+def done(*fields: Any) -> str:
+    """An answer without a table, for printf: status, source, map, line, column and text."""
+    *numbers, told = fields
+    text = str(told)
+    return "RCELLA1\\nDONE" + "".join(f"\\{byte:03o}" for number in (*numbers, len(text)) for byte in number.to_bytes(8, "little")) + text
 
 
 class Programs(unittest.TestCase):
@@ -310,64 +322,81 @@ class Programs(unittest.TestCase):
         with self.assertRaises(ChildProcessError):
             os.waitpid(-1, os.WNOHANG)
 
-    def program(self, body: str) -> Any:
-        """A program of a shell that stands in for rcell."""
+    def program(self, body: str, name: str = "rcell") -> Any:
+        """A program of a shell that stands in for rcell or rcell-pipe."""
         folder = tempfile.TemporaryDirectory()
         self.addCleanup(folder.cleanup)
-        path = f"{folder.name}/rcell"
+        path = f"{folder.name}/{name}"
         with open(path, "w") as file:
             file.write(f"#!/bin/sh\n{body}\n")
         os.chmod(path, 0o755)
         return path
 
-    def run_with(self, path: str, script: str = "r.stats -c input=lc", given: Any = LAND) -> Any:
+    def run_with(self, body: str, script: str = "r.stats -c input=lc", given: Any = LAND) -> Any:
+        """Run a script with a stand-in for rcell-pipe."""
         from rcell import _program
 
+        path = self.program(body, "rcell-pipe")
         state = os.stat(path)
         _program._known[path] = (state.st_ino, state.st_size, state.st_mtime_ns)
         return execute(script, {"lc": rcell.Map(given).source("lc")}, program=path)
 
     def test_missing(self) -> None:
-        with self.assertRaises(rcell.MissingProgram):
-            rcell.program("/nowhere/rcell")
-        with tempfile.NamedTemporaryFile() as file, self.assertRaises(rcell.MissingProgram):
-            rcell.program(file.name)
-        path = self.program("")
-        with open(path, "w") as file_of_program:
-            file_of_program.write("no program")
-        with self.assertRaises(rcell.MissingProgram):
-            rcell.program(path)
+        for find in (rcell.program, find_pipe):
+            with self.assertRaises(rcell.MissingProgram):
+                find("/nowhere/rcell")
+            with tempfile.NamedTemporaryFile() as file, self.assertRaises(rcell.MissingProgram):
+                find(file.name)
+            path = self.program("")
+            with open(path, "w") as file_of_program:
+                file_of_program.write("no program")
+            with self.assertRaises(rcell.MissingProgram):
+                find(path)
 
     def test_nowhere(self) -> None:
-        code = "import os, rcell._program as p\np.sysconfig.get_path = lambda *_: '/nowhere'\np.sys.executable = '/nowhere/python'\ntry: p.find_program()\nexcept p.MissingProgram as e: print(e)"
+        code = "import os, rcell._program as p\np.sysconfig.get_path = lambda *_: '/nowhere'\np.sys.executable = '/nowhere/python'\n"
+        tried = "for find in (p.find_program, p.find_pipe):\n    try: find()\n    except p.MissingProgram as e: print(e)\n    p.find_program = lambda: '/nowhere/rcell'"
         environment = {"PATH": "/nowhere", "PYTHONPATH": os.pathsep.join(sys.path)}
-        ran = subprocess.run([sys.executable, "-c", code], env=environment, capture_output=True, text=True)
-        self.assertEqual(ran.stdout, "the program rcell was not found: neither in the environment variable RCELL, nor next to this Python, nor on the path\n", ran.stderr)
+        ran = subprocess.run([sys.executable, "-c", code + tried], env=environment, capture_output=True, text=True)
+        self.assertEqual(ran.stdout.splitlines(), [
+            "the program rcell was not found: neither in the environment variable RCELL, nor next to this Python, nor on the path",
+            "the program rcell-pipe was not found: neither in the environment variable RCELL_PIPE, nor next to rcell, nor on the path",
+        ], ran.stderr)
 
     def test_wrong(self) -> None:
         for body in ("exit 0", "echo 7 1 1", "exit 3", "yes", "yes x | head -c 3000000 >&2; exit 1"):
             with self.assertRaises(rcell.WrongProgram):
                 rcell.program(self.program(body))
+            if body != "yes":
+                with self.assertRaises(rcell.WrongProgram):
+                    find_pipe(self.program(body))
 
     def test_killed(self) -> None:
         for signal, told in ((9, "SIGKILL): too little memory"), (15, "SIGTERM): someone ended it")):
             with self.assertRaises(rcell.Killed) as caught:
-                self.run_with(self.program(f"kill -{signal} $$"))
+                self.run_with(f"kill -{signal} $$")
             self.assertIn(told, str(caught.exception))
 
     def test_killed_in_the_middle(self) -> None:
         with self.assertRaises(rcell.Killed):
-            self.run_with(self.program('head -c 100000 "${2#lc=}" > /dev/null; kill -9 $$'), given=np.ones((2_000, 2_000), np.uint8))
+            self.run_with("head -c 100000 > /dev/null; kill -9 $$", given=np.ones((2_000, 2_000), np.uint8))
 
     def test_out_of_memory(self) -> None:
-        with self.assertRaises(rcell.OutOfMemory) as caught:
-            self.run_with(self.program("echo 'rcell: script:1: no memory' >&2; exit 3"))
-        self.assertEqual((caught.exception.status, caught.exception.line, caught.exception.content), (3, 1, "r.stats -c input=lc"))
+        for line, content in ((1, "r.stats -c input=lc"), (0, None)):
+            with self.assertRaises(rcell.OutOfMemory) as caught:
+                self.run_with(f"printf '{done(3, 0, 0, line, 0, 'no memory')}'; exit 3")
+            self.assertEqual((caught.exception.status, caught.exception.line, caught.exception.content), (3, line, content))
 
-    def test_output_that_is_not_understood(self) -> None:
-        for body in ("cat $1 > /dev/null; echo 1 2 3", "echo x; exit 7", "echo", "exit 0"):
+    def test_rejected_while_it_is_read(self) -> None:
+        with self.assertRaises(rcell.Refused) as caught:
+            self.run_with(f"printf '{done(1, 1, 0, 7, 0, 'cell out of range')}'; exit 1", given=np.ones((2_000, 2_000), np.uint8))
+        self.assertEqual(str(caught.exception), "lc, line 7: cell out of range")
+
+    def test_an_answer_that_is_not_understood(self) -> None:
+        bodies = ["cat > /dev/null; echo 1 2 3", "echo x; exit 7", "echo", "exit 0", f"printf '{done(1, 2, 0, 1, 0, 'bad')}'", f"printf '{done(0, 0, 0, 0, 0, '')}x'"]
+        for body in bodies:
             with self.subTest(body=body), self.assertRaises(rcell.WrongProgram):
-                self.run_with(self.program(body), "r.stats -c input=lc\nr.out.ascii input=lc")
+                self.run_with(body, "r.stats -c input=lc\nr.out.ascii input=lc")
 
     def test_an_array_that_fails_on_the_way(self) -> None:
         cells = np.ones((3_000, 2_000))

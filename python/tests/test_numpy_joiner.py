@@ -16,9 +16,9 @@ from rcell import _joiner
 from rcell._counts import Counts, TooManyCells, counts_of
 from rcell._joiner import border_of, joined, joined_sizes, numbering_of
 from rcell._maps import ArrayMap
-from rcell._numbers import NULL
 from rcell._program import execute, table_text
 from rcell._region import Region
+from rcell_front.pipe import NULL
 from tests.merging import merge
 
 NULL_CELL = 255
@@ -209,7 +209,7 @@ class Programs(unittest.TestCase):
     def test_nowhere(self) -> None:
         code = (
             "import rcell._program as p, rcell._joiner as j\np.sysconfig.get_path = lambda *_: '/nowhere'\np.sys.executable = '/nowhere/python'\n"
-            "j.find_program = lambda: '/nowhere/rcell'\ntry: j.find_joiner()\nexcept p.MissingProgram as e: print(e)"
+            "p.find_program = lambda: '/nowhere/rcell'\ntry: j.find_joiner()\nexcept p.MissingProgram as e: print(e)"
         )
         ran = subprocess.run([sys.executable, "-c", code], env={"PATH": "/nowhere", "PYTHONPATH": os.pathsep.join(sys.path)}, capture_output=True, text=True)
         told = "the program rcell-join was not found: neither in the environment variable RCELL_JOIN, nor next to rcell, nor on the path\n"

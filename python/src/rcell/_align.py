@@ -8,15 +8,12 @@ from typing import Any
 import numpy as np
 from numpy.typing import NDArray
 
-from ._answers import grids_of, run_of
 from ._crs import are_same_crs, common_crs
 from ._errors import BadMap, OtherCrs, OtherRegion, Refused
 from ._libraries import need
-from ._maps import Aligned, Map, Source, source_of
-from ._masked import data_of, mask_of, masked
+from ._maps import Aligned, Cells, Map, Mask, Source, source_of
+from ._masked import masked
 from ._region import Region, Shift
-from ._text import Cells, Mask
-from ._texts import TextMap
 
 __all__ = ["align"]
 
@@ -80,9 +77,6 @@ def align(map: Any, to: Any, resample: str | None = None, *, crs: Any = None) ->
 
 def _cells_of(source: Source) -> tuple[Cells, Mask]:
     """The cells of a map, and which of them are null."""
-    if isinstance(source, TextMap):
-        [grid] = grids_of(run_of("", {"map": source}), ["map"])
-        return data_of(grid.array), mask_of(grid.array)
     blocks = list(source.blocks())
     cells = np.concatenate([block.cells for block in blocks])
     null = np.zeros(cells.shape, np.bool_) if source.nodata is None else cells == source.nodata

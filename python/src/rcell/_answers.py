@@ -6,8 +6,6 @@ from __future__ import annotations
 from collections.abc import Sequence
 from typing import Any, Iterable, Mapping, overload
 
-import numpy as np
-
 from ._errors import Refused
 from ._grid import Grid
 from ._maps import Source, named_once, sources_of
@@ -104,18 +102,16 @@ class _Run:
         return self.sources[name].labels if name in self.sources else self._made.get(name, {})
 
     def _answer(self, output: Output) -> StatsTable | Grid:
-        statement = output.statement
-        if statement.is_of_cells and (statement.command == "r.out.ascii" or statement.line == 0):
+        if output.command == "r.out.ascii":
             return self._grid(output)
-        values = output.values.reshape(-1, 1).astype(np.int64) if statement.is_of_cells else output.values
-        count = len(statement.maps)
+        count = len(output.maps)
         return StatsTable(
-            command=statement.command,
-            line=statement.line,
-            maps=statement.maps,
-            categories=values[:, :count],
-            cells=values[:, count] if "c" in statement.flags else None,
-            labels={name: self.labels(name) for name in statement.maps} if "l" in statement.flags else None,
+            command=output.command,
+            line=output.line,
+            maps=output.maps,
+            categories=output.values[:, :count],
+            cells=output.values[:, count] if output.has_counts else None,
+            labels={name: self.labels(name) for name in output.maps} if output.has_labels else None,
             cell=self.cell,
             crs=self.crs,
         )
@@ -126,7 +122,7 @@ class _Run:
         return -self.first.transform[4], self.first.transform[0]
 
     def _grid(self, output: Output) -> Grid:
-        name = output.statement.maps[0]
+        name = output.maps[0]
         return Grid.of_values(
             output.values,
             name=name,
@@ -134,8 +130,8 @@ class _Run:
             transform=self.first.transform,
             crs=self.crs,
             labels=self.labels(name),
-            command=output.statement.command,
-            line=output.statement.line,
+            command=output.command,
+            line=output.line,
             colors=self.sources[name].colors if name in self.sources else {},
         )
 
@@ -242,10 +238,9 @@ def run_of(script: str, maps: Mapping[str, Any], crs: Any = None) -> _Run:
 
 def table_of(of: _Run, area: str | None, percent: bool, pivot: bool) -> StatsTable:
     """The only table of a run, with the columns asked for."""
-    writing = [statement for statement in statements_of(of.script) if statement.writes]
     outputs = of.outputs()
     if len(outputs) != 1 or not isinstance(outputs[0], StatsTable):
-        told = ", ".join(f"{statement.command} in line {statement.line}" for statement in writing) or "no r.stats"
+        told = ", ".join(f"{output.command} in line {output.line}" for output in outputs) or "no r.stats"
         raise Refused(f"one table is asked for, and the script has {told}: rcell.run returns all outputs", "script")
     answer = outputs[0]
     if pivot and len(answer.maps) != 2:

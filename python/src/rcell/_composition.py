@@ -8,11 +8,12 @@ from typing import Any, Mapping
 import numpy as np
 from numpy.typing import NDArray
 
+from rcell_front.pipe import NULL
+
 from ._counting import Counts, Maps, places_of
 from ._errors import Refused
 from ._maps import named_once
 from ._table import Column, Table, framed
-from ._text import NULL
 
 __all__ = ["composition", "cross"]
 

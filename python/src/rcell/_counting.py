@@ -10,13 +10,14 @@ from typing import Any, Mapping, Sequence
 import numpy as np
 from numpy.typing import NDArray
 
+from rcell_front.pipe import NULL
+
 from ._errors import Refused
 from ._legends import labels_of
 from ._maps import Source, source_of, sources_of
 from ._measure import Measure, measure_of
 from ._program import execute
 from ._table import Column
-from ._text import NULL
 from ._zones import zones_of
 
 __all__ = ["Counts", "Maps", "label_columns", "places_of"]

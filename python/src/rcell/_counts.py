@@ -8,12 +8,14 @@ from collections.abc import Iterable
 from dataclasses import dataclass
 from typing import Any
 
+import numpy as np
 import numpy.typing as npt
 
-from ._errors import RcellError
-from ._numbers import numbers_of
+from rcell_front.pipe import NULL
 
-__all__ = ["Counts", "TooManyCells", "counts_of", "refuse_great_counts"]
+from ._errors import RcellError
+
+__all__ = ["Counts", "TooManyCells", "counts_of", "numbers_of", "refuse_great_counts"]
 
 Integers = npt.NDArray[Any]
 
@@ -59,6 +61,17 @@ class Counts:
 
     combinations: Integers
     cells: Integers
+
+
+def numbers_of(text: bytes) -> Integers:
+    """Return the whole numbers of a text that rcell-join printed, `NULL` for null.
+
+    Examples
+    --------
+    >>> numbers_of(b"1 20\\n-3 *\\n").tolist()
+    [1, 20, -3, -2147483648]
+    """
+    return np.fromstring(text.replace(b"*", b"%d" % NULL), np.int64, sep=" ")
 
 
 def counts_of(text: bytes, maps: int) -> Counts:

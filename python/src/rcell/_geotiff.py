@@ -5,11 +5,12 @@ from __future__ import annotations
 
 from typing import TYPE_CHECKING, Any
 
+from rcell_front.pipe import NULL
+
 from ._files import replacing, told_of
 from ._labels import write_labels
 from ._libraries import need
 from ._masked import compressed, filled
-from ._text import NULL
 
 if TYPE_CHECKING:
     from ._grid import Grid

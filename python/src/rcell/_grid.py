@@ -13,12 +13,13 @@ from typing import Any, Mapping
 import numpy as np
 from numpy.typing import NDArray
 
+from rcell_front.pipe import NULL
+
 from ._errors import Refused
 from ._libraries import has, need
 from ._maps import Map
-from ._masked import MaskedCells, compressed, data_of, filled, mask_of, masked
+from ._masked import MaskedCells, compressed, filled, mask_of, masked
 from ._region import Region, Transform
-from ._text import NULL, cells_to_text
 
 __all__ = ["Grid"]
 
@@ -170,7 +171,7 @@ class Grid:
         >>> grid = rcell.run("r.out.ascii input=lc", lc=np.array([[5, 7, 5]]))[0]
         >>> with tempfile.TemporaryDirectory() as folder:
         ...     print(open(grid.write(os.path.join(folder, "lc.txt"))).read().split())
-        ['north:', '1', 'south:', '0', 'east:', '3', 'west:', '0', 'rows:', '1', 'cols:', '3', 'null:', '*', '5', '7', '5']
+        ['north:', '1', 'south:', '0', 'east:', '3', 'west:', '0', 'rows:', '1', 'cols:', '3', '5', '7', '5']
         """
         from ._files import write_beside
 
@@ -199,10 +200,9 @@ class Grid:
         >>> rcell.run("r.out.ascii input=lc", lc=np.array([[5, 7]]))[0].text().splitlines()[-1]
         b'5 7'
         """
-        cells, null_text = cells_to_text(data_of(self.array), mask_of(self.array))
-        rows = np.frombuffer(cells, np.uint8).reshape(self.region.rows, -1).copy()
-        rows[:, -1] = ord("\n")
-        return self.region.header().encode() + b"null: " + null_text + b"\n" + rows.tobytes()
+        from ._program import grid_text
+
+        return grid_text(Map(self.array, self.region).source("map"))
 
     def xarray(self) -> Any:
         """Return the map as a DataArray: coordinates of the centres of cells, reference system as rioxarray has it.

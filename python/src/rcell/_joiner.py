@@ -24,7 +24,7 @@ from rcell_front.programs import Started, above_standard, close, pipe
 from ._counts import TooManyCells, refuse_great_counts
 from ._errors import Killed, MissingProgram, OutOfMemory, WriteFailed, WrongProgram
 from ._maps import Source
-from ._program import PROBE_SECONDS, candidates, find_program, grid_text, known_after
+from ._program import PROBE_SECONDS, find_beside, grid_text
 
 __all__ = ["border_of", "check_files", "find_joiner", "joined", "joined_sizes", "numbering_of"]
 
@@ -39,17 +39,7 @@ OTHER_FILES = 256
 
 
 def find_joiner(program: str | os.PathLike[str] | None = None) -> str:
-    """The path of the program rcell-join.
-
-    Looked for in this order: the argument, the environment variable RCELL_JOIN, beside the program rcell that is used, the scripts
-    of this installation of Python (where the wheel puts it), the path.
-
-    Raises
-    ------
-    MissingProgram
-        Where there is none.
-    WrongProgram
-        Where it does not answer as this package needs it.
+    """Return the path of the program rcell-join; it is looked for as `find_beside` does, and its variable is RCELL_JOIN.
 
     Examples
     --------
@@ -57,15 +47,7 @@ def find_joiner(program: str | os.PathLike[str] | None = None) -> str:
     >>> os.path.basename(find_joiner())
     'rcell-join'
     """
-    path = os.fspath(program) if program is not None else os.environ.get("RCELL_JOIN") or _found()
-    if not path:
-        raise MissingProgram("the program rcell-join was not found: neither in the environment variable RCELL_JOIN, nor next to rcell, nor on the path")
-    return known_after(_probe, os.path.abspath(path))
-
-
-def _found() -> str:
-    beside = os.path.join(os.path.dirname(find_program()), "rcell-join")
-    return beside if os.path.isfile(beside) else next(candidates("rcell-join"), "")
+    return find_beside("rcell-join", "RCELL_JOIN", _probe, program)
 
 
 _PROBE_MAP = b"north: 1\nsouth: 0\neast: 2\nwest: 0\nrows: 1\ncols: 2\n8 9\n"
@@ -132,6 +114,7 @@ def border_of(tile: Source, diagonal: bool = False, program: str | os.PathLike[s
         A cell that can't be sent.
     """
     path, words = find_joiner(program), ["border", *["-d"] * diagonal]
+    text = grid_text(tile)
     reader, writer = pipe()
     try:
         run = _started(path, words, [reader])
@@ -143,8 +126,7 @@ def border_of(tile: Source, diagonal: bool = False, program: str | os.PathLike[s
     with run:
         try:
             with contextlib.suppress(BrokenPipeError):
-                for piece in grid_text(tile):
-                    write_all(writer, piece)
+                write_all(writer, text)
         finally:
             close(writer)
         ended = _ended(run)

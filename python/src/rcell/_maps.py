@@ -12,21 +12,26 @@ from dataclasses import dataclass, field
 from typing import Any, Iterator, Mapping, NamedTuple, Protocol, Sequence
 
 import numpy as np
-from numpy.typing import ArrayLike
+from numpy.typing import ArrayLike, NDArray
+
+from rcell_front.pipe import NULL
 
 from ._crs import common_crs
 from ._errors import BadMap, OtherRegion, Refused
 from ._masked import data_of, is_masked_array, mask_of
 from ._region import Region, Shift, Transform, six_numbers
 from ._script import check_names
-from ._text import MAX_CATEGORY, Cells, Mask, range_of
 
-__all__ = ["Aligned", "ArrayMap", "Block", "Map", "Source", "checked", "whole_nodata"]
+__all__ = ["MAX_CATEGORY", "Aligned", "ArrayMap", "Block", "Cells", "Map", "Mask", "Source", "check_array", "checked", "is_converted", "nodata_of", "type_of"]
 
+MAX_CATEGORY = 2_147_483_647
 # Cells of a block, about: large enough that a block costs more than its call, small enough for the cache of a processor.
 BLOCK_CELLS = 1 << 20
 # Beyond it a float of 32 bits does not have every whole number.
 _EXACT_FLOAT32 = 1 << 24
+
+Cells = NDArray[Any]
+Mask = NDArray[np.bool_]
 
 
 @dataclass(frozen=True)
@@ -35,9 +40,9 @@ class Block:
 
     Attributes
     ----------
-    cells : array of int8, uint8, int16, uint16 or int32, rows x cols
+    cells : array of the type of its source, rows x cols, C-contiguous
     null : array of bool or None
-        True where a cell is null, aside from the nodata of its source.
+        True where a cell is null, aside from the nodata of its source; None if the source is not masked.
     """
 
     cells: Cells
@@ -56,8 +61,16 @@ class Source(Protocol):
         """Its transform, which results get."""
 
     @property
+    def dtype(self) -> np.dtype[Any]:
+        """The type of its blocks: any of 8, 16 or 32 bits, or int64."""
+
+    @property
     def nodata(self) -> int | None:
-        """A value of cells that is null."""
+        """A value of the type that is null."""
+
+    @property
+    def is_masked(self) -> bool:
+        """Whether its blocks say which cells are null."""
 
     @property
     def labels(self) -> Mapping[int, str]:
@@ -71,9 +84,6 @@ class Source(Protocol):
     def crs(self) -> Any:
         """Its coordinate reference system, or None."""
 
-    def range(self) -> tuple[int, int]:
-        """A range of its cells, 0 among them; it may be a guess, for then some words are only slower to read."""
-
     def blocks(self) -> Iterator[Block]:
         """Its rows from north to south."""
 
@@ -81,22 +91,40 @@ class Source(Protocol):
 # Cells
 
 
-def whole_nodata(dtype: np.dtype[Any], value: float | None) -> int | None:
-    """The value that is null, where a block of this type does not mask it already.
+def is_converted(dtype: np.dtype[Any]) -> bool:
+    """Return whether cells of a type become int32, with -2147483648 for null: floats and uint64. The program takes all others as they are."""
+    return dtype.kind == "f" or dtype == np.uint64
+
+
+def type_of(dtype: np.dtype[Any]) -> np.dtype[Any]:
+    """Return the type in which cells of a type are sent.
 
     Examples
     --------
-    >>> whole_nodata(np.dtype("uint8"), 255.0), whole_nodata(np.dtype("uint8"), -9999.0)
-    (255, None)
+    >>> [str(type_of(np.dtype(name))) for name in ("uint8", "int64", "float32", "bool")]
+    ['uint8', 'int64', 'int32', 'uint8']
     """
-    if value is None or dtype.kind not in "iub" or dtype.itemsize > 2 or not float(value).is_integer():
+    return np.dtype(np.int32) if is_converted(dtype) else np.dtype(np.uint8) if dtype.kind == "b" else dtype.newbyteorder("=")
+
+
+def nodata_of(dtype: np.dtype[Any], value: float | None) -> int | None:
+    """Return the value that is null in the type in which cells of a type are sent, if they came with a value that is null.
+
+    Examples
+    --------
+    >>> nodata_of(np.dtype("uint8"), 255.0), nodata_of(np.dtype("uint8"), -9999.0), nodata_of(np.dtype("float32"), -9999.0)
+    (255, None, -2147483648)
+    """
+    if is_converted(dtype):
+        return NULL
+    if value is None or not float(value).is_integer():
         return None
-    limits = np.iinfo(np.uint8 if dtype == np.bool_ else dtype)
+    limits = np.iinfo(type_of(dtype))
     return int(value) if limits.min <= value <= limits.max else None
 
 
 def checked(name: str, cells: Cells, null: Mask | None, nodata: float | None, first_row: int = 0, first_col: int = 0) -> Block:
-    """Cells of any type of whole numbers as a block.
+    """Return cells of any type of whole numbers as a block of the type in which they are sent.
 
     Parameters
     ----------
@@ -114,47 +142,43 @@ def checked(name: str, cells: Cells, null: Mask | None, nodata: float | None, fi
     BadMap
         With the first cell that is neither null nor a whole number from -2147483647 to 2147483647.
     """
-    kind, size = cells.dtype.kind, cells.dtype.itemsize
-    if kind not in "iufb":
-        raise BadMap(name, f"not a map of whole numbers: its cells are of the type {cells.dtype}")
-    if kind == "b":
-        cells = cells.view(np.uint8)
-    if kind == "b" or (kind in "iu" and size <= 2):
+    cells = np.ascontiguousarray(cells.view(np.uint8) if cells.dtype.kind == "b" else cells, cells.dtype.newbyteorder("="))
+    null = None if null is None else np.ascontiguousarray(null)
+    is_kept = not is_converted(cells.dtype)
+    if is_kept and (cells.itemsize <= 2 or (cells.min() >= -MAX_CATEGORY and cells.max() <= MAX_CATEGORY)):
         return Block(cells, null)
-    null = _with_nodata(cells, null, nodata)
-    good = _good(cells)
-    if good is not None:
-        bad = ~good if null is None else ~(good | null)
-        if bad.any():
-            row, col = (int(place) for place in np.unravel_index(int(bad.argmax()), bad.shape))
-            raise _bad_cell(name, first_row + row + 1, first_col + col + 1, cells[row, col].item())
-    if null is not None and null.any():
-        cells = np.where(null, cells.dtype.type(0), cells)
-    if cells.dtype == np.float32 and cells.size and np.abs(cells).max() > _EXACT_FLOAT32:
+    is_null = _with_nodata(cells, null, nodata)
+    bad = ~(_good(cells) | is_null)
+    if bad.any():
+        row, col = (int(place) for place in np.unravel_index(int(bad.argmax()), bad.shape))
+        raise _bad_cell(name, first_row + row + 1, first_col + col + 1, cells[row, col].item())
+    if is_kept:
+        return Block(cells, null)
+    kept = np.where(is_null, cells.dtype.type(0), cells)
+    if cells.dtype == np.float32 and np.abs(kept).max() > _EXACT_FLOAT32:
         warnings.warn(f"{name}: floats of 32 bits are not exact beyond {_EXACT_FLOAT32}, and the map has larger values", stacklevel=2)
-    return Block(cells if cells.dtype == np.int32 else cells.astype(np.int32), null)
+    return Block(np.where(is_null, np.int32(NULL), kept.astype(np.int32)), None)
 
 
-def _with_nodata(cells: Cells, null: Mask | None, nodata: float | None) -> Mask | None:
+def _with_nodata(cells: Cells, null: Mask | None, nodata: float | None) -> Mask:
     """Return what is null, with the cells of nodata and those that are no number."""
-    found: list[Mask] = [] if null is None else [null]
-    if nodata is not None and not math.isnan(nodata):
-        if cells.dtype.kind == "f":
-            found.append(cells == cells.dtype.type(nodata))
-        elif math.isfinite(nodata) and nodata == int(nodata) and np.iinfo(cells.dtype).min <= int(nodata) <= np.iinfo(cells.dtype).max:
-            found.append(cells == cells.dtype.type(int(nodata)))  # by whole numbers: floats do not have all of 64 bits
+    is_null = np.isnan(cells) if cells.dtype.kind == "f" else np.zeros(cells.shape, np.bool_)
+    if null is not None:
+        is_null = is_null | null
+    if nodata is None or math.isnan(nodata):
+        return is_null
     if cells.dtype.kind == "f":
-        found.append(np.isnan(cells))
-    return None if not found else found[0] if len(found) == 1 else np.logical_or.reduce(found)
+        return np.logical_or(is_null, cells == cells.dtype.type(nodata))
+    limits = np.iinfo(cells.dtype)
+    is_value = math.isfinite(nodata) and nodata == int(nodata) and limits.min <= int(nodata) <= limits.max
+    return np.logical_or(is_null, cells == cells.dtype.type(int(nodata))) if is_value else is_null  # by whole numbers: floats do not have all of 64 bits
 
 
-def _good(cells: Cells) -> Mask | None:
-    """Where cells are whole numbers in range; None where all are."""
+def _good(cells: Cells) -> Mask:
+    """Where cells are whole numbers in range."""
     if cells.dtype.kind == "f":
         with np.errstate(invalid="ignore"):
             return np.asarray((np.rint(cells) == cells) & (np.abs(cells) < MAX_CATEGORY + 1.0))
-    if cells.size == 0 or (cells.min() >= -MAX_CATEGORY and cells.max() <= MAX_CATEGORY):
-        return None
     good = cells <= MAX_CATEGORY
     return good & (cells >= -MAX_CATEGORY) if cells.dtype.kind == "i" else good
 
@@ -205,7 +229,7 @@ class ArrayMap:
     colors: Mapping[int, str] = field(default_factory=dict)
 
     def __post_init__(self) -> None:
-        _check_dimensions(self.name, self.array)
+        check_array(self.name, self.array)
         if not (self.nodata_value is None or isinstance(self.nodata_value, numbers.Real)):
             raise BadMap(self.name, f"nodata is a number, not {self.nodata_value!r}")
         if self.array.shape != self.region.shape:
@@ -218,18 +242,19 @@ class ArrayMap:
         return self.exact_transform or self.region.transform
 
     @property
-    def nodata(self) -> int | None:
-        """The value that is null, if the blocks do not mask it."""
-        return whole_nodata(self.array.dtype, self.nodata_value)
+    def dtype(self) -> np.dtype[Any]:
+        """The type of its blocks."""
+        return type_of(self.array.dtype)
 
-    def range(self) -> tuple[int, int]:
-        """The range of its cells, which costs one look at each."""
-        least, greatest = 0, 0
-        for block in self.blocks():
-            cells = block.cells if block.null is None else np.where(block.null, block.cells.dtype.type(0), block.cells)
-            low, high = range_of(cells, self.nodata)
-            least, greatest = min(least, low), max(greatest, high)
-        return least, greatest
+    @property
+    def nodata(self) -> int | None:
+        """The value of its blocks that is null."""
+        return nodata_of(self.array.dtype, self.nodata_value)
+
+    @property
+    def is_masked(self) -> bool:
+        """Whether its blocks have masks."""
+        return self.null is not None and not is_converted(self.array.dtype)
 
     def blocks(self) -> Iterator[Block]:
         """Its rows from north to south."""
@@ -237,10 +262,13 @@ class ArrayMap:
         step = max(1, BLOCK_CELLS // cols)
         for row in range(0, rows, step):
             null = None if self.null is None else self.null[row : row + step]
-            yield checked(self.name, np.ascontiguousarray(self.array[row : row + step]), null, self.nodata_value, row)
+            yield checked(self.name, self.array[row : row + step], null, self.nodata_value, row)
 
 
-def _check_dimensions(name: str, array: Any) -> None:
+def check_array(name: str, array: Any) -> None:
+    """Refuse an array that has no cells of numbers in rows and columns."""
+    if array.dtype.kind not in "iufb":
+        raise BadMap(name, f"not a map of whole numbers: its cells are of the type {array.dtype}")
     if array.ndim != 2:
         shape = " x ".join(map(str, array.shape)) or "one number"
         raise BadMap(name, f"an array of {array.ndim} dimensions ({shape}), and a map has two; of a raster's bands give one, as read(1)")
@@ -336,7 +364,7 @@ class Map:
         except ValueError as error:
             raise BadMap(name, f"not an array of rows of one length: {error}") from None
         null = mask_of(given) if is_masked_array(given) else None
-        _check_dimensions(name, array)
+        check_array(name, array)
         array, null, region, transform = _placed(name, array, null, self.region)
         return ArrayMap(name, array, region, null, self.nodata, self.labels, self.crs or None, transform, self.colors)
 

@@ -10,11 +10,12 @@ from typing import Any, Iterable
 import numpy as np
 from numpy.typing import NDArray
 
+from rcell_front.pipe import NULL
+
 from ._counting import Maps, places_of
 from ._errors import Refused
 from ._measure import Measure, metres
 from ._table import Column, Table, framed
-from ._text import NULL
 
 __all__ = ["check_connectivity", "patches"]
 

@@ -1,8 +1,7 @@
 # SPDX-License-Identifier: Apache-2.0 OR GPL-2.0-or-later
-"""The program: where it is, and a run of it over pipes.
+"""The programs: where they are, and runs of them.
 
-No file is written and no thread is started. The program reads the grids in their order and then the script, and writes
-nothing before it has read them all; so each goes into a pipe of its own, one after the other, and then the output is read.
+Scripts run in rcell-pipe, which takes maps as bytes and returns tables and maps as bytes. Grids in text form are read by rcell.
 """
 
 from __future__ import annotations
@@ -14,32 +13,29 @@ import re
 import sys
 import sysconfig
 from dataclasses import dataclass
-from types import MappingProxyType
-from typing import Any, Callable, Iterable, Iterator, Mapping, Sequence, TypeVar
+from typing import Any, Callable, Iterable, Iterator, Mapping, Sequence
 
 import numpy as np
 from numpy.typing import NDArray
 
+from rcell_front import pipe as front
 from rcell_front.files import write_all
-from rcell_front.programs import Started, above_standard, close, found_on_path, pipe
+from rcell_front.pipe import NULL
+from rcell_front.programs import Started, close, found_on_path, pipe
 
-from ._errors import Killed, MissingProgram, OutOfMemory, RcellError, ReadFailed, Refused, WrongProgram
+from ._errors import Killed, MissingProgram, OutOfMemory, RcellError, Refused, WrongProgram
 from ._maps import ArrayMap, Source
 from ._region import Region
-from ._script import SCRIPT_LIMIT, Plan, Statement, plan_of
-from ._text import NULL, Words, numbers_of
-from ._texts import TextMap
+from ._script import statements_of
 
-__all__ = ["NULL", "Output", "candidates", "execute", "find_program", "grid_text", "judge", "known_after", "table_text"]
+__all__ = ["Output", "candidates", "execute", "find_beside", "find_pipe", "find_program", "grid_text", "judge", "known_after", "table_text"]
 
-PIECE_BYTES = 1 << 22
 PROBE_SECONDS = 60
-"""So long a program may take for a grid of three cells, on a machine that has much else to do."""
+"""So long a program may take for a map of three cells, on a machine that has much else to do."""
 
+PIECE_BYTES = 1 << 20
 _AT_COLUMN = re.compile(r" at column [0-9]+$")
 _MESSAGE = re.compile(r"rcell: ([^:]*):(\d+): (.*)")
-
-Answer = TypeVar("Answer")
 
 
 @dataclass(frozen=True)
@@ -48,18 +44,27 @@ class Output:
 
     Attributes
     ----------
-    statement : Statement
-        With the command, the line and the maps.
+    command : {"r.stats", "r.out.ascii"}
+    line : int
+        The line of the script; 0 for a map that was asked for by name.
+    maps : tuple of str
+        The maps that it read.
     values : array
-        Of a table int64, entries x columns: the categories of each map, and the number of cells where it was asked for.
-        Of a map (`statement.is_of_cells`) int32, rows x cols. `NULL` stands for null in both.
+        Of a table int64, entries x columns: the categories of each map, and the number of cells if it was asked for.
+        Of a map int32, rows x cols. `NULL` stands for null in both.
+    has_counts, has_labels : bool
+        Whether the statement has the flags `-c` and `-l`.
     """
 
-    statement: Statement
+    command: str
+    line: int
+    maps: tuple[str, ...]
     values: NDArray[Any]
+    has_counts: bool = False
+    has_labels: bool = False
 
 
-# Where it is
+# Where they are
 
 
 def candidates(name: str) -> Iterator[str]:
@@ -76,7 +81,7 @@ _known: dict[str, tuple[int, int, int]] = {}
 
 
 def find_program(program: str | os.PathLike[str] | None = None) -> str:
-    """The path of the program.
+    """Return the path of the program rcell.
 
     Looked for in this order: the argument, the environment variable RCELL, the scripts of this installation of Python (where
     the wheel puts it), the path.
@@ -84,7 +89,7 @@ def find_program(program: str | os.PathLike[str] | None = None) -> str:
     Raises
     ------
     MissingProgram
-        Where there is none.
+        There is none.
     WrongProgram
         It does not work as this package needs it.
     """
@@ -96,8 +101,28 @@ def find_program(program: str | os.PathLike[str] | None = None) -> str:
     return known_after(_probe, os.path.abspath(path))
 
 
+def find_pipe(program: str | os.PathLike[str] | None = None) -> str:
+    """Return the path of the program rcell-pipe; it is looked for as `find_beside` does, and its variable is RCELL_PIPE."""
+    return find_beside("rcell-pipe", "RCELL_PIPE", _probe_pipe, program)
+
+
+def find_beside(name: str, variable: str, probe: Callable[[str], None], program: str | os.PathLike[str] | None) -> str:
+    """Return the path of a program that belongs to rcell.
+
+    Looked for in this order: the argument, an environment variable, next to the program rcell that is used, the scripts of this
+    installation of Python (where the wheel puts it), the path. The errors are those of `find_program`.
+    """
+    path = os.fspath(program) if program is not None else os.environ.get(variable)
+    if not path:
+        beside = os.path.join(os.path.dirname(find_program()), name)
+        path = beside if os.path.isfile(beside) else next(candidates(name), "")
+    if not path:
+        raise MissingProgram(f"the program {name} was not found: neither in the environment variable {variable}, nor next to rcell, nor on the path")
+    return known_after(probe, os.path.abspath(path))
+
+
 def known_after(probe: Callable[[str], None], path: str) -> str:
-    """The path of a program, once it has been probed; as long as the file stays what it is, once is enough."""
+    """Return the path of a program, once it has been probed; as long as the file stays what it is, once is enough."""
     if not os.path.isfile(path) or not os.access(path, os.X_OK):
         raise MissingProgram(f"the program {path} is not there, or may not be executed")
     state = os.stat(path)
@@ -108,97 +133,53 @@ def known_after(probe: Callable[[str], None], path: str) -> str:
     return path
 
 
-_UNKNOWN = "{} is not a program rcell of a version that this package knows"
+_UNKNOWN = "{} is not a program {} of a version that this package knows"
+_NOT_STARTED = "the program {} cannot be executed: {}"
+_ENDLESS = "{} does not end within {} seconds: it is no program {}"
 _PROBE_GRID = b"north: 1\nsouth: 0\neast: 3\nwest: 0\nrows: 1\ncols: 3\nnull: ***\n007 *** 012 "
-_PROBE_SCRIPT = b"r.clump -d input=g output=k\nr.stats -c input=g,k after=7,1\nr.stats input=k null_value=end\nr.stats -1 input=k\n"
-_PROBE_ANSWER = b"12 2 1\n* * 1\n1\n2\nend\n1\n*\n2\n"
+_PROBE_SCRIPT = b"r.stats -1 input=probe null_value=-2147483648\n"
+_PROBE_ANSWER = b"7\n-2147483648\n12\n"
+_PIPE_SCRIPT = b"r.clump -d input=probe output=k\nr.stats -c input=probe,k after=7,1\nr.stats -1 input=k\nr.out.ascii input=k\n"
 
 
 def _probe(path: str) -> None:
-    """Run the program once on a grid of three cells, with all that this package makes use of."""
+    """Run rcell once on a grid of three cells."""
+    grid = _filled(path, _PROBE_GRID)
     try:
-        with _Run(path, ["g"], seconds=PROBE_SECONDS) as run:
-            run.write(0, _PROBE_GRID)
-            run.close_grid(0)
-            run.write_script(_PROBE_SCRIPT)
+        with start_on_text(path, _PROBE_SCRIPT, "probe", grid, PROBE_SECONDS) as run:
             answer = b""
             for piece in run.pieces():
                 answer += piece
                 if len(answer) > len(_PROBE_ANSWER):
-                    raise WrongProgram(_UNKNOWN.format(path))
+                    raise WrongProgram(_UNKNOWN.format(path, "rcell"))
             status = run.end()[0]
     except TimeoutError:
-        raise WrongProgram(f"{path} does not end within {PROBE_SECONDS} seconds: it is no program rcell") from None
+        raise WrongProgram(_ENDLESS.format(path, PROBE_SECONDS, "rcell")) from None
+    finally:
+        close(grid)
     if status != 0 or answer != _PROBE_ANSWER:
-        raise WrongProgram(_UNKNOWN.format(path))
+        raise WrongProgram(_UNKNOWN.format(path, "rcell"))
 
 
-# A run
-
-
-class _Run(Started):
-    """The program at work: a pipe for each grid and one for the script."""
-
-    def __init__(
-        self, path: str, names: Sequence[str], files: Mapping[str, str] = MappingProxyType({}), seconds: float | None = None
-    ) -> None:
-        self.is_reading = True
-        self._writers: list[int | None] = []
-        readers: list[int] = []
-        try:
-            for name in (*names, ""):
-                reader, writer = (_opened(name, files[name]), None) if name in files else pipe()
-                readers.append(reader)
-                self._writers.append(writer)
-            words = [path, f"/dev/fd/{readers[-1]}", *(f"{name}=/dev/fd/{reader}" for name, reader in zip(names, readers))]
-            super().__init__(words, readers, seconds)
-        except BaseException as error:
-            self._close_grids()
-            if isinstance(error, OSError) and not isinstance(error, RcellError):
-                raise MissingProgram(f"the program {path} cannot be executed: {error.strerror}") from None
-            raise
-        finally:
-            for reader in readers:
-                close(reader)
-
-    def __enter__(self) -> _Run:
-        return self
-
-    def __exit__(self, *ended: Any) -> None:
-        self._close_grids()
-        super().__exit__(*ended)
-
-    def _close_grids(self) -> None:
-        for place in range(len(self._writers)):
-            self.close_grid(place)
-
-    def write(self, place: int, data: bytes | memoryview) -> None:
-        """Writes all of the data to a grid's pipe; nothing more once the program has stopped reading."""
-        writer = self._writers[place]
-        if writer is None or not self.is_reading:
-            return
-        try:
-            write_all(writer, data)
-        except BrokenPipeError:
-            self.is_reading = False
-
-    def write_script(self, script: bytes) -> None:
-        """Writes the script to its pipe, which then ends."""
-        self.write(-1, script)
-        self.close_grid(len(self._writers) - 1)
-
-    def close_grid(self, place: int) -> None:
-        """End the pipe of a grid."""
-        writer, self._writers[place] = self._writers[place], None
-        if writer is not None:
-            close(writer)
-
-
-def _opened(name: str, path: str) -> int:
+def _probe_pipe(path: str) -> None:
+    """Run rcell-pipe once on a map of three cells, with a frame of each kind."""
+    probe = front.Map("probe", ("1", "0", "3", "0"), 1, 3, "u8", [front.Block(b"\7\xff\14")], nodata=255)
     try:
-        return above_standard(os.open(path, os.O_RDONLY))
-    except OSError as error:
-        raise ReadFailed(name, f"cannot open: {path}: {error.strerror}") from None
+        frames = front.run(path, [probe], _PIPE_SCRIPT, seconds=PROBE_SECONDS)
+    except TimeoutError:
+        raise WrongProgram(_ENDLESS.format(path, PROBE_SECONDS, "rcell-pipe")) from None
+    except front.NotStarted as error:
+        raise MissingProgram(_NOT_STARTED.format(path, error.strerror)) from None
+    except (front.Rejected, front.Killed, front.NoAnswer):
+        frames = []
+    if [bytes(getattr(frame, "cells", b"") or getattr(frame, "text", b"")) for frame in frames] != _PIPE_ANSWER:
+        raise WrongProgram(_UNKNOWN.format(path, "rcell-pipe"))
+
+
+_PIPE_ANSWER = [np.array([12, 2, NULL, NULL], np.int32).tobytes(), b"1\n*\n2\n", b"\1\xff\2"]
+
+
+# Runs of rcell-pipe
 
 
 def execute(
@@ -208,7 +189,7 @@ def execute(
     wanted: Sequence[str] = (),
     program: str | os.PathLike[str] | None = None,
 ) -> list[Output]:
-    """Runs a script over maps of one region.
+    """Run a script over maps of one region.
 
     Parameters
     ----------
@@ -218,6 +199,7 @@ def execute(
     wanted : sequence of str
         Maps whose cells are returned after the outputs of the script.
     program : path, optional
+        Of rcell-pipe.
 
     Returns
     -------
@@ -229,14 +211,25 @@ def execute(
     Refused
         The program rejects a map or the script; it has the line of the caller's script.
     BadMap
-        Where a cell can't be sent.
+        A cell can't be sent.
     OutOfMemory, Killed, MissingProgram, WrongProgram
     """
-
-    def outputs(reader: _Reader, plan: Plan, region: Region) -> list[Output]:
-        return [reader.output(statement, mark, region) for statement, mark in zip(plan.outputs, plan.marks)]
-
-    return _answered(script, maps, wanted, outputs, program)
+    listing = {each.line: each for each in statements_of(script) if each.command == "r.stats" and "1" in each.flags}
+    names = list(dict.fromkeys([*(name for each in listing.values() for name in each.maps), *wanted]))
+    frames = _frames(script, maps, names, program)
+    own, rest = frames[: len(frames) - len(names)], frames[len(frames) - len(names) :]
+    cells = {name: _cells(frame) for name, frame in zip(names, rest) if isinstance(frame, front.GridFrame)}
+    outputs: list[Output] = []
+    for frame in own:
+        if isinstance(frame, front.TableFrame):
+            outputs.append(Output("r.stats", frame.line, frame.names, _entries(frame), frame.counts is not None, frame.labels is not None))
+        elif isinstance(frame, front.GridFrame):
+            outputs.append(Output("r.out.ascii", frame.line, (frame.name,), _cells(frame)))
+        else:
+            each = listing[frame.line]
+            listed = _listed([cells[name] for name in each.maps], each.flags)
+            outputs.append(Output("r.stats", frame.line, each.maps, listed, has_labels="l" in each.flags))
+    return outputs + [Output("r.out.ascii", 0, (name,), cells[name]) for name in wanted]
 
 
 def judge(script: str, names: Iterable[str]) -> None:
@@ -248,98 +241,99 @@ def judge(script: str, names: Iterable[str]) -> None:
         The program rejects the script.
     """
     null = np.ones((1, 1), np.bool_)
-    execute(script, {name: ArrayMap(name, np.zeros((1, 1), np.uint8), Region.of_cells(1, 1), null) for name in names})
+    _frames(script, {name: ArrayMap(name, np.zeros((1, 1), np.uint8), Region.of_cells(1, 1), null) for name in names})
 
 
 def table_text(script: str, maps: Mapping[str, Source], *, program: str | os.PathLike[str] | None = None) -> bytes:
-    """The table of a script, byte for byte as the program prints it.
+    """Return the table of a script, byte for byte as rcell prints it.
 
     Parameters
     ----------
     script : str
-        With one line that writes: an r.stats of the usual form, without `-1`.
+        With one line that writes: an r.stats without `-1`.
     maps : mapping of str to Source
         As for `execute`, and so are the errors.
     """
-    return _answered(script, maps, (), lambda reader, plan, region: reader.rest(), program)
+    return b"".join(frame.printed() for frame in _frames(script, maps, (), program) if isinstance(frame, front.TableFrame))
 
 
-def _answered(
-    script: str,
-    maps: Mapping[str, Source],
-    wanted: Sequence[str],
-    answer_of: Callable[[_Reader, Plan, Region], Answer],
-    program: str | os.PathLike[str] | None,
-) -> Answer:
-    """What is read of the output of a run, once the run has ended well and nothing is left of it."""
-    path = find_program(program)
-    maps = dict(maps)
-    plan = plan_of(script, maps, wanted)
-    _check_length(script, plan)
-    region = next(iter(maps.values())).region
-    files = {name: source.path for name, source in maps.items() if isinstance(source, TextMap) and source.held is None}
-    with _Run(path, list(maps), files) as run:
-        for place, source in enumerate(maps.values()):
-            _send(run, place, source)
-        run.write_script(plan.text)
-        reader = _Reader(run.pieces())
-        answer: Answer | None = None
-        try:
-            answer = answer_of(reader, plan, region)
-            rest = reader.rest()
-        except _Short:
-            rest = b"short"
-            for _ in run.pieces():
-                pass
-        status, message = run.end()
-    if status:
-        raise _fault(status, message.decode("utf-8", "surrogateescape"), plan, script, maps)
-    if rest or answer is None:
-        raise WrongProgram(f"{path} has written what this package does not understand")
-    return answer
+def grid_text(source: Source) -> bytes:
+    """Return a map as a grid text: rcell-pipe lists its cells, and here they get their rows."""
+    [frame] = _frames("r.stats -1 input=map", {"map": source})
+    assert isinstance(frame, front.TextFrame)
+    letters, cells, cols = np.asarray(memoryview(frame.text)), 0, source.region.cols
+    for start in range(0, letters.size, PIECE_BYTES):
+        piece = letters[start : start + PIECE_BYTES]
+        ends = np.flatnonzero(piece == ord("\n"))
+        piece[ends[np.arange(cells + 1, cells + 1 + ends.size) % cols != 0]] = ord(" ")
+        cells += ends.size
+    return source.region.header().encode() + bytes(frame.text)
 
 
-def grid_text(source: Source) -> Iterator[bytes | memoryview]:
-    """Yield the text of a map, piece by piece."""
-    if isinstance(source, TextMap):
-        yield from source.pieces()
-        return
-    words = Words(*source.range(), source.nodata)
-    yield source.region.header().encode() + b"null: " + words.null + b"\n"
-    for block in source.blocks():
-        yield from words.pieces(block.cells, block.null)
+def _frames(
+    script: str, maps: Mapping[str, Source], wanted: Sequence[str] = (), program: str | os.PathLike[str] | None = None
+) -> list[front.Frame]:
+    """The frames of a script, and after them those of some of its maps."""
+    path = find_pipe(program)
+    lines = [script, *(f"r.out.ascii input={name}" for name in wanted)]
+    sent = [_sent(name, source) for name, source in maps.items()]
+    try:
+        return front.run(path, sent, "\n".join(lines).encode("utf-8", "surrogateescape"))
+    except front.Rejected as end:
+        if end.source == "script" and end.line > script.count("\n") + 1:
+            judge(script, maps)  # raises: its last r.reclass has no end
+        raise _fault(end, script, list(maps)) from None
+    except front.Killed as error:
+        raise Killed(int(error.args[0])) from None
+    except front.NoAnswer as error:
+        raise WrongProgram(str(error)) from None
+    except front.NotStarted as error:
+        raise MissingProgram(_NOT_STARTED.format(path, error.strerror)) from None
 
 
-def _send(run: _Run, place: int, source: Source) -> None:
-    for piece in grid_text(source):
-        if not run.is_reading:
-            break
-        run.write(place, piece)
-    run.close_grid(place)
+def _sent(name: str, source: Source) -> front.Map:
+    """A map as the program gets it: its blocks as they are, one after another."""
+    kind = source.dtype.kind + str(8 * source.dtype.itemsize)
+    blocks = (front.Block(block.cells.data, None if block.null is None else block.null.view(np.uint8).data) for block in source.blocks())
+    return front.Map(name, source.region.edges, *source.region.shape, kind, blocks, source.nodata, source.is_masked)
 
 
-def _check_length(script: str, plan: Plan) -> None:
-    own = len(script.encode("utf-8", "surrogateescape"))
-    if own <= SCRIPT_LIMIT < len(plan.text):
-        marked = f"and with the marks that part its outputs {len(plan.text):,}, over {SCRIPT_LIMIT:,}"
-        raise Refused(f"the script has {own:,} bytes, {marked}: make several runs", "script")
+def _entries(frame: front.TableFrame) -> NDArray[np.int64]:
+    """The entries of a table, with their counts if it has them."""
+    cells = np.asarray(frame.cells).reshape(frame.entries, len(frame.names))
+    counts = [] if frame.counts is None else [np.asarray(frame.counts).astype(np.int64)]
+    return np.column_stack([cells.astype(np.int64), *counts])
 
 
-def _fault(status: int, message: str, plan: Plan, script: str, names: Iterable[str]) -> RcellError:
-    """The error of a run that ended in another status than 0."""
-    if status < 0:
-        return Killed(-status)
-    found = _MESSAGE.match(message.rstrip("\n"))
-    if not found:
-        return WrongProgram(f"the program ended in status {status} and said: {message.strip() or 'nothing'}")
-    source, line, text = found[1], int(found[2]), found[3]
+def _cells(frame: front.GridFrame) -> NDArray[np.int32]:
+    """The cells of a map as int32, `NULL` for null."""
+    cells = np.asarray(frame.cells).reshape(frame.rows, frame.cols)
+    if frame.null == NULL:
+        return cells
+    wide = cells.astype(np.int32)
+    np.copyto(wide, NULL, where=cells == frame.null)
+    return wide
+
+
+def _listed(maps: list[NDArray[np.int32]], flags: str) -> NDArray[np.int64]:
+    """The cells of maps, a row for each cell, without those that -n or -N leaves out."""
+    cells: NDArray[np.int64] = np.column_stack([each.reshape(-1) for each in maps]).astype(np.int64)
+    if "n" in flags or "N" in flags:
+        cells = cells[(cells != NULL).all(axis=1) if "n" in flags else (cells != NULL).any(axis=1)]
+    return cells
+
+
+def _fault(end: front.Rejected, script: str, names: list[str]) -> RcellError:
+    """The error of a run that was rejected."""
+    kind = OutOfMemory if end.status == 3 else Refused
+    if end.source == "request" and end.map < len(names):
+        return kind(end.text, names[end.map], end.line, end.status)
+    lines = script.split("\n")
     content = advice = column = None
-    if source == "script" and 0 < line <= len(plan.lines):
-        line = plan.lines[line - 1]
-        content = script.split("\n")[line - 1].rstrip("\r") if line else None
-        column, advice = _advice(script, names, line, text)
-    kind = OutOfMemory if status == 3 or text == "no memory" else Refused
-    return kind(text, source, line, status, content, advice, column)
+    if 0 < end.line <= len(lines):
+        content = lines[end.line - 1].rstrip("\r")
+        column, advice = _advice(script, names, end.line, end.text)
+    return kind(end.text, "script", end.line, end.status, content, advice, column)
 
 
 def _advice(script: str, names: Iterable[str], line: int, text: str) -> tuple[int | None, str | None]:
@@ -351,84 +345,39 @@ def _advice(script: str, names: Iterable[str], line: int, text: str) -> tuple[in
     return None, None
 
 
-class _Short(Exception):
-    """The output ended before it was whole; the status says why."""
+# Runs of rcell
 
 
-class _Reader:
-    """Parts the output of a run as it comes."""
+def start_on_text(path: str, script: bytes, name: str, grid: int, seconds: float | None = None) -> Started:
+    """Start rcell with a short script and one grid, which it reads from a descriptor."""
+    lines = _filled(path, script)
+    try:
+        return Started([path, f"/dev/fd/{lines}", f"{name}=/dev/fd/{grid}"], [lines, grid], seconds)
+    except OSError as error:
+        raise MissingProgram(_NOT_STARTED.format(path, error.strerror)) from None
+    finally:
+        close(lines)
 
-    def __init__(self, pieces: Iterator[bytes]) -> None:
-        self._pieces = pieces
-        self._held = b""
 
-    def output(self, statement: Statement, mark: bytes | None, region: Region) -> Output:
-        """The output of a statement, up to its mark."""
-        if not statement.is_known:
-            raise _Short
-        if statement.is_of_cells:
-            return Output(statement, self._cells(region))
-        numbers = numbers_of(self._until(mark))
-        columns = len(statement.maps) + ("c" in statement.flags)
-        if numbers.size % columns:
-            raise _Short
-        return Output(statement, numbers.reshape(-1, columns))
+def _filled(path: str, data: bytes) -> int:
+    """The end of a new pipe from which a program reads some bytes, fewer than it holds."""
+    try:
+        reader, writer = pipe()
+    except OSError as error:
+        raise MissingProgram(_NOT_STARTED.format(path, error.strerror)) from None
+    try:
+        write_all(writer, data)
+    finally:
+        close(writer)
+    return reader
 
-    def _cells(self, region: Region) -> NDArray[np.int32]:
-        """The next numbers, one for each cell; the text is never held whole."""
-        cells = np.empty(region.rows * region.cols, np.int32)
-        at = 0
-        while at < cells.size:
-            end, count = self._lines(cells.size - at)
-            numbers = numbers_of(self._held[:end], np.int32)
-            if numbers.size != count:
-                raise _Short
-            cells[at : at + count] = numbers
-            at += count
-            self._held = self._held[end:]
-            if at < cells.size and not self._gather():
-                raise _Short
-        return cells.reshape(region.rows, region.cols)
 
-    def _lines(self, most: int) -> tuple[int, int]:
-        """Where the whole lines end that are held, and how many they are; no more than so many."""
-        is_end = np.frombuffer(self._held, np.uint8) == ord("\n")
-        count = int(np.count_nonzero(is_end))
-        if count <= most:
-            return self._held.rfind(b"\n") + 1, count
-        return int(np.flatnonzero(is_end)[most - 1]) + 1, most
-
-    def _gather(self) -> bool:
-        """Hold some more pieces; False if there is none."""
-        pieces, size = [self._held], 0
-        while size < PIECE_BYTES:
-            piece = next(self._pieces, b"")
-            if not piece:
-                break
-            pieces.append(piece)
-            size += len(piece)
-        self._held = b"".join(pieces)
-        return size > 0
-
-    def _until(self, mark: bytes | None) -> bytes:
-        """The output before the line that is the mark, or all without one."""
-        if mark is None:
-            return self.rest()
-        line = b"\n" + mark + b"\n"
-        pieces, tail = [], b"\n" + self._held
-        while (at := tail.find(line)) < 0:
-            piece = next(self._pieces, b"")
-            if not piece:
-                raise _Short
-            known = max(len(tail) - len(line), 0)
-            pieces.append(tail[:known])
-            tail = tail[known:] + piece
-        pieces.append(tail[:at])
-        self._held = tail[at + len(line) :]
-        return b"".join(pieces)
-
-    def rest(self) -> bytes:
-        """All that is left of the output."""
-        text = b"".join([self._held, *self._pieces])
-        self._held = b""
-        return text
+def fault_of_text(status: int, message: bytes) -> RcellError:
+    """Return the error of a run of rcell that ended in another status than 0."""
+    text = message.decode("utf-8", "surrogateescape").strip()
+    if status < 0:
+        return Killed(-status)
+    found = _MESSAGE.match(text)
+    if not found:
+        return WrongProgram(f"the program ended in status {status} and said: {text or 'nothing'}")
+    return (OutOfMemory if status == 3 else Refused)(found[3], found[1], int(found[2]), status)

@@ -17,16 +17,13 @@ from ._errors import BadMap, RcellError, ReadFailed
 from ._labels import read_legend
 from ._legends import Legend
 from ._libraries import need
-from ._maps import BLOCK_CELLS, Block, checked, in_region, whole_nodata
+from ._maps import BLOCK_CELLS, Block, Cells, Mask, checked, in_region, is_converted, nodata_of, type_of
 from ._region import Region, Transform, check_upright, six_numbers
-from ._text import Cells, Mask, range_of
 
 __all__ = ["Layer", "RasterMap", "only_band", "open_dataset", "open_raster", "told_of_reading", "upright"]
 
 _PURPOSE = "to read a raster"
 _IDENTITY: Transform = (1.0, 0.0, 0.0, 0.0, 1.0, 0.0)
-# Windows that are looked at for a guess of the range of the cells.
-_SAMPLES = 12
 # Cells of a block at most, where a file keeps very many rows together.
 MOST_BLOCK_CELLS = 1 << 23
 
@@ -156,8 +153,7 @@ class RasterMap:
     ----------
     name : str
     dataset : rasterio.DatasetReader
-        The caller's own, or one that is open as long as this map is there: opening costs milliseconds, and blocks that were
-        looked at for the range need not be unpacked again.
+        The caller's own, or one that is open as long as this map is there: opening costs milliseconds.
     layer : Layer
     region : Region
     transform : tuple of six float
@@ -197,9 +193,19 @@ class RasterMap:
         )
 
     @property
+    def dtype(self) -> np.dtype[Any]:
+        """The type of its blocks."""
+        return type_of(np.dtype(self.layer.dtype))
+
+    @property
     def nodata(self) -> int | None:
-        """The value that is null, where the blocks do not tell it."""
-        return whole_nodata(np.dtype(self.layer.dtype), self.layer.nodata)
+        """The value of its blocks that is null."""
+        return nodata_of(np.dtype(self.layer.dtype), self.layer.nodata)
+
+    @property
+    def is_masked(self) -> bool:
+        """Whether its blocks have masks."""
+        return (self.layer.has_mask or self.layer.alpha is not None) and not is_converted(np.dtype(self.layer.dtype))
 
     @property
     def labels(self) -> Mapping[int, str]:
@@ -214,16 +220,6 @@ class RasterMap:
     @functools.cached_property
     def _legend(self) -> Legend:
         return read_legend(self.labels_path, self.dataset, self.layer.band)
-
-    def range(self) -> tuple[int, int]:
-        """A guess, from some windows."""
-        least, greatest = 0, 0
-        for window in self._sample_windows():
-            block = self.window(*window)
-            cells = block.cells if block.null is None else np.where(block.null, block.cells.dtype.type(0), block.cells)
-            low, high = range_of(cells, self.nodata)
-            least, greatest = min(least, low), max(greatest, high)
-        return least, greatest
 
     def blocks(self) -> Iterator[Block]:
         """Its rows from north to south, so many at a time as the file keeps together, or a multiple or a part of them."""
@@ -249,15 +245,6 @@ class RasterMap:
         if self.is_upside_down:
             cells, null = cells[::-1], None if null is None else null[::-1]
         return checked(self.name, cells, null, self.layer.nodata, row, col)
-
-    def _sample_windows(self) -> list[tuple[int, int, int, int]]:
-        """Windows of one block of the file each, spread over the map."""
-        rows, cols = self.region.shape
-        height, width = min(self.block_shape[0], rows), min(self.block_shape[1], cols)
-        down, across = -(-rows // height), -(-cols // width)
-        places = sorted({at * (down * across - 1) // max(_SAMPLES - 1, 1) for at in range(_SAMPLES)})
-        windows = [(place // across * height, place % across * width) for place in places]
-        return [(row, col, min(height, rows - row), min(width, cols - col)) for row, col in windows]
 
 
 def only_band(name: str, dataset: Any, enums: Any) -> int:

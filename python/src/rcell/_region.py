@@ -244,6 +244,19 @@ class Region:
         height, width = self.cell
         return width, 0.0, float(self.west), 0.0, -height, float(self.north)
 
+    @property
+    def edges(self) -> tuple[str, str, str, str]:
+        """North, south, east and west as the program reads them.
+
+        Examples
+        --------
+        >>> import rcell
+        >>> rcell.Region.of_cells(2, 3).edges
+        ('2', '0', '3', '0')
+        """
+        north, south, east, west = map(_edge_text, self.units)
+        return north, south, east, west
+
     def header(self) -> str:
         """Return the six header lines of a grid of this region.
 
@@ -263,9 +276,8 @@ class Region:
         rows: 2
         cols: 3
         """
-        names = ("north", "south", "east", "west")
-        edges = "".join(f"{name}: {_edge_text(units)}\n" for name, units in zip(names, self.units))
-        return f"{edges}rows: {self.rows}\ncols: {self.cols}\n"
+        north, south, east, west = self.edges
+        return f"north: {north}\nsouth: {south}\neast: {east}\nwest: {west}\nrows: {self.rows}\ncols: {self.cols}\n"
 
     def window(self, row: int, col: int, rows: int, cols: int) -> Region:
         """Return the region of some of its cells.
@@ -328,7 +340,7 @@ class Region:
         return hash((self.units, self.shape))
 
     def __str__(self) -> str:
-        north, south, east, west = (_edge_text(units) for units in self.units)
+        north, south, east, west = self.edges
         return f"north {north}, south {south}, east {east}, west {west}, {self.rows} rows, {self.cols} columns"
 
 

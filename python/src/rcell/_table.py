@@ -14,9 +14,10 @@ from typing import Any, Callable, Iterable, Iterator, Literal, Mapping, NamedTup
 import numpy as np
 from numpy.typing import NDArray
 
+from rcell_front.pipe import NULL
+
 from ._crs import cell_area
 from ._errors import Refused
-from ._text import NULL
 
 __all__ = ["Column", "Pivot", "StatsTable", "Table", "framed", "shortest"]
 

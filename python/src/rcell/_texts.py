@@ -1,5 +1,5 @@
 # SPDX-License-Identifier: Apache-2.0 OR GPL-2.0-or-later
-"""Grids of the program's own form, which go to it as they are."""
+"""Grids of the program's own form: rcell reads them, and lists their cells."""
 
 from __future__ import annotations
 
@@ -7,9 +7,16 @@ import io
 import os
 import re
 import stat
+from contextlib import contextmanager, suppress
 from dataclasses import dataclass, field
 from fractions import Fraction
 from typing import Any, Iterator, Mapping
+
+import numpy as np
+
+from rcell_front.files import write_all
+from rcell_front.pipe import NULL
+from rcell_front.programs import Started, above_standard, close, pipe
 
 from ._errors import BadMap, ReadFailed
 from ._maps import Block, Source, in_region
@@ -46,29 +53,75 @@ class TextMap:
     labels: Mapping[int, str] = field(default_factory=dict)
     colors: Mapping[int, str] = field(default_factory=dict)
     crs: Any = None
-    nodata: int | None = None
+    nodata: int | None = NULL
+    dtype: np.dtype[Any] = np.dtype(np.int32)
+    is_masked: bool = False
 
     @property
     def transform(self) -> Transform:
         """The transform that answers get."""
         return self.region.transform
 
-    def range(self) -> tuple[int, int]:
-        """Not known: its cells are words already."""
-        return 0, 0
-
     def blocks(self) -> Iterator[Block]:
-        """None: its text is sent as it is."""
-        return iter(())
+        """Its rows from north to south, as rcell reads them.
 
-    def pieces(self) -> Iterator[bytes]:
-        """The text of a pipe, what has been read of it first."""
-        if self.held is None or self.stream is None:
-            return
-        yield self.held
-        with self.stream:
-            while piece := self.stream.read(1 << 20):
-                yield piece
+        Raises
+        ------
+        Refused
+            As rcell refuses the grid.
+        """
+        from ._program import fault_of_text
+
+        cols, text, cells = self.region.cols, b"", np.empty(0, np.int32)
+        with self._listing() as run:
+            for piece in run.pieces():
+                lines, _, text = (text + piece).rpartition(b"\n")
+                cells = np.concatenate([cells, np.fromstring(lines, np.int32, sep=" ")])
+                whole = cells.size // cols * cols
+                if whole:
+                    yield Block(cells[:whole].reshape(-1, cols), None)
+                    cells = cells[whole:]
+            status, message = run.end()
+        if status:
+            raise fault_of_text(status, message)
+
+    @contextmanager
+    def _listing(self) -> Iterator[Started]:
+        """A run of rcell that lists the cells of the grid, with a number for null."""
+        from ._program import find_program, start_on_text
+
+        program = find_program()
+        grid, writer = (_opened(self.name, self.path), None) if self.held is None else pipe()
+        try:
+            run = start_on_text(program, f"r.stats -1 input={self.name} null_value={NULL}\n".encode(), self.name, grid)
+        except BaseException:
+            if writer is not None:
+                close(writer)
+            raise
+        finally:
+            close(grid)
+        with run:
+            if writer is not None:
+                self._feed(writer)
+            yield run
+
+    def _feed(self, writer: int) -> None:
+        """Write the text of a pipe, what has been read of it first; rcell writes nothing before it has read it all."""
+        assert self.held is not None and self.stream is not None
+        try:
+            with suppress(BrokenPipeError), self.stream:
+                write_all(writer, self.held)
+                while piece := self.stream.read(1 << 20):
+                    write_all(writer, piece)
+        finally:
+            close(writer)
+
+
+def _opened(name: str, path: str) -> int:
+    try:
+        return above_standard(os.open(path, os.O_RDONLY))
+    except OSError as error:
+        raise ReadFailed(name, f"cannot open: {path}: {error.strerror}") from None
 
 
 def open_path(name: str, path: str | os.PathLike[str]) -> Source:
@@ -159,8 +212,7 @@ def _edge_of(text: str) -> float | Fraction:
 
 def _refused_region(name: str, path: str, is_file: bool) -> Region:
     """Has the program refuse a grid whose header is bad."""
-    from ._program import execute
-
     if is_file:
-        execute("", {name: TextMap(name, path, Region.of_cells(1, 1))})
+        for _ in TextMap(name, path, Region.of_cells(1, 1)).blocks():
+            pass
     raise BadMap(name, f"{path}: this is not the header of a grid")

@@ -9,14 +9,15 @@ from typing import Any, Iterator, Mapping, NamedTuple
 
 import numpy as np
 
+from rcell_front.pipe import NULL
+
 from ._crs import wkt_of
 from ._errors import BadMap
 from ._labels import flags_of
 from ._libraries import need
-from ._maps import BLOCK_CELLS, Block, checked, in_region, whole_nodata
-from ._masked import MaskedCells, filled, unmasked
+from ._maps import BLOCK_CELLS, Block, check_array, checked, in_region, is_converted, nodata_of, type_of
+from ._masked import MaskedCells, filled, is_masked_array, unmasked
 from ._region import Region, Transform, six_numbers
-from ._text import NULL, range_of
 
 __all__ = ["Flat", "data_array", "data_array_of", "flat_of", "is_lazy", "layers_of", "source_of_data_array", "variables_of"]
 
@@ -42,15 +43,19 @@ class DataArrayMap:
     colors: Mapping[int, str] = field(default_factory=dict)
 
     @property
-    def nodata(self) -> int | None:
-        """The value that is null, if the blocks do not mask it."""
-        return whole_nodata(self.array.dtype, self.nodata_value)
+    def dtype(self) -> np.dtype[Any]:
+        """The type of its blocks."""
+        return type_of(self.array.dtype)
 
-    def range(self) -> tuple[int, int]:
-        """A guess, from the first rows."""
-        first = next(self.blocks())
-        cells = first.cells if first.null is None else np.where(first.null, first.cells.dtype.type(0), first.cells)
-        return range_of(cells, self.nodata)
+    @property
+    def nodata(self) -> int | None:
+        """The value of its blocks that is null."""
+        return nodata_of(self.array.dtype, self.nodata_value)
+
+    @property
+    def is_masked(self) -> bool:
+        """Whether its blocks have masks: each block of Dask may have one."""
+        return not is_converted(self.array.dtype) and (is_lazy(self.array) or is_masked_array(self.array.data))
 
     def blocks(self) -> Iterator[Block]:
         """Its rows from north to south."""
@@ -60,7 +65,8 @@ class DataArrayMap:
         for row in range(0, rows, step):
             cells = self.array[row : row + step].data
             cells, null = unmasked(cells.compute() if is_lazy(self.array) else cells)
-            yield checked(self.name, np.ascontiguousarray(cells), null, self.nodata_value, row)
+            null = np.zeros(cells.shape, np.bool_) if self.is_masked and null is None else null
+            yield checked(self.name, cells, null, self.nodata_value, row)
 
 
 class Flat(NamedTuple):
@@ -94,6 +100,7 @@ def flat_of(name: str, array: Any) -> Flat:
         raise BadMap(name, f"a {type(array).__name__} of several variables: give it alone, or one of them, as dataset[{next(iter(array), 'name')!r}]")
     _check_scale(name, array)
     flat = _flat(name, array)
+    check_array(name, flat)
     transform = _transform_of(name, flat)
     if transform is not None and transform[4] > 0:
         a, b, c, d, e, f = transform

@@ -14,8 +14,7 @@ from numpy.typing import NDArray
 from ._crs import common_crs
 from ._errors import BadMap, ReadFailed, Refused
 from ._libraries import need
-from ._maps import ArrayMap, Source
-from ._text import MAX_CATEGORY
+from ._maps import MAX_CATEGORY, ArrayMap, Source
 
 __all__ = ["zones_of"]
 

@@ -1,8 +1,8 @@
 # SPDX-License-Identifier: Apache-2.0 OR GPL-2.0-or-later
-"""The bytes of rcell-pipe, as docs/pipe.md defines them: a request of maps and a script, and an answer of frames.
+"""The bytes of rcell-pipe, as docs/pipe.md defines them: a request of maps and a script, and a response of frames.
 
 The program writes nothing before it has read the whole request, except the frame that rejects it. So the request is written first, then
-the answer is read, and no thread is needed.
+the response is read, and no thread is needed.
 """
 
 from __future__ import annotations
@@ -16,7 +16,7 @@ from typing import NamedTuple, NoReturn, Optional, Union
 
 from .programs import WATCH_SECONDS, Started, close, pipe
 
-__all__ = ["NULL", "Block", "Buffer", "Frame", "GridFrame", "Killed", "Map", "NoAnswer", "Rejected", "TableFrame", "TextFrame", "run"]
+__all__ = ["NULL", "Block", "Buffer", "Frame", "GridFrame", "Killed", "Map", "NoAnswer", "NotStarted", "Rejected", "TableFrame", "TextFrame", "request", "run"]
 
 NULL = -2_147_483_648
 """Null among cells of i32: no category has this value."""
@@ -125,14 +125,15 @@ def _interleaved(cells: memoryview, mask: memoryview, row_bytes: int, cols: int)
         yield b"".join(part for pair in parts for part in pair)
 
 
-def _request(maps: Sequence[Map], script: bytes) -> Iterator[Buffer]:
+def request(maps: Sequence[Map], script: bytes) -> Iterator[Buffer]:
+    """Yield the bytes of a request."""
     yield b"RCELLQ1\n" + struct.pack("<I", len(maps))
     for each in maps:
         yield from each.pieces()
     yield struct.pack("<I", len(script)) + script
 
 
-# The answer
+# The response
 
 
 @dataclass(frozen=True)
@@ -242,6 +243,10 @@ class Rejected(Exception):
         self.status, self.source, self.map, self.line, self.column, self.text = status, source, map, line, column, text
 
 
+class NotStarted(OSError):
+    """The program cannot be started."""
+
+
 class Killed(Exception):
     """A signal, the argument, ended the program."""
 
@@ -251,11 +256,11 @@ class NoAnswer(Exception):
 
 
 class _NotUnderstood(Exception):
-    """The answer ends early, or is another one."""
+    """The response ends early, or has another form."""
 
 
-class _Answer:
-    """An answer that is read from left to right; memory grows with what has come, not with what a length announces."""
+class _Response:
+    """A response that is read from left to right; memory grows with what has come, not with what a length announces."""
 
     def __init__(self, pieces: Iterator[bytes]) -> None:
         self._pieces = pieces
@@ -360,36 +365,46 @@ def run(
         A signal ended the program.
     NoAnswer
         It is not rcell-pipe.
-    OSError
-        It cannot be started; TimeoutError: it takes too long.
+    NotStarted
+        It is not there, cannot be executed, or there are too many open files.
+    TimeoutError
+        It takes too long.
     """
-    reader, writer = pipe()
-    try:
-        process = Started([program], seconds=seconds, stdin=reader, watch=watch)
-    except BaseException:
-        close(writer)
-        raise
-    finally:
-        close(reader)
+    process, writer = _started(program, seconds, watch)
     with process:
         try:
-            _send(writer, _request(maps, script), watch)
+            _send(writer, request(maps, script), watch)
         finally:
             close(writer)
-        answer = _read(process)
+        response = _read(process)
         status, message = process.end()
     if status < 0:
         raise Killed(-status)
-    if answer is None or status != answer[1].status:
+    if response is None or status != response[1].status:
         raise NoAnswer(f"the program ended in status {status} and said: {message.decode('utf-8', 'replace').strip() or 'nothing'}")
-    frames, end = answer
+    frames, end = response
     if status:
         raise end
     return frames
 
 
+def _started(program: str, seconds: Optional[float], watch: Optional[Callable[[], None]]) -> tuple[Started, int]:
+    """Return the program at work, and the descriptor from which it gets its request."""
+    try:
+        reader, writer = pipe()
+        try:
+            return Started([program], seconds=seconds, stdin=reader, watch=watch), writer
+        except BaseException:
+            close(writer)
+            raise
+        finally:
+            close(reader)
+    except OSError as error:
+        raise NotStarted(error.errno, error.strerror, program) from None
+
+
 def _send(writer: int, pieces: Iterator[Buffer], watch: Optional[Callable[[], None]]) -> None:
-    """Write a request; stop if the program has stopped reading, for its answer says why."""
+    """Write a request; stop if the program has stopped reading, for its response says why."""
     os.set_blocking(writer, watch is None)
     for piece in pieces:
         rest = memoryview(piece)
@@ -405,10 +420,10 @@ def _send(writer: int, pieces: Iterator[Buffer], watch: Optional[Callable[[], No
 
 
 def _read(process: Started) -> Optional[tuple[list[Frame], Rejected]]:
-    """Return the answer, or None if it is not one; all output is read."""
+    """Return the response, or None if it is not understood; all output is read."""
     pieces = process.pieces()
     try:
-        return _Answer(pieces).frames()
+        return _Response(pieces).frames()
     except _NotUnderstood:
         for _ in pieces:
             pass

@@ -18,6 +18,7 @@ from typing import Optional
 __all__ = ["WATCH_SECONDS", "Started", "above_standard", "close", "found_on_path", "pipe"]
 
 PIPE_BYTES = 1 << 20
+READ_BYTES = 1 << 18  # stays in the cache of a processor until it is copied
 SET_PIPE_SIZE = getattr(fcntl, "F_SETPIPE_SZ", 1031)  # Python has it from 3.10 on
 WATCH_SECONDS = 0.1
 MESSAGE_LIMIT = 1 << 16
@@ -136,7 +137,7 @@ class Started:
         while open_ends:
             wait = self._longest_wait()
             for end, _ in poll.poll(None if wait is None else wait * 1000):
-                piece = os.read(end, PIPE_BYTES)
+                piece = os.read(end, READ_BYTES)
                 if not piece:
                     poll.unregister(end)
                     open_ends.discard(end)

@@ -18,6 +18,7 @@ import pytest
 
 import rcell
 import rcell.tiles
+from rcell._program import find_pipe
 from rcell.tiles import _cluster, _engine
 from tests.tiles import whole
 from tests.tiles.conftest import MakeTif, read_tif, write_tif
@@ -27,10 +28,6 @@ distributed: Any = pytest.importorskip("distributed")
 SOURCES = str(Path(rcell.__file__).parents[1])
 
 
-def program() -> str:
-    return rcell.program()
-
-
 @pytest.fixture
 def slow(tmp_path: Path, monkeypatch: pytest.MonkeyPatch) -> Path:
     """A program that waits before it works, so that there is time to end a worker."""
@@ -38,11 +35,10 @@ def slow(tmp_path: Path, monkeypatch: pytest.MonkeyPatch) -> Path:
 
 
 def wrapped(folder: Path, monkeypatch: pytest.MonkeyPatch, before: str) -> Path:
-    wrapper = folder / "rcell"
-    wrapper.write_text(f'#!/bin/sh\n{before}\nexec {program()} "$@"\n')
+    wrapper = folder / "rcell-pipe"
+    wrapper.write_text(f"#!/bin/sh\n{before}\nexec {find_pipe()}\n")
     wrapper.chmod(0o755)
-    monkeypatch.setenv("RCELL_JOIN", rcell.joiner())  # there is none beside the wrapper
-    monkeypatch.setenv("RCELL", str(wrapper))
+    monkeypatch.setenv("RCELL_PIPE", str(wrapper))
     return wrapper
 
 
@@ -104,10 +100,9 @@ def test_workers_that_die_each_time_are_told(tif: MakeTif, tmp_path: Path, monke
     wrapper = tmp_path / "deadly"
     wrapper.write_text("#!/bin/sh\nkill -9 $PPID\n")
     wrapper.chmod(0o755)
-    monkeypatch.setenv("RCELL_JOIN", rcell.joiner())
-    monkeypatch.setenv("RCELL", str(wrapper))  # workers have it; this process starts no program but rcell-join
+    monkeypatch.setenv("RCELL_PIPE", str(wrapper))  # workers have it; this process starts no program but rcell-join
     with rcell.tiles.open(size=4, scheduler=1, lc=path) as mosaic:
-        with pytest.raises(rcell.tiles.WorkerLost, match="clump: (KilledWorker|no worker for)"):
+        with pytest.raises(rcell.tiles.WorkerLost, match="borders: (KilledWorker|no worker for)"):
             mosaic.clump("lc", tmp_path / "p.tif")
     assert not (tmp_path / "p.tif").exists()
     assert list(tmp_path.glob(".*")) == []

@@ -18,9 +18,11 @@ import rasterio
 
 import rcell
 import rcell.tiles
+from rcell._program import find_pipe
 from rcell.tiles._output import tile_writer
 from rcell.tiles._sheet import Sheet
 from rcell.tiles.joining import Rectangle
+from tests.test_numpy_answers import done
 from tests.tiles.conftest import MakeTif, read_tif, write_tif
 
 CELLS = np.random.default_rng(5).integers(0, 200, (40, 60)).astype(np.uint8)
@@ -141,9 +143,8 @@ def test_a_broken_tile_is_told(tmp_path: Path, scheduler: str) -> None:
         assert os.listdir(tmp_path) == ["lc.tif"]
 
 
-REAL = rcell.program()
-# What looks at a program whether it is rcell gives it a grid of the name g.
-DIES = f'case "$*" in *" g="*) exec {REAL} "$@";; esac\n'
+# What looks at a program whether it is rcell-pipe gives it a map of the name probe.
+DIES = f'request=$(mktemp)\ncat > "$request"\ngrep -q probe "$request" && exec {find_pipe()} < "$request"\n'
 
 
 def zombies() -> list[str]:
@@ -161,17 +162,16 @@ def zombies() -> list[str]:
     (None, rcell.MissingProgram),
     ("echo rcell 0.0.1", rcell.WrongProgram),
     (DIES + "kill -9 $$", rcell.Killed),
-    (DIES + "echo 'rcell: script:1: no memory' >&2\nexit 3", rcell.OutOfMemory),
+    (DIES + f"printf '{done(3, 0, 0, 1, 0, 'no memory')}'\nexit 3", rcell.OutOfMemory),
 ])
 def test_a_program_that_fails_is_told(tif: MakeTif, tmp_path: Path, scheduler: str, monkeypatch: pytest.MonkeyPatch, body: str | None,
                                       kind: type[rcell.RcellError]) -> None:
     lc = tif("lc", CELLS)
     (tmp_path / "out").mkdir()
-    monkeypatch.setenv("RCELL_JOIN", rcell.joiner())  # there is none beside the program
     with mosaic_of(scheduler, lc=lc) as mosaic:
         mosaic.table("r.stats -c input=lc")
         program = tmp_path / "program"
-        monkeypatch.setenv("RCELL", str(program))
+        monkeypatch.setenv("RCELL_PIPE", str(program))
         if body is not None:
             program.write_text(f"#!/bin/sh\n{body}\n")
             program.chmod(0o755)

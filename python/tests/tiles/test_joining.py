@@ -16,10 +16,10 @@ from rcell import _joiner
 from rcell._counts import Counts, TooManyCells, counts_of
 from rcell._joiner import border_of
 from rcell._maps import ArrayMap
-from rcell._numbers import NULL
 from rcell.tiles import mosaic
 from rcell.tiles._memory import Demand
 from rcell.tiles.joining import Rectangle, join, renumber
+from rcell_front.pipe import NULL
 from tests.merging import merge
 from tests.test_numpy_joiner import printed
 from tests.tiles import whole

@@ -15,7 +15,7 @@ from .._crs import common_crs, wkt_of
 from .._errors import BadMap, OtherRegion
 from .._labels import read_labels
 from .._libraries import need
-from .._maps import ArrayMap, checked
+from .._maps import ArrayMap, checked, nodata_of
 from .._masked import unmasked
 from .._rasters import Layer, only_band, open_dataset, told_of_reading, upright
 from .._region import Region, Transform, differences_of, edges_of_transform, units_of
@@ -116,7 +116,7 @@ class MapFile:
         if self.is_upside_down:
             cells, null = cells[::-1], None if null is None else null[::-1]
         block = checked(self.name, cells, null, self.layer.nodata, place.top, place.left)
-        return ArrayMap(self.name, block.cells, Region.of_cells(place.rows, place.cols), block.null, self.layer.nodata)
+        return ArrayMap(self.name, block.cells, Region.of_cells(place.rows, place.cols), block.null, nodata_of(np.dtype(self.layer.dtype), self.layer.nodata))
 
 
 @dataclass(frozen=True)
@@ -145,7 +145,7 @@ class MapCells:
     def of(self, cells: Any, place: Rectangle) -> ArrayMap:
         """Return the cells of a rectangle as a map of its own, as `MapFile.read` does."""
         block = checked(self.name, *unmasked(cells), self.nodata, place.top, place.left)
-        return ArrayMap(self.name, block.cells, Region.of_cells(place.rows, place.cols), block.null, self.nodata)
+        return ArrayMap(self.name, block.cells, Region.of_cells(place.rows, place.cols), block.null, nodata_of(self.dtype, self.nodata))
 
 
 @dataclass(frozen=True)
@@ -240,8 +240,6 @@ def _of_zarr(name: str, path: str | os.PathLike[str]) -> Maps:
 def _of_array(name: str, given: Any) -> Maps:
     flat = flat_of(name, given)
     array = flat.array if is_lazy(flat.array) else flat.array.chunk()
-    if array.dtype.kind not in "iufb":
-        raise BadMap(name, f"not a map of whole numbers: its cells are of the type {array.dtype}")
     rows, cols = array.shape
     block = (max(array.chunks[0]), max(array.chunks[1]))
     sheet = Sheet(rows, cols, flat.transform or (1.0, 0.0, 0.0, 0.0, -1.0, float(rows)), wkt_of(flat.crs) or None, block)

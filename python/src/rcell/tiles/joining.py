@@ -14,8 +14,8 @@ from typing import Any, NamedTuple
 import numpy as np
 import numpy.typing as npt
 
+from .._counts import numbers_of
 from .._joiner import joined_sizes, numbering_of
-from .._numbers import numbers_of
 from .._region import Region
 
 __all__ = ["Joined", "Rectangle", "TileNumbers", "join", "renumber", "sizes"]

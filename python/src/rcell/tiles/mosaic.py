@@ -15,6 +15,7 @@ import dask
 import numpy as np
 
 from rcell_front.files import is_same_file
+from rcell_front.pipe import NULL
 
 from .._errors import RcellError, Refused
 from .._joiner import check_files, find_joiner
@@ -23,7 +24,6 @@ from .._patches import check_connectivity
 from .._program import judge
 from .._region import CELL_LIMIT, SIDE_LIMIT
 from .._script import labels_in
-from .._text import NULL
 from .._xarray import data_array
 from . import _tasks
 from ._cluster import SHARE, Room, free_memory

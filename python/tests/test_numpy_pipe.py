@@ -1,0 +1,198 @@
+"""The bytes of rcell-pipe, held against docs/pipe.md and against the program; needs numpy alone."""
+
+from __future__ import annotations
+
+import os
+import random
+import struct
+import subprocess
+import tempfile
+import time
+import unittest
+from array import array
+from typing import Any, Iterator
+
+import numpy as np
+
+import rcell
+from rcell._program import find_pipe
+from rcell_front import pipe
+
+EDGES = ("2", "0", "3.5", "-.5")
+LAND = bytes([1, 1, 2, 255, 2, 2])
+MAGIC = b"RCELLA1\n"
+
+
+def a_map(**words: Any) -> pipe.Map:
+    given: dict[str, Any] = {"name": "lc", "edges": EDGES, "rows": 2, "cols": 3, "type": "u8", "blocks": [pipe.Block(LAND)], **words}
+    return pipe.Map(**given)
+
+
+def text(given: bytes) -> bytes:
+    return struct.pack("<Q", len(given)) + given
+
+
+DONE = b"DONE" + struct.pack("<5Q", 0, 0, 0, 0, 0) + text(b"")
+TABLE = b"TABL" + struct.pack("<3Q", 4, 2, 1) + b"\1\1;" + text(b"NA") + text(b"lc") + struct.pack("<2Q2i", 5, 2**40, -7, pipe.NULL) + text(b"wood") + text(b"no data")
+GRID = b"GRID" + struct.pack("<Q", 5) + text(b"*") + text(b"k") + struct.pack("<2Q", 1, 2) + b"\6" + struct.pack("<2i", 300, pipe.NULL)
+TEXT = b"TEXT" + struct.pack("<Q", 6) + text(b"1\n*\n")
+
+
+class Asked(unittest.TestCase):
+    """A folder with stand-ins for the program."""
+
+    def setUp(self) -> None:
+        folder = tempfile.TemporaryDirectory()
+        self.addCleanup(folder.cleanup)
+        self.folder = folder.name
+        self.before = set(os.listdir("/proc/self/fd"))
+
+    def tearDown(self) -> None:
+        self.assertEqual(set(os.listdir("/proc/self/fd")), self.before, "a pipe was left open")
+        with self.assertRaises(ChildProcessError):
+            os.waitpid(-1, os.WNOHANG)
+
+    def program(self, body: str) -> str:
+        path = f"{self.folder}/program"
+        with open(path, "w") as file:
+            file.write(f"#!/bin/sh\n{body}\n")
+        os.chmod(path, 0o755)
+        return path
+
+    def answering(self, answer: bytes, after: str = "") -> str:
+        """A program that keeps the request, and gives an answer."""
+        with open(f"{self.folder}/answer", "wb") as file:
+            file.write(answer)
+        return self.program(f"cat > {self.folder}/request\ncat {self.folder}/answer\n{after}")
+
+    def asked(self, *maps: pipe.Map, script: bytes = b"") -> bytes:
+        """The request of a run."""
+        pipe.run(self.answering(MAGIC + DONE), maps, script)
+        with open(f"{self.folder}/request", "rb") as file:
+            return file.read()
+
+
+class Requests(Asked):
+    def test_each_field(self) -> None:
+        found = self.asked(a_map(nodata=255, labels={1: "wood", -2: "ä"}), script=b"r.stats input=lc\n")
+        head = b"RCELLQ1\n\1\0\0\0" + b"\2lc" + b"\0012" + b"\0010" + b"\0033.5" + b"\3-.5" + struct.pack("<IIBBqI", 2, 3, 1, 1, 255, 2)
+        labels = struct.pack("<iH", 1, 4) + b"wood" + struct.pack("<iH", -2, 2) + "ä".encode()
+        self.assertEqual(found, head + labels + LAND + b"\x11\0\0\0r.stats input=lc\n")
+
+    def test_rows_and_masks(self) -> None:
+        cells, mask = array("h", [1, -1, 300, 4, 5, 6]), bytes([0, 1, 0, 1, 1, 0])
+        for blocks in ([pipe.Block(memoryview(cells), mask)], [pipe.Block(memoryview(cells)[:3], mask[:3]), pipe.Block(memoryview(cells)[3:], bytearray(mask[3:]))]):
+            found = self.asked(a_map(type="i16", blocks=blocks, is_masked=True))
+            rows = struct.pack("<3h", 1, -1, 300) + mask[:3] + struct.pack("<3h", 4, 5, 6) + mask[3:]
+            self.assertTrue(found.endswith(struct.pack("<IIBBqI", 2, 3, 4, 2, 0, 0) + rows + bytes(4)), found)
+
+    def test_arrays_of_every_type(self) -> None:
+        for name, dtype in (("u8", "u1"), ("i8", "i1"), ("u16", "u2"), ("i16", "i2"), ("u32", "u4"), ("i32", "i4"), ("i64", "i8")):
+            cells = np.arange(6).astype(dtype).reshape(2, 3)
+            self.assertTrue(self.asked(a_map(type=name, blocks=[pipe.Block(cells.data)])).endswith(cells.tobytes() + bytes(4)))
+            frames = pipe.run(find_pipe(), [a_map(type=name, blocks=[pipe.Block(cells.data)])], b"r.out.ascii input=lc\n")
+            self.assertEqual(np.asarray(frames[0].cells).tolist(), list(range(6)))  # type: ignore[union-attr]
+
+    def test_other_numbers_of_rows(self) -> None:
+        for blocks in ([], [pipe.Block(LAND[:3])], [pipe.Block(LAND + LAND[:3])], [pipe.Block(LAND[:4]), pipe.Block(LAND[4:])]):
+            with self.subTest(blocks=blocks), self.assertRaisesRegex(ValueError, "rows of the map lc, which has 2"):
+                self.asked(a_map(blocks=blocks))
+        with self.assertRaisesRegex(ValueError, "a mask of 0 bytes"):
+            self.asked(a_map(is_masked=True))
+
+
+class Answers(Asked):
+    def test_each_frame(self) -> None:
+        table, grid, lines = pipe.run(self.answering(MAGIC + TABLE + GRID + TEXT + DONE), [a_map()], b"")
+        assert isinstance(table, pipe.TableFrame) and isinstance(grid, pipe.GridFrame) and isinstance(lines, pipe.TextFrame)
+        self.assertEqual((table.line, table.names, table.separator, table.null_text, table.entries), (4, ("lc",), b";", b"NA", 2))
+        assert table.counts is not None
+        self.assertEqual((table.counts.tolist(), table.cells.tolist(), table.labels), ([5, 2**40], [-7, pipe.NULL], [b"wood", b"no data"]))
+        self.assertEqual(table.printed(), b"-7;wood;5\nNA;no data;1099511627776\n")
+        self.assertEqual((grid.line, grid.name, grid.null_text, grid.rows, grid.cols, grid.type, grid.null), (5, "k", b"*", 1, 2, "i32", pipe.NULL))
+        self.assertEqual((grid.cells.tolist(), array("i", grid.cells).tolist()), ([300, pipe.NULL], [300, pipe.NULL]))
+        self.assertEqual((lines.line, bytes(lines.text)), (6, b"1\n*\n"))
+
+    def test_what_is_cut_or_goes_on_is_no_answer(self) -> None:
+        answer = MAGIC + TABLE + GRID + TEXT + DONE
+        for given in [*(answer[:end] for end in range(0, len(answer), 7)), answer + b"\0", b"RCELLA2\n" + DONE, MAGIC + b"FILE" + DONE]:
+            with self.subTest(given=given), self.assertRaises(pipe.NoAnswer):
+                pipe.run(self.answering(given), [a_map()], b"")
+        with self.assertRaisesRegex(pipe.NoAnswer, "ended in status 4 and said: nothing"):
+            pipe.run(self.answering(answer, "exit 4"), [a_map()], b"")
+
+    def test_a_program_that_stops_reading(self) -> None:
+        end = b"DONE" + struct.pack("<5Q", 1, 1, 1, 9, 0) + text(b"cell out of range")
+        large = a_map(rows=3_000, cols=3_000, blocks=iter([pipe.Block(bytes(9_000_000))] + [pipe.Block(b"x")] * 3))
+        with open(f"{self.folder}/answer", "wb") as file:
+            file.write(MAGIC + end)
+        with self.assertRaises(pipe.Rejected) as caught:
+            pipe.run(self.program(f"head -c 100000 > /dev/null; cat {self.folder}/answer; exit 1"), [large], b"")
+        found = caught.exception
+        self.assertEqual((found.status, found.source, found.map, found.line, found.column, found.text), (1, "request", 1, 9, 0, "cell out of range"))
+
+    def test_endings(self) -> None:
+        with self.assertRaises(pipe.Killed) as caught:
+            pipe.run(self.program("kill -15 $$"), [a_map()], b"")
+        self.assertEqual(caught.exception.args, (15,))
+        with self.assertRaises(TimeoutError):
+            pipe.run(self.program("exec sleep 60"), [a_map()], b"", seconds=0.3)
+        with self.assertRaisesRegex(pipe.NotStarted, "No such file or directory: '/nowhere/rcell-pipe'"):
+            pipe.run("/nowhere/rcell-pipe", [a_map()], b"")
+
+    def test_who_waits_may_end_it(self) -> None:
+        def raising() -> Iterator[pipe.Block]:
+            yield pipe.Block(LAND[:3])
+            raise KeyError("blocks")
+
+        with self.assertRaises(KeyError):
+            pipe.run(self.answering(b""), [a_map(blocks=raising())], b"")
+        began = time.monotonic()
+
+        def watch() -> None:
+            if time.monotonic() > began + 0.5:
+                raise KeyError("watch")
+
+        large = a_map(rows=3_000, cols=3_000, blocks=[pipe.Block(bytes(9_000_000))])
+        for given in (a_map(), large):
+            with self.assertRaises(KeyError):
+                pipe.run(self.program("exec sleep 60"), [given], b"", watch=watch)
+        self.assertLess(time.monotonic(), began + 30)
+
+
+class Runs(unittest.TestCase):
+    def test_tables_are_printed_as_rcell_prints_them(self) -> None:
+        chance = random.Random(5)
+        for _ in range(20):
+            cells = [chance.choice([1, 2, -30, 400, 2**31 - 1, pipe.NULL]) for _ in range(12)]
+            maps = [a_map(name=name, rows=3, cols=4, type="i32", nodata=pipe.NULL, blocks=[pipe.Block(memoryview(array("i", part)))])
+                    for name, part in (("a", cells), ("b", cells[::-1]))]
+            flags, more = chance.choice(["c", "cl", "l", "cn", "cN", "n"]), chance.choice(["", " separator=comma null_value=NA", " separator=tab", " after=1,*"])
+            script = f"r.reclass input=a output=k\n1 = 1 wood\n* = *\nend\nr.stats -{flags} input=k,b{more}\n".encode()
+            with tempfile.TemporaryDirectory() as folder:
+                words = []
+                for name, part in (("a", cells), ("b", cells[::-1])):
+                    rows = " ".join("*" if cell == pipe.NULL else str(cell) for cell in part)
+                    with open(f"{folder}/{name}", "w") as file:
+                        file.write(f"north: 2\nsouth: 0\neast: 3.5\nwest: -.5\nrows: 3\ncols: 4\n{rows}\n")
+                    words.append(f"{name}={folder}/{name}")
+                with open(f"{folder}/script", "wb") as script_file:
+                    script_file.write(script)
+                wanted = subprocess.run([rcell.program(), f"{folder}/script", *words], capture_output=True, check=True).stdout
+            self.assertEqual(b"".join(frame.printed() for frame in pipe.run(find_pipe(), maps, script)), wanted)  # type: ignore[union-attr]
+
+    def test_rejections(self) -> None:
+        numbers = a_map(name="n", type="i64", blocks=[pipe.Block(memoryview(array("q", [1, 2, 3, 4, 2**31, 6])))])
+        for maps, script, told in (
+            ([a_map(), numbers], b"", (1, "request", 1, 2, 0, "cell out of range")),
+            ([a_map()], b"\nr.mapcalc x = lc * 0.5", (1, "script", 0, 2, 20, "number not whole at column 20")),
+            ([a_map()], b"r.stats -c", (1, "script", 0, 1, 0, "missing option")),
+            ([a_map(), a_map()], b"", (1, "request", 1, 0, 0, "name used twice")),
+        ):
+            with self.subTest(told=told), self.assertRaises(pipe.Rejected) as caught:
+                pipe.run(find_pipe(), maps, script)
+            self.assertEqual(caught.exception.args, told)
+
+
+if __name__ == "__main__":
+    unittest.main()
