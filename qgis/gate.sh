@@ -11,11 +11,11 @@ export RCELL="$PWD/bin/rcell" PYTHONDONTWRITEBYTECODE=1 LC_ALL=C.UTF-8 QT_QPA_PL
 if "$python" -c 'import numpy, osgeo.gdal' 2> /dev/null; then
     add 'the core' "$python" qgis/tests/gate.py test_core_*.py
 else
-    skip -n 93 qgis 'GDAL for Python or numpy is not installed' python3-gdal python3-numpy
+    skip -n 83 qgis 'GDAL for Python or numpy is not installed' python3-gdal python3-numpy
 fi
 if "$python" -c 'import qgis.core, numpy, osgeo.gdal' 2> /dev/null; then
     add 'a session' "$python" qgis/tests/gate.py test_session.py
 else
-    skip -n 30 qgis/session 'QGIS is not installed' python3-qgis
+    skip -n 31 qgis/session 'QGIS is not installed' python3-qgis
 fi
 closing

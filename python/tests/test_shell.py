@@ -2,6 +2,7 @@
 
 from __future__ import annotations
 
+import argparse
 import csv
 import io
 import json
@@ -15,7 +16,7 @@ import numpy as np
 import pytest
 
 import rcell
-from rcell import _labels
+from rcell import _labels, _shell
 from rcell.__main__ import main
 
 from .conftest import LAND
@@ -46,6 +47,23 @@ def test_composition(raster: Write, capfdbinary: Any, tmp_path: pathlib.Path) ->
     assert main(["composition", path, "--labels", str(tmp_path / "legend.csv"), "--out", str(tmp_path / "t.csv")]) == 0
     assert said(capfdbinary) == ("", "rcell-gis: warning: labels: no label for 2 of map\n")
     assert (tmp_path / "t.csv").read_text().splitlines()[1:3] == ["1,wood,5,0.3125,45.45454545454545", "2,,4,0.25,36.36363636363637"]
+
+
+def test_every_argument_has_a_help_text() -> None:
+    def without(parser: argparse.ArgumentParser) -> list[Any]:
+        parsers = [action for action in parser._actions if isinstance(action, argparse._SubParsersAction)]
+        found = [action.dest for action in parser._actions if action not in parsers and not action.help]
+        return found + [each for action in parsers for sub in action.choices.values() for each in without(sub)]
+
+    assert without(_shell._words()) == []
+
+
+def test_an_empty_table_says_so(raster: Write, capfdbinary: Any) -> None:
+    assert main(["composition", raster(np.zeros_like(LAND), nodata=0)]) == 0
+    assert said(capfdbinary) == ("class,cells,area_ha,percent\n", "rcell-gis: note: the table is empty: all cells are null or left out\n")
+    with pytest.raises(SystemExit):
+        main(["patches", raster(LAND, nodata=0), "--classes", "31;32"])
+    assert "give whole numbers with commas between them, as 31,32, not 31;32" in said(capfdbinary)[1]
 
 
 def test_the_shell_has_the_numbers_of_python(raster: Write, capfdbinary: Any) -> None:

@@ -189,6 +189,11 @@ class RefusalsTest(InSession):
         self.refused("cannot be written: there is no folder", "majority", INPUT=self.cover, OUTPUT=self.path("nowhere/m.tif"))
         self.assertEqual([line for line in self.log.told if line.startswith("command")], [])
 
+    def test_an_empty_table_is_warned_of(self) -> None:
+        found = self.run_("composition", INPUT=made.write(self.path("void.tif"), np.zeros((2, 3)), nodata=0), OUTPUT="TEMPORARY_OUTPUT")
+        self.assertEqual(session.rows(found["OUTPUT"])[1], [])
+        self.assertIn("warning: The table is empty: all cells are without data or left out.", self.log.told)
+
     def test_a_program_that_is_missing(self) -> None:
         QgsSettings().setValue("Processing/Configuration/RCELL_PROGRAM", "/nowhere/rcell")
         try:
