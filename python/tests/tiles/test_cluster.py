@@ -22,6 +22,7 @@ from rcell._program import find_pipe
 from rcell.tiles import _cluster, _engine
 from tests.tiles import whole
 from tests.tiles.conftest import MakeTif, read_tif, write_tif
+from tests.tiles.test_dask import array_of
 
 distributed: Any = pytest.importorskip("distributed")
 
@@ -72,9 +73,11 @@ def _is_of(process: psutil.Process, temporary: Path) -> bool:
         return False
 
 
-def test_a_worker_that_is_killed_changes_no_number(tif: MakeTif, tmp_path: Path, slow: Path, temporary: Path) -> None:
+@pytest.mark.parametrize("kind", ["file", "array"])
+def test_a_worker_that_is_killed_changes_no_number(tif: MakeTif, tmp_path: Path, slow: Path, temporary: Path, kind: str) -> None:
     cells = whole.spiral(24)
-    with rcell.tiles.open(size=(6, 12), scheduler=2, lc=tif("lc", cells, whole.NULL_CELL)) as mosaic:
+    given = tif("lc", cells, whole.NULL_CELL) if kind == "file" else array_of(cells, (6, 12), nodata=whole.NULL_CELL)
+    with rcell.tiles.open(size=(6, 12), scheduler=2, lc=given) as mosaic:
         client = mosaic._engine.cluster.client
         workers = list(client.run(os.getpid).values())
 

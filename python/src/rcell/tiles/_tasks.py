@@ -18,8 +18,8 @@ from .._joiner import border_of, joined
 from .._maps import ArrayMap, Source
 from .._program import execute, table_text
 from .._region import Region
-from ._scripts import NO_REACH, Reach, Statement, TileScript
 from .._table import StatsTable
+from ._scripts import NO_REACH, Reach, Statement, TileScript
 from ._sheet import MapCells, MapFile, Sheet
 from .joining import Joined, Rectangle, TileNumbers, join, renumber, sizes
 
