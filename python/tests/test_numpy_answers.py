@@ -17,7 +17,8 @@ import rcell
 from rcell._grid import Grid
 from rcell._libraries import has
 from rcell._program import execute, find_pipe
-from rcell._script import labels_in, statements_of
+from rcell._script import labels_in
+from rcell_front.outlines import listings_in, made_in
 
 
 def by_files(script: str, **grids: bytes) -> tuple[int, bytes, str]:
@@ -297,13 +298,10 @@ class Scripts(unittest.TestCase):
                 rcell.grid(f"{lines}r.reclass input=lc output=k\n1 = 1", "k", lc=LAND)
             self.assertEqual((caught.exception.text, caught.exception.line), ("missing end", 2 if lines else 1))
 
-    def test_statements(self) -> None:
-        script = "r.mapcalc x = 1\n  r.stats -c -n\tinput=a,b after=1,* \r\n# r.stats\nr.reclass input=a output=b\nr.stats input=c\nend\nr.stats -1 input=b"
-        found = [(each.line, each.command, each.flags, each.maps, each.output) for each in statements_of(script)]
-        self.assertEqual(found[0], (1, "r.mapcalc", "", (), "x"))
-        self.assertEqual(found[1], (2, "r.stats", "cn", ("a", "b"), None))
-        self.assertEqual(found[2], (4, "r.reclass", "", ("a",), "b"))
-        self.assertEqual(found[3:], [(7, "r.stats", "1", ("b",), None)])
+    def test_outlines(self) -> None:
+        script = "r.mapcalc x = 1\n\tr.stats -c -n\tinput=a,b after=1,* \r\n# r.stats -1 input=z\nr.reclass input=a output=b\n* = *\nend\nr.clump output=k -d input=c\n r.stats -1n\tinput=b,a -l \r"
+        self.assertEqual(made_in(script), {"x": "mapcalc", "b": "reclass", "k": "clump"})
+        self.assertEqual(listings_in(script), {8: (("b", "a"), "1nl")})
 
 
 def done(*fields: Any) -> str:

@@ -6,11 +6,13 @@ from __future__ import annotations
 from collections.abc import Sequence
 from typing import Any, Iterable, Mapping, overload
 
+from rcell_front.outlines import made_in
+
 from ._errors import Refused
 from ._grid import Grid
 from ._maps import Source, named_once, sources_of
 from ._program import Output, execute, judge
-from ._script import labels_in, statements_of
+from ._script import labels_in
 from ._table import StatsTable
 
 __all__ = ["Result", "grid", "grids_of", "outputs_with", "run", "run_of", "table"]
@@ -293,8 +295,7 @@ def grids_of(of: _Run, names: Sequence[str]) -> list[Grid]:
 
 def outputs_with(of: _Run, names: Sequence[str]) -> list[StatsTable | Grid]:
     """Return the outputs of a run, and after them some of its maps."""
-    made = [statement.output for statement in statements_of(of.script) if statement.output is not None]
-    known = [*of.sources, *made]
+    known = [*of.sources, *made_in(of.script)]
     for name in names:
         if name not in known:
             judge(of.script, of.sources)

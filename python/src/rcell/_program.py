@@ -20,13 +20,13 @@ from numpy.typing import NDArray
 
 from rcell_front import pipe as front
 from rcell_front.files import write_all
+from rcell_front.outlines import listings_in
 from rcell_front.pipe import NULL
 from rcell_front.programs import Started, close, found_on_path, pipe
 
 from ._errors import Killed, MissingProgram, OutOfMemory, RcellError, Refused, WrongProgram
 from ._maps import ArrayMap, Source
 from ._region import Region
-from ._script import statements_of
 
 __all__ = ["Output", "candidates", "execute", "find_beside", "find_pipe", "find_program", "grid_text", "judge", "known_after", "table_text"]
 
@@ -214,8 +214,8 @@ def execute(
         A cell can't be sent.
     OutOfMemory, Killed, MissingProgram, WrongProgram
     """
-    listing = {each.line: each for each in statements_of(script) if each.command == "r.stats" and "1" in each.flags}
-    names = list(dict.fromkeys([*(name for each in listing.values() for name in each.maps), *wanted]))
+    listings = listings_in(script)
+    names = list(dict.fromkeys([*(name for each in listings.values() for name in each.maps), *wanted]))
     frames = _frames(script, maps, names, program)
     own, rest = frames[: len(frames) - len(names)], frames[len(frames) - len(names) :]
     cells = {name: _cells(frame) for name, frame in zip(names, rest) if isinstance(frame, front.GridFrame)}
@@ -226,7 +226,7 @@ def execute(
         elif isinstance(frame, front.GridFrame):
             outputs.append(Output("r.out.ascii", frame.line, (frame.name,), _cells(frame)))
         else:
-            each = listing[frame.line]
+            each = listings[frame.line]
             listed = _listed([cells[name] for name in each.maps], each.flags)
             outputs.append(Output("r.stats", frame.line, each.maps, listed, has_labels="l" in each.flags))
     return outputs + [Output("r.out.ascii", 0, (name,), cells[name]) for name in wanted]

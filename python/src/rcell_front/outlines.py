@@ -7,9 +7,9 @@ import re
 from collections.abc import Callable, Mapping, Sequence
 from typing import NamedTuple, Optional
 
-from .pipe import Block, Frame, Map, TextFrame, run
+from .pipe import Block, Frame, Map, run
 
-__all__ = ["Listing", "Outline", "outline_of"]
+__all__ = ["Listing", "Outline", "listings_in", "made_in", "outline_of"]
 
 # These are right for scripts that the program accepts: rules of r.reclass never begin like a command.
 _MADE = re.compile(r"^[ \t\r]*r\.(?:(mapcalc)[ \t\r]+([\w.]+)|(reclass|clump)[ \t\r](?:.*[ \t\r])?output=([\w.]+))", re.ASCII | re.MULTILINE)
@@ -45,12 +45,21 @@ def outline_of(program: str, script: str, names: Sequence[str], watch: Optional[
     """Return the outline of a script over maps of some names; the errors are those of `run`."""
     maps = [Map(name, ("1", "0", "1", "0"), 1, 1, "u8", [Block(b"\0")], nodata=0) for name in names]
     frames = run(program, maps, script.encode("utf-8", "surrogateescape"), watch=watch)
-    made = {found[2] or found[4]: found[1] or found[3] for found in _MADE.finditer(script)}
-    lines = script.split("\n")
-    return Outline(made, frames, {frame.line: _listing(lines[frame.line - 1]) for frame in frames if isinstance(frame, TextFrame)})
+    return Outline(made_in(script), frames, listings_in(script))
 
 
-def _listing(line: str) -> Listing:
-    words = _WORD.findall(line)[1:]
-    maps = next(word for word in words if word.startswith("input=")).partition("=")[2]
-    return Listing(tuple(maps.split(",")), "".join(word[1:] for word in words if word.startswith("-")))
+def made_in(script: str) -> dict[str, str]:
+    """Return the command, without `r.`, for each map that a script makes."""
+    return {found[2] or found[4]: found[1] or found[3] for found in _MADE.finditer(script)}
+
+
+def listings_in(script: str) -> dict[int, Listing]:
+    """Return each `r.stats -1` of a script, by its line."""
+    found = {}
+    for number, line in enumerate(script.split("\n"), 1):
+        command, *words = _WORD.findall(line) or [""]
+        flags = "".join(word[1:] for word in words if word.startswith("-"))
+        if command == "r.stats" and "1" in flags:
+            maps = (word.removeprefix("input=") for word in words if word.startswith("input="))
+            found[number] = Listing(tuple(next(maps, "").split(",")), flags)
+    return found
