@@ -70,11 +70,10 @@ class Made:
     has_mask: bool
     has_wide_null: bool
 
-    def is_for(self, front: str) -> bool:
-        """R refuses masks, and nulls that a float cannot tell from their neighbours; the numbers of GRASS are categories."""
-        if front == "grass":
-            return not self.reason
-        return front != "r" or not (self.has_mask or self.has_wide_null)
+    def reason_in(self, front: str) -> str:
+        """Why a front refuses it: R refuses masks, and nulls that a float cannot tell from their neighbours."""
+        own = ["mask of its own"] * self.has_mask + ["64 bits"] * self.has_wide_null
+        return "|".join(filter(None, [self.reason, *(own if front == "r" else [])]))
 
 
 # Rasters
@@ -406,13 +405,13 @@ def try_group(seed: int, number: int, room: str, fronts: list[Front], last: list
             if made.cells is not None:
                 made.cells.tofile(f"{made.path}.cells")
     for front in fronts:
-        mine = [made for made in rasters if made.is_for(front.name)][: 1 if front.name == "tiles" else GROUP]
-        good = [made for made in mine if not made.reason]
+        mine = [made for made in rasters if front.name != "grass" or not made.reason][: 1 if front.name == "tiles" else GROUP]
+        good = [made for made in mine if not made.reason_in(front.name)]
         if good:
             front.judge(place, good, number % len(good))
-        for made in [made for made in mine if made.reason][: 1 if place.reason else GROUP]:
-            front.refuses(place, [made], made.reason)
-        if good and last and front.name in ("python", "qgis", "r") and last[0][1].is_for(front.name):
+        for made in [made for made in mine if made.reason_in(front.name)][: 1 if place.reason else GROUP]:
+            front.refuses(place, [made], made.reason_in(front.name))
+        if good and last and front.name in ("python", "qgis", "r") and not last[0][1].reason_in(front.name):
             front.refuses(place, [good[0], last[0][1]], REFUSED_SYSTEM if last[0][0].epsg != place.epsg else "")
     kept = "".join("\n".join(front.wrong) for front in fronts)
     for entry in list(os.scandir(room)):
