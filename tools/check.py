@@ -72,7 +72,7 @@ LATE = [
     Part("edits", "wrong bodies that the proof must refuse, many in one check", [tool("edits.py")], needs_programs=False),
     Part("cases", "rcell on each case, with each growth refused in turn", [tool("cases.py", CLANG)]),
     Part("joined", "rcell-join beside a plain model and full maps", [tool("test_join.py", CLANG)]),
-    Part("pipe", "rcell-pipe on random requests beside rcell, and on damaged ones", [tool("test_pipe.py", CLANG)]),
+    Part("pipe", "rcell-pipe on random requests beside rcell, and on damaged ones", [tool("test_pipe.py", CLANG), tool("test_plan.py")]),
     Part("documents", "each example of the documents", [tool("documents.py")]),
     Part("hostile", "broken devices, bytes, sizes and memory, in short", [tool("hostile.py", "--short", "--clang", CLANG)]),
     Part("models", "rcell beside the plain model of the definitions",

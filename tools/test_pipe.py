@@ -146,6 +146,8 @@ def wrong_run(programs: Programs, maps: list[Raster], script: bytes) -> str:
 
 def wrong_reading(programs: Programs, data: bytes) -> str:
     """Whether any bytes are read as the plain reader does, to the same first error."""
+    if data.startswith(b"RCELLP1\n"):
+        return ""  # damage made a plan of it: test_plan.py
     try:
         maps, script = Reader(data).run()
     except Rejected as error:

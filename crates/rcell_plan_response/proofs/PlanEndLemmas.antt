@@ -1,0 +1,261 @@
+-- How responses end.
+use Rattle.std.proofs.Common.{◌≡◌, ◌∙◌, ℕ, Bool, true, false, List, [], ◌++◌, Option, Some, None, Result, Ok, Err}
+use Rattle.std.proofs.Common.{refl, sym, ap, subst, append_assoc}
+use Rattle.std.specs.Prelude.{◌≢◌, IfSome, flat_map, length, unwrap_or}
+use Rattle.std.specs.Option.{IsNone, is_some}
+use Rattle.cell_core_devices.specs.Device.{Faults, Coming}
+use Rattle.cell_core.specs.Shelf.{ShelfValue}
+use Rattle.rcell_script.specs.Scripts.{IsScript}
+use Rattle.rcell_script.specs.ReadScripts.{IsScriptFault}
+use Rattle.rcell_script.specs.ScriptLaw.{NoFaultOfAScript}
+use Rattle.rcell_script.specs.declared.statement.Statement.{Statement}
+use Rattle.rcell_script_commands.specs.declared.script_fault.ScriptFault.{ScriptFault}
+use Rattle.rcell_pipe_request.specs.declared.error.FieldStop.{FieldStop}
+use Rattle.rcell_pipe_request.specs.declared.error.FieldStop.TheVariants as field_stops
+use Rattle.rcell_pipe_request.specs.declared.error.RequestStop.{RequestStop}
+use Rattle.rcell_pipe_request.specs.declared.error.RequestStop.TheVariants as stops
+use Rattle.rcell_pipe_request.specs.declared.error.RequestError.{RequestError}
+use Rattle.rcell_pipe_request.specs.RequestFields.{FieldReading}
+use Rattle.rcell_pipe_request.specs.Feeds.{FieldFails, PlacedFails, FeedValue, nothing, left}
+use Rattle.rcell_pipe_request.specs.Requests.{RunRequestValue, stop_at}
+use Rattle.rcell_pipe_response.specs.declared.end.PipeError.{PipeError}
+use Rattle.rcell_pipe_response.specs.declared.end.PipeError.TheVariants as errors
+use Rattle.rcell_pipe_response.specs.declared.running.PipeOutcome.{PipeOutcome}
+use Rattle.rcell_pipe_response.specs.FrameBytes.{EndValue, response_magic, response_bytes, end_bytes}
+use Rattle.rcell_pipe_response.specs.RunEnds.{status_after, done_end, script_end, memory_end, IsResponse, IsPipeEnd}
+use Rattle.rcell_pipe_response.specs.Endings.{error_after, Finished, IsRejection, IsEndOfRun}
+use Rattle.rcell_plan_response.specs.declared.responding.RequestForm.{RequestForm}
+use Rattle.rcell_plan_response.specs.declared.responding.RequestForm.TheVariants as form
+use Rattle.rcell_plan.specs.declared.planning.Plan.{Plan}
+use Rattle.rcell_plan.specs.Plans.{plans_of, given_needs}
+use Rattle.rcell_plan_response.specs.PlanRequests.{PlanRequestValue}
+use Rattle.rcell_plan_response.specs.PlanFrames.{plan_bytes, all_names, plan_response}
+use Rattle.rcell_plan_response.specs.PlanEnds.{IsPlanResponse}
+use Rattle.rcell_plan_response.specs.Written.{WasWritten, HasResponded, EndsAs}
+use Rattle.rcell_plan_response.specs.Responses.{IsResponseTo, IsRequestAccepted}
+use Rattle.rcell_plan_response.specs.parts.RequestStops.{error_of_stop, end_of_stop}
+
+-- ---- what was written
+
+module _ (says : List ℕ → Option PipeError → Type 0) (before now : Option (List ℕ)) where
+  written_whole : (error : Option PipeError) → (error ≡ Some errors.Write → ⊥) → WasWritten says before now error
+      → HasResponded says before now error
+  written_whole None fine w = w
+  written_whole (Some (errors.Request error)) fine w = w
+  written_whole (Some (errors.Script error)) fine w = w
+  written_whole (Some errors.Memory) fine w = w
+  written_whole (Some (errors.MemoryAt line)) fine w = w
+  written_whole (Some errors.Write) fine w = absurd (fine refl)
+
+-- what was finished is how the response ended
+pub ends_as : (says : List ℕ → Option PipeError → Type 0) {before now : Option (List ℕ)} {start after : Faults}
+    (error : Option PipeError) {text : List ℕ} {outcome : PipeOutcome} → says text error
+    → (error ≡ Some errors.Write → ⊥) → Finished before start now after error text outcome
+    → EndsAs says before start now after outcome
+ends_as says {before} {now} {start} {after} error {text} {outcome} is fine finished = by finished.wrote refl
+  where
+    by : (wrote : Bool) → finished.wrote ≡ wrote → EndsAs says before start now after outcome
+    by true e =
+        let same : outcome.error ≡ error = finished.error_is ∙ ap (error_after error) e in
+        let whole = finished.whole e in
+        record {
+          end = subst (HasResponded says before now) (sym same)
+              (written_whole says before now error fine (record { response = text; is = is; taken = whole.0 }));
+          status = finished.status;
+          write = λ write. absurd (fine (sym same ∙ write));
+          flushed = λ _. whole.1;
+        }
+    by false e =
+        let same : outcome.error ≡ Some errors.Write = finished.error_is ∙ ap (error_after error) e in
+        let fails = finished.fails e in
+        record {
+          end = subst (HasResponded says before now) (sym same)
+              (record { error = error; response = text; would = is; cut = fails.1 });
+          status = finished.status;
+          write = λ write. fails.0;
+          flushed = λ none. absurd (none same);
+        }
+
+-- a response that ends says more
+module _ (says more : List ℕ → Option PipeError → Type 0)
+    (on : (response : List ℕ) (error : Option PipeError) → says response error → more response error)
+    (before now : Option (List ℕ)) where
+  pub says_more : (error : Option PipeError) → HasResponded says before now error → HasResponded more before now error
+  says_more None w = record { response = w.response; is = on w.response None w.is; taken = w.taken }
+  says_more (Some (errors.Request e)) w =
+      record { response = w.response; is = on w.response (Some (errors.Request e)) w.is; taken = w.taken }
+  says_more (Some (errors.Script e)) w =
+      record { response = w.response; is = on w.response (Some (errors.Script e)) w.is; taken = w.taken }
+  says_more (Some errors.Memory) w =
+      record { response = w.response; is = on w.response (Some errors.Memory) w.is; taken = w.taken }
+  says_more (Some (errors.MemoryAt line)) w =
+      record { response = w.response; is = on w.response (Some (errors.MemoryAt line)) w.is; taken = w.taken }
+  says_more (Some errors.Write) w =
+      record { error = w.error; response = w.response; would = on w.response w.error w.would; cut = w.cut }
+
+  pub ends_more : (start after : Faults) (outcome : PipeOutcome) → EndsAs says before start now after outcome
+      → EndsAs more before start now after outcome
+  ends_more start after outcome h = record {
+    end = says_more outcome.error h.end;
+    status = h.status;
+    write = h.write;
+    flushed = h.flushed;
+  }
+
+-- the end of a run
+module _ (read : Result RunRequestValue RequestError) (before now : Option (List ℕ)) where
+  of_pipe_end : (error : Option PipeError) → IsPipeEnd read before now error
+      → HasResponded (IsResponse read) before now error
+  of_pipe_end None w = record { response = w.response; is = w.is; taken = w.taken }
+  of_pipe_end (Some (errors.Request e)) w = record { response = w.response; is = w.is; taken = w.taken }
+  of_pipe_end (Some (errors.Script e)) w = record { response = w.response; is = w.is; taken = w.taken }
+  of_pipe_end (Some errors.Memory) w = record { response = w.response; is = w.is; taken = w.taken }
+  of_pipe_end (Some (errors.MemoryAt line)) w = record { response = w.response; is = w.is; taken = w.taken }
+  of_pipe_end (Some errors.Write) w =
+      record { error = w.error; response = w.response; would = w.would; cut = w.cut }
+
+  pub of_run_end : (start after : Faults) (outcome : PipeOutcome) → IsEndOfRun read before start now after outcome
+      → EndsAs (IsResponse read) before start now after outcome
+  of_run_end start after outcome h = record {
+    end = of_pipe_end outcome.error h.end;
+    status = h.status;
+    write = h.write;
+    flushed = h.flushed;
+  }
+
+-- the end after the frames of a plan
+pub finished_plans : {before now : Option (List ℕ)} {start after : Faults} {error : Option PipeError}
+    {outcome : PipeOutcome} (frames : List ℕ) (one end : EndValue) → one ≡ end
+    → Finished before start now after error ((response_magic ++ frames) ++ end_bytes one) outcome
+    → Finished before start now after error (response_magic ++ frames ++ end_bytes end) outcome
+finished_plans {before} {now} {start} {after} {error} {outcome} frames one end same finished =
+    subst (λ (t : List ℕ). Finished before start now after error t outcome)
+    (ap (λ (e : EndValue). (response_magic ++ frames) ++ end_bytes e) same
+    ∙ append_assoc response_magic frames (end_bytes end)) finished
+
+-- the names of all maps, and the plans of statements
+pub finished_plan : {before now : Option (List ℕ)} {start after : Faults} {outcome : PipeOutcome}
+    (names all : List (List ℕ)) (statements : List Statement) (plans : List Plan) → all ≡ all_names names statements
+    → plans ≡ plans_of (given_needs (length names)) statements
+    → Finished before start now after None (response_magic ++ flat_map
+    (plan_bytes all) plans ++ end_bytes done_end) outcome
+    → Finished before start now after None (plan_response names statements) outcome
+finished_plan {before} {now} {start} {after} {outcome} names all statements plans all_is plans_is finished =
+    subst (λ (t : List ℕ). Finished before start now after None t outcome)
+    (λ i. response_magic ++ flat_map (plan_bytes (all_is i)) (plans_is i) ++ end_bytes done_end) finished
+
+-- ---- rejected scripts
+
+pub plan_rejection : (names : List (List ℕ)) (script : List ℕ) (fault : ScriptFault) (error : PipeError)
+    (end : EndValue)
+    → IsScriptFault names script fault → IsRejection fault error end
+    → IsPlanResponse (Ok (record { names = names; script = script })) (response_bytes [] end) (Some error)
+plan_rejection names script fault (errors.Script error) end first is = record {
+  names = names;
+  script = script;
+  request = refl;
+  first = subst (λ (f : ScriptFault). IsScriptFault names script f) (sym is.0) first;
+  text = is.1.0;
+  bytes = ap (λ (e : EndValue). response_bytes [] e)
+      (is.1.1 ∙ ap (λ (f : ScriptFault). script_end f is.1.0) (sym is.0));
+}
+plan_rejection names script fault errors.Memory end first is = ap (λ (e : EndValue). response_bytes [] e) is
+plan_rejection names script fault (errors.Request error) end first is = absurd is
+plan_rejection names script fault (errors.MemoryAt line) end first is = absurd is
+plan_rejection names script fault errors.Write end first is = absurd is
+
+-- ---- requests that were not read
+
+-- a stop is no failed write
+pub stop_fine : (stop : RequestStop) → Some (error_of_stop stop) ≡ Some errors.Write → ⊥
+stop_fine stops.Memory is = cc
+stop_fine (stops.Error error) is = cc
+
+pub stopped_run : (read : Result (RunRequestValue × Coming) RequestError) (stop : RequestStop) (known : Bool)
+    → PlacedFails stop known read → known ≡ true → (all : Result RunRequestValue RequestError)
+    → ((error : RequestError) → read ≡ Err error → all ≡ Err error)
+    → IsResponse all (response_bytes [] (end_of_stop stop)) (Some (error_of_stop stop))
+stopped_run read stops.Memory known fails is all on = refl
+stopped_run read (stops.Error error) known fails is all on = (on error (fails is), refl)
+
+pub stopped_plan : (read : Result (PlanRequestValue × Coming) RequestError) (stop : RequestStop) (known : Bool)
+    → PlacedFails stop known read → known ≡ true → (all : Result PlanRequestValue RequestError)
+    → ((error : RequestError) → read ≡ Err error → all ≡ Err error)
+    → IsPlanResponse all (response_bytes [] (end_of_stop stop)) (Some (error_of_stop stop))
+stopped_plan read stops.Memory known fails is all on = refl
+stopped_plan read (stops.Error error) known fails is all on = (on error (fails is), refl)
+
+-- whatever the form, if memory ran out
+pub memory_form : (form : FieldReading RequestForm)
+    → IsResponseTo form (response_bytes [] (memory_end 0)) (Some errors.Memory)
+memory_form (Err kind) = refl
+memory_form (Ok (form.Run, rest)) = refl
+memory_form (Ok (form.Plan, rest)) = refl
+
+-- the first eight bytes were not read
+pub stopped_form : (form : FieldReading RequestForm) (stop : FieldStop) (known : Bool)
+    → FieldFails stop known form → known ≡ true
+    → IsResponseTo form (response_bytes [] (end_of_stop (stop_at 0 0 stop))) (Some (error_of_stop (stop_at 0 0 stop)))
+stopped_form form field_stops.Memory known fails is = memory_form form
+stopped_form form (field_stops.Error kind) known fails is =
+    let response = response_bytes [] (end_of_stop (stop_at 0 0 (field_stops.Error kind))) in
+    let error = Some (error_of_stop (stop_at 0 0 (field_stops.Error kind))) in
+    subst (λ (f : FieldReading RequestForm). IsResponseTo f response error) (sym (fails is)) (refl, refl)
+
+-- ---- from a feed to its source
+
+-- what is known of a feed is known of its source
+pub of_source : (found : Option Coming) (feed : FeedValue) (P : Coming → Type 0)
+    → feed ≡ record { unread = []; known = is_some found; rest = unwrap_or found nothing }
+    → (feed.known ≡ true → P (left feed)) → IfSome found P
+of_source None feed P is h = tt
+of_source (Some c) feed P is h = subst (λ (f : FeedValue). f.known ≡ true → P (left f)) is h refl
+
+pub if_any : {X : Type 0} (P : X → Type 0) (found : Option X) → ((x : X) → P x) → IfSome found P
+if_any P None all = tt
+if_any P (Some x) all = all x
+
+-- ---- accepted scripts
+
+abbrev of_plan : List (List ℕ) → List ℕ → PlanRequestValue
+of_plan names script = record { names = names; script = script }
+
+abbrev of_run : ShelfValue → List ℕ → RunRequestValue
+of_run shelf script = record { shelf = shelf; script = script }
+
+-- with another error than want of memory or a failed write, the script of a request was not accepted
+refused : NoFaultOfAScript → (form : FieldReading RequestForm) → IsRequestAccepted form
+    → (response : List ℕ) (error : PipeError)
+    → status_after (Some error) ≢ 3 → (error ≡ errors.Write → ⊥) → IsResponseTo form response (Some error) → ⊥
+refused law (Err kind) accepted response error lasts fine is = accepted
+refused law (Ok (form.Run, rest)) accepted response (errors.Request e) lasts fine is = cc (is.0, accepted.1.1.request)
+refused law (Ok (form.Run, rest)) accepted response (errors.Script fault) lasts fine is =
+    let same : of_run accepted.0 accepted.1.1.script ≡ of_run is.shelf is.script = cc
+    (is.request, accepted.1.1.request) in
+    law is.shelf.names is.script accepted.1.0 fault
+    (subst (λ (r : RunRequestValue). IsScript r.shelf.names r.script accepted.1.0) same accepted.1.1.denoted) is.first
+refused law (Ok (form.Plan, rest)) accepted response (errors.Request e) lasts fine is = cc (is.0, accepted.1.1.request)
+refused law (Ok (form.Plan, rest)) accepted response (errors.Script fault) lasts fine is =
+    let same : of_plan accepted.0 accepted.1.1.script ≡ of_plan is.names is.script = cc
+    (is.request, accepted.1.1.request) in
+    law is.names is.script accepted.1.0 fault
+    (subst (λ (r : PlanRequestValue). IsScript r.names r.script accepted.1.0) same accepted.1.1.denoted) is.first
+refused law form accepted response errors.Memory lasts fine is = lasts refl
+refused law form accepted response (errors.MemoryAt line) lasts fine is = lasts refl
+refused law form accepted response errors.Write lasts fine is = fine refl
+
+-- a request whose script is accepted is done, if memory lasts and the sink takes everything
+pub all_is_done : NoFaultOfAScript → (form : FieldReading RequestForm) (before now : Option (List ℕ)) (failed : Bool)
+    (error : Option PipeError) (status : ℕ) → HasResponded (IsResponseTo form) before now error
+    → status ≡ status_after error
+    → (error ≡ Some errors.Write → failed ≡ true) → IsRequestAccepted form → status ≢ 3 → failed ≡ false → IsNone error
+all_is_done law form before now failed None status end is write accepted lasts good = refl
+all_is_done law form before now failed (Some errors.Write) status end is write accepted lasts good = absurd
+    (cc (write refl, good))
+all_is_done law form before now failed (Some (errors.Request e)) status end is write accepted lasts good =
+    absurd (refused law form accepted end.response (errors.Request e) (λ three. lasts (is ∙ three)) (λ w. cc) end.is)
+all_is_done law form before now failed (Some (errors.Script e)) status end is write accepted lasts good =
+    absurd (refused law form accepted end.response (errors.Script e) (λ three. lasts (is ∙ three)) (λ w. cc) end.is)
+all_is_done law form before now failed (Some errors.Memory) status end is write accepted lasts good = absurd (lasts is)
+all_is_done law form before now failed (Some (errors.MemoryAt line)) status end is write accepted lasts good =
+    absurd (lasts is)

@@ -1,0 +1,7 @@
+use Rattle.cell_core_devices.proofs.BlockLemmas.{appends_then}
+use Rattle.rcell_plan_response.proofs.plan_frames.push_plan.Goals as goal
+
+pub returns : goal.returns
+returns g c =
+    appends_then (appends_then c.push_plan_head.ensures (rw c.in_order.ensures at c.push_reads.ensures))
+    (rw c.in_order-2.ensures at c.push_needs.ensures)

@@ -1,0 +1,8 @@
+use Rattle.cell_core_devices.proofs.BlockLemmas.{appends_then}
+use Rattle.rcell_plan_response.proofs.plan_frames.push_plan_head.Goals as goal
+
+pub returns : goal.returns
+returns g c =
+    appends_then c.push.ensures
+    (appends_then c.push_number.ensures
+    (appends_then c.push-2.ensures (rw c.made_name.ensures at c.push_text.ensures)))

@@ -1,0 +1,28 @@
+use Rattle.std.proofs.Common.{◌∙◌, [], Some, None, ap, refl}
+use Rattle.rcell_plan.specs.Plans.{plans_of, given_needs}
+use Rattle.rcell_pipe_response.specs.declared.end.PipeError.TheVariants as errors
+use Rattle.rcell_pipe_response.specs.RunEnds.{memory_end, end_value}
+use Rattle.rcell_pipe_response.proofs.EndLemmas.{finished_frames}
+use Rattle.rcell_plan_response.specs.PlanEnds.{IsPlanResponse}
+use Rattle.rcell_plan_response.proofs.PlanEndLemmas.{ends_as, finished_plan}
+use Rattle.rcell_plan_response.proofs.plan_response.plan_statements.Goals as goal
+
+pub returns-in_default : goal.returns-in_default
+returns-in_default g c = λ read accepted.
+    ends_as (IsPlanResponse read) (Some errors.Memory) refl (λ write. cc)
+    (finished_frames [] (end_value c.memory_end.result) (memory_end 0) c.memory_end.ensures c.reject.ensures)
+
+pub returns-in_default-all_names : goal.returns-in_default-all_names
+returns-in_default-all_names g c = λ read accepted.
+    ends_as (IsPlanResponse read) (Some errors.Memory) refl (λ write. cc)
+    (finished_frames [] (end_value c.memory_end-in_default-all_names.result) (memory_end 0)
+    c.memory_end-in_default-all_names.ensures c.reject-in_default-all_names.ensures)
+
+pub returns : goal.returns
+returns g c = λ read accepted.
+    let statements = c.args.statements.now in
+    ends_as (IsPlanResponse read) None
+    (record { names = c.args.names; statements = statements; accepted = accepted; bytes = refl }) (λ write. cc)
+    (finished_plan c.args.names _ statements _ c.in-Ok-all_names.ensures
+    (c.as_slice.ensures.value ∙ c.in-Ok.ensures ∙ ap (λ n. plans_of (given_needs n) statements) c.len.ensures.count)
+    c.write_plans.ensures)

@@ -1,0 +1,24 @@
+use Rattle.std.proofs.Common.{◌≡◌, Ok, Some, ap, true}
+use Rattle.cell_core_text.specs.Answers.{◌>>=◌}
+use Rattle.rcell_pipe_request.specs.Feeds.{left}
+use Rattle.rcell_plan_response.specs.PlanRequests.{plan_at, plan_request_value}
+use Rattle.rcell_plan_response.specs.PlanEnds.{IsPlanResponse}
+use Rattle.rcell_plan_response.specs.Responses.{plan_request_of}
+use Rattle.rcell_plan_response.specs.parts.RequestStops.{error_of_stop}
+use Rattle.rcell_plan_response.proofs.PlanEndLemmas.{ends_as, ends_more, stop_fine, stopped_plan}
+use Rattle.rcell_plan_response.proofs.responding.respond_to_plan.Goals as goal
+
+pub returns-in-Ok : goal.returns-in-Ok
+returns-in-Ok g c =
+    ends_more (IsPlanResponse (Ok (plan_request_value c.in-Ok.request)))
+    (λ response error. c.args.feed.now.known ≡ true → IsPlanResponse
+    (plan_request_of (left c.args.feed.now)) response error)
+    (λ response error is known. rw (c.in-Ok.ensures.1 known) is) _ _ _ _ _ c.plan_request.ensures
+
+pub returns-in-Err : goal.returns-in-Err
+returns-in-Err g c =
+    ends_as (λ response error. c.args.feed.now.known ≡ true
+    → IsPlanResponse (plan_request_of (left c.args.feed.now)) response error) (Some (error_of_stop c.in-Err.stop))
+    (λ known. stopped_plan (plan_at (left c.args.feed.now)) c.in-Err.stop c.args.feed.now.known c.in-Err.ensures
+    known (plan_request_of (left c.args.feed.now)) (λ error is. ap (λ r. r >>= λ plan. Ok plan.0) is))
+    (stop_fine c.in-Err.stop) c.reject_stop.ensures

@@ -1,0 +1,7 @@
+-- Plan requests, their responses, and responses to requests of either form.
+pub mod PlanRequests
+pub mod PlanFrames
+pub mod PlanEnds
+pub mod Written
+pub mod Responses
+pub mod parts

@@ -1,0 +1,47 @@
+-- What is written in response to a plan request (profile).
+use Rattle.std.specs.Prelude.{ℕ, ◌≡◌, List, [], Option, Some, None, Result, Ok, Err}
+use Rattle.rcell_script.specs.Scripts.{IsScript}
+use Rattle.rcell_script.specs.ReadScripts.{IsScriptFault}
+use Rattle.rcell_script.specs.declared.statement.Statement.{Statement}
+use Rattle.rcell_script_commands.specs.declared.script_fault.ScriptFault.{ScriptFault}
+use Rattle.rcell_pipe_request.specs.declared.error.RequestError.{RequestError}
+use Rattle.rcell_pipe_response.specs.declared.end.PipeError.{PipeError}
+use Rattle.rcell_pipe_response.specs.declared.end.PipeError.TheVariants as errors
+use Rattle.rcell_pipe_response.specs.FrameBytes.{response_bytes}
+use Rattle.rcell_pipe_response.specs.RunEnds.{request_end, script_end, memory_end}
+use Rattle.rcell_plan_response.specs.PlanRequests.{PlanRequestValue}
+use Rattle.rcell_plan_response.specs.PlanFrames.{plan_response}
+
+-- the bytes are a plan request, and its script denotes statements over its names
+pub record IsPlanAccepted (read : Result PlanRequestValue RequestError) (names : List (List ℕ))
+    (statements : List Statement) : Type 0 where
+  pub script : List ℕ
+  pub request : read ≡ Ok (record { names = names; script = script })
+  pub denoted : IsScript names script statements
+
+-- the plan of each statement, and the end
+pub record IsPlanDone (read : Result PlanRequestValue RequestError) (response : List ℕ) : Type 0 where
+  pub names : List (List ℕ)
+  pub statements : List Statement
+  pub accepted : IsPlanAccepted read names statements
+  pub bytes : response ≡ plan_response names statements
+
+-- the script is rejected for its first error: no frame but the end, with some text of the error
+pub record IsPlanRejected (read : Result PlanRequestValue RequestError) (response : List ℕ)
+    (error : ScriptFault) : Type 0 where
+  pub names : List (List ℕ)
+  pub script : List ℕ
+  pub request : read ≡ Ok (record { names = names; script = script })
+  pub first : IsScriptFault names script error
+  pub text : List ℕ
+  pub bytes : response ≡ response_bytes [] (script_end error text)
+
+-- the whole response to a plan request, by its error
+abbrev pub IsPlanResponse : Result PlanRequestValue RequestError → List ℕ → Option PipeError → Type 0
+IsPlanResponse read response None = IsPlanDone read response
+IsPlanResponse read response (Some (errors.Request error)) = (read ≡ Err error) ×
+    (response ≡ response_bytes [] (request_end error))
+IsPlanResponse read response (Some (errors.Script error)) = IsPlanRejected read response error
+IsPlanResponse read response (Some errors.Memory) = response ≡ response_bytes [] (memory_end 0)
+IsPlanResponse read response (Some (errors.MemoryAt line)) = ⊥
+IsPlanResponse read response (Some errors.Write) = ⊥

@@ -1,0 +1,59 @@
+-- The frames of a plan, and the response to a plan request (profile).
+use Rattle.std.specs.Prelude.{ℕ, List, [], ◌∷◌, ◌++◌, length, flat_map, slice_get, codes, unwrap_or, Option, Some, None}
+use Rattle.rcell_script.specs.KnownMaps.{known_after}
+use Rattle.rcell_script.specs.declared.statement.Statement.{Statement}
+use Rattle.rcell_pipe_response.specs.FrameBytes.{number_bytes, text_bytes, flag, response_magic, end_bytes}
+use Rattle.rcell_pipe_response.specs.RunEnds.{done_end}
+use Rattle.rcell_plan.specs.declared.needs.Margin.{Margin}
+use Rattle.rcell_plan.specs.declared.needs.Need.{Need}
+use Rattle.rcell_plan.specs.declared.planning.Plan.{Plan}
+use Rattle.rcell_plan.specs.Plans.{plans_of, given_needs}
+
+-- the name of the map at a place, nothing if there is none
+abbrev pub name_of_place : List (List ℕ) → ℕ → List ℕ
+name_of_place names place = unwrap_or (slice_get names place) []
+
+-- the name of the map that a statement makes, nothing if it makes none
+abbrev pub made_name : List (List ℕ) → Option ℕ → List ℕ
+made_name names None = []
+made_name names (Some place) = name_of_place names place
+
+-- rows above and below, columns to the left and to the right
+abbrev pub margin_bytes : Margin → List ℕ
+margin_bytes m = number_bytes m.up ++ number_bytes m.down ++ number_bytes m.left ++ number_bytes m.right
+
+-- a map that is read: its name, and how far
+abbrev pub read_bytes : List (List ℕ) → Need → List ℕ
+read_bytes names n = text_bytes (name_of_place names n.place) ++ margin_bytes n.margin
+
+-- a map that is needed: its name, how far, and 1 if the whole map is needed
+abbrev pub need_bytes : List (List ℕ) → Need → List ℕ
+need_bytes names n = read_bytes names n ++ flag n.whole ∷ []
+
+-- how many there are, and each of them
+abbrev pub reads_bytes : List (List ℕ) → List Need → List ℕ
+reads_bytes names reads = number_bytes (length reads) ++ flat_map (read_bytes names) reads
+
+abbrev pub needs_bytes : List (List ℕ) → List Need → List ℕ
+needs_bytes names needs = number_bytes (length needs) ++ flat_map (need_bytes names) needs
+
+-- what the frame of a statement begins with: its line, its command, its flags, and the map that it makes
+abbrev pub plan_head : List (List ℕ) → Plan → List ℕ
+plan_head names p =
+    codes "PLAN" ++ number_bytes p.line ++ (p.code ∷ p.flags ∷ []) ++ text_bytes (made_name names p.made)
+
+-- the frame of a statement, over the names of all maps
+abbrev pub plan_bytes : List (List ℕ) → Plan → List ℕ
+plan_bytes names p = plan_head names p ++ reads_bytes names p.reads ++ needs_bytes names p.needs
+
+-- the names of all maps: of those that are given, and of those that statements make
+abbrev pub all_names : List (List ℕ) → List Statement → List (List ℕ)
+all_names names [] = names
+all_names names (s ∷ ss) = all_names (known_after names s.command) ss
+
+-- the response to a plan request whose script denotes the statements
+abbrev pub plan_response : List (List ℕ) → List Statement → List ℕ
+plan_response names statements =
+    response_magic ++ flat_map (plan_bytes (all_names names statements))
+    (plans_of (given_needs (length names)) statements)
+    ++ end_bytes done_end

@@ -1,0 +1,50 @@
+-- What is written in response to a request of either form (profile).
+use Rattle.std.specs.Prelude.{ℕ, List, Option, Some, None, Result, Ok, Err, if◌then◌else◌, codes, bytes_eq}
+use Rattle.cell_core_devices.specs.Device.{Coming}
+use Rattle.cell_core_text.specs.Answers.{◌>>=◌}
+use Rattle.cell_core.specs.Shelf.{ShelfValue}
+use Rattle.rcell_script.specs.declared.statement.Statement.{Statement}
+use Rattle.rcell_pipe_request.specs.declared.error.ErrorKind.TheVariants as kinds
+use Rattle.rcell_pipe_request.specs.declared.error.RequestError.{RequestError}
+use Rattle.rcell_pipe_request.specs.RequestFields.{FieldReading, bytes_at}
+use Rattle.rcell_pipe_request.specs.Heads.{wanted}
+use Rattle.rcell_pipe_request.specs.Requests.{RunRequestValue, run_at}
+use Rattle.rcell_pipe_response.specs.declared.end.PipeError.{PipeError}
+use Rattle.rcell_pipe_response.specs.RunEnds.{IsResponse, IsPipeAccepted}
+use Rattle.rcell_plan_response.specs.declared.responding.RequestForm.{RequestForm}
+use Rattle.rcell_plan_response.specs.declared.responding.RequestForm.TheVariants.{Run, Plan}
+use Rattle.rcell_plan_response.specs.PlanRequests.{PlanRequestValue, plan_at}
+use Rattle.rcell_plan_response.specs.PlanEnds.{IsPlanResponse, IsPlanAccepted}
+
+-- the form of a request, by its first eight bytes
+abbrev pub form_of : List ℕ → Option RequestForm
+form_of magic = if bytes_eq magic (codes "RCELLQ1\n") then Some Run else
+    (if bytes_eq magic (codes "RCELLP1\n") then Some Plan else None)
+
+-- the first eight bytes
+unfoldable pub form_at : Coming → FieldReading RequestForm
+form_at c = do
+  magic ← bytes_at 8 c
+  wanted kinds.BadMagic magic.1 (form_of magic.0)
+
+-- the maps and the script of a run, or the first error
+abbrev pub run_request_of : Coming → Result RunRequestValue RequestError
+run_request_of c = run_at c >>= λ run. Ok run.0
+
+-- the names and the script of a plan, or the first error
+abbrev pub plan_request_of : Coming → Result PlanRequestValue RequestError
+plan_request_of c = plan_at c >>= λ plan. Ok plan.0
+
+-- the whole response to a request, by its form and by the error
+abbrev pub IsResponseTo : FieldReading RequestForm → List ℕ → Option PipeError → Type 0
+IsResponseTo (Err kind) response error = IsResponse (Err (record { kind = kind; maps = 0; row = 0 })) response error
+IsResponseTo (Ok (Run, rest)) response error = IsResponse (run_request_of rest) response error
+IsResponseTo (Ok (Plan, rest)) response error = IsPlanResponse (plan_request_of rest) response error
+
+-- the bytes are a request, and its script denotes statements
+abbrev pub IsRequestAccepted : FieldReading RequestForm → Type 0
+IsRequestAccepted (Err kind) = ⊥
+IsRequestAccepted (Ok (Run, rest)) = (shelf : ShelfValue) ×
+    ((statements : List Statement) × IsPipeAccepted (run_request_of rest) shelf statements)
+IsRequestAccepted (Ok (Plan, rest)) = (names : List (List ℕ)) ×
+    ((statements : List Statement) × IsPlanAccepted (plan_request_of rest) names statements)

@@ -1,0 +1,16 @@
+-- How a request is rejected that was not read.
+use Rattle.rcell_pipe_request.specs.declared.error.RequestStop.{RequestStop}
+use Rattle.rcell_pipe_request.specs.declared.error.RequestStop.TheVariants.{Memory, Error}
+use Rattle.rcell_pipe_response.specs.declared.end.PipeError.{PipeError}
+use Rattle.rcell_pipe_response.specs.declared.end.PipeError.TheVariants as errors
+use Rattle.rcell_pipe_response.specs.FrameBytes.{EndValue}
+use Rattle.rcell_pipe_response.specs.RunEnds.{request_end, memory_end}
+
+-- the error of a stop, and the last frame
+abbrev pub error_of_stop : RequestStop → PipeError
+error_of_stop Memory = errors.Memory
+error_of_stop (Error error) = errors.Request error
+
+abbrev pub end_of_stop : RequestStop → EndValue
+end_of_stop Memory = memory_end 0
+end_of_stop (Error error) = request_end error

@@ -1,0 +1,8 @@
+//! Responses to plan requests, and to requests of either form.
+#![tactic(auto)]
+
+mod made_names;
+mod plan_frames;
+pub mod plan_request;
+pub mod plan_response;
+pub mod responding;

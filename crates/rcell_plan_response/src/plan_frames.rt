@@ -1,0 +1,135 @@
+//! The frames of a plan as bytes.
+
+ghost use Rattle.std.specs.Prelude.{◌≡◌, flat_map};
+ghost use Rattle.cell_core_devices.specs.Blocks.{Appends};
+ghost use Rattle.rcell_pipe_response.specs.FrameBytes.{flag};
+ghost use Rattle.rcell_plan_response.specs.PlanFrames.{name_of_place, made_name, margin_bytes, read_bytes, need_bytes, reads_bytes, needs_bytes, plan_head, plan_bytes};
+
+use cell_core::block::OutputBlock;
+use cell_core::name::Names;
+use cell_core::sink::Sink;
+use rcell_pipe_response::bytes::{push_number, push_text};
+use rcell_plan::needs::{Margin, Need};
+use rcell_plan::planning::Plan;
+
+fn name_of_place<'a>(names: &'a Names, place: usize) -> &'a [u8]
+    ensures { result.now ≡ name_of_place names.now place }
+{
+    if place < names.len() {
+        names.name(place).bytes()
+    } else {
+        b""
+    }
+}
+
+fn made_name<'a>(names: &'a Names, made: Option<usize>) -> &'a [u8]
+    ensures { result.now ≡ made_name names.now made }
+{
+    match made {
+        Some(place) => name_of_place(names, place),
+        None => b"",
+    }
+}
+
+fn flag(is: bool) -> u8
+    ensures { result ≡ flag is }
+{
+    if is { 1 } else { 0 }
+}
+
+fn push_margin<W: Sink>(out: &mut W, block: &mut OutputBlock, margin: Margin)
+    ensures { Appends W.taken W.faults out.old block.old (margin_bytes margin) out.new block.new }
+{
+    push_number(out, block, margin.up);
+    push_number(out, block, margin.down);
+    push_number(out, block, margin.left);
+    push_number(out, block, margin.right);
+}
+
+// A map that is read.
+fn push_read<W: Sink>(out: &mut W, block: &mut OutputBlock, names: &Names, need: Need)
+    ensures { Appends W.taken W.faults out.old block.old (read_bytes names.now need)
+        out.new block.new }
+{
+    push_text(out, block, name_of_place(names, need.place));
+    push_margin(out, block, need.margin);
+}
+
+// A map that is needed.
+fn push_need<W: Sink>(out: &mut W, block: &mut OutputBlock, names: &Names, need: Need)
+    ensures { Appends W.taken W.faults out.old block.old (need_bytes names.now need)
+        out.new block.new }
+{
+    push_read(out, block, names, need);
+    block.push(out, &[flag(need.whole)]);
+}
+
+fn push_each_read<W: Sink>(out: &mut W, block: &mut OutputBlock, names: &Names, reads: &[Need])
+    ensures { Appends W.taken W.faults out.old block.old
+        (flat_map (read_bytes names.now) reads.now) out.new block.new }
+{
+    for read in reads {
+        push_read(out, block, names, *read);
+    }
+}
+
+fn push_each_need<W: Sink>(out: &mut W, block: &mut OutputBlock, names: &Names, needs: &[Need])
+    ensures { Appends W.taken W.faults out.old block.old
+        (flat_map (need_bytes names.now) needs.now) out.new block.new }
+{
+    for need in needs {
+        push_need(out, block, names, *need);
+    }
+}
+
+fn push_reads<W: Sink>(out: &mut W, block: &mut OutputBlock, names: &Names, reads: &[Need])
+    ensures { Appends W.taken W.faults out.old block.old (reads_bytes names.now reads.now)
+        out.new block.new }
+{
+    push_number(out, block, reads.len() as u64);
+    push_each_read(out, block, names, reads);
+}
+
+fn push_needs<W: Sink>(out: &mut W, block: &mut OutputBlock, names: &Names, needs: &[Need])
+    ensures { Appends W.taken W.faults out.old block.old (needs_bytes names.now needs.now)
+        out.new block.new }
+{
+    push_number(out, block, needs.len() as u64);
+    push_each_need(out, block, names, needs);
+}
+
+// What the frame of a statement begins with.
+fn push_plan_head<W: Sink>(out: &mut W, block: &mut OutputBlock, names: &Names, plan: &Plan)
+    ensures { Appends W.taken W.faults out.old block.old (plan_head names.now plan.now)
+        out.new block.new }
+{
+    block.push(out, b"PLAN");
+    push_number(out, block, plan.line);
+    block.push(out, &[plan.code, plan.flags]);
+    push_text(out, block, made_name(names, plan.made));
+}
+
+// The frame of a statement.
+fn push_plan<W: Sink>(out: &mut W, block: &mut OutputBlock, names: &Names, plan: &Plan)
+    ensures { Appends W.taken W.faults out.old block.old (plan_bytes names.now plan.now)
+        out.new block.new }
+{
+    push_plan_head(out, block, names, plan);
+    push_reads(out, block, names, plan.reads.in_order());
+    push_needs(out, block, names, plan.needs.in_order());
+}
+
+/// The frames of statements, over the names of all maps.
+pub(crate) fn push_plans<W: Sink>(
+    out: &mut W,
+    block: &mut OutputBlock,
+    names: &Names,
+    plans: &[Plan],
+)
+    ensures { Appends W.taken W.faults out.old block.old
+        (flat_map (plan_bytes names.now) plans.now) out.new block.new }
+{
+    for plan in plans {
+        push_plan(out, block, names, plan);
+    }
+}

@@ -1,0 +1,73 @@
+//! The response to a plan request.
+
+ghost use Rattle.std.specs.Prelude.{◌++◌, None, Ok, Result, flat_map};
+ghost use Rattle.rcell_script.specs.FittingScripts.{Fits};
+ghost use Rattle.rcell_pipe_response.specs.FrameBytes.{response_magic, end_bytes};
+ghost use Rattle.rcell_pipe_response.specs.RunEnds.{done_end};
+ghost use Rattle.rcell_pipe_response.specs.Endings.{Finished};
+ghost use Rattle.rcell_pipe_request.specs.declared.error.RequestError.{RequestError};
+ghost use Rattle.rcell_plan_response.specs.PlanRequests.{PlanRequestValue, plan_request_value};
+ghost use Rattle.rcell_plan_response.specs.PlanFrames.{plan_bytes};
+ghost use Rattle.rcell_plan_response.specs.PlanEnds.{IsPlanAccepted, IsPlanResponse};
+ghost use Rattle.rcell_plan_response.specs.Written.{EndsAs};
+
+use crate::made_names::all_names;
+use crate::plan_frames::push_plans;
+use crate::plan_request::PlanRequest;
+use cell_core::name::Names;
+use cell_core::sink::Sink;
+use rcell_pipe_response::end::{PipeError, done_end, memory_end};
+use rcell_pipe_response::running::{PipeOutcome, begin, end_run, reject, reject_script};
+use rcell_plan::planning::{Plan, plans_of};
+use rcell_script::script_fault::ScriptKind;
+use rcell_script::script_parsing::parse_script;
+use rcell_script::statement::Statement;
+use std::alloc::Global;
+
+// Writes the plans of statements, over the names of all maps.
+fn write_plans<W: Sink>(out: &mut W, names: &Names, plans: &[Plan]) -> PipeOutcome
+    ensures { Finished (W.taken out.old) (W.faults out.old) (W.taken out.new) (W.faults out.new)
+        None (response_magic ++ flat_map (plan_bytes names.now) plans.now
+        ++ end_bytes done_end) result }
+{
+    let mut block = begin(out);
+    push_plans(out, &mut block, names, plans);
+    end_run(out, block, None, &done_end())
+}
+
+// Responds with the plans of statements. It has all that it needs of memory before the first byte.
+fn plan_statements<W: Sink>(
+    alloc: Global,
+    names: Names,
+    statements: &[Statement],
+    out: &mut W,
+) -> PipeOutcome
+    requires { Fits names statements.now }
+    ensures { (read : Result PlanRequestValue RequestError)
+        → IsPlanAccepted read names statements.now
+        → EndsAs (IsPlanResponse read) (W.taken out.old) (W.faults out.old) (W.taken out.new)
+        (W.faults out.new) result }
+{
+    let Ok(plans) = plans_of(alloc, names.len(), statements) else {
+        return reject(out, PipeError::Memory, &memory_end(0));
+    };
+    let Ok(all) = all_names(alloc, names, statements) else {
+        return reject(out, PipeError::Memory, &memory_end(0));
+    };
+    write_plans(out, &all, plans.as_slice())
+}
+
+/// Responds to a plan request: with the plan of each statement, or with the first error of the script.
+pub fn plan_request<W: Sink>(alloc: Global, request: PlanRequest, out: &mut W) -> PipeOutcome
+    ensures { EndsAs (IsPlanResponse (Ok (plan_request_value request))) (W.taken out.old)
+        (W.faults out.old) (W.taken out.new) (W.faults out.new) result }
+{
+    let PlanRequest { names, script } = request;
+    match parse_script(alloc, &script, &names) {
+        Ok(parsed) => plan_statements(alloc, names, parsed.statements(), out),
+        Err(error) => match error.kind {
+            ScriptKind::Memory => reject(out, PipeError::Memory, &memory_end(0)),
+            _ => reject_script(alloc, out, error),
+        },
+    }
+}

@@ -1,0 +1,155 @@
+//! Responses to requests, from bytes to bytes.
+
+ghost use Rattle.std.specs.Prelude.{◌≡◌, ◌≢◌, [], true, false, Some, Ok, IfSome, bytes_eq, codes};
+ghost use Rattle.std.specs.Option.{IsNone};
+ghost use Rattle.cell_core_devices.specs.Device.{has_failed, after_flush};
+ghost use Rattle.rcell_pipe_request.specs.Feeds.{left, ReadsField};
+ghost use Rattle.rcell_pipe_response.specs.FrameBytes.{response_bytes};
+ghost use Rattle.rcell_pipe_response.specs.RunEnds.{status_after, IsResponse};
+ghost use Rattle.rcell_pipe_response.specs.Endings.{Finished};
+ghost use Rattle.rcell_plan_response.specs.PlanEnds.{IsPlanResponse};
+ghost use Rattle.rcell_plan_response.specs.Written.{HasResponded, EndsAs};
+ghost use Rattle.rcell_plan_response.specs.Responses.{form_of, form_at, run_request_of, plan_request_of, IsResponseTo, IsRequestAccepted};
+ghost use Rattle.rcell_plan_response.specs.parts.RequestStops.{error_of_stop, end_of_stop};
+
+use crate::plan_request::read_plan;
+use crate::plan_response::plan_request;
+use cell_core::sink::Sink;
+use cell_core::source::Source;
+use rcell_pipe_request::error::{ErrorKind, FieldStop, RequestStop};
+use rcell_pipe_request::feed::{Feed, read_into};
+use rcell_pipe_request::request::read_run;
+use rcell_pipe_response::end::{PipeError, memory_end, request_end};
+use rcell_pipe_response::running::{PipeOutcome, reject, run_request};
+use rcell_script::law::no_fault_of_a_script;
+use std::alloc::Global;
+
+/// What a request asks for.
+#[derive(Clone, Copy, Debug, PartialEq, Eq)]
+pub enum RequestForm {
+    /// To run a script over maps.
+    Run,
+    /// To say what the statements of a script read, make and write.
+    Plan,
+}
+
+fn is_run(magic: &[u8]) -> bool
+    ensures { result ≡ bytes_eq magic.now (codes "RCELLQ1\n") }
+{
+    magic == b"RCELLQ1\n".as_slice()
+}
+
+fn is_plan(magic: &[u8]) -> bool
+    ensures { result ≡ bytes_eq magic.now (codes "RCELLP1\n") }
+{
+    magic == b"RCELLP1\n".as_slice()
+}
+
+fn form_of(magic: &[u8]) -> Option<RequestForm>
+    ensures { result ≡ form_of magic.now }
+{
+    if is_run(magic) {
+        return Some(RequestForm::Run);
+    }
+    if is_plan(magic) {
+        return Some(RequestForm::Plan);
+    }
+    None
+}
+
+// The first eight bytes.
+#[tactic(auto, unfolding(crate::specs::Responses::form_at))]
+fn read_form<R: Source>(feed: &mut Feed<R>) -> Result<RequestForm, FieldStop>
+    ensures { ReadsField (λ form. form) feed.old result feed.new form_at }
+{
+    let mut magic = [0u8; 8];
+    read_into(feed, &mut magic)?;
+    match form_of(&magic) {
+        Some(form) => Ok(form),
+        None => Err(FieldStop::Error(ErrorKind::BadMagic)),
+    }
+}
+
+// Rejects a request that was not read.
+fn reject_stop<W: Sink>(out: &mut W, stop: RequestStop) -> PipeOutcome
+    ensures { Finished (W.taken out.old) (W.faults out.old) (W.taken out.new) (W.faults out.new)
+        (Some (error_of_stop stop)) (response_bytes [] (end_of_stop stop)) result }
+{
+    match stop {
+        RequestStop::Error(error) => reject(out, PipeError::Request(error), &request_end(error)),
+        RequestStop::Memory => reject(out, PipeError::Memory, &memory_end(0)),
+    }
+}
+
+// Reads what follows the first eight bytes of a run, and responds to it.
+fn respond_to_run<R: Source, W: Sink>(alloc: Global, feed: &mut Feed<R>, out: &mut W) -> PipeOutcome
+    ensures { EndsAs
+        (λ response error. feed.old.known ≡ true
+        → IsResponse (run_request_of (left feed.old)) response error)
+        (W.taken out.old) (W.faults out.old) (W.taken out.new) (W.faults out.new) result }
+{
+    match read_run(alloc, feed) {
+        Ok(request) => run_request(alloc, request, out),
+        Err(stop) => reject_stop(out, stop),
+    }
+}
+
+// Reads what follows the first eight bytes of a plan, and responds to it.
+fn respond_to_plan<R: Source, W: Sink>(
+    alloc: Global,
+    feed: &mut Feed<R>,
+    out: &mut W,
+) -> PipeOutcome
+    ensures { EndsAs
+        (λ response error. feed.old.known ≡ true
+        → IsPlanResponse (plan_request_of (left feed.old)) response error)
+        (W.taken out.old) (W.faults out.old) (W.taken out.new) (W.faults out.new) result }
+{
+    match read_plan(alloc, feed) {
+        Ok(request) => plan_request(alloc, request, out),
+        Err(stop) => reject_stop(out, stop),
+    }
+}
+
+// Reads a request of either form, and responds to it.
+fn respond_to<R: Source, W: Sink>(alloc: Global, feed: &mut Feed<R>, out: &mut W) -> PipeOutcome
+    ensures { EndsAs
+        (λ response error. feed.old.known ≡ true
+        → IsResponseTo (form_at (left feed.old)) response error)
+        (W.taken out.old) (W.faults out.old) (W.taken out.new) (W.faults out.new) result }
+{
+    match read_form(feed) {
+        Ok(form) => match form {
+            RequestForm::Run => respond_to_run(alloc, feed, out),
+            RequestForm::Plan => respond_to_plan(alloc, feed, out),
+        },
+        Err(stop) => reject_stop(out, stop.at(0, 0)),
+    }
+}
+
+/// Reads a request, runs or plans its script, and writes the response.
+///
+/// The request is read whole before the first statement is executed. Each statement of a run has all that it needs of memory
+/// before its first byte is written, and a plan before the first byte of its response.
+pub fn respond<R: Source + Drop, W: Sink>(alloc: Global, source: R, out: &mut W) -> PipeOutcome
+    // The error says what has been written. Without one: the frames of the statements, or their plans, and the end.
+    // Otherwise: the end with the first error of the request or of its script, after the frames of the statements before
+    // memory ran out. If a write failed: the first bytes of such a response.
+    ensures end { IfSome (R.coming source) (λ c. HasResponded (IsResponseTo (form_at c))
+        (W.taken out.old) (W.taken out.new) result.error) }
+    ensures status { result.status ≡ status_after result.error }
+    // Write comes only if the sink failed; otherwise it did not fail and was flushed once.
+    ensures write { result.error ≡ Some PipeError.Write → has_failed (W.faults out.new) ≡ true }
+    ensures flushed { result.error ≢ Some PipeError.Write
+        → W.faults out.new ≡ after_flush (W.faults out.old) false }
+    // If the script of a request is accepted, memory lasts and the sink takes everything, all is done.
+    ensures complete { IfSome (R.coming source)
+        (λ c. IsRequestAccepted (form_at c) → result.status ≢ 3
+        → has_failed (W.faults out.new) ≡ false → IsNone result.error) }
+{
+    no_fault_of_a_script();
+    match Feed::new(alloc, source) {
+        Ok(mut feed) => respond_to(alloc, &mut feed, out),
+        Err(_) => reject(out, PipeError::Memory, &memory_end(0)),
+    }
+}
