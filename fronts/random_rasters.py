@@ -31,7 +31,7 @@ from run import MISSING, PACKAGES, REPOSITORY, environment
 HERE = pathlib.Path(__file__).resolve().parent
 FRONTS = ("python", "shell", "r", "qgis", "grass")
 GROUP = 16
-SHORT = 800  # rasters of the gate
+SHORT = 400  # rasters of the gate
 LARGE = 100_000  # cells
 PROGRESS = 5000
 MOST_CATEGORY = 2147483647
@@ -41,7 +41,7 @@ TYPES = {
     gdal.GDT_Byte: np.uint8, gdal.GDT_UInt16: np.uint16, gdal.GDT_Int16: np.int16, gdal.GDT_UInt32: np.uint32, gdal.GDT_Int32: np.int32,
     gdal.GDT_Float32: np.float32, gdal.GDT_Float64: np.float64, gdal.GDT_Int64: np.int64, gdal.GDT_UInt64: np.uint64,
 }
-SYSTEMS = (0, 4326, 25832, 32632, 2263, 31467)
+SYSTEMS = (0, 4326, 25832, 32632, 2263, 31467, 9707)
 BLOCKS: tuple[list[str], ...] = (["TILED=YES", "BLOCKXSIZE=16", "BLOCKYSIZE=16"], ["BLOCKYSIZE=1"], ["BLOCKYSIZE=5"], [])
 NAMES = ["", "water", "a b", "", "Wald", "5"]
 REFUSED_SYSTEM = "reference system|CRS"

@@ -193,7 +193,7 @@ def tried(name, count, seed, fault_of):
         if fault:
             failed += 1
             print(f"{name} {at}: {fault[:600]}", flush=True)
-        if (at + 1) % PROGRESS == 0:
+        if (at + 1) % PROGRESS == 0 and at + 1 < count:
             print(f"{name}: {at + 1 - failed} of {at + 1}, seed {seed}", flush=True)
     print(f"{name}: {count - failed} of {count}, seed {seed}", flush=True)
     return count - failed, failed
