@@ -67,6 +67,25 @@ def test_nodata_of_a_data_array() -> None:
     assert "a nodata value that is no number: 'x'" in str(refusal(data_array(values=values, attrs={"_FillValue": "x"})))
 
 
+def test_nodata_of_what_was_scaled_is_no_longer_nodata() -> None:
+    decoded = data_array(values=np.array([[100.0, 2.0, np.nan]]))
+    for scaled in ({"add_offset": 200.0}, {"scale_factor": 2}):
+        decoded.encoding = {"_FillValue": 100, **scaled}
+        assert cells(decoded) == [[100, 2, None]]
+    decoded.encoding = {"_FillValue": 100, "scale_factor": 1.0, "add_offset": 0.0}
+    assert cells(decoded) == [[None, 2, None]]
+
+
+@pytest.mark.parametrize("told, found", [("float64", "int32"), ("uint16", "int16"), ("int8", "uint8"), ("int32", "uint32"), ("int32", "float32"), ("uint8", "int64")])
+def test_cells_of_another_type_than_dask_was_told_are_refused(told: str, found: str) -> None:
+    dask = pytest.importorskip("dask.array")
+    given = dask.zeros((4, 3), chunks=(2, 3), dtype="uint8").map_blocks(lambda part: part.astype(found), dtype=told)
+    text = f"m: its cells are of the type {found}, and Dask was told {told}: state it, as in map_blocks(.., dtype='{found}')"
+    assert str(refusal(data_array(values=given, attrs={"_FillValue": 0}))) == text
+    turned = dask.zeros((2, 3), chunks=(2, 3), dtype="uint8").map_blocks(lambda part: part.reshape(3, 2), dtype="uint8")
+    assert "a part of 2 x 3 cells has the shape (3, 2)" in str(refusal(data_array(values=turned)))
+
+
 def test_a_scaled_data_array_is_refused() -> None:
     told = str(refusal(data_array(attrs={"scale_factor": 0.5})))
     assert told == "m: its values are scaled: each cell times 0.5, plus 0; write them out as whole numbers first"
@@ -81,6 +100,13 @@ def test_arrays_of_other_kinds() -> None:
     dask = pytest.importorskip("dask.array")
     assert cells(dask.from_array(LAND, chunks=2)) == LAND.tolist()
     assert "several variables: give it alone, or one of them, as dataset['lc']" in str(refusal(xarray.Dataset({"lc": data_array()})))
+
+
+def test_types_and_nodata_at_their_ends() -> None:
+    assert cells(np.array([[1, 2**31 - 1]], ">u8")) == [[1, 2**31 - 1]]
+    assert cells(rcell.Map(np.array([[1, 2**64 - 1]], ">u8"), nodata=2**64 - 1)) == [[1, None]]
+    assert cells(rcell.Map(np.array([[1, 2]], np.int64), nodata=np.float64(2.0**63))) == [[1, 2]]
+    assert "row 1, column 2 is inf" in str(refusal(rcell.Map(np.array([[1, np.inf]], np.float32), nodata=1e300)))
 
 
 # Rasters

@@ -22,7 +22,7 @@ from ._masked import data_of, is_masked_array, mask_of
 from ._region import Region, Shift, Transform, six_numbers
 from ._script import check_names
 
-__all__ = ["MAX_CATEGORY", "Aligned", "ArrayMap", "Block", "Cells", "Map", "Mask", "Source", "check_array", "checked", "is_converted", "nodata_of", "type_of"]
+__all__ = ["MAX_CATEGORY", "Aligned", "ArrayMap", "Block", "Cells", "Map", "Mask", "Source", "check_array", "check_computed", "checked", "is_converted", "nodata_of", "type_of"]
 
 MAX_CATEGORY = 2_147_483_647
 # Cells of a block, about: large enough that a block costs more than its call, small enough for the cache of a processor.
@@ -93,7 +93,7 @@ class Source(Protocol):
 
 def is_converted(dtype: np.dtype[Any]) -> bool:
     """Return whether cells of a type become int32, with -2147483648 for null: floats and uint64. The program takes all others as they are."""
-    return dtype.kind == "f" or dtype == np.uint64
+    return dtype.kind == "f" or (dtype.kind == "u" and dtype.itemsize == 8)
 
 
 def type_of(dtype: np.dtype[Any]) -> np.dtype[Any]:
@@ -120,7 +120,24 @@ def nodata_of(dtype: np.dtype[Any], value: float | None) -> int | None:
     if value is None or not float(value).is_integer():
         return None
     limits = np.iinfo(type_of(dtype))
-    return int(value) if limits.min <= value <= limits.max else None
+    return int(value) if limits.min <= int(value) <= limits.max else None
+
+
+def check_computed(name: str, cells: Cells, dtype: np.dtype[Any], shape: tuple[int, ...]) -> None:
+    """Refuse cells that Dask has computed in another type or shape than it announced, in which they would be other numbers.
+
+    Examples
+    --------
+    >>> check_computed("m", np.array([[-1]], np.int16), np.dtype(np.uint16), (1, 1))
+    Traceback (most recent call last):
+      ...
+    rcell.BadMap: m: its cells are of the type int16, and Dask was told uint16: state it, as in map_blocks(.., dtype='int16')
+    """
+    if (is_converted(cells.dtype), type_of(cells.dtype)) != (is_converted(dtype), type_of(dtype)):
+        told = f"its cells are of the type {cells.dtype}, and Dask was told {dtype}: state it, as in map_blocks(.., dtype='{cells.dtype}')"
+        raise BadMap(name, told)
+    if cells.shape != shape:
+        raise BadMap(name, f"a part of {' x '.join(map(str, shape))} cells has the shape {cells.shape}: state the chunks, as in map_blocks(.., chunks=..)")
 
 
 def checked(name: str, cells: Cells, null: Mask | None, nodata: float | None, first_row: int = 0, first_col: int = 0) -> Block:
@@ -168,7 +185,9 @@ def _with_nodata(cells: Cells, null: Mask | None, nodata: float | None) -> Mask:
     if nodata is None or math.isnan(nodata):
         return is_null
     if cells.dtype.kind == "f":
-        return np.logical_or(is_null, cells == cells.dtype.type(nodata))
+        with np.errstate(over="ignore"):
+            value = cells.dtype.type(nodata)
+        return np.logical_or(is_null, cells == value) if np.isinf(value) == math.isinf(nodata) else is_null
     limits = np.iinfo(cells.dtype)
     is_value = math.isfinite(nodata) and nodata == int(nodata) and limits.min <= int(nodata) <= limits.max
     return np.logical_or(is_null, cells == cells.dtype.type(int(nodata))) if is_value else is_null  # by whole numbers: floats do not have all of 64 bits

@@ -15,7 +15,7 @@ from ._crs import wkt_of
 from ._errors import BadMap
 from ._labels import flags_of
 from ._libraries import need
-from ._maps import BLOCK_CELLS, Block, check_array, checked, in_region, is_converted, nodata_of, type_of
+from ._maps import BLOCK_CELLS, Block, check_array, check_computed, checked, in_region, is_converted, nodata_of, type_of
 from ._masked import MaskedCells, filled, is_masked_array, unmasked
 from ._region import Region, Transform, six_numbers
 
@@ -63,8 +63,9 @@ class DataArrayMap:
         chunks = self.array.chunks
         step = max(1, BLOCK_CELLS // cols, chunks[0][0] if chunks else 1)
         for row in range(0, rows, step):
-            cells = self.array[row : row + step].data
-            cells, null = unmasked(cells.compute() if is_lazy(self.array) else cells)
+            part = self.array[row : row + step].data
+            cells, null = unmasked(part.compute() if is_lazy(self.array) else part)
+            check_computed(self.name, cells, self.array.dtype, part.shape)
             null = np.zeros(cells.shape, np.bool_) if self.is_masked and null is None else null
             yield checked(self.name, cells, null, self.nodata_value, row)
 
@@ -236,8 +237,9 @@ def _crs_of(array: Any) -> Any:
 
 
 def _nodata_of(name: str, array: Any) -> float | None:
-    """Return the number that is null; NaN is in any case."""
-    told = [np.asarray(of[key]).reshape(-1) for of in (array.attrs, array.encoding)
+    """Return the number that is null; NaN is in any case, and the only one where xarray has scaled the cells."""
+    stored = array.encoding if (array.encoding.get("scale_factor", 1), array.encoding.get("add_offset", 0)) == (1, 0) else {}
+    told = [np.asarray(of[key]).reshape(-1) for of in (array.attrs, stored)
             for key in ("_FillValue", "missing_value", "nodata") if of.get(key) is not None]
     values = [value.item() for values in told for value in values]
     if not all(isinstance(value, numbers.Real) for value in values):

@@ -157,6 +157,14 @@ def test_masked_cells_of_dask_are_null() -> None:
         assert rcell.table("r.mapcalc x = lc[0,1]\nr.stats -c input=x,lc", maps).equals(expected)
 
 
+@pytest.mark.parametrize("told, found", [("float64", "int32"), ("uint8", "int16"), ("int32", "uint32")])
+def test_cells_of_another_type_than_dask_was_told_are_refused(told: str, found: str) -> None:
+    array = array_of(CELLS, (16, 10))
+    array.data = array.data.map_blocks(lambda part: part.astype(found), dtype=told)
+    with pytest.raises(rcell.BadMap, match=f"of the type {found}, and Dask was told {told}"):
+        rcell.tiles.open(lc=array).table("r.mapcalc x = lc[0,1]\nr.stats -c input=x,lc", compute=False).compute(scheduler="sync")
+
+
 def test_a_cell_that_is_none_is_named_by_its_place_in_the_map() -> None:
     cells = CELLS.astype(np.float32)
     cells[37, 21] = 0.5

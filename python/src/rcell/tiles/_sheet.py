@@ -15,7 +15,7 @@ from .._crs import common_crs, wkt_of
 from .._errors import BadMap, OtherRegion
 from .._labels import read_labels
 from .._libraries import need
-from .._maps import ArrayMap, checked, nodata_of
+from .._maps import ArrayMap, check_computed, checked, nodata_of
 from .._masked import unmasked
 from .._rasters import Layer, only_band, open_dataset, told_of_reading, upright
 from .._region import Region, Transform, differences_of, edges_of_transform, units_of
@@ -144,7 +144,9 @@ class MapCells:
 
     def of(self, cells: Any, place: Rectangle) -> ArrayMap:
         """Return the cells of a rectangle as a map of its own, as `MapFile.read` does."""
-        block = checked(self.name, *unmasked(cells), self.nodata, place.top, place.left)
+        cells, null = unmasked(cells)
+        check_computed(self.name, cells, self.dtype, place[2:])
+        block = checked(self.name, cells, null, self.nodata, place.top, place.left)
         return ArrayMap(self.name, block.cells, Region.of_cells(place.rows, place.cols), block.null, nodata_of(self.dtype, self.nodata))
 
 
