@@ -4,6 +4,7 @@ from __future__ import annotations
 
 import os
 import random
+import resource
 import struct
 import subprocess
 import tempfile
@@ -158,6 +159,20 @@ class Answers(Asked):
             with self.assertRaises(KeyError):
                 pipe.run(self.program("exec sleep 60"), [given], b"", watch=watch)
         self.assertLess(time.monotonic(), began + 30)
+
+    def test_a_caller_that_has_many_files_open(self) -> None:
+        limits = resource.getrlimit(resource.RLIMIT_NOFILE)
+        resource.setrlimit(resource.RLIMIT_NOFILE, (min(2_048, limits[1]), limits[1]))
+        held = [os.open("/dev/null", os.O_RDONLY) for _ in range(1_100)]
+        try:
+            large = a_map(rows=3_000, cols=3_000, blocks=[pipe.Block(bytes(9_000_000))])
+            [table] = pipe.run(find_pipe(), [large], b"r.stats -c input=lc\n", watch=lambda: None)
+        finally:
+            for descriptor in held:
+                os.close(descriptor)
+            resource.setrlimit(resource.RLIMIT_NOFILE, limits)
+        assert isinstance(table, pipe.TableFrame) and table.counts is not None
+        self.assertEqual(table.counts.tolist(), [9_000_000])
 
 
 class Runs(unittest.TestCase):

@@ -76,6 +76,8 @@ class ReadingTest(InRoom):
         signed = Raster.open("lc", made.write(self.path("b.tif"), [[1, 255]], gdal.GDT_Byte), null_ranges=[(250.0, float("inf"))])
         self.assertEqual(signed.is_masked, True)
         self.assertEqual(Raster.open("lc", signed.path, null_ranges=[(255.0, float("inf")), (300, 301)]).nodata, 255)
+        for least, greatest in ((float("inf"), float("inf")), (float("-inf"), float("-inf")), (300.0, float("inf"))):
+            self.assertEqual(Raster.open("lc", signed.path, null_ranges=[(least, greatest)]).nodata, None)
 
     def test_least_number_that_is_nodata(self) -> None:
         raster = Raster.open("lc", made.write(self.path("least.tif"), [[1, -(2**31)]], nodata=-(2**31)))

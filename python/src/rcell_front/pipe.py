@@ -406,6 +406,8 @@ def _started(program: str, seconds: Optional[float], watch: Optional[Callable[[]
 def _send(writer: int, pieces: Iterator[Buffer], watch: Optional[Callable[[], None]]) -> None:
     """Write a request; stop if the program has stopped reading, for its response says why."""
     os.set_blocking(writer, watch is None)
+    room = select.poll()
+    room.register(writer, select.POLLOUT)
     for piece in pieces:
         rest = memoryview(piece)
         while rest:
@@ -414,7 +416,7 @@ def _send(writer: int, pieces: Iterator[Buffer], watch: Optional[Callable[[], No
             try:
                 rest = rest[os.write(writer, rest) :]
             except BlockingIOError:
-                select.select([], [writer], [], WATCH_SECONDS)
+                room.poll(WATCH_SECONDS * 1000)
             except BrokenPipeError:
                 return
 

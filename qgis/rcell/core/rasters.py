@@ -289,10 +289,12 @@ def within(cells: Cells, ranges: NullRanges) -> list[Mask]:
 def _whole_bounds(least: float, greatest: float, dtype: np.dtype[Any]) -> tuple[int, int]:
     """A range in whole numbers of a type; floats could not be compared with all numbers of 64 bits exactly."""
     limits = np.iinfo(dtype)
+    # A range without numbers of the type is spelled by two that are.
+    if not (least <= limits.max and greatest >= limits.min):
+        return 1, 0
     low = math.ceil(least) if least > limits.min else int(limits.min)
     high = math.floor(greatest) if greatest < limits.max else int(limits.max)
-    # A range without numbers of the type is spelled by two that are.
-    return (low, high) if limits.min <= low <= high <= limits.max else (1, 0)
+    return (low, high) if low <= high else (1, 0)
 
 
 def is_grid(path: str) -> bool:
