@@ -49,6 +49,8 @@ check_names <- function(names) {
 source_of <- function(name, given) {
   if (inherits(given, "SpatRaster")) return(raster_source(name, given))
   if (is.character(given) && length(given) == 1L && !is.na(given)) return(c(path_source(name, given), given = given))
+  # R takes the bits of such a number for those of a double.
+  if (inherits(given, "integer64")) bad_map(name, "a matrix of integer64: convert it with matrix(as.integer(x), nrow(x))")
   if (is.matrix(given) && (is.numeric(given) || is.logical(given))) return(matrix_source(name, given))
   bad_map(name, sprintf("neither a path nor a SpatRaster nor a matrix of numbers, but a %s", class(given)[[1]]))
 }

@@ -31,6 +31,7 @@ expect_identical(refusal(rcell_grid("", "lend", lc = lc))$text, "no map lend: th
 expect_identical(refusal(rcell_run("r.stats input=lc", maps = list("land-use" = lc)))$source, "arguments")
 expect_identical(refusal(rcell_run(NA, lc = lc))$text, "the script is no text")
 expect_true(grepl("^neither a path nor a SpatRaster", refusal(rcell_run("", lc = 1:3))$text))
+expect_true(grepl("^a matrix of integer64", refusal(rcell_run("", lc = structure(matrix(0, 1, 2), class = "integer64")))$text))
 expect_identical(refusal(rcell_patches(lc, 6))$text, "connectivity= is 4 or 8")
 expect_identical(refusal(rcell_patches(lc, classes = 3e9))$text, "classes= are whole numbers to 2147483647 either way")
 expect_identical(refusal(rcell_patches(lc, least = NA))$text, "least= is a number of cells")
