@@ -6,6 +6,7 @@ import os
 import pathlib
 import subprocess
 import sys
+import time
 from typing import Any, Callable
 
 import numpy as np
@@ -166,6 +167,17 @@ def test_what_is_no_map_is_refused(tmp_path: pathlib.Path, raster: Write) -> Non
     stale = stale.assign_coords(spatial_ref=0)
     stale.spatial_ref.attrs["GeoTransform"] = "1 2 3"
     assert "an Affine or six numbers" in str(refusal(stale))
+
+
+def test_thousands_of_bands_are_refused_at_once(tmp_path: pathlib.Path) -> None:
+    """A TIFF of 518 bytes may tell of 65,535 bands; each was asked how all others are interpreted."""
+    bands = "".join(f'<VRTRasterBand dataType="Byte" band="{band}"/>' for band in range(1, 20001))
+    path = tmp_path / "many.vrt"
+    path.write_text(f'<VRTDataset rasterXSize="1" rasterYSize="1">{bands}</VRTDataset>')
+    began = time.process_time()
+    with pytest.raises(rcell.BadMap, match="has 20000 bands"):
+        rcell.run("r.stats -c input=m", m=path)
+    assert time.process_time() - began < 20
 
 
 def test_edges_of_a_grid_are_exact(tmp_path: pathlib.Path) -> None:

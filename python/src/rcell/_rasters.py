@@ -111,7 +111,7 @@ class Layer:
         if np.dtype(dtype).kind in "iu" and np.dtype(dtype).itemsize == 8:
             dtype, nodata = _of_64_bits(dataset, band)
         flags = dataset.mask_flag_enums[band - 1]
-        alpha = next((at for at in dataset.indexes if dataset.colorinterp[at - 1] == enums.ColorInterp.alpha and at != band), None)
+        alpha = next((at for at in alphas(dataset, enums) if at != band), None)
         has_mask = enums.MaskFlags.per_dataset in flags and enums.MaskFlags.alpha not in flags
         return cls(band, dtype, nodata, has_mask, alpha)
 
@@ -247,9 +247,14 @@ class RasterMap:
         return checked(self.name, cells, null, self.layer.nodata, row, col)
 
 
+def alphas(dataset: Any, enums: Any) -> list[int]:
+    """The alpha bands. A broken file may tell of 65,535 bands, and rasterio looks at all of them whenever it is asked."""
+    return [band for band, kind in zip(dataset.indexes, dataset.colorinterp) if kind == enums.ColorInterp.alpha]
+
+
 def only_band(name: str, dataset: Any, enums: Any) -> int:
     """The band that has the cells: there must be one, an alpha band aside."""
-    bands = [band for band in dataset.indexes if dataset.colorinterp[band - 1] != enums.ColorInterp.alpha]
+    bands = sorted({*dataset.indexes} - {*alphas(dataset, enums)})
     if len(bands) != 1:
         raise BadMap(name, f"has {len(bands)} bands: give one, as rasterio.band(dataset, 1)")
     return int(bands[0])
