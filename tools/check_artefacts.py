@@ -151,7 +151,7 @@ def check_objects(count, clone, archive):
     ran = take()
     same = all((clone / "bin" / name).exists() and (clone / "bin" / name).read_bytes() == (ROOT / "bin" / name).read_bytes()
                for name in build.PROGRAMS.values())
-    count.add("the programs from the proved objects", "" if same and ran.stdout.count("NOT proved on this machine") == 2 else ran.stdout)
+    count.add("the programs from the proved objects", "" if same and ran.stdout.count("NOT proved on this machine") == len(build.PROGRAMS) else ran.stdout)
     with open(clone / "crates/cell_core_values/src/lib.rt", "a", encoding="utf-8") as source:
         source.write("// another line\n")
     ran = take()
