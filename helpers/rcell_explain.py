@@ -358,7 +358,7 @@ def forgotten_in(file):
 # The run
 
 
-def tell(lines):
+def report(lines):
     text = "".join(line + "\n" for line in lines)
     sys.stderr.write(text.encode("utf-8", "backslashreplace").decode("utf-8"))
     sys.stderr.flush()
@@ -388,7 +388,7 @@ def main(words, folder):
         program = found_program(folder)
         run = Run(program, words)
     except (Missing, OSError) as fault:
-        tell(["rcell-explain: %s" % fault])
+        report(["rcell-explain: %s" % fault])
         sys.exit(127)
     except KeyboardInterrupt:
         sys.exit(130)
@@ -408,8 +408,8 @@ def say(run, words):
         messages = Messages()
         for place, name, values in warnings_of(run):
             cause, instead = messages.warned(name, values)
-            tell(["rcell-explain: warning: %s%s" % (place, cause)] + ([INDENT + instead] if instead else []))
+            report(["rcell-explain: warning: %s%s" % (place, cause)] + ([INDENT + instead] if instead else []))
     elif run.status < 0:
-        tell(ended(run.status))
+        report(ended(run.status))
     else:
-        tell(explained(run, words))
+        report(explained(run, words))

@@ -19,7 +19,7 @@ if [ ! -f "$root/etc/debian_version" ]; then
 fi
 echo "Debian $(cat "$root/etc/debian_version"), $(chroot "$root" sh -c 'command -v python3 || echo no python3')"
 
-room=$root/tmp/rcell
+room=$root/srv/rcell
 rm -rf "$room"
 mkdir -p "$room/dist" "$room/docs" "$room/examples" "$room/tools"
 cp "$dist"/rcell-*.whl "$room/dist"
@@ -28,4 +28,4 @@ cp docs/python.md "$room/docs"
 cp -r examples/rasters examples/study.ipynb "$room/examples"
 cp tools/debian.sh tools/counting.sh "$room/tools"
 # Its mounts are seen by nothing else, and end with it.
-unshare --mount sh -c 'mount -t proc proc "$1/proc" && mount --bind /dev "$1/dev" && exec chroot "$1" sh /tmp/rcell/python/check.sh' sh "$root"
+unshare --mount sh -c 'mount -t proc proc "$1/proc" && mount --bind /dev "$1/dev" && exec chroot "$1" sh /srv/rcell/python/check.sh' sh "$root"

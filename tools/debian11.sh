@@ -25,7 +25,7 @@ echo "Debian $(cat "$root/etc/debian_version"), $c, $python"
 
 status=0
 for file in "$dist"/rcell-*-linux-x86_64.tar.gz "$dist"/rcell_*_amd64.deb; do
-    rm -rf "$root/tmp/quick-start"
+    rm -rf "$root/srv/quick-start"
     python3 tools/quick_start.py "$file" --root "$root" || status=1
 done
 chroot "$root" dpkg --purge rcell > /dev/null 2>&1 || true

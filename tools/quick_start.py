@@ -105,7 +105,7 @@ def main():
     words.add_argument("--root")
     wanted = words.parse_args()
     with tempfile.TemporaryDirectory(prefix="rcell-quick-start-") as room:
-        here = wanted.room or (f"{os.path.abspath(wanted.root)}/tmp/quick-start" if wanted.root else f"{room}/here")
+        here = wanted.room or (f"{os.path.abspath(wanted.root)}/srv/quick-start" if wanted.root else f"{room}/here")
         os.makedirs(here)
         path = "/usr/sbin:/usr/bin:/sbin:/bin" if wanted.root else path_without_python(room)
         passed, faults = run(os.path.abspath(wanted.file), os.path.abspath(here), path, wanted.root)

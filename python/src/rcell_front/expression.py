@@ -168,9 +168,9 @@ class Assignment:
         self.later = None  # the map that a second assignment on the line makes
         self.told_names = set()
 
-    def tell(self, start, end, text, cause, fix=None, **values):
+    def report(self, start, end, text, cause, fix=None, **values):
         values.setdefault("word", shown(self.line[start:end]))
-        self.script.tell(self.number, start, end, text, cause, fix, **values)
+        self.script.report(self.number, start, end, text, cause, fix, **values)
 
     def blank(self, start, end, by=" "):
         self.work = self.work[:start] + by.ljust(end - start) + self.work[end:]
@@ -192,14 +192,14 @@ class Assignment:
             # Behind an operand it is read as two signs and a name.
             before = self.work[self.begin : found.start()].rstrip(" \t")
             is_read = "=" in before and (before[-1].isalnum() or before[-1] in "_.)]")
-            self.tell(found.start(), found.end(), "unknown map" if is_read else "unexpected token", "option", "")
+            self.report(found.start(), found.end(), "unknown map" if is_read else "unexpected token", "option", "")
             self.blank(found.start(), found.end())
             self.left_out += 3
         found = re.compile(r"[ \t]*([\"']?)(expression=)").match(self.work, self.begin)
         if found:
             start, end = found.span(2)
             fixed = "r.mapcalc " + self.work[end:].strip().strip("\"'")
-            self.tell(start, end, "unexpected token", "expression key", "", fixed=shown(fixed))
+            self.report(start, end, "unexpected token", "expression key", "", fixed=shown(fixed))
             self.blank(start, end)
 
     def leave_out_quotes(self):
@@ -211,7 +211,7 @@ class Assignment:
             start = found.start()
             close = self.work.find(found.group(), start + 1)
             fixed = self.line[: start].rstrip() + " " + self.work[start + 1 :].replace(found.group(), "", 1).strip()
-            self.tell(start, start + 1, "bad byte", "quotes", "", fixed=shown(" ".join(fixed.split())))
+            self.report(start, start + 1, "bad byte", "quotes", "", fixed=shown(" ".join(fixed.split())))
             self.blank(start, start + 1)
             if close >= 0:
                 self.script.faults[-1].fixes.append((close, close + 1, ""))
@@ -221,7 +221,7 @@ class Assignment:
         at, end = self.work.find("#", self.begin), len(self.line.rstrip(" \t\r"))
         if at < 0:
             return
-        self.tell(at, end, "bad byte", "comment", "")
+        self.report(at, end, "bad byte", "comment", "")
         if self.line[at:end].strip("# \t"):
             self.script.faults[-1].fixes.append((0, 0, self.line[at:end] + "\n"))
         self.blank(at, len(self.line))
@@ -232,7 +232,7 @@ class Assignment:
         if at < 0:
             return
         rest = re.sub(r"^r\.mapcalc\s+", "", self.work[at + 1 : end].strip())
-        self.tell(at, at + 1, "bad byte", "semicolon", None if rest else "")
+        self.report(at, at + 1, "bad byte", "semicolon", None if rest else "")
         if rest:
             self.script.faults[-1].fixes.append((at, end, "\nr.mapcalc " + rest))
             made = re.match(r"([A-Za-z_][\w.]*)\s*=", rest)
@@ -255,7 +255,7 @@ class Assignment:
                     return
                 continue
             if len(self.tokens) + self.left_out >= MOST_TOKENS:
-                self.tell(at, found.end(), "expression too long", "tokens")
+                self.report(at, found.end(), "expression too long", "tokens")
                 self.tokens = []
                 return
             at = found.end()
@@ -268,16 +268,16 @@ class Assignment:
             return Token("sign", text, start, end)
         if re.match(r"[A-Za-z_]", text):
             if len(text) > LONGEST_NAME:
-                self.tell(start, end, "bad name", "long name")
+                self.report(start, end, "bad name", "long name")
             return Token("name", text, start, end)
         if text.isdigit() and (len(text) < 20 and int(text) <= GREATEST):
             return Token("number", text, start, end)
         if text.isdigit():
-            self.tell(start, end, "bad number", "range of number")
+            self.report(start, end, "bad number", "range of number")
         elif re.search("[.eE]", text):
             self.not_whole(start, end, text)
         else:
-            self.tell(start, end, "bad number", "letters")
+            self.report(start, end, "bad number", "letters")
         return Token("number", "1", start, end)
 
     def not_whole(self, start, end, text):
@@ -299,7 +299,7 @@ class Assignment:
             fixed = "`%s` for `%s`" % (fix[2], shown(self.line[fix[0] : end]))
             if "/" in fix[2]:
                 fixed += "; `/` drops the remainder (7 / 2 is 3), so multiply counts of cells instead if fractions matter"
-        self.tell(start, end, "number not whole", "fraction", None, fixed=fixed)
+        self.report(start, end, "number not whole", "fraction", None, fixed=fixed)
         if fix:
             self.script.faults[-1].fixes.append(fix)
 
@@ -311,13 +311,13 @@ class Assignment:
         if character == "^":
             return self.power(at)
         if character in "&|~":
-            self.tell(at, at + 1, "bad byte", "bit operator")
+            self.report(at, at + 1, "bad byte", "bit operator")
             self.tokens.append(Token("sign", "!" if character == "~" else "*", at, at + 1))
             return at + 1
         wide = next((it for it in CHARACTERS if self.work.startswith(it, at)), None)
         if wide:
             meant = CHARACTERS[wide]
-            self.tell(at, at + len(wide), "bad byte", "other character", meant, fixed=meant or "nothing")
+            self.report(at, at + len(wide), "bad byte", "other character", meant, fixed=meant or "nothing")
             self.blank(at, at + len(wide), meant)
             return at if meant.strip() else at + len(wide)
         end = at + 1
@@ -325,7 +325,7 @@ class Assignment:
             end += 1
         cause = "other character" if self.work[at] >= "\x80" else "other byte"
         values = {"fixed": "a name of letters without accents"} if cause == "other character" else {}
-        self.tell(at, end, "bad byte", cause, None, **values)
+        self.report(at, end, "bad byte", cause, None, **values)
         return end
 
     def mapset(self, at):
@@ -333,7 +333,7 @@ class Assignment:
         last = self.tokens[-1] if self.tokens else None
         name = last.text if last and last.kind == "name" and last.end == at else ""
         start = at - len(name)
-        self.tell(at, end, "bad byte", "mapset", "", word=shown(self.line[start:end]), fixed=shown(name) or "NAME")
+        self.report(at, end, "bad byte", "mapset", "", word=shown(self.line[start:end]), fixed=shown(name) or "NAME")
         return end
 
     def power(self, at):
@@ -341,10 +341,10 @@ class Assignment:
         found = re.compile(r"\^[ \t]*([23])(?![0-9.])").match(self.work, at)
         if last and last.kind == "name" and found:
             fix = " * ".join([last.text] * int(found[1]))
-            self.tell(at, at + 1, "bad byte", "power", None, fixed=shown(fix))
+            self.report(at, at + 1, "bad byte", "power", None, fixed=shown(fix))
             self.script.faults[-1].fixes.append((last.start, found.end(), "(%s)" % fix))
             return found.end()
-        self.tell(at, at + 1, "bad byte", "power", None, fixed="x * x")
+        self.report(at, at + 1, "bad byte", "power", None, fixed="x * x")
         self.tokens.append(Token("sign", "*", at, at + 1))
         return at + 1
 
@@ -370,11 +370,11 @@ class Assignment:
         if unread.reason == "arguments":
             return self.bad_count(unread.at, unread.values["count"], unread.values["end"])
         if unread.reason == "offset":
-            self.tell(token.start, token.end, "offset out of range", "offset")
+            self.report(token.start, token.end, "offset out of range", "offset")
             token.text = "0"
             return True
         if unread.reason == "one offset":
-            self.tell(token.start, token.end, "unexpected token", "one offset", ",0]",
+            self.report(token.start, token.end, "unexpected token", "one offset", ",0]",
                       fixed=shown(self.line[self.tokens[unread.at - 3].start : token.start]) + ",0]")
             self.tokens[unread.at : unread.at] = [Token("sign", ",", token.start, token.start),
                                                   Token("number", "0", token.start, token.start)]
@@ -395,11 +395,11 @@ class Assignment:
             return self.operator(at, before.start, token.end, "!=")
         if pair in ("<<", ">>"):
             end = self.tokens[at + 1].end if pair == ">>" and self.tokens[at + 1].text == ">" else token.end
-            self.tell(before.start, end, "unexpected token", "shift")
+            self.report(before.start, end, "unexpected token", "shift")
             del self.tokens[at : at + (2 if end > token.end else 1)]
             return True
         if pair == "**":
-            self.tell(before.start, token.end, "unexpected token", "power")
+            self.report(before.start, token.end, "unexpected token", "power")
             del self.tokens[at]
             return True
         if token.kind == "name" and token.text.lower() in WORDS_FOR:
@@ -407,15 +407,15 @@ class Assignment:
         if before.kind == "name" and before.text.lower() == "not":
             return self.operator(at, before.start, before.end, "!")
         if token.text == ")" and not reader.opened:
-            self.tell(token.start, token.end, "unexpected token", "parenthesis closed")
+            self.report(token.start, token.end, "unexpected token", "parenthesis closed")
             del self.tokens[at]
             return True
-        self.tell(token.start, token.end, "unexpected token", "other token")
+        self.report(token.start, token.end, "unexpected token", "other token")
         return False
 
     def operator(self, at, start, end, sign, back=1):
         """An operator of another language, which tokens from `at - back` to `at` spell."""
-        self.tell(start, end, "unexpected token", "operator", sign, fixed=sign)
+        self.report(start, end, "unexpected token", "operator", sign, fixed=sign)
         last = at if sign == "!" else at + 1
         self.tokens[at - back : last] = [Token("sign", sign, start, end)]
         return True
@@ -425,24 +425,24 @@ class Assignment:
         names = [it.text for it in self.tokens[:at] if it.kind == "name"]
         if following.text in (">", "<") and following.start == token.end:
             sign = following.text + "="
-            self.tell(token.start, following.end, "unexpected token", "operator", sign, fixed=sign)
+            self.report(token.start, following.end, "unexpected token", "operator", sign, fixed=sign)
             self.tokens[at : at + 2] = [Token("sign", sign, token.start, following.end)]
             return True
         if "eval" in names and before.kind == "name":
-            self.tell(before.start, token.end, "unexpected token", "variable")
+            self.report(before.start, token.end, "unexpected token", "variable")
             return False
         fixed = self.line[before.start : token.start] + "==" + self.line[token.end : following.end]
-        self.tell(token.start, token.end, "unexpected token", "equals sign", "==", fixed=shown(fixed))
+        self.report(token.start, token.end, "unexpected token", "equals sign", "==", fixed=shown(fixed))
         self.tokens[at] = Token("sign", "==", token.start, token.end)
         return True
 
     def early_end(self, token, reader):
         if reader.opened and self.tokens[-2].kind != "sign" or reader.opened and self.tokens[-2].text in (")", "]"):
             opened = self.tokens[reader.opened[-1]]
-            self.tell(token.start, token.start, "unexpected token", "parenthesis open", ")", open=opened.start + 1)
+            self.report(token.start, token.start, "unexpected token", "parenthesis open", ")", open=opened.start + 1)
             self.tokens.insert(len(self.tokens) - 1, Token("sign", ")", token.start, token.start))
             return True
-        self.tell(token.start, token.start, "unexpected token", "line ends")
+        self.report(token.start, token.start, "unexpected token", "line ends")
         return False
 
     def bad_beginning(self, at):
@@ -452,17 +452,17 @@ class Assignment:
             start, end = self.tokens[0].start, self.tokens[equals - 1].end
             name = re.sub(r"[ \t]*-[ \t]*", "_", self.line[start:end])
             fix = name if re.fullmatch(r"[A-Za-z_][A-Za-z0-9_.]{0,63}", name) else None
-            self.tell(token.start, token.end, "unexpected token", "dash in name", None,
+            self.report(token.start, token.end, "unexpected token", "dash in name", None,
                       fixed=shown("%s = .." % (fix or "NAME")))
             if fix:
                 self.script.faults[-1].fixes.append((start, end, fix))
                 self.tokens[:equals] = [Token("name", fix, start, end)]
             return fix is not None
         if at == 1 and token.text == "==":
-            self.tell(token.start, token.end, "unexpected token", "no assignment", "=")
+            self.report(token.start, token.end, "unexpected token", "no assignment", "=")
             self.tokens[1] = Token("sign", "=", token.start, token.end)
             return True
-        self.tell(token.start, token.end, "unexpected token", "no assignment")
+        self.report(token.start, token.end, "unexpected token", "no assignment")
         return False
 
     # Functions
@@ -484,7 +484,7 @@ class Assignment:
             fix, values = near[0], {"near": "did you mean `%s`?" % near[0]}
         else:
             values = {"near": "functions are %s; no parenthesis can follow the name of a map" % ", ".join(FUNCTIONS)}
-        self.tell(token.start, token.end, "unknown function", cause, fix, word=shown(token.text), **values)
+        self.report(token.start, token.end, "unknown function", cause, fix, word=shown(token.text), **values)
         # eval takes any arguments but none.
         self.tokens[at] = Token("name", fix if fix in FUNCTIONS else "eval", token.start, token.end)
         return True
@@ -493,14 +493,14 @@ class Assignment:
         token = self.tokens[at]
         least, most = FUNCTIONS[token.text]
         if token.text == "null" and count == 1:
-            self.tell(token.start, token.end, "wrong number of arguments", "null test", "isnull")
+            self.report(token.start, token.end, "wrong number of arguments", "null test", "isnull")
         elif most is None:
             fix = None
-            self.tell(token.start, token.end, "wrong number of arguments", "two or more", fix, count=count, word=token.text)
+            self.report(token.start, token.end, "wrong number of arguments", "two or more", fix, count=count, word=token.text)
         else:
             wanted = "%d to %d arguments" % (least, most) if least != most else "%s argument" % ("one" if most else "no")
             fixed = "for `if(x, a, b, c)`: `if(x > 0, a, if(x, c, b))`" if token.text == "if" and count == 4 else "see r.mapcalc in docs/commands.md"
-            self.tell(token.start, token.end, "wrong number of arguments", "count", None, count=count, wanted=wanted, fixed=fixed,
+            self.report(token.start, token.end, "wrong number of arguments", "count", None, count=count, wanted=wanted, fixed=fixed,
                       word=token.text)
         self.tokens[at:end] = [Token("number", "1", token.start, self.tokens[end - 1].end)]
         return True
@@ -520,10 +520,10 @@ class Assignment:
     def unknown_map(self, at, token):
         script = self.script
         if token.text.lower() == "null":
-            self.tell(token.start, token.end, "unknown map", "null", "null()")
+            self.report(token.start, token.end, "unknown map", "null", "null()")
             return
         if token.text in FUNCTIONS:
-            self.tell(token.start, token.end, "unknown map", "function", None, name=token.text)
+            self.report(token.start, token.end, "unknown map", "function", None, name=token.text)
             return
         dashed = self.dashed(at)
         if dashed:
@@ -531,17 +531,17 @@ class Assignment:
             word = self.line[start:end]
             self.told_names |= {it.start for it in self.tokens if start <= it.start < end}
             fixed = word.replace("-", "_")
-            self.tell(token.start, token.end, "unknown map", "dash", None, word=shown(word), read=shown(word.replace("-", " - ")),
+            self.report(token.start, token.end, "unknown map", "dash", None, word=shown(word), read=shown(word.replace("-", " - ")),
                       fixed=shown(fixed))
             if fixed in script.known:
                 script.faults[-1].fixes.append((start, end, fixed))
             return
         if token.text in script.made_at and script.made_at[token.text] > self.number:
-            self.tell(token.start, token.end, "unknown map", "made later", None, name=shown(token.text),
+            self.report(token.start, token.end, "unknown map", "made later", None, name=shown(token.text),
                       later=script.made_at[token.text])
             return
         near = near_name(token.text, script.known)
-        self.tell(token.start, token.end, "unknown map", "unknown map", near[0] if near else None, name=shown(token.text),
+        self.report(token.start, token.end, "unknown map", "unknown map", near[0] if near else None, name=shown(token.text),
                   near=nearest(token.text, script.known))
 
     def dashed(self, at):
@@ -564,7 +564,7 @@ class Assignment:
         script = self.script
         if target.text in script.known:
             fixed = new_name(target.text, script.known)
-            self.tell(target.start, target.end, "map exists", "map exists", fixed, whence=script.known[target.text],
+            self.report(target.start, target.end, "map exists", "map exists", fixed, whence=script.known[target.text],
                       name=shown(target.text), fixed=shown(fixed))
         script.make(self.number, target.text)
         if self.later:

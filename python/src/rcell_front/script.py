@@ -116,18 +116,18 @@ class Script:
 
     def is_text(self, text):
         if len(text) > LONGEST_SCRIPT:
-            self.tell(0, 0, 0, "script too long", "script size")
+            self.report(0, 0, 0, "script too long", "script size")
             return False
         cause, values = kind_of_script(text)
         if cause == "byte order mark":
-            self.tell(1, 0, 3, "unknown command", cause, "", path=self.path)
+            self.report(1, 0, 3, "unknown command", cause, "", path=self.path)
         elif cause == "line ends":
-            self.tell(1, 0, 0, "bad option", cause, path=self.path)
+            self.report(1, 0, 0, "bad option", cause, path=self.path)
         elif cause:
-            self.tell(1, 0, 0, "unknown command", cause, path=self.path, **values)
+            self.report(1, 0, 0, "unknown command", cause, path=self.path, **values)
         return cause in (None, "byte order mark")
 
-    def tell(self, line, start, end, text, cause, fix=None, **values):
+    def report(self, line, start, end, text, cause, fix=None, **values):
         self.faults.append(Fault(line, start, end, text, cause, values, fix))
 
     def warn(self, line, name, **values):
@@ -164,7 +164,7 @@ class Script:
         self.at += 1
         line = self.lines[self.at - 1]
         if len(line) > LONGEST_LINE:
-            self.tell(self.at, 0, LONGEST_LINE, "line too long", "line size")
+            self.report(self.at, 0, LONGEST_LINE, "line too long", "line size")
         return self.at, line
 
     def judge_line(self, number, line):
@@ -204,7 +204,7 @@ class Script:
             meant, cause = next((it for it in COMMANDS if word.startswith(it + "\xc2\xa0")), None), "no-break space"
             values["path"] = self.path
             if meant:
-                self.tell(number, start + len(meant), start + len(meant) + 2, "unknown command", cause, " ", **values)
+                self.report(number, start + len(meant), start + len(meant) + 2, "unknown command", cause, " ", **values)
                 return None
         elif before.endswith("\\"):
             cause = "continued line"
@@ -220,7 +220,7 @@ class Script:
         else:
             cause, values["fixed"] = "module", "the commands are %s" % ", ".join(COMMANDS)
         whole = fix == ""
-        self.tell(number, 0 if whole else start, len(line) if whole else end, "unknown command", cause, fix, **values)
+        self.report(number, 0 if whole else start, len(line) if whole else end, "unknown command", cause, fix, **values)
         return meant
 
     def is_continued(self, number, line, command, word):
@@ -244,7 +244,7 @@ class Script:
             last = self.lines[self.at].rstrip(" \t\r")
             self.at += 1
             whole += " " + last.rstrip("\\").strip()
-        self.tell(number, at, at + 1, text, "continued line", None, whole=whole)
+        self.report(number, at, at + 1, text, "continued line", None, whole=whole)
         made = re.match(r"\s*r\.mapcalc\s+([A-Za-z_][\w.]*)\s*=", line) or re.search(r"output=([\w.]+)", whole)
         if made:
             self.make(number, made[1])
@@ -260,16 +260,16 @@ class Script:
             if words == ["end"]:
                 return
             if is_next_command(words):
-                self.tell(number, 0, len(line), rule_fault(line) or "bad rule", "next command")
+                self.report(number, 0, len(line), rule_fault(line) or "bad rule", "next command")
                 self.faults[-1].fixes.append((0, 0, "end\n"))
                 self.at -= 1
                 return
             if words[0] == "end" and "=" not in line:
                 start, end = re.search(r"\bend\b", line).span()
-                self.tell(number, end, len(line), rule_fault(line) or "bad rule", "end with more", "")
+                self.report(number, end, len(line), rule_fault(line) or "bad rule", "end with more", "")
                 return
             self.judge_rule(number, line)
-        self.tell(command_line, 0, len(self.lines[command_line - 1]), "missing end", "missing end")
+        self.report(command_line, 0, len(self.lines[command_line - 1]), "missing end", "missing end")
         self.faults[-1].told_at = len(self.lines) + 1
 
     def judge_rule(self, number, line):
@@ -295,7 +295,7 @@ class Script:
         if cause == "no number" or cause == "fraction" or cause == "range of number":
             at = line.find(values["word"])
             start, end = (at, at + len(values["word"])) if at >= 0 else (start, end)
-        self.tell(number, start, end, text, cause, fixed, **values)
+        self.report(number, start, end, text, cause, fixed, **values)
 
 
 def lines_of(text):
@@ -425,9 +425,9 @@ class Options:
         self.flags, self.options, self.places = set(), {}, {}
         self.has_rules_of_file = False
 
-    def tell(self, start, end, text, cause, fix=None, **values):
+    def report(self, start, end, text, cause, fix=None, **values):
         values.setdefault("word", shown(self.line[start:end]))
-        self.script.tell(self.number, start, end, text, cause, fix, command=self.command, **values)
+        self.script.report(self.number, start, end, text, cause, fix, command=self.command, **values)
 
     def judge(self, words):
         self.judge_words(words)
@@ -470,7 +470,7 @@ class Options:
         """The rest of the line is a comment, or of the shell."""
         start, end = words[at][0], len(self.line.rstrip(" \t\r"))
         cause = "comment" if words[at][2].startswith("#") else "redirection"
-        self.tell(start, end, "bad option", cause, "")
+        self.report(start, end, "bad option", cause, "")
         if cause == "comment":
             self.script.faults[-1].fixes.append((0, 0, self.line[start:end] + "\n"))
         return len(words) - at
@@ -501,14 +501,14 @@ class Options:
             fixed = "input=" + word.replace('"', "").replace("'", "")
             self.option(start, end, "input", fixed[6:], told=("bad option", is_told or "no key", fixed))
         else:
-            self.tell(start, end, "bad option", "no equals sign")
+            self.report(start, end, "bad option", "no equals sign")
 
     # Flags
 
     def dash(self, words, at):
         start, end, word = words[at]
         if word.startswith("--"):
-            self.tell(start, end, "bad option", "long option", "")
+            self.report(start, end, "bad option", "long option", "")
             return 1
         long_dash = next((dash for dash in ("\xe2\x80\x93", "\xe2\x80\x94", "\xe2\x88\x92") if word.startswith(dash)), None)
         letters = word[len(long_dash or "-") :]
@@ -521,9 +521,9 @@ class Options:
         lowered = "".join(letter for letter in letters.lower() if letter in self.known.flags)
         if cause:
             fix = "-" + good if good else ""
-            self.tell(start, end, "bad option", cause, fix, fixed=fix or "delete it")
+            self.report(start, end, "bad option", cause, fix, fixed=fix or "delete it")
         elif good != letters and lowered and len(lowered) == len(letters):
-            self.tell(start, end, "bad option", "flag case", "-" + lowered, flag=shown(word), fixed="-" + lowered)
+            self.report(start, end, "bad option", "flag case", "-" + lowered, flag=shown(word), fixed="-" + lowered)
         elif good != letters:
             self.bad_flag(start, end, letters, good)
         self.flags |= set(good)
@@ -534,11 +534,11 @@ class Options:
         fix = "-" + good if good else ""
         if self.command == "r.stats" and bad in "ap":
             fix = "-" + good + ("" if "c" in good else "c")
-            self.tell(start, end, "bad option", "area", fix, flag="-" + shown(bad))
+            self.report(start, end, "bad option", "area", fix, flag="-" + shown(bad))
             return
         flags = " ".join("-" + letter for letter in self.known.flags)
         said = "its flags are %s" % flags if len(self.known.flags) > 1 else "its flag is %s" % flags if flags else "it has no flags"
-        self.tell(start, end, "bad option", "flag", fix, flag="-" + shown(bad), flags=said)
+        self.report(start, end, "bad option", "flag", fix, flag="-" + shown(bad), flags=said)
 
     # Options by key and value
 
@@ -562,7 +562,7 @@ class Options:
                 break
         fix = None if key is None else value if key == "" else "%s=%s" % (key, value)
         for text, cause, values in faults:
-            self.tell(start, end, text, cause, fix, **values)
+            self.report(start, end, text, cause, fix, **values)
         if key and key not in self.options:
             self.options[key], self.places[key] = value, (start, end)
 
@@ -639,9 +639,9 @@ class Options:
         for key in self.known.required:
             if key not in self.options and not self.has_fault_of(key):
                 fixed = "%s %s=NAME" % (self.line.strip(), key)
-                self.tell(line_end, line_end, "missing option", "missing option", None, key=key, fixed=shown(fixed))
+                self.report(line_end, line_end, "missing option", "missing option", None, key=key, fixed=shown(fixed))
         if "1" in self.flags and ("c" in self.flags or "after" in self.options):
-            self.tell(0, line_end, "bad option", "cells and counts", None, word="-c" if "c" in self.flags else "after=")
+            self.report(0, line_end, "bad option", "cells and counts", None, word="-c" if "c" in self.flags else "after=")
         for name in dict.fromkeys(inputs):
             self.judge_input(name)
         if "after" in self.options:
@@ -663,10 +663,10 @@ class Options:
         at = self.line.find(name, start, end)
         start, end = (at, at + len(name)) if at >= 0 else (start, end)
         if name in script.made_at and script.made_at[name] > self.number:
-            self.tell(start, end, "unknown map", "made later", None, name=shown(name), later=script.made_at[name])
+            self.report(start, end, "unknown map", "made later", None, name=shown(name), later=script.made_at[name])
         else:
             near = near_name(name, script.known)
-            self.tell(start, end, "unknown map", "unknown map", near[0] if near and at >= 0 else None, name=shown(name),
+            self.report(start, end, "unknown map", "unknown map", near[0] if near and at >= 0 else None, name=shown(name),
                       near=nearest(name, script.known))
 
     def judge_output(self, name):
@@ -674,7 +674,7 @@ class Options:
         start, end = self.places["output"]
         if name in script.known:
             fixed = new_name(name, script.known)
-            self.tell(start, end, "map exists", "map exists", "output=" + fixed, whence=script.known[name], name=shown(name),
+            self.report(start, end, "map exists", "map exists", "output=" + fixed, whence=script.known[name], name=shown(name),
                       fixed=shown(fixed))
         script.make(self.number, name)
 
@@ -683,10 +683,10 @@ class Options:
         parts = self.options["after"].split(",")
         for part in parts:
             if part != "*" and not rule_number(part):
-                self.tell(start, end, "bad combination", "bad combination", None, part=shown(part))
+                self.report(start, end, "bad combination", "bad combination", None, part=shown(part))
                 return
         if len(parts) != maps:
-            self.tell(start, end, "combination of another width", "width", None, parts=len(parts), maps=maps)
+            self.report(start, end, "combination of another width", "width", None, parts=len(parts), maps=maps)
 
 
 def separator_fault(value):
