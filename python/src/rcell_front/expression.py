@@ -375,7 +375,7 @@ class Assignment:
             return True
         if unread.reason == "one offset":
             self.report(token.start, token.end, "unexpected token", "one offset", ",0]",
-                      fixed=shown(self.line[self.tokens[unread.at - 3].start : token.start]) + ",0]")
+                        fixed=shown(self.line[self.tokens[unread.at - 3].start : token.start]) + ",0]")
             self.tokens[unread.at : unread.at] = [Token("sign", ",", token.start, token.start),
                                                   Token("number", "0", token.start, token.start)]
             return True
@@ -453,7 +453,7 @@ class Assignment:
             name = re.sub(r"[ \t]*-[ \t]*", "_", self.line[start:end])
             fix = name if re.fullmatch(r"[A-Za-z_][A-Za-z0-9_.]{0,63}", name) else None
             self.report(token.start, token.end, "unexpected token", "dash in name", None,
-                      fixed=shown("%s = .." % (fix or "NAME")))
+                        fixed=shown("%s = .." % (fix or "NAME")))
             if fix:
                 self.script.faults[-1].fixes.append((start, end, fix))
                 self.tokens[:equals] = [Token("name", fix, start, end)]
@@ -501,7 +501,7 @@ class Assignment:
             wanted = "%d to %d arguments" % (least, most) if least != most else "%s argument" % ("one" if most else "no")
             fixed = "for `if(x, a, b, c)`: `if(x > 0, a, if(x, c, b))`" if token.text == "if" and count == 4 else "see r.mapcalc in docs/commands.md"
             self.report(token.start, token.end, "wrong number of arguments", "count", None, count=count, wanted=wanted, fixed=fixed,
-                      word=token.text)
+                        word=token.text)
         self.tokens[at:end] = [Token("number", "1", token.start, self.tokens[end - 1].end)]
         return True
 
@@ -532,17 +532,17 @@ class Assignment:
             self.told_names |= {it.start for it in self.tokens if start <= it.start < end}
             fixed = word.replace("-", "_")
             self.report(token.start, token.end, "unknown map", "dash", None, word=shown(word), read=shown(word.replace("-", " - ")),
-                      fixed=shown(fixed))
+                        fixed=shown(fixed))
             if fixed in script.known:
                 script.faults[-1].fixes.append((start, end, fixed))
             return
         if token.text in script.made_at and script.made_at[token.text] > self.number:
             self.report(token.start, token.end, "unknown map", "made later", None, name=shown(token.text),
-                      later=script.made_at[token.text])
+                        later=script.made_at[token.text])
             return
         near = near_name(token.text, script.known)
         self.report(token.start, token.end, "unknown map", "unknown map", near[0] if near else None, name=shown(token.text),
-                  near=nearest(token.text, script.known))
+                    near=nearest(token.text, script.known))
 
     def dashed(self, at):
         """The ends of words that dashes without blanks join to what looks like one name, or None."""
@@ -565,7 +565,7 @@ class Assignment:
         if target.text in script.known:
             fixed = new_name(target.text, script.known)
             self.report(target.start, target.end, "map exists", "map exists", fixed, whence=script.known[target.text],
-                      name=shown(target.text), fixed=shown(fixed))
+                        name=shown(target.text), fixed=shown(fixed))
         script.make(self.number, target.text)
         if self.later:
             script.make(self.number, self.later)

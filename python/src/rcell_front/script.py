@@ -667,7 +667,7 @@ class Options:
         else:
             near = near_name(name, script.known)
             self.report(start, end, "unknown map", "unknown map", near[0] if near and at >= 0 else None, name=shown(name),
-                      near=nearest(name, script.known))
+                        near=nearest(name, script.known))
 
     def judge_output(self, name):
         script = self.script
@@ -675,7 +675,7 @@ class Options:
         if name in script.known:
             fixed = new_name(name, script.known)
             self.report(start, end, "map exists", "map exists", "output=" + fixed, whence=script.known[name], name=shown(name),
-                      fixed=shown(fixed))
+                        fixed=shown(fixed))
         script.make(self.number, name)
 
     def judge_after(self, maps):
