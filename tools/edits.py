@@ -1,7 +1,7 @@
 #!/usr/bin/env python3
 """Tries the edits of crates/NAME/edits, many in one check: each must be refused by the function that it changes.
 
-    edits.py [--one-by-one] [--all | CRATE..]       without names, the crates that tools/edits.txt names for the gate
+    edits.py [--one-by-one] [CRATE..]       without names, all crates that have such edits
 
 A check judges each function by itself, over the contracts of what it calls. So edits of different functions stand in one copy of
 the crate and do not touch each other; each next copy begins with what the check before it kept. An edit is refused if a function
@@ -18,6 +18,7 @@ import shutil
 import subprocess
 import sys
 import tempfile
+from concurrent.futures import ThreadPoolExecutor
 from dataclasses import dataclass, field
 
 import build
@@ -25,7 +26,7 @@ import build
 HEAD = re.compile(r"^( *)(?:pub(?:\([\w:]+\))? )?(?:const )?fn (\w+)", re.MULTILINE)
 VERDICT = re.compile(r"^(?:fn|impl|enum|struct|trait) \w+::(\S+): (.*)$", re.MULTILINE)
 PROVED = re.compile(r"proved\b|no proof: it calls .*, which is not proved$")
-IN_GATE = pathlib.Path(build.ROOT, "tools/edits.txt")
+BYTES_OF_A_CHECK = 4 << 30  # at most
 
 
 @dataclass
@@ -169,19 +170,12 @@ def try_groups(crate, edits, one_by_one, kept):
     return missed, checks
 
 
-def try_crate(name, one_by_one):
+def try_crate(crate, one_by_one):
     """Tries the edits of a crate, and returns how many were refused, how many were not, and how many of the first were kept."""
-    *below, crate = build.crates_of([name])
-    edits, kept = [edit_of(it) for it in edits_in(name)], Kept(crate)
-    left, missed, checks = [it for it in edits if not kept.has(it)], [], 0
-    with build.cut(below) as folder:
-        if left and below and build.prove(folder, below, 0, f"{folder}/log"):
-            missed = left
-        elif left:
-            changed = build.crates_of([name], folder)[-1]
-            changed.folder = crate.folder
-            missed, checks = try_groups(changed, left, one_by_one, kept)
-    print(f"{name}: {len(left) - len(missed)} of {len(left)} edits refused in {checks} checks; {len(edits) - len(left)} kept", flush=True)
+    edits, kept = [edit_of(it) for it in edits_in(crate.name)], Kept(crate)
+    left = [it for it in edits if not kept.has(it)]
+    missed, checks = try_groups(crate, left, one_by_one, kept) if left else ([], 0)
+    print(f"{crate.name}: {len(left) - len(missed)} of {len(left)} edits refused in {checks} checks; {len(edits) - len(left)} kept", flush=True)
     return len(edits) - len(missed), len(missed), len(edits) - len(left)
 
 
@@ -189,19 +183,36 @@ def edits_in(crate):
     return sorted(pathlib.Path(build.ROOT, "crates", crate, "edits").glob("*.edit"))
 
 
-def crates_in_gate():
-    return [line.split("#")[0].strip() for line in IN_GATE.read_text(encoding="utf-8").splitlines() if line.split("#")[0].strip()]
+def crates_with_edits():
+    return sorted(it.parent.name for it in pathlib.Path(build.ROOT, "crates").glob("*/edits"))
+
+
+def checks_at_a_time():
+    """One a processor, as memory allows."""
+    free = os.sysconf("SC_AVPHYS_PAGES") * os.sysconf("SC_PAGE_SIZE")
+    return max(1, min(len(os.sched_getaffinity(0)), free // BYTES_OF_A_CHECK))
+
+
+def try_all(names, one_by_one):
+    """Tries the edits of crates over one copy of what is below them, the largest crates first; returns the counts of each crate."""
+    crates = build.crates_of(names)
+    below = [it for it in crates if any(it.name in other.all_below for other in crates)]
+    with build.cut(below) as folder:
+        if build.prove(folder, below, 0, f"{folder}/log"):
+            return [(0, len(edits_in(name)), 0) for name in names]
+        tried = [it for it in build.crates_of(names, folder) if it.name in names]
+        for crate in tried:
+            crate.folder = f"{build.ROOT}/crates/{crate.name}"
+        with ThreadPoolExecutor(checks_at_a_time()) as pool:
+            return list(pool.map(lambda crate: try_crate(crate, one_by_one), sorted(tried, key=lambda crate: -crate.work)))
 
 
 def main():
     words = argparse.ArgumentParser(description=__doc__, formatter_class=argparse.RawDescriptionHelpFormatter)
     words.add_argument("--one-by-one", action="store_true")
-    words.add_argument("--all", action="store_true", help="all crates that have edits outside must-fail/")
     words.add_argument("crates", nargs="*", metavar="CRATE")
     given = words.parse_args()
-    every = sorted(it.parent.name for it in pathlib.Path(build.ROOT, "crates").glob("*/edits"))
-    names = every if given.all else given.crates or crates_in_gate()
-    counts = [try_crate(name, given.one_by_one) for name in names]
+    counts = try_all(given.crates or crates_with_edits(), given.one_by_one)
     passed, failed, kept = (sum(it[at] for it in counts) for at in range(3))
     print(f"ran: {passed + failed - kept} of {passed + failed} edits; the others are kept from earlier runs on this machine")
     print(f"{passed} passed, {failed} failed")
