@@ -21,8 +21,8 @@ Write = Callable[..., str]
 SCRIPT = "r.stats -c input=m"
 
 
-def cells(given: Any, **words: Any) -> Any:
-    return rcell.grid("", "m", m=given, **words).array.tolist()
+def cells(given: Any, script: str = "", **words: Any) -> Any:
+    return rcell.grid(script, "m", m=given, **words).array.tolist()
 
 
 def refusal(given: Any, script: str = SCRIPT, **words: Any) -> rcell.Refused:
@@ -108,6 +108,64 @@ def test_types_and_nodata_at_their_ends() -> None:
     assert cells(rcell.Map(np.array([[1, 2**64 - 1]], ">u8"), nodata=2**64 - 1)) == [[1, None]]
     assert cells(rcell.Map(np.array([[1, 2]], np.int64), nodata=np.float64(2.0**63))) == [[1, 2]]
     assert "row 1, column 2 is inf" in str(refusal(rcell.Map(np.array([[1, np.inf]], np.float32), nodata=1e300)))
+
+
+@pytest.mark.parametrize("dtype", ["int8", "uint8", "int16", "int32", "int64", "uint64", "float32"])
+def test_any_byte_of_a_mask_but_0_is_true(dtype: str) -> None:
+    mask = np.array([[0, 4, 255]], np.uint8).view(bool)
+    array: Any = np.ma.MaskedArray(np.array([[1, 2, 3]], dtype), mask)
+    assert cells(array) == [[1, None, None]]
+    assert cells(data_array(values=array)) == [[1, None, None]]
+    assert cells(mask) == [[0, 1, 1]]
+
+
+def test_a_nodata_beyond_all_numbers_is_no_cell() -> None:
+    for nodata in (10**400, -(10**400), np.longdouble("1e400")):
+        for array in (np.array([[1, 2]]), np.array([[1, 2]], np.uint8), np.array([[1.0, 2.0]], np.float32)):
+            assert cells(rcell.Map(array, nodata=nodata)) == [[1, 2]]
+        assert "row 1, column 2 is inf" in str(refusal(rcell.Map(np.array([[1, np.inf]]), nodata=nodata)))
+
+
+@pytest.mark.parametrize("labels, told", [
+    ({"1": "wood"}, "a label of '1': labels are of whole numbers from -2147483647 to 2147483647, as {1: 'wood'}"),
+    ({None: "n"}, "a label of None: "), ({1.0: "f"}, "a label of 1.0: "), ({2**31: "x"}, "a label of 2147483648: "), ({-(2**31): "x"}, "a label of -2147483648: "),
+    ({1: None}, "the label of 1 is None, which is no text"), ({1: b"wood"}, "the label of 1 is b'wood', which is no text"),
+    ({1: "\ud800"}, "the label of 1 has a character that no file can hold: '\\ud800'"), ({1: "\udcff"}, "that no file can hold: '\\udcff'"),
+    ({1: "a\0b"}, "that no file can hold: '\\x00'"), (["wood"], "labels are a dict, as {1: 'wood'}, and not a list"),
+])
+def test_labels_are_texts_of_categories(labels: Any, told: str) -> None:
+    assert told in str(refusal(rcell.Map(LAND, labels=labels)))
+
+
+def test_labels_that_no_file_can_hold_are_not_written(tmp_path: pathlib.Path) -> None:
+    made = rcell.grid("r.reclass input=m output=k\n* = 1 \udcff\nend", "k", m=LAND)
+    with pytest.raises(rcell.BadMap) as refused:
+        made.write(tmp_path / "k.tif")
+    assert str(refused.value) == "k: the label of 1 has a character that no file can hold: '\\udcff'" and not list(tmp_path.iterdir())
+    kept = rcell.grid("", "m", m=rcell.Map(LAND, labels={np.int64(1): np.str_("\u00fc"), -5: "", 2**31 - 1: "x"}))
+    assert rcell.grid("", "m", m=kept.write(tmp_path / "m.tif")).labels == {1: "\u00fc", 2**31 - 1: "x"}
+
+
+def test_labels_of_what_is_no_category_are_left_out(tmp_path: pathlib.Path, raster: Write, monkeypatch: pytest.MonkeyPatch) -> None:
+    flags = data_array(attrs={"flag_values": [1.0, 1.5, np.nan, 2.0**31, -3.0], "flag_meanings": "a b c d e"})
+    assert rcell.grid("", "m", m=flags).labels == {1: "a", -3: "e"}
+    path = raster(LAND)
+    rows = "".join(f"<Row><F>{value}</F><F>{value}</F></Row>" for value in ("1", "nan", "1e400", "x", "3000000000", "1.5"))
+    fields = "".join(f"<FieldDefn><Name>{name}</Name><Usage>{usage}</Usage></FieldDefn>" for name, usage in (("Value", 5), ("Class", "2")))
+    table = f"<GDALRasterAttributeTable>{fields}{rows}<Row><F>2</F></Row></GDALRasterAttributeTable>"
+    pathlib.Path(f"{path}.aux.xml").write_text(f"<PAMDataset><PAMRasterBand band='1'>{table}</PAMRasterBand></PAMDataset>")
+    monkeypatch.setattr("rcell._labels.has", lambda name: name != "osgeo")
+    assert rcell.grid("", "m", m=path).labels == {1: "1"}
+
+
+def test_chunks_of_unknown_size_are_refused() -> None:
+    dask = pytest.importorskip("dask.array")
+    whole = dask.from_array(LAND, chunks=(1, 4))
+    some = data_array(values=whole[whole[:, 0] > 0])
+    told = "m: Dask does not know the sizes of its chunks: call .data.compute_chunk_sizes() first"
+    assert str(refusal(some)) == told
+    some.data.compute_chunk_sizes()
+    assert cells(some) == LAND[LAND[:, 0] > 0].tolist()
 
 
 # Rasters
@@ -264,6 +322,26 @@ def test_areas_are_the_nearest_floats() -> None:
 
 
 # Errors that say what to do
+
+
+@pytest.mark.parametrize("call", [rcell.run, rcell.table, lambda script, **maps: rcell.grid(script, "m", **maps)])
+def test_a_lone_surrogate_in_a_script_is_refused(call: Any) -> None:
+    with pytest.raises(rcell.Refused) as refused:
+        call("# \u00fc\udcff\nr.stats -c  # \u00fc\ud800", m=LAND)
+    first, *shown = str(refused.value).split("\n")
+    assert first == "script, line 2: lone surrogate U+D800 at column 17"
+    assert shown == ["  r.stats -c  # \u00fc\ufffd", " " * 17 + "^"]
+    assert cells(LAND, script="# \udcff") == LAND.tolist()
+
+
+def test_a_long_line_is_shown_in_part() -> None:
+    long = refusal(LAND, "r.stats -c input=m " + "x" * 2**19)
+    assert (long.text, len(long.content or "")) == ("line too long", 2**19 + 19)
+    assert len(str(long)) < 200
+    marked = refusal(LAND, "r.mapcalc b = " + "m + " * 400 + "1.5")
+    text, line, mark = str(marked).split("\n")[:3]
+    assert text == f"script, line 1: number not whole at column {marked.column}"
+    assert line.startswith("  ..") and line[mark.index("^") :].startswith("1.5") and len(line) < 120
 
 
 def test_the_program_judges_the_script_before_a_map_is_missed() -> None:

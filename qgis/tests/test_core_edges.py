@@ -164,6 +164,16 @@ class AnswersTest(Room):
             blanks = "".join(" " if letter != "\t" else letter for letter in line[:column])
             self.assertTrue(str(caught.exception).startswith(f"script, line 1: bad option\n  {line}\n  {blanks}^\n  try: "), line)
 
+    def test_a_lone_surrogate_in_a_script_is_refused(self) -> None:
+        with self.assertRaises(Refused) as caught:
+            answers.run(PROGRAM, "# \udcff\n# \ud800", {"lc": self.made("lc")}, ["lc"])
+        self.assertEqual(str(caught.exception), "script, line 2: lone surrogate U+D800 at column 3\n  # \ufffd\n    ^")
+
+    def test_a_long_line_is_shown_in_part(self) -> None:
+        with self.assertRaises(Refused) as caught:
+            answers.run(PROGRAM, "r.stats -c input=lc " + "x" * 2**19, {"lc": self.made("lc")})
+        self.assertEqual((caught.exception.text, len(str(caught.exception)) < 200), ("line too long", True))
+
     def test_labels_keep_blanks_of_unicode(self) -> None:
         made_map = answers.reclass(PROGRAM, self.made("lc"), "1 = 1 \u3000wide\n2 = 2 \u00a0wood\n3 = 3\t\u2028x")
         self.assertEqual(dict(made_map.labels), {1: "\u3000wide", 2: "\u00a0wood", 3: "\u2028x"})

@@ -6,6 +6,8 @@ from __future__ import annotations
 import re
 from typing import Any
 
+from rcell_front.advice import lines_of_error
+
 __all__ = [
     "BadMap",
     "Killed",
@@ -97,16 +99,10 @@ class Refused(RcellError):
         place = f"{self.source}, line {self.line}" if self.line else self.source
         lines = [f"{place}: {self.text}"]
         if self.content is not None:
-            lines += [f"  {self.content}"] + ([] if self.column is None else [f"  {self._mark()}"])
+            lines += [f"  {line}" for line in lines_of_error(self.content, self.column)]
         if self.advice:
             lines.append("  try: " + self.advice.replace("\n", "\n       "))
         return "\n".join(lines)
-
-    def _mark(self) -> str:
-        """Blanks up to the column, which counts bytes, and a mark beneath it; a tab stays a tab."""
-        assert self.content is not None and self.column is not None
-        before = self.content.encode("utf-8", "surrogateescape")[: self.column - 1].decode("utf-8", "replace")
-        return "".join("\t" if letter == "\t" else " " for letter in before) + "^"
 
 
 class OutOfMemory(Refused, MemoryError):

@@ -8,7 +8,7 @@ from typing import TYPE_CHECKING, Any
 from rcell_front.pipe import NULL
 
 from ._files import replacing, told_of
-from ._labels import write_labels
+from ._labels import checked_labels, write_labels
 from ._libraries import need
 from ._masked import compressed, filled
 
@@ -71,8 +71,11 @@ def write_geotiff(grid: Grid, path: str) -> None:
     ------
     WriteFailed
         The file cannot be written.
+    BadMap
+        It cannot hold a label.
     """
     rasterio = need("rasterio", "gis", "to write a GeoTIFF")
+    labels = checked_labels(grid.name, grid.labels)  # those of rules may have bytes that are no text
     kept = compressed(grid.array)
     dtype, nodata = smallest_type(int(kept.min()), int(kept.max())) if kept.size else smallest_type(0, 0)
     cells = filled(grid.array, nodata).astype(dtype)
@@ -85,4 +88,4 @@ def write_geotiff(grid: Grid, path: str) -> None:
                 dataset.write(cells, 1)
             with open(beside, "wb") as file:
                 file.write(memory.getbuffer())
-        write_labels(beside, grid.labels)
+        write_labels(beside, labels)

@@ -8,17 +8,20 @@ read from and written to the file `.aux.xml` next to the raster, where GDAL keep
 from __future__ import annotations
 
 import contextlib
+import numbers
 import os
 import re
 import warnings
 import xml.etree.ElementTree as ElementTree
 from typing import Any, Mapping
 
-from ._errors import RcellError
+from rcell_front.pipe import NULL
+
+from ._errors import BadMap, RcellError
 from ._legends import Legend, legend_of_qml
 from ._libraries import has, need
 
-__all__ = ["read_labels", "read_legend", "write_labels"]
+__all__ = ["checked_labels", "read_labels", "read_legend", "write_labels"]
 
 # Category names are a list from 0 on: beyond so many, or with negative categories, an attribute table says the same in less.
 NAMES_LIMIT = 1 << 16
@@ -27,6 +30,36 @@ _INTEGER, _TEXT = 0, 2
 _USAGE_NAME, _USAGE_VALUE = 2, 5
 _VALUE_USAGES = (_USAGE_VALUE, 3)
 _USAGES_RGB = (6, 7, 8)
+# NUL, and lone surrogates.
+_UNWRITABLE = re.compile("[\0\ud800-\udfff]")
+
+
+def checked_labels(name: str, labels: Any) -> dict[int, str]:
+    """Return labels by their categories.
+
+    Raises
+    ------
+    BadMap
+        A key that is no category, or a label that no file can hold.
+
+    Examples
+    --------
+    >>> checked_labels("land", {"1": "wood"})
+    Traceback (most recent call last):
+      ...
+    rcell.BadMap: land: a label of '1': labels are of whole numbers from -2147483647 to 2147483647, as {1: 'wood'}
+    """
+    if not isinstance(labels, Mapping):
+        raise BadMap(name, f"labels are a dict, as {{1: 'wood'}}, and not a {type(labels).__name__}")
+    for category, label in labels.items():
+        if not (isinstance(category, numbers.Integral) and abs(int(category)) < -NULL):
+            raise BadMap(name, f"a label of {category!r}: labels are of whole numbers from -2147483647 to 2147483647, as {{1: 'wood'}}")
+        if not isinstance(label, str):
+            raise BadMap(name, f"the label of {category} is {label!r}, which is no text")
+        bad = _UNWRITABLE.search(label)
+        if bad:
+            raise BadMap(name, f"the label of {category} has a character that no file can hold: {bad[0]!r}")
+    return {int(category): label for category, label in labels.items()}
 
 
 def read_labels(path: str, band: int) -> dict[int, str]:
@@ -66,7 +99,15 @@ def flags_of(values: Any, meanings: Any) -> dict[int, str]:
     """
     codes = re.findall(r"[+-]?[0-9]+", str(values)) if isinstance(values, str) else [] if values is None else list(values)
     words = str(meanings).split() if meanings else []
-    return {int(code): word for code, word in zip(codes, words)} if len(codes) == len(words) else {}
+    return {code: word for code, word in zip(map(_category, codes), words) if code is not None} if len(codes) == len(words) else {}
+
+
+def _category(number: Any) -> int | None:
+    """The category that a number is, or that a text spells; None if it is no category."""
+    with contextlib.suppress(TypeError, ValueError, OverflowError):
+        if float(number).is_integer() and abs(float(number)) < -NULL:
+            return int(float(number))
+    return None
 
 
 def _color_table(dataset: Any, band: int, labels: Mapping[int, str]) -> dict[int, str]:
@@ -250,12 +291,13 @@ def _read_beside(path: str, band: int) -> dict[int, str]:
 
 def _labels_of_element(table: ElementTree.Element) -> dict[int, str]:
     fields = table.findall("FieldDefn")
-    usages = [int(field.findtext("Usage", "0")) for field in fields]
+    usages = [_category(field.findtext("Usage", "0")) or 0 for field in fields]
     value, name = _columns(usages, [field.findtext("Name", "") for field in fields])
     if value is None or name is None:
         return {}
     rows = [[cell.text or "" for cell in row.findall("F")] for row in table.findall("Row")]
-    return {int(float(row[value])): row[name] for row in rows if row[name]}
+    pairs = [(_category(row[value]), row[name]) for row in rows if max(value, name) < len(row)]
+    return {category: label for category, label in pairs if category is not None and label}
 
 
 def _write_beside(path: str, labels: Mapping[int, str]) -> None:

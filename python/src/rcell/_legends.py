@@ -129,7 +129,7 @@ def _of_rows(rows: Iterable[tuple[str, tuple[Any, Any, Any]]]) -> Legend:
 def _whole(place: str, given: Any) -> int:
     if isinstance(given, str) and _WHOLE.fullmatch(given.strip()):
         return int(given)
-    if isinstance(given, numbers.Real) and given == given and given == int(given):
+    if isinstance(given, numbers.Real) and given % 1 == 0:
         return int(given)
     raise _refused(f"{place}: {given!s} is no whole number")
 

@@ -7,6 +7,7 @@ import json
 import math
 import numbers
 import os
+import sys
 import warnings
 from dataclasses import dataclass, field
 from typing import Any, Iterator, Mapping, NamedTuple, Protocol, Sequence
@@ -18,7 +19,8 @@ from rcell_front.pipe import NULL
 
 from ._crs import common_crs
 from ._errors import BadMap, OtherRegion, Refused
-from ._masked import data_of, is_masked_array, mask_of
+from ._labels import checked_labels
+from ._masked import as_bools, data_of, is_masked_array, mask_of
 from ._region import Region, Shift, Transform, six_numbers
 from ._script import check_names
 
@@ -117,9 +119,9 @@ def nodata_of(dtype: np.dtype[Any], value: float | None) -> int | None:
     """
     if is_converted(dtype):
         return NULL
-    if value is None or not float(value).is_integer():
-        return None
     limits = np.iinfo(type_of(dtype))
+    if value is None or not -(2.0**63) <= value < 2.0**64 or value != int(value):
+        return None
     return int(value) if limits.min <= int(value) <= limits.max else None
 
 
@@ -159,7 +161,7 @@ def checked(name: str, cells: Cells, null: Mask | None, nodata: float | None, fi
     BadMap
         With the first cell that is neither null nor a whole number from -2147483647 to 2147483647.
     """
-    cells = np.ascontiguousarray(cells.view(np.uint8) if cells.dtype.kind == "b" else cells, cells.dtype.newbyteorder("="))
+    cells = np.ascontiguousarray(as_bools(cells).view(np.uint8) if cells.dtype.kind == "b" else cells, cells.dtype.newbyteorder("="))
     null = None if null is None else np.ascontiguousarray(null)
     is_kept = not is_converted(cells.dtype)
     if is_kept and (cells.itemsize <= 2 or (cells.min() >= -MAX_CATEGORY and cells.max() <= MAX_CATEGORY)):
@@ -182,7 +184,7 @@ def _with_nodata(cells: Cells, null: Mask | None, nodata: float | None) -> Mask:
     is_null = np.isnan(cells) if cells.dtype.kind == "f" else np.zeros(cells.shape, np.bool_)
     if null is not None:
         is_null = is_null | null
-    if nodata is None or math.isnan(nodata):
+    if nodata is None or nodata != nodata or sys.float_info.max < abs(nodata) < math.inf:
         return is_null
     if cells.dtype.kind == "f":
         with np.errstate(over="ignore"):
@@ -385,7 +387,7 @@ class Map:
         null = mask_of(given) if is_masked_array(given) else None
         check_array(name, array)
         array, null, region, transform = _placed(name, array, null, self.region)
-        return ArrayMap(name, array, region, null, self.nodata, self.labels, self.crs or None, transform, self.colors)
+        return ArrayMap(name, array, region, null, self.nodata, checked_labels(name, self.labels), self.crs or None, transform, self.colors)
 
 
 def _placed(name: str, array: Cells, null: Mask | None, place: Any) -> tuple[Cells, Mask | None, Region, Transform]:

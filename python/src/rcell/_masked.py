@@ -8,7 +8,7 @@ from typing import Any
 import numpy as np
 from numpy.typing import NDArray
 
-__all__ = ["MaskedCells", "compressed", "data_of", "filled", "is_masked_array", "mask_of", "masked", "unmasked"]
+__all__ = ["MaskedCells", "as_bools", "compressed", "data_of", "filled", "is_masked_array", "mask_of", "masked", "unmasked"]
 
 MaskedCells = np.ma.MaskedArray[Any, Any]
 _ma: Any = np.ma
@@ -81,7 +81,18 @@ def mask_of(array: MaskedCells) -> NDArray[np.bool_]:
     >>> mask_of(np.ma.MaskedArray([1, 2])).tolist()
     [False, False]
     """
-    answer: NDArray[np.bool_] = _ma.getmaskarray(array)
+    return as_bools(_ma.getmaskarray(array))
+
+
+def as_bools(array: NDArray[np.bool_]) -> NDArray[np.bool_]:
+    """Return booleans in which True is the byte 1; a view of other bytes has any.
+
+    Examples
+    --------
+    >>> as_bools(np.array([0, 4], np.uint8).view(bool)).view(np.uint8).tolist()
+    [0, 1]
+    """
+    answer: NDArray[np.bool_] = array.view(np.uint8) != 0
     return answer
 
 

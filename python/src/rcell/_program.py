@@ -278,7 +278,7 @@ def _frames(
     lines = [script, *(f"r.out.ascii input={name}" for name in wanted)]
     sent = [_sent(name, source) for name, source in maps.items()]
     try:
-        return front.run(path, sent, "\n".join(lines).encode("utf-8", "surrogateescape"))
+        return front.run(path, sent, front.script_bytes("\n".join(lines)))
     except front.Rejected as end:
         if end.source == "script" and end.line > script.count("\n") + 1:
             judge(script, maps)  # raises: its last r.reclass has no end

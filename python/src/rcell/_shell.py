@@ -15,6 +15,7 @@ from typing import Any, Callable, Iterable, Iterator, NoReturn, Sequence
 
 import numpy as np
 
+from rcell_front.advice import lines_of_error
 from rcell_front.files import Output, end_on_signals, is_same_file, open_standard_streams, write_all
 
 from ._align import align
@@ -386,7 +387,7 @@ def _in_one_line(error: RcellError) -> str:
     if not isinstance(error, Refused):
         return str(error).replace("\n", "; ")
     place = f"{error.source}, line {error.line}" if error.line else error.source
-    parts = [f"{place}: {error.text}", *([f"`{error.content.strip()}`"] if error.content else []), *([f"try: {error.advice}"] if error.advice else [])]
+    parts = [f"{place}: {error.text}", *([f"`{lines_of_error(error.content, error.column)[0].strip()}`"] if error.content else []), *([f"try: {error.advice}"] if error.advice else [])]
     return "; ".join(line.strip() for part in parts for line in part.split("\n"))
 
 

@@ -99,6 +99,8 @@ def flat_of(name: str, array: Any) -> Flat:
     """
     if not hasattr(array, "ndim"):
         raise BadMap(name, f"a {type(array).__name__} of several variables: give it alone, or one of them, as dataset[{next(iter(array), 'name')!r}]")
+    if any(size != size for size in array.shape):
+        raise BadMap(name, "Dask does not know the sizes of its chunks: call .data.compute_chunk_sizes() first")
     _check_scale(name, array)
     flat = _flat(name, array)
     check_array(name, flat)

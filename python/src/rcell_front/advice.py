@@ -6,6 +6,8 @@ import os
 import re
 
 ROOM = 100  # characters of a line that are shown
+LONGEST_SHOWN = 300  # bytes of a line that an error repeats whole
+NO_BYTES = re.compile("[\ud800-\udc7f\udd00-\udfff]")  # lone surrogates that stand for no byte
 FILLED = re.compile(r"\{([a-z_]+)\}")
 INDENT = "    "
 MOST_NAMES = 400  # names of maps among which the nearest is looked for
@@ -144,6 +146,18 @@ def marked(line, spans):
     if any(start >= end for start, _ in spans):
         marks = marks.ljust(len(text)) + "^"
     return text + (".." if end < len(raw) else ""), marks.rstrip()
+
+
+def lines_of_error(content: str, column: "int | None") -> "list[str]":
+    """Return a line of a script and, if a column is given (in bytes, from 1), a mark under it; of a long line, the part around the column."""
+    raw = NO_BYTES.sub("\ufffd", content).encode("utf-8", "surrogateescape")
+    start = (column or 1) - 1
+    if len(raw) > LONGEST_SHOWN:
+        text, mark = marked(raw, [(start, start)])
+    else:
+        before = raw[:start].decode("utf-8", "replace")
+        text, mark = raw.decode("utf-8", "surrogateescape"), "".join("\t" if letter == "\t" else " " for letter in before) + "^"
+    return [text] if column is None else [text, mark]
 
 
 def is_character(raw):

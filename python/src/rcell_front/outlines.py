@@ -7,7 +7,7 @@ import re
 from collections.abc import Callable, Mapping, Sequence
 from typing import NamedTuple, Optional
 
-from .pipe import Block, Frame, Map, run
+from .pipe import Block, Frame, Map, run, script_bytes
 
 __all__ = ["Listing", "Outline", "listings_in", "made_in", "outline_of"]
 
@@ -44,7 +44,7 @@ class Outline(NamedTuple):
 def outline_of(program: str, script: str, names: Sequence[str], watch: Optional[Callable[[], None]] = None) -> Outline:
     """Return the outline of a script over maps of some names; the errors are those of `run`."""
     maps = [Map(name, ("1", "0", "1", "0"), 1, 1, "u8", [Block(b"\0")], nodata=0) for name in names]
-    frames = run(program, maps, script.encode("utf-8", "surrogateescape"), watch=watch)
+    frames = run(program, maps, script_bytes(script), watch=watch)
     return Outline(made_in(script), frames, listings_in(script))
 
 

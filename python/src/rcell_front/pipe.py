@@ -16,7 +16,7 @@ from typing import NamedTuple, NoReturn, Optional, Union
 
 from .programs import WATCH_SECONDS, Started, close, pipe
 
-__all__ = ["NULL", "Block", "Buffer", "Frame", "GridFrame", "Killed", "Map", "NoAnswer", "NotStarted", "Rejected", "TableFrame", "TextFrame", "request", "run"]
+__all__ = ["NULL", "Block", "Buffer", "Frame", "GridFrame", "Killed", "Map", "NoAnswer", "NotStarted", "Rejected", "TableFrame", "TextFrame", "request", "run", "script_bytes"]
 
 NULL = -2_147_483_648
 """Null among cells of i32: no category has this value."""
@@ -131,6 +131,22 @@ def request(maps: Sequence[Map], script: bytes) -> Iterator[Buffer]:
     for each in maps:
         yield from each.pieces()
     yield struct.pack("<I", len(script)) + script
+
+
+def script_bytes(script: str) -> bytes:
+    """Return the bytes of a script; a file may have had bytes that are no text, which `surrogateescape` keeps.
+
+    Raises
+    ------
+    Rejected
+        A lone surrogate stands for no byte.
+    """
+    try:
+        return script.encode("utf-8", "surrogateescape")
+    except UnicodeEncodeError as error:
+        before = script[: error.start].rpartition("\n")[2].encode("utf-8", "surrogateescape")
+        line, column = script.count("\n", 0, error.start) + 1, len(before) + 1
+        raise Rejected(1, "script", 0, line, column, f"lone surrogate U+{ord(script[error.start]):04X} at column {column}") from None
 
 
 # The response

@@ -175,6 +175,10 @@ def test_a_cell_that_is_none_is_named_by_its_place_in_the_map() -> None:
 def test_what_is_no_map_is_refused() -> None:
     with pytest.raises(rcell.BadMap, match="complex128"):
         rcell.tiles.open(lc=array_of(CELLS.astype(complex), (16, 10)))
+    with pytest.raises(rcell.BadMap, match=r"\.data\.compute_chunk_sizes\(\)"):
+        rcell.tiles.open(lc=dask.from_array(CELLS, chunks=(16, 10))[dask.from_array(CELLS[:, 0] > 0, chunks=16)])
+    with pytest.raises(rcell.Refused, match="lone surrogate U\\+D800 at column 3"):
+        rcell.tiles.open(lc=array_of(CELLS, -1)).table("# \ud800")
     with pytest.raises(rcell.BadMap, match="a DataArray of 3 dimensions"):
         rcell.tiles.open(lc=xarray.DataArray(np.ones((2, 3, 4), np.uint8), dims=("band", "y", "x")))
     with pytest.raises(rcell.BadMap, match="give it one, as lc=array"):

@@ -7,6 +7,8 @@ import re
 import signal
 from typing import Any
 
+from .front.advice import lines_of_error
+
 _COLUMN = re.compile(r" at column (\d+)$")
 
 
@@ -51,18 +53,10 @@ class Refused(RcellError):
         place = f"{self.source}, line {self.line}" if self.line else self.source
         lines = [f"{place}: {self.text}"]
         if self.content is not None:
-            lines.append(f"  {self.content}")
-            if self.column is not None:
-                lines.append(f"  {_mark_under(self.content, self.column)}")
+            lines += [f"  {line}" for line in lines_of_error(self.content, self.column)]
         if self.advice:
             lines.append("  try: " + self.advice.replace("\n", "\n       "))
         return "\n".join(lines)
-
-
-def _mark_under(content: str, column: int) -> str:
-    """Blanks up to the column, which counts bytes, and a mark beneath it; a tab stays a tab."""
-    before = content.encode("utf-8", "surrogateescape")[: column - 1].decode("utf-8", "replace")
-    return "".join("\t" if letter == "\t" else " " for letter in before) + "^"
 
 
 class OutOfMemory(Refused, MemoryError):

@@ -170,7 +170,7 @@ def frames_of(program: str, maps: Mapping[str, Raster], script: str, sent: str, 
     sender = _Sender(program, maps, watch)
     with _errors_of(script, list(maps)):
         sources = [sender.map_of(name, raster) for name, raster in maps.items()]
-        frames: list[pipe.Frame] = pipe.run(program, sources, sent.encode("utf-8", "surrogateescape"), watch=watch.check)
+        frames: list[pipe.Frame] = pipe.run(program, sources, pipe.script_bytes(sent), watch=watch.check)
     watch.progress(1.0)
     return frames
 

@@ -1,6 +1,10 @@
 # SPDX-License-Identifier: Apache-2.0 OR GPL-2.0-or-later
 # What goes wrong: conditions, each with a class of its own.
 
+# Of a line with more bytes than this an error shows so many characters.
+LONGEST_SHOWN <- 300L
+SHOWN <- 100L
+
 # Ends the call with an error of the given class and fields.
 signal <- function(class, message, ...) {
   stop(structure(class = c(class, "rcell_error", "error", "condition"), list(message = message, call = NULL, ...)))
@@ -18,10 +22,7 @@ refuse <- function(text, source = "arguments", line = 0L, status = 1L, content =
   column <- if (is.null(bad)) column_in(text) else bad$column
   place <- if (line > 0L) sprintf("%s, line %d", source, line) else source
   message <- paste0(place, ": ", text, if (!is.null(bad)) paste0(": ", bad$word))
-  if (!is.null(content)) {
-    message <- paste0(message, "\n  ", content)
-    if (!is.na(column)) message <- paste0(message, "\n  ", mark_under(content, column))
-  }
+  if (!is.null(content)) message <- paste0(message, "\n  ", paste(lines_of_error(content, column), collapse = "\n  "))
   if (nzchar(advice)) message <- paste0(message, "\n  try: ", gsub("\n", "\n       ", advice, fixed = TRUE))
   signal(c(class, "rcell_refused"), message,
     source = source, line = line, column = column, text = text, status = status, content = content)
@@ -33,12 +34,23 @@ column_in <- function(text) {
   if (length(found) == 2L) as.integer(found[2]) else NA_integer_
 }
 
-# Blanks up to the column, which counts bytes, and a mark beneath it; a tab stays a tab.
-mark_under <- function(content, column) {
+# A line of a script and, if a column is given (in bytes, from 1), a mark under it, before which a tab stays a tab; of a line that is
+# long, the part around the column.
+lines_of_error <- function(content, column) {
   bytes <- charToRaw(content)
-  before <- bytes[seq_len(min(column - 1L, length(bytes)))]
-  starts <- bitwAnd(as.integer(before), 0xC0L) != 0x80L
-  paste0(paste(ifelse(before[starts] == as.raw(9L), "\t", " "), collapse = ""), "^")
+  starts <- unique(c(1L, which(bitwAnd(as.integer(bytes), 0xC0L) != 0x80L)))
+  from <- 1L
+  if (length(bytes) > LONGEST_SHOWN) {
+    ends <- c(starts[-1] - 1L, length(bytes))
+    from <- min(starts[starts >= max(1L, column - SHOWN %/% 3L, na.rm = TRUE)])
+    to <- max(from, ends[ends < from + SHOWN])
+    part <- rawToChar(bytes[from:to])
+    Encoding(part) <- Encoding(content)
+    content <- paste0(if (from > 1L) "..", part, if (to < length(bytes)) "..")
+  }
+  if (is.na(column)) return(content)
+  before <- bytes[starts[starts >= from & starts < column]]
+  c(content, paste0(if (from > 1L) "  ", paste(ifelse(before == as.raw(9L), "\t", " "), collapse = ""), "^"))
 }
 
 # A map that is no map of whole numbers, or has no grid of its own. The cell is the first that is wrong, from 1 at the top left.

@@ -17,6 +17,17 @@ tabs <- refusal(rcell_run("r.mapcalc\tx = \u00fc", lc = lc))
 expect_identical(tabs$column, 15L)
 expect_true(endsWith(conditionMessage(tabs), "\n           \t    ^"))
 
+# Of a long line, the part around the column.
+long_line <- refusal(rcell_run(paste0("r.stats -c input=lc ", strrep("x", 2^19)), lc = lc))
+expect_identical(long_line$text, "line too long")
+expect_true(nchar(conditionMessage(long_line)) < 200)
+marked <- refusal(rcell_run(paste0("r.mapcalc x = ", strrep("lc + ", 400), "1.5 * \u00fc"), lc = lc))
+shown <- strsplit(conditionMessage(marked), "\n")[[1]]
+expect_identical(shown[1:2], c(sprintf("script, line 1: number not whole at column %d", marked$column), "  .. + lc + lc + lc + lc + lc + lc + 1.5 * \u00fc"))
+expect_identical(regexpr("^", shown[[3]], fixed = TRUE)[[1]], regexpr("1.5", shown[[2]], fixed = TRUE)[[1]])
+# R takes bytes that are no text, and so does a comment.
+expect_identical(as_rows(rcell_grid(rawToChar(as.raw(c(0x23, 0xed, 0xa0, 0x80))), "lc", lc = lc)), as_rows(lc))
+
 # A script that ends within rules, also where marks and wanted maps are added.
 expect_identical(refusal(rcell_run("r.stats input=lc\nr.reclass input=lc output=k\n1 = 1", lc = lc))[c("line", "text")],
   list(line = 2L, text = "missing end"))
