@@ -24,6 +24,7 @@ from dataclasses import dataclass, field
 import build
 
 HEAD = re.compile(r"^( *)(?:pub(?:\([\w:]+\))? )?(?:const )?fn (\w+)", re.MULTILINE)
+IMPL = re.compile(r"^impl(?:<.*?>)? (?:(?:\w+::)*(\w+)(?:<.*>)? for )?&?(?:'\w+ )?(\w+)", re.MULTILINE)
 VERDICT = re.compile(r"^(?:fn|impl|enum|struct|trait) \w+::(\S+): (.*)$", re.MULTILINE)
 PROVED = re.compile(r"proved\b|no proof: it calls .*, which is not proved$")
 BYTES_OF_A_CHECK = 4 << 30  # at most
@@ -43,10 +44,13 @@ class Edit:
 
 
 def function_at(text, at):
-    """The name of the function that has this place of a file, or '' if the place is outside all."""
+    """The function that has this place of a file, a method as TYPE::NAME or TYPETRAIT::NAME, or '' if the place is outside all."""
     heads = list(HEAD.finditer(text, 0, at))
     end = re.compile(rf"^{heads[-1][1]}}}", re.MULTILINE).search(text, heads[-1].end()) if heads else None
-    return heads[-1][2] if end and end.start() >= at else ""
+    if not end or end.start() < at:
+        return ""
+    owners = list(IMPL.finditer(text, 0, heads[-1].start())) if heads[-1][1] else []
+    return f"{owners[-1][2]}{owners[-1][1] or ''}::{heads[-1][2]}" if owners else heads[-1][2]
 
 
 def edit_of(path):
@@ -114,13 +118,15 @@ def verdicts(crate, edits, kept):
 
 
 def is_of(path, name, function):
-    """Whether a path of a verdict is that of the function of a file, or of a closure in it; types stand before it, but no other module."""
-    module = [] if name == "src/lib.rt" else list(pathlib.Path(name).with_suffix("").parts[1:])
+    """Whether a path of a verdict is that of the function of a file, or of a closure in it. A method is in the module of its type."""
     parts = [it.split("+")[0] for it in path.split("::")]
+    owner, _, function = function.rpartition("::")
+    if owner:
+        return any(before.startswith(owner) and after == function for before, after in zip(parts, parts[1:]))
+    module = [] if name == "src/lib.rt" else list(pathlib.Path(name).with_suffix("").parts[1:])
     if parts[: len(module)] != module or function not in parts[len(module) :]:
         return False
-    before = parts[len(module) : parts.index(function, len(module))]
-    return all(it == "fn" or it[:1].isupper() for it in before)
+    return all(it == "fn" for it in parts[len(module) : parts.index(function, len(module))])
 
 
 def is_refused(edit, found):
@@ -189,8 +195,8 @@ def crates_with_edits():
 
 def checks_at_a_time():
     """One a processor, as memory allows."""
-    free = os.sysconf("SC_AVPHYS_PAGES") * os.sysconf("SC_PAGE_SIZE")
-    return max(1, min(len(os.sched_getaffinity(0)), free // BYTES_OF_A_CHECK))
+    available = re.search(r"^MemAvailable: *(\d+) kB", pathlib.Path("/proc/meminfo").read_text(encoding="ascii"), re.MULTILINE)
+    return max(1, min(len(os.sched_getaffinity(0)), int(available[1]) * 1024 // BYTES_OF_A_CHECK))
 
 
 def try_all(names, one_by_one):

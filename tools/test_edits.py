@@ -17,8 +17,14 @@ impl Reader {
         self.source.take()
     }
 }
+
+impl<'a> Iterator for Range<'a> {
+    fn least(&self) -> u64 {
+        self.low
+    }
+}
 """
-PLACES = {"MOST": "", "let found": "first", "found as": "first", "self.source": "next", "impl": ""}
+PLACES = {"MOST": "", "let found": "first", "found as": "first", "self.source": "Reader::next", "self.low": "RangeIterator::least", "impl": ""}
 BY_ANOTHER = "no proof: it calls `first`, which is not proved"
 OPEN = "no proof: at `found as u64`, `search` did not prove `result = 3`"
 # The functions that an edit changes, the verdicts of a check, and whether that refuses the edit.
@@ -30,10 +36,13 @@ VERDICTS = [
     ({("src/lib.rt", "first")}, [], False),
     ({("src/lib.rt", "first")}, [("second", OPEN)], False),
     ({("src/lib.rt", "first")}, [("words::first", OPEN)], False),
-    ({("src/lib.rt", "next")}, [("Reader::next", OPEN)], True),
+    ({("src/lib.rt", "Reader::next")}, [("Reader::next", OPEN)], True),
+    ({("src/lib.rt", "RangeIterator::least")}, [("ranges::RangeIterator::least", OPEN)], True),
+    ({("src/lib.rt", "RangeIterator::least")}, [("ranges::Range::least", OPEN)], False),
     ({("src/words.rt", "first")}, [("words::first", OPEN)], True),
     ({("src/words.rt", "first")}, [("blanks::first", OPEN), ("words::first", "proved")], False),
-    ({("src/words.rt", "next")}, [("words::Reader::next", "not proved")], True),
+    ({("src/words.rt", "Reader::next")}, [("readers::Reader::next", "not proved")], True),
+    ({("src/words.rt", "Reader::next")}, [("readers::next", "not proved")], False),
     ({("src/words.rt", "first")}, [("words::fn::first::map+2", OPEN)], True),
     ({("src/lib.rt", "")}, [("anything", OPEN)], True),
     ({("src/lib.rt", "")}, [("anything", BY_ANOTHER)], False),
