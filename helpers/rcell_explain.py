@@ -1,5 +1,5 @@
 # SPDX-License-Identifier: Apache-2.0 OR GPL-2.0-or-later
-"""What rcell-explain does: it runs rcell, and explains its message."""
+"""Run rcell and explain its message: the work of rcell-explain."""
 import difflib
 import os
 import re
@@ -14,12 +14,12 @@ from rcell_run import Missing, Run, found_program
 MESSAGE = re.compile(r"rcell: ([A-Za-z0-9_.]+):([0-9]+): (.*)")
 COLUMN = re.compile(r" at column ([0-9]+)$")
 MOST_FAULTS = 200
-LONGEST_MENDED = 8000  # characters of a line that is shown as it is to be written
+LONGEST_MENDED = 8000  # characters of a corrected line that is printed
 MOST_COUNTED = 1 << 30  # bytes of a grid whose words are counted
 
 
 class Explanation:
-    """The lines that stand beneath a message."""
+    """The lines that are printed below a message."""
 
     def __init__(self, run, words):
         self.run, self.words, self.messages = run, words, Messages()
@@ -34,7 +34,7 @@ class Explanation:
             self.say("  instead: " + instead)
 
     def say_all(self, part, text):
-        """All causes of a message: it can't be known which it is."""
+        """Add all causes of a message whose cause is not known."""
         said = list(self.messages.all_said(part, text))
         if len(said) > 1:
             self.say("it may be:")
@@ -119,7 +119,7 @@ class Explanation:
 
     @staticmethod
     def file_cause(text, path, name=""):
-        """Why a file can't be opened or read, with values for its advice; None where that is not seen."""
+        """Return why a file cannot be opened or read, with values for its advice, or None if no reason is found."""
         if text == "read failed":
             return ("folder", {}) if os.path.isdir(path) else ("device", {})
         if os.path.exists(path):
@@ -142,7 +142,7 @@ class Explanation:
     # Grids
 
     def grid(self, name):
-        """The grid of this name that the message is about: the last one."""
+        """Return the grid that a message about a name means: the last one of that name."""
         given = [given for at, given in self.run.given.grids if at == name][-1]
         return GridFile(name, given.path, given.start(), given.line), given
 
@@ -170,7 +170,7 @@ class Explanation:
             self.say("  (if rcell-aaigrid made the file, this is line %d of the .asc file, or line %d if that has dx and dy)" % (line - 1, line))
 
     def counted(self, grid, given):
-        """How many cells there are, and the first line that has more or fewer than the others."""
+        """Return the number of cells, and the first line whose number of cells is wrong, as text."""
         try:
             rows, cols = int(grid.values["rows"]), int(grid.values["cols"])
         except (KeyError, ValueError):
@@ -252,12 +252,12 @@ class Explanation:
         self.further_faults(line, script)
 
     def further_faults(self, line, script, is_known=True):
-        """The faults of the lines behind the one that the message names; `is_known`: so are the names of the grids."""
+        """Add the errors after the line of the message; with `is_known`, also errors about the names of maps."""
         if script is None:
             return
-        faults = [fault for fault in script.faults if fault.told_at > line and fault.line != line]
+        faults = [fault for fault in script.faults if fault.reported_at > line and fault.line != line]
         faults = [fault for fault in faults if is_known or fault.text not in ("unknown map", "map exists")]
-        others = list(dict.fromkeys(fault.line for fault in sorted(faults, key=lambda fault: fault.told_at)))
+        others = list(dict.fromkeys(fault.line for fault in sorted(faults, key=lambda fault: fault.reported_at)))
         if not others:
             return
         self.say()
@@ -281,13 +281,13 @@ class Explanation:
     def say_line(self, script, line, faults, text):
         faults = sorted(faults, key=lambda fault: (fault.text != text, order_of(fault)))
         self.say_source(script, line, faults)
-        told = set()
+        printed = set()
         for fault in faults:
             part = "expression" if is_of_expression(script, fault) else "script"
             said = self.messages.said(part, fault.text, fault.cause, fault.values)
-            if said not in told:
+            if said not in printed:
                 self.say_cause(*said)
-            told.add(said)
+            printed.add(said)
         whole = next((fault.values["whole"] for fault in faults if "whole" in fault.values), None)
         mended = [whole] if whole else mended_lines(script, line, faults)
         rules = next((fault.values["file"] for fault in faults if fault.cause == "rules"), None)
@@ -299,7 +299,7 @@ class Explanation:
 
 
 def same_number(one, other):
-    """Whether two values of headers are the same number."""
+    """Return whether two header values are the same number."""
     from fractions import Fraction
 
     try:
@@ -309,7 +309,7 @@ def same_number(one, other):
 
 
 def is_near(first, grid):
-    """Whether edges differ by less than half a cell."""
+    """Return whether the edges of two grids differ by less than half a cell."""
     from fractions import Fraction
 
     try:
@@ -322,11 +322,11 @@ def is_near(first, grid):
     return all(abs(values[key] - others[key]) < (high if key in ("north", "south") else wide) for key in EDGES)
 
 
-# Warnings of a run that is done
+# Warnings after a successful run
 
 
 def warnings_of(run):
-    """What was taken and is seldom meant: places and names of warnings with their values."""
+    """Return the warnings about input that is valid but probably a mistake: their places, names and values."""
     given = run.given
     found = []
     if given.script is not None:
@@ -343,7 +343,7 @@ def warnings_of(run):
 
 
 def forgotten_in(file):
-    """Words that look like a nodata value which the header does not name."""
+    """Return the cells that look like a nodata value but are not null."""
     grid = GridFile("", file.path, file.start(), file.line)
     wanted = [word for word in FORGOTTEN if word != grid.null()]
     seen, last = [], b""
@@ -365,20 +365,19 @@ def report(lines):
 
 
 def explained(run, words):
-    told = run.told.decode("utf-8", "replace")
-    found = MESSAGE.match(told)
+    found = MESSAGE.match(run.message.decode("utf-8", "replace"))
     if found is None:
         return []
     explanation = Explanation(run, words)
     try:
         explanation.explain(found[1], int(found[2]), found[3])
-    except Exception as fault:  # the message stands in any case, and the status is rcell's
+    except Exception as fault:  # rcell's message and status count, even if explaining fails
         return explanation.lines + ["rcell-explain: internal error, please report it: %r" % fault]
     return explanation.lines
 
 
 def ended(status):
-    """What is told of a run that a signal ended."""
+    """Return the lines about a run that was ended by a signal."""
     causes = {-4: " (the processor is older than x86-64-v2, which rcell needs)", -9: " (the system kills programs when memory runs out)"}
     return ["rcell-explain: rcell was killed by signal %d%s" % (-status, causes.get(status, ""))]
 
@@ -396,13 +395,13 @@ def main(words, folder):
         say(run, words)
         sys.stderr.flush()
     except OSError:
-        pass  # standard error is full or gone: there is nowhere to say so
-    os._exit(128 - run.status if run.status < 0 else run.status)  # a thread may wait for a pipe that nobody writes
+        pass  # standard error is full or closed, so nothing can be reported
+    os._exit(128 - run.status if run.status < 0 else run.status)  # a thread may be waiting for a pipe that nobody writes
 
 
 def say(run, words):
-    """Passes on what rcell said, and explains it."""
-    sys.stderr.buffer.write(run.told)
+    """Print rcell's message and explain it."""
+    sys.stderr.buffer.write(run.message)
     sys.stderr.buffer.flush()
     if run.status == 0:
         messages = Messages()

@@ -1,9 +1,9 @@
 # SPDX-License-Identifier: Apache-2.0 OR GPL-2.0-or-later
-"""Runs rcell, and keeps of what it reads through pipes what its message may be about.
+"""Run rcell, and keep the parts of piped input that its message may be about.
 
     found_program(folder)     the path of rcell
     Given(words)              the script and the grids of a command line
-    Run(program, words)       a run: its status and message, and the files that were given
+    Run(program, words)       a run: its status, its message, and its input files
 """
 import os
 import stat
@@ -13,19 +13,19 @@ import threading
 from rcell_front.files import write_all
 from rcell_front.programs import close, found_on_path, pipe
 
-MOST_START = 1 << 16  # bytes of the beginning of a file that are looked at
-MOST_TAIL = 1 << 22  # bytes of a pipe that are kept: a message is about what was read last
+MOST_START = 1 << 16  # bytes at the start of a file
+MOST_TAIL = 1 << 22  # bytes at the end of a pipe that are kept: a message is about what was read last
 MOST_SCRIPT = (1 << 20) + 1
 PIECE = 1 << 16
-LONGEST_LINE = 1 << 20  # bytes of a line that are looked at
+LONGEST_LINE = 1 << 20  # bytes
 
 
 class Missing(Exception):
-    """There is no rcell."""
+    """The program rcell was not found."""
 
 
 def found_program(folder, name="rcell", variable="RCELL"):
-    """The program that the variable names, or next to the helper, in bin next to its folder, or on the path."""
+    """Return the program that the variable names, or else the first one next to the helper, in ../bin, or on the path."""
     named = os.environ.get(variable)
     if named:
         return os.path.abspath(named)
@@ -39,7 +39,7 @@ def found_program(folder, name="rcell", variable="RCELL"):
 
 
 class File:
-    """A file that is read by its path, as often as it is asked."""
+    """A file that can be read again, by its path."""
 
     def __init__(self, path):
         self.path = path
@@ -64,7 +64,7 @@ class File:
             return
 
     def line(self, number):
-        """A line by its number, or None; of a long one the beginning."""
+        """Return a line by its number, or None; a long line is cut."""
         try:
             with open(self.path, "rb") as file:
                 at = 1
@@ -79,7 +79,7 @@ class File:
 
 
 class Pipe:
-    """A file that can be read once: it is handed on to rcell, and its beginning and its last pieces are kept."""
+    """A file that can be read only once: it is copied to rcell, and its start and its last pieces are kept."""
 
     def __init__(self, path):
         self.path = path
@@ -88,7 +88,7 @@ class Pipe:
         self.reads, self.writes = pipe()
 
     def hand_on(self, source):
-        """Copies all that comes to the pipe; ends quietly where rcell has stopped reading."""
+        """Copy the file to the pipe; stop without an error if rcell no longer reads it."""
         while True:
             piece = os.read(source, PIECE)
             if not piece:
@@ -125,7 +125,7 @@ class Pipe:
 
 
 def is_read_once(path):
-    """Whether a path is a pipe, a terminal or the like."""
+    """Return whether a path is a pipe, a terminal or another file that can be read only once."""
     try:
         mode = os.stat(path).st_mode
     except OSError:
@@ -134,7 +134,7 @@ def is_read_once(path):
 
 
 class Given:
-    """The words of a command line, with pipes in the place of what can be read once."""
+    """The words of a command line, with a pipe instead of each file that can be read only once."""
 
     def __init__(self, words):
         self.words = list(words)
@@ -143,7 +143,7 @@ class Given:
         named = [word.partition("=") for word in words[1:]]
         is_whole = len(words) > 1 and all(equals and path for _, equals, path in named)
         if any(word.startswith("-") for word in words) or not is_whole:
-            # rcell refuses the words; a script that can be read again may be looked at.
+            # rcell rejects these words; a script that can be read again is still checked.
             self.script = File(words[0]) if words and os.path.isfile(words[0]) and len(words) > 1 else None
             return
         self.script = self.given(0, "", words[0])
@@ -159,7 +159,7 @@ class Given:
         return held
 
     def feed(self):
-        """Opens what can be read once in rcell's order, and hands it on in the order in which rcell reads: grids, then script."""
+        """Open the files of all pipes in rcell's order, and copy them in the order in which rcell reads: grids, then script."""
         try:
             sources = {at: os.open(held.path, os.O_RDONLY) for at, held in self.pipes}
         except OSError:
@@ -172,21 +172,21 @@ class Given:
 
 
 class Run:
-    """A run of rcell: what was given, its status, and its message; the program ends with the run, whatever has happened."""
+    """A run of rcell: its input files, its status and its message. The program is always ended with it."""
 
     def __init__(self, program, words):
         self.given = Given(words)
         ends = [held.reads for _, held in self.given.pipes]
         for end in ends:
             os.set_inheritable(end, True)
-        # What a shell has opened for us, as in NAME=<(..), is rcell's as well.
+        # rcell needs the descriptors that a shell has opened, as in NAME=<(..).
         child = subprocess.Popen([program] + self.given.words, stderr=subprocess.PIPE, close_fds=False)
         try:
             for end in ends:
                 close(end)
             if self.given.pipes:
                 threading.Thread(target=self.given.feed, daemon=True).start()
-            self.told = child.stderr.read()
+            self.message = child.stderr.read()
             self.status = child.wait()
         finally:
             child.kill()

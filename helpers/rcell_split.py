@@ -1,8 +1,8 @@
 # SPDX-License-Identifier: Apache-2.0 OR GPL-2.0-or-later
-"""What rcell-split does: it marks the outputs of a script, runs rcell, and writes each output to a file of its own.
+"""Mark the outputs of a script, run rcell, and write each output to its own file: the work of rcell-split.
 
-A map of nulls prints its null_value as the only line of its table, so a statement can print any word. The word of the marks
-has sixteen digits that no script knows, and all else that is printed comes from the script or is a number.
+The table of a map of nulls is a single line, its null_value, so a statement can print any word. The word of the marks has
+sixteen random digits, so no script contains it; everything else that is printed is in the script or is a number.
 """
 import binascii
 import os
@@ -24,11 +24,11 @@ USAGE_STATUS, REFUSED_STATUS = 2, 1
 
 
 class Refused(Exception):
-    """A sentence that says why nothing is written."""
+    """The reason why nothing is written, as a sentence."""
 
 
 class Output:
-    """An output of a script: its place among the outputs, its command, the value of its input."""
+    """An output of a script: its position among the outputs, its command, and its maps."""
 
     def __init__(self, place, command, maps):
         self.place, self.command, self.maps = place, command.decode(), maps.decode("ascii", "replace")
@@ -41,7 +41,7 @@ class Output:
 
 
 class Marked:
-    """A script with a mark before each output, and the user's line of each of its lines."""
+    """A script with a mark before each output, and the number in the user's script of each of its lines."""
 
     def __init__(self, text):
         self.word = b"--%s" % binascii.hexlify(os.urandom(8))
@@ -66,11 +66,11 @@ class Marked:
             raise Refused("the marks of %d outputs make the script %d bytes long, but rcell takes %d: write fewer outputs in one run"
                           % (len(self.outputs), len(self.text), LONGEST_SCRIPT))
 
-    def users_message(self, told):
-        """A message with the line of the user's script, or the place of the user's word."""
-        found = MESSAGE.match(told)
+    def users_message(self, message):
+        """Return a message with the line number of the user's script, or the position of the user's word."""
+        found = MESSAGE.match(message)
         if not found:
-            return told
+            return message
         line = int(found[3])
         if found[2] == b"arguments":
             line += line >= 2  # DIR is the second word
@@ -80,7 +80,7 @@ class Marked:
 
 
 class Parts:
-    """The stream of a run, parted by the marks into files of a folder."""
+    """The output of a run, split at the marks into files of a folder."""
 
     def __init__(self, folder, marked):
         self.folder, self.mark = folder, marked.word + b"\n"
@@ -126,7 +126,7 @@ class Parts:
 
 
 def read_script(path):
-    """The text of a script; None where rcell is to say that it can't be read."""
+    """Return the text of a script, or None if it cannot be read, which rcell then reports."""
     try:
         with open(path, "rb") as file:
             return file.read(LONGEST_SCRIPT + 1)
@@ -135,7 +135,7 @@ def read_script(path):
 
 
 def given_as_file(text):
-    """A path that gives a text, for a child."""
+    """Return a path from which a child process can read a text."""
     file = above_standard(os.memfd_create("script"))
     write_all(file, text)
     os.set_inheritable(file, True)
@@ -143,7 +143,7 @@ def given_as_file(text):
 
 
 def run(program, words, folder):
-    """Runs rcell, and writes its outputs to a folder that gets its name when all is there; the status."""
+    """Run rcell and write its outputs to a folder, which gets its name when it is complete; return the status."""
     text = read_script(words[0])
     marked = Marked(text if text is not None else b"")
     script = words[0] if text is None else given_as_file(marked.text)
@@ -155,12 +155,12 @@ def run(program, words, folder):
         parts = Parts(part, marked)
         try:
             parts.take(child.stdout)
-            told = child.stderr.read()
+            message = child.stderr.read()
             status = child.wait()
         finally:
             child.kill()
             child.wait()
-        sys.stderr.buffer.write(marked.users_message(told))
+        sys.stderr.buffer.write(marked.users_message(message))
         sys.stderr.buffer.flush()
         if status == 0 and not parts.is_whole():
             raise Refused("%d outputs were marked, but %d came" % (len(parts.names), parts.count))
@@ -172,7 +172,7 @@ def run(program, words, folder):
 
 
 def keep(part, folder):
-    """Gives the folder its name."""
+    """Give the folder its name."""
     refuse_existing(folder)
     os.rename(part, folder)
 
@@ -183,7 +183,7 @@ def refuse_existing(folder):
 
 
 def main(words, here, usage):
-    """The status of rcell-split."""
+    """Run rcell-split and return its status."""
     if len(words) < 3 or any(word.startswith("-") for word in words):
         sys.stderr.write(usage)
         return USAGE_STATUS

@@ -1,13 +1,13 @@
 # SPDX-License-Identifier: Apache-2.0 OR GPL-2.0-or-later
-"""Rasters that GDAL reads as grids of rcell, and grids as GeoTIFFs. Needs numpy; GDAL's Python only where a file is opened.
+"""Convert rasters that GDAL reads to rcell grids, and grids to GeoTIFFs. Needs numpy, and GDAL's Python for opening files.
 
-    CellText(program, null_values).of(..)   a block of an array as the rows of a grid, as rcell-pipe lists them
-    Region.of_transform(..), .header()      edges as rcell takes them, exactly from a geotransform
-    write_grid(program, dataset, number, ..) a band of an open dataset as a grid, block by block
-    read_header(read), read_cells(..)       a grid's header, and its cells as arrays of 32 bits
-    write_tif(grid, path, ..)               a grid as a GeoTIFF
+    CellText(program, null_values).of(..)   the rows of a grid for a block of an array, as text
+    Region.of_transform(..), .header()      exact edges for rcell, from a geotransform
+    write_grid(program, dataset, number, ..) write a band of an open dataset as a grid, block by block
+    Grid(read), rows_of(grid)               a grid's header, and its cells as arrays of 32 bits
+    write_tif(grid, path, ..)               write a grid as a GeoTIFF
 
-What can't be a grid raises `Refused` with a sentence. Nothing here changes a setting of GDAL.
+If a raster cannot be a grid, `Refused` says why. GDAL's settings are not changed.
 """
 import re
 import warnings
@@ -17,12 +17,12 @@ import numpy as np
 
 from rcell_front import pipe
 
-GREATEST = 2147483647  # of a cell, either way
-NULL = -GREATEST - 1  # of arrays that a grid is read into, and of the GeoTIFFs that are written
+GREATEST = 2147483647  # the limit of cells, above and below 0
+NULL = -GREATEST - 1  # in arrays of cells and in new GeoTIFFs
 GREATEST_SIDE, MOST_CELLS = 65535, 2147483647
 EDGE_DIGITS, EDGE_DECIMALS = 10, 8
 EDGES = ("north", "south", "east", "west")
-BLOCK_CELLS = 1 << 20  # cells that are turned at once
+BLOCK_CELLS = 1 << 20  # cells that are converted at once
 LINES_JOINED = bytes.maketrans(b"\n", b" ")
 PIECE = 1 << 22  # bytes of a grid that are read at once
 MOST_HEADER = 1 << 16  # bytes within which the header of a grid ends
@@ -33,14 +33,14 @@ LONE_SIGN = re.compile(rb"[+-](?![0-9])")
 
 
 class Refused(Exception):
-    """A sentence that says why a raster can't be a grid, or a grid no raster."""
+    """The reason why a raster cannot be a grid, or a grid cannot be a raster, as a sentence."""
 
 
 # Regions
 
 
 def edge_text(value):
-    """An edge with at most 8 decimals, without zeros at its end."""
+    """Return an edge with at most 8 decimals, without trailing zeros."""
     size = round(abs(value) * 10**EDGE_DECIMALS)
     whole, fraction = divmod(size, 10**EDGE_DECIMALS)
     digits = ("%d.%0*d" % (whole, EDGE_DECIMALS, fraction)).rstrip("0").rstrip(".")
@@ -48,7 +48,7 @@ def edge_text(value):
 
 
 class Region:
-    """Four edges (Fractions, as they are written in a grid) and the numbers of rows and columns."""
+    """The four edges, as fractions equal to their texts in a grid, and the numbers of rows and columns."""
 
     def __init__(self, north, south, east, west, rows, cols):
         self.rows, self.cols = rows, cols
@@ -72,7 +72,7 @@ class Region:
 
     @classmethod
     def of_transform(cls, transform, rows, cols):
-        """The region of a geotransform of GDAL (None: cells of side 1), and whether its first row is the southern one."""
+        """Return the region of a geotransform (None: cells of side 1), and whether the first row is the southernmost."""
         if transform is None:
             return cls(Fraction(rows), Fraction(0), Fraction(cols), Fraction(0), rows, cols), False
         if not np.isfinite(transform).all():
@@ -84,7 +84,7 @@ class Region:
         return cls(ends[1], ends[0], left + wide * cols, left, rows, cols), high > 0
 
     def transform(self):
-        """The geotransform of GDAL."""
+        """Return the region as a geotransform of GDAL."""
         wide, high = (self.east - self.west) / self.cols, (self.north - self.south) / self.rows
         return tuple(float(value) for value in (self.west, wide, 0, self.north, 0, -high))
 
@@ -93,7 +93,7 @@ class Region:
         return "".join(lines + ["rows: %d\ncols: %d\n" % (self.rows, self.cols)]).encode()
 
     def with_edges_of(self, other, name):
-        """This region with the edges of another of as many rows and columns, which may be off by half a cell."""
+        """Return another region of the same size, whose edges may differ from these by half a cell."""
         if (self.rows, self.cols) != (other.rows, other.cols):
             raise Refused("%s has %d rows of %d cells, but the map has %d of %d"
                           % (name, other.rows, other.cols, self.rows, self.cols))
@@ -110,14 +110,14 @@ class Region:
 
 
 class CellText:
-    """Turns blocks of cells into the rows of a grid: rcell-pipe lists them."""
+    """The text of blocks of cells, as the rows of a grid, made with rcell-pipe."""
 
     def __init__(self, program, null_values=()):
-        """Cells of these whole numbers are null."""
+        """Cells with these whole numbers are null."""
         self.program, self.null_values = program, null_values
 
     def of(self, block, null=None):
-        """The text of a block of two dimensions of a whole-number type; null are the cells where `null` is true, too."""
+        """Return the text of a two-dimensional array of integers; cells are also null if `null` is true for them."""
         kind = np.iinfo(block.dtype)
         for value in self.null_values:
             if kind.min <= value <= kind.max:
@@ -154,7 +154,7 @@ class CellText:
 
 
 class BadCell(Refused):
-    """A cell that no grid has: its row and column in its block or map, from 0, and what is wrong with it."""
+    """A cell that is not allowed in a grid: its row and column in the block or map, from 0, and what is wrong with it."""
 
     def __init__(self, row, col, fault):
         super().__init__("the cell in row %d, column %d: %s" % (row + 1, col + 1, fault))
@@ -162,7 +162,7 @@ class BadCell(Refused):
 
 
 def whole_cells(block, null_values, null=None):
-    """A block of decimals as whole numbers, with the cells that are null; NaN is."""
+    """Return an array of floats as integers, and the cells that are null, NaN among them."""
     null = np.isnan(block) if null is None else np.isnan(block) | null
     for value in null_values:
         null |= block == block.dtype.type(value)
@@ -181,7 +181,7 @@ def whole_cells(block, null_values, null=None):
 
 
 def null_values_of(band, given):
-    """The values that are null: the given one, or that of the band; `none` for no one."""
+    """Return the values that are null: the given one (`none` for no value), or else the band's nodata value."""
     if given is not None:
         return [] if given == "none" else [float(given) if re.search("[.einEIN]", given) else int(given)]
     value = band.GetNoDataValue()
@@ -194,7 +194,7 @@ def null_values_of(band, given):
 
 
 def masks_of(dataset, number, given):
-    """The bands whose zeros make a cell null: the raster's own mask, and its alpha band."""
+    """Return the bands in which 0 makes a cell null: the raster's own mask, and its alpha band."""
     from osgeo import gdal
     if given is not None:
         return []
@@ -211,7 +211,7 @@ def alphas_of(dataset):
 
 
 def check_meaning(dataset, band):
-    """Refuses a raster whose cells stand for other values, or that has no place but control points."""
+    """Reject a raster whose values are scaled, or whose position is given only by control points."""
     scale, offset = band.GetScale(), band.GetOffset()
     if scale not in (None, 1) or offset not in (None, 0):
         raise Refused("its values are scaled: each cell times %g, plus %g; write them out as whole numbers first (gdal_translate -unscale)"
@@ -221,7 +221,7 @@ def check_meaning(dataset, band):
 
 
 def blocks_of(band, is_turned):
-    """The places of blocks of whole rows, from the north: first row, how many."""
+    """Return the first row and the number of rows of each block, from north to south."""
     rows, cols = band.YSize, band.XSize
     high = band.GetBlockSize()[1]
     step = max(1, BLOCK_CELLS // cols)
@@ -231,7 +231,7 @@ def blocks_of(band, is_turned):
 
 
 def write_grid(program, dataset, number, write, nodata=None, like=None, like_name="the other grid"):
-    """Writes a band of a dataset as a grid: its region, edges exactly from the geotransform, then its cells block by block by rcell-pipe."""
+    """Write a band of a dataset as a grid: its region, with exact edges, then its cells, block by block with rcell-pipe."""
     band = dataset.GetRasterBand(number)
     region, is_turned = Region.of_transform(dataset.GetGeoTransform(can_return_null=True), band.YSize, band.XSize)
     if like is not None:
@@ -247,7 +247,7 @@ def write_grid(program, dataset, number, write, nodata=None, like=None, like_nam
         try:
             write(text_of(block, null, values, texts, is_turned))
         except BadCell as fault:
-            north = band.YSize - first - count if is_turned else first  # rows are counted from the north, as in the grid
+            north = band.YSize - first - count if is_turned else first  # rows count from the north, as in the grid
             raise BadCell(north + fault.row, fault.col, fault.fault) from None
     return region
 
@@ -271,7 +271,7 @@ def read_block(band, first, count):
 
 
 def one_band(dataset, number=None):
-    """The number of the band: the given one, or the only one that is no alpha band."""
+    """Return the number of the band: the given one, or the only band that is not an alpha band."""
     count = dataset.RasterCount
     if count == 0:
         names = [name for name, _ in dataset.GetSubDatasets()]
@@ -290,10 +290,10 @@ def one_band(dataset, number=None):
 
 
 class Grid:
-    """An open grid: its region, null text and multiplier, and the rest of what was read."""
+    """An open grid: its region, null text and multiplier, and the bytes that were read after the header."""
 
     def __init__(self, read):
-        """`read` answers the next bytes, of at most so many, and none at the end."""
+        """Read the header; `read(size)` returns the next bytes, at most `size` of them, and none at the end."""
         self.read = read
         start = b""
         while len(start) < MOST_HEADER:
@@ -338,7 +338,7 @@ class Grid:
         return Region(*edges, self.whole("rows"), self.whole("cols"))
 
     def cells(self):
-        """The cells as arrays of 32 bits of any length, one after another, NULL for null."""
+        """Yield the cells as arrays of 32-bit integers of any length, with NULL for null."""
         wanted = self.region.rows * self.region.cols
         count = 0
         for piece in self.pieces():
@@ -382,7 +382,7 @@ class Grid:
 
     def multiplied(self, piece, cells, nulls, before):
         null = cells == NULL
-        if np.count_nonzero(null) != nulls:  # the number that stands for null is a cell
+        if np.count_nonzero(null) != nulls:  # NULL is also the number of a cell
             raise self.bad_cell(piece, before)
         bad = (cells > GREATEST) | (cells < -GREATEST)
         if self.multiplier != 1:
@@ -407,13 +407,13 @@ class Grid:
 
 
 def words_in(text):
-    """How many words a text has."""
+    """Return the number of words of a text."""
     is_blank = np.frombuffer(b" " + text, np.uint8) <= 32
     return int(np.count_nonzero(is_blank[:-1] & ~is_blank[1:]))
 
 
 def rows_of(grid):
-    """Blocks of whole rows of a grid, as arrays of two dimensions."""
+    """Yield blocks of whole rows of a grid, as two-dimensional arrays."""
     cols, kept, size = grid.region.cols, [], 0
     for cells in grid.cells():
         kept.append(cells)
@@ -426,7 +426,7 @@ def rows_of(grid):
 
 
 def write_tif(grid, path, like=None):
-    """Writes a grid as a GeoTIFF of 32 bits, with the georeference of `like`, an open dataset of as many rows and columns."""
+    """Write a grid as a GeoTIFF of 32-bit integers, with the transform and projection of `like`, a dataset of the same size."""
     from osgeo import gdal
     transform = grid.region.transform()
     if like is not None:

@@ -50,10 +50,10 @@ def model_fault(model, script, names):
 def judged_fault(judge, explain, script, names):
     """The same by the judge; None in the place of its text where it takes the text for no script."""
     found = judge.Script(script, names)
-    faults = sorted(found.faults, key=lambda fault: (fault.told_at, explain.order_of(fault)))
+    faults = sorted(found.faults, key=lambda fault: (fault.reported_at, explain.order_of(fault)))
     if not faults:
         return None
-    first = [fault for fault in faults if fault.told_at == faults[0].told_at]
+    first = [fault for fault in faults if fault.reported_at == faults[0].reported_at]
     return first[0].line, {fault.text for fault in first}, any(fault.cause in ("line ends", "utf-16", "no text", "grid") for fault in first)
 
 

@@ -1,5 +1,5 @@
 # SPDX-License-Identifier: Apache-2.0 OR GPL-2.0-or-later
-"""What rcell-explain says: faults with their causes from messages.json, and how a line with its marks is shown."""
+"""The text of rcell-explain: errors with their causes from messages.json, and lines with marks under the errors."""
 import difflib
 import json
 import os
@@ -10,22 +10,22 @@ LONGEST_SHOWN = 300  # bytes of a line that an error repeats whole
 NO_BYTES = re.compile("[\ud800-\udc7f\udd00-\udfff]")  # lone surrogates that stand for no byte
 FILLED = re.compile(r"\{([a-z_]+)\}")
 INDENT = "    "
-MOST_NAMES = 400  # names of maps among which the nearest is looked for
+MOST_NAMES = 400  # map names that are compared to find the nearest
 LONGEST_NAME = 64
-LONGEST_VALUE = 300  # characters of a word or line within a sentence
+LONGEST_VALUE = 300  # characters of a word or line quoted in a sentence
 
 
 class Fault:
-    """A fault of a line of the script: what rcell says of it, which of the causes it is, and what to write instead.
+    """An error in a line of the script: rcell's message, its cause, and what to write instead.
 
-    `start` and `end` are bytes of the line. `fixes` mend it, where it can be mended: each has a place in the line, and what
-    takes that place.
+    `start` and `end` are positions in bytes. `fixes` are the edits that correct the line, if there is a correction: each has
+    a start, an end and the new text.
     """
 
     def __init__(self, line, start, end, text, cause, values=None, fix=None):
         self.line, self.start, self.end, self.text, self.cause = line, start, end, text, cause
         self.values = values or {}
-        self.told_at = line  # the line at which rcell sees it, if none comes before
+        self.reported_at = line  # the line at which rcell notices it
         self.fixes = [] if fix is None else [(start, end, fix)]
 
     def __repr__(self):
@@ -33,7 +33,7 @@ class Fault:
 
 
 def folder():
-    """Where messages.json is: beside this module."""
+    """Return the folder of this module, which also contains messages.json."""
     return os.path.dirname(os.path.realpath(__file__))
 
 
@@ -46,7 +46,7 @@ def cut(text):
 
 
 def unlinked(text):
-    """A text of the table without the links of the document."""
+    """Return a text of the table without its links."""
     return re.sub(r"\[([^]]*)\]\([^)]*\)", lambda found: "%s in docs/commands.md" % found[1], text)
 
 
@@ -61,7 +61,7 @@ class Messages:
         self.titles = {"arguments": 0, "files": 1, "grid": 2, "script": 3, "expression": 4}
 
     def causes(self, part, text):
-        """The causes of a message of a part."""
+        """Return the causes of a message of a part."""
         for message in self.parts[self.titles[part]]["messages"]:
             if message["text"] == text:
                 return message["causes"]
@@ -71,12 +71,12 @@ class Messages:
         return any(cause["name"] == name for cause in self.causes(part, text))
 
     def said(self, part, text, name, values):
-        """What a cause says, filled in: the cause, and what to write instead."""
+        """Return a cause and what to write instead, with the values filled in."""
         cause = next(cause for cause in self.causes(part, text) if cause["name"] == name)
         return filled(cause["cause"], values), unlinked(filled(cause["instead"], values))
 
     def all_said(self, part, text):
-        """All causes of a message, with their examples: where it can't be known which it is."""
+        """Yield all causes of a message with their examples, for when the cause is not known."""
         for cause in self.causes(part, text):
             example = cause.get("example", {})
             yield filled(cause["cause"], example), unlinked(filled(cause["instead"], example))
@@ -90,14 +90,14 @@ class Messages:
 
 
 def near_name(name, known, cutoff=0.6):
-    """The known name that is most like this one, in a list, or none; of very many names some are looked at."""
+    """Return a list of the known name most similar to this one, or an empty list; of very many names, only some are compared."""
     names = list(known)
     names = names if len(names) <= MOST_NAMES else names[: MOST_NAMES // 2] + names[-MOST_NAMES // 2 :]
     return difflib.get_close_matches(name[:LONGEST_NAME], names, n=1, cutoff=cutoff)
 
 
 def nearest(name, known):
-    """What is known here, the nearest name first."""
+    """Return a sentence that lists the known names, the nearest first."""
     near = near_name(name, known, 0.5)
     names = [shown(it) for it in list(known)[:MOST_NAMES] if it not in near]
     if near:
@@ -106,14 +106,14 @@ def nearest(name, known):
 
 
 def new_name(name, known):
-    """A name that is not known, made of this one."""
+    """Return a name that is not taken, made from this one."""
     number = 2
     while "%s_%d" % (name, number) in known:
         number += 1
     return "%s_%d" % (name[:60], number)
 
 
-# Lines as a terminal can show them
+# Lines for a terminal
 
 
 def printable(text):
@@ -121,13 +121,13 @@ def printable(text):
 
 
 def shown(text):
-    """Bytes, or text of one character a byte, as a terminal can show them."""
+    """Return bytes, or a string with one character per byte, in printable characters."""
     raw = text.encode("latin-1") if isinstance(text, str) else text
     return printable(raw.decode("utf-8", "backslashreplace").replace("\t", " "))
 
 
 def marked(line, spans):
-    """A line and beneath it marks of its spans (bytes from start to end), both cut to what is about the first span."""
+    """Return a line and marks for the line below it, under spans of bytes; both are cut to the part around the first span."""
     raw = line.encode("latin-1") if isinstance(line, str) else line
     first = min(start for start, _ in spans)
     begin = 0 if len(raw) <= ROOM else max(0, min(first - ROOM // 3, len(raw) - ROOM))

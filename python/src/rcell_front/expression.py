@@ -1,7 +1,7 @@
 # SPDX-License-Identifier: Apache-2.0 OR GPL-2.0-or-later
-"""Assignments of r.mapcalc with all their faults: what is known by its looks is told, mended, and the rest is read on.
+"""Find all errors of an r.mapcalc assignment: each one is reported and repaired, so that the rest can be parsed.
 
-    judge_assignment(script, number, line, begin)   tells the script the faults of a line, whose command ends at `begin`
+    judge_assignment(script, number, line, begin)   report the errors of a line to the script; its command ends at `begin`
 """
 import re
 from fractions import Fraction
@@ -11,10 +11,10 @@ from .advice import near_name, nearest, new_name, shown
 MOST_TOKENS = 1000
 GREATEST, GREATEST_OFFSET, LONGEST_NAME = 2147483647, 255, 64
 MOST_MENDINGS = 60
-MOST_OF_A_KIND = 20  # faults of one kind that are told of a line
+MOST_OF_A_KIND = 20  # reported errors of one kind in a line
 TOKEN = re.compile(r"[A-Za-z0-9_.]+|&&&|\|\|\||&&|\|\||<=|>=|==|!=|[-+*/%<>!?:()\[\],=]")
 LEVELS = (("||", "|||"), ("&&", "&&&"), ("==", "!="), ("<", "<=", ">", ">="), ("+", "-"), ("*", "/", "%"))
-# Functions: the least and the greatest number of arguments.
+# The smallest and largest number of arguments of each function.
 FUNCTIONS = {"if": (1, 3), "isnull": (1, 1), "null": (0, 0), "abs": (1, 1), "min": (2, None), "max": (2, None), "mode": (2, None),
              "row": (0, 0), "col": (0, 0), "nrows": (0, 0), "ncols": (0, 0), "eval": (1, None), "nmin": (2, None),
              "nmax": (2, None), "nmode": (2, None)}
@@ -36,7 +36,7 @@ OPTION = re.compile(r"(?<!\S)--(?:o|overwrite|q|quiet|qq|v|verbose|ui|help)(?!\S
 
 
 def times(value):
-    """A multiplication by a fraction, as whole numbers say it."""
+    """Return a multiplication by a fraction, written with whole numbers."""
     if value.denominator == 1:
         return "* %d" % value.numerator
     return "/ %d" % value.denominator if value.numerator == 1 else "* %d / %d" % (value.numerator, value.denominator)
@@ -48,7 +48,7 @@ class Token:
 
 
 class Unread(Exception):
-    """The parser can't go on: at this token, for this reason."""
+    """The parser cannot continue at this token, for this reason."""
 
     def __init__(self, at, reason, **values):
         super().__init__(reason)
@@ -56,11 +56,11 @@ class Unread(Exception):
 
 
 class Reader:
-    """Reads tokens by the grammar of rcell; raises Unread at the first that does not fit."""
+    """A parser for rcell's grammar; it raises Unread at the first token that does not fit."""
 
     def __init__(self, tokens):
         self.tokens, self.at = tokens, 0
-        self.opened = []  # places of parentheses that are open
+        self.opened = []  # indices of the open parentheses
 
     def next_is(self, *signs):
         return self.tokens[self.at].kind == "sign" and self.tokens[self.at].text in signs
@@ -158,15 +158,15 @@ class Reader:
 
 
 class Assignment:
-    """A line of r.mapcalc that is judged."""
+    """A line of r.mapcalc whose errors are reported."""
 
     def __init__(self, script, number, line, begin):
         self.script, self.number, self.line, self.begin = script, number, line, begin
-        self.work = line  # the line, with blanks where something was told that is left out
+        self.work = line  # the line, in which reported parts become blanks
         self.tokens = []
-        self.left_out = 0  # tokens of what is told already
+        self.left_out = 0  # the number of tokens in reported parts
         self.later = None  # the map that a second assignment on the line makes
-        self.told_names = set()
+        self.reported_names = set()
 
     def report(self, start, end, text, cause, fix=None, **values):
         values.setdefault("word", shown(self.line[start:end]))
@@ -185,11 +185,11 @@ class Assignment:
             self.read()
             self.judge_names()
 
-    # What is no part of an expression
+    # Parts that do not belong to an expression
 
     def leave_out_options(self):
         for found in list(OPTION.finditer(self.work, self.begin))[:MOST_OF_A_KIND]:
-            # Behind an operand it is read as two signs and a name.
+            # After an operand, rcell reads an option as two signs and the name of a map.
             before = self.work[self.begin : found.start()].rstrip(" \t")
             is_read = "=" in before and (before[-1].isalnum() or before[-1] in "_.)]")
             self.report(found.start(), found.end(), "unknown map" if is_read else "unexpected token", "option", "")
@@ -227,7 +227,7 @@ class Assignment:
         self.blank(at, len(self.line))
 
     def leave_out_second(self):
-        """A second assignment, behind a semicolon: it gets a line of its own."""
+        """Report a second assignment after a semicolon, and suggest a line of its own."""
         at, end = self.work.find(";", self.begin), len(self.line.rstrip(" \t\r"))
         if at < 0:
             return
@@ -281,7 +281,7 @@ class Assignment:
         return Token("number", "1", start, end)
 
     def not_whole(self, start, end, text):
-        """Tells of a number with decimals, and how it is said by whole numbers."""
+        """Report a number with decimals, and suggest how to do without."""
         try:
             value = Fraction(text) if len(text) < 20 else None
         except (ValueError, ZeroDivisionError):
@@ -304,7 +304,7 @@ class Assignment:
             self.script.faults[-1].fixes.append(fix)
 
     def bad_byte(self, at):
-        """Tells of a byte that no expression has; answers where to go on."""
+        """Report a byte that cannot be in an expression; return where to continue."""
         character = self.work[at]
         if character == "@":
             return self.mapset(at)
@@ -363,7 +363,7 @@ class Assignment:
                 return
 
     def mend(self, unread, reader):
-        """Tells what can't be read, and mends the tokens; whether reading may go on."""
+        """Report what cannot be parsed and repair the tokens; return whether parsing can continue."""
         token = self.tokens[unread.at]
         if unread.reason == "function":
             return self.bad_function(unread.at)
@@ -414,7 +414,7 @@ class Assignment:
         return False
 
     def operator(self, at, start, end, sign, back=1):
-        """An operator of another language, which tokens from `at - back` to `at` spell."""
+        """Report an operator of another language, whose tokens are `at - back` to `at`."""
         self.report(start, end, "unexpected token", "operator", sign, fixed=sign)
         last = at if sign == "!" else at + 1
         self.tokens[at - back : last] = [Token("sign", sign, start, end)]
@@ -485,7 +485,7 @@ class Assignment:
         else:
             values = {"near": "functions are %s; no parenthesis can follow the name of a map" % ", ".join(FUNCTIONS)}
         self.report(token.start, token.end, "unknown function", cause, fix, word=shown(token.text), **values)
-        # eval takes any arguments but none.
+        # Parsing continues with eval, which takes any number of arguments from 1.
         self.tokens[at] = Token("name", fix if fix in FUNCTIONS else "eval", token.start, token.end)
         return True
 
@@ -511,7 +511,7 @@ class Assignment:
         names = [(at, token) for at, token in enumerate(self.tokens) if token.kind == "name" and at > 0
                  and self.tokens[at + 1].text != "("]
         for at, token in names:
-            if token.text not in self.script.known and token.start not in self.told_names:
+            if token.text not in self.script.known and token.start not in self.reported_names:
                 self.unknown_map(at, token)
         target = self.tokens[0]
         if target.kind == "name" and len(self.tokens) > 1 and self.tokens[1].text == "=":
@@ -529,7 +529,7 @@ class Assignment:
         if dashed:
             start, end = dashed
             word = self.line[start:end]
-            self.told_names |= {it.start for it in self.tokens if start <= it.start < end}
+            self.reported_names |= {it.start for it in self.tokens if start <= it.start < end}
             fixed = word.replace("-", "_")
             self.report(token.start, token.end, "unknown map", "dash", None, word=shown(word), read=shown(word.replace("-", " - ")),
                         fixed=shown(fixed))
@@ -545,7 +545,7 @@ class Assignment:
                     near=nearest(token.text, script.known))
 
     def dashed(self, at):
-        """The ends of words that dashes without blanks join to what looks like one name, or None."""
+        """Return the start and end of words joined by dashes without blanks, which look like one name, or None."""
         first = last = at
         while first >= 3 and self.joins(first - 1) and self.tokens[first - 2].kind in ("name", "number"):
             first -= 2

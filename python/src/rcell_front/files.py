@@ -1,7 +1,7 @@
 # SPDX-License-Identifier: Apache-2.0 OR GPL-2.0-or-later
-"""Files that are written whole or not at all, and the standard streams.
+"""Files that are written completely or not at all, and the standard streams.
 
-Nothing here is imported that takes time to load: most runs of a helper do little more than copy.
+Modules that are slow to load are not imported: most runs of a helper do little more than copy.
 """
 
 from __future__ import annotations
@@ -17,7 +17,7 @@ from types import TracebackType
 __all__ = ["SIDECARS", "Output", "end_on_signals", "is_same_file", "open_standard_streams", "private_folder", "remove_folder", "write_all"]
 
 SIDECARS = (".aux.xml", ".msk", ".ovr")
-"""What GDAL keeps beside a raster under its name: an old mask or old labels must not stand beside a new raster."""
+"""The endings of GDAL's files next to a raster: a new raster must not get an old mask or old labels."""
 
 LONGEST_STEM = 200
 MOST_LINKS = 40
@@ -26,9 +26,9 @@ OWN_DESCRIPTORS = "/proc/self/fd"
 
 
 def open_standard_streams() -> None:
-    """Open /dev/null on each closed descriptor from 0 to 2, so that no other file of this program takes its number.
+    """Open /dev/null on each closed descriptor from 0 to 2, so that no other file gets its number.
 
-    A closed standard output is opened for reading: what is written to it fails, as it should.
+    A closed standard output is opened for reading, so that writing to it still fails.
     """
     while (descriptor := os.open(os.devnull, os.O_RDWR)) <= 2:
         if descriptor == 1:
@@ -42,17 +42,17 @@ def open_standard_streams() -> None:
 
 
 def end_on_signals() -> None:
-    """Make the signals that end a program raise SystemExit instead, so that what is half done is removed."""
+    """Make the signals that end a program raise SystemExit instead, so that unfinished files are removed."""
     import signal
 
     for name in ("SIGHUP", "SIGQUIT", "SIGTERM", "SIGXCPU"):
         number = getattr(signal, name)
-        if signal.getsignal(number) == signal.SIG_DFL:  # one that is ignored, as by nohup, stays so
+        if signal.getsignal(number) == signal.SIG_DFL:  # a signal that nohup ignores stays ignored
             signal.signal(number, lambda number, _: sys.exit(128 + number))
 
 
 def is_same_file(path: str, other: str) -> bool:
-    """Return whether two paths lead to one regular file."""
+    """Return whether two paths refer to the same regular file."""
     try:
         return os.path.samefile(path, other) and os.path.isfile(path)
     except (OSError, ValueError):
@@ -60,7 +60,7 @@ def is_same_file(path: str, other: str) -> bool:
 
 
 def write_all(descriptor: int, data: bytes | memoryview) -> None:
-    """Write all bytes to a descriptor, also where it takes some at a time or is not ready."""
+    """Write all bytes to a descriptor, even if it takes only some at a time or is not ready."""
     rest = memoryview(data).cast("B")
     while rest:
         try:
@@ -70,7 +70,7 @@ def write_all(descriptor: int, data: bytes | memoryview) -> None:
 
 
 def private_folder(folder: str, name: str) -> str:
-    """Create a hidden folder of this user's own, named after a file."""
+    """Create a hidden folder for this user only, named after a file."""
     stem = os.fsdecode(os.fsencode(name)[:LONGEST_STEM])
     while True:
         path = os.path.join(folder, f".{stem}-{os.urandom(4).hex()}")
@@ -89,7 +89,7 @@ def remove_folder(path: str) -> None:
 
 
 def _own_descriptor(path: str) -> int | None:
-    """Return the number of the open descriptor that a path such as /dev/stdout leads to."""
+    """Return the number of the open descriptor to which a path such as /dev/stdout leads."""
     own = os.path.realpath(OWN_DESCRIPTORS)
     for _ in range(MOST_LINKS):
         folder, name = os.path.split(os.path.abspath(path))
@@ -109,7 +109,7 @@ def _opened_for_writing(descriptor: int) -> int:
 
 
 def _opened_special(path: str) -> int | None:
-    """Open what is there and is no regular file: a device, a FIFO, an open descriptor; `-` is standard output."""
+    """Open a device, FIFO or open descriptor (`-` is standard output); return None for a regular or new file."""
     descriptor = 1 if path == "-" else _own_descriptor(path)
     if descriptor is not None:
         return _opened_for_writing(descriptor)
@@ -121,11 +121,10 @@ def _opened_special(path: str) -> int | None:
 
 
 class Output:
-    """A file to write, which takes its name when the block ends without an exception.
+    """A file to write, which gets its name when the block ends without an exception.
 
-    It is written in a private folder beside its name. Links are followed; a file that is replaced keeps its mode; what GDAL keeps
-    beside a raster goes with it, and comes with the new one. What is there and is no regular file, such as a device, is opened and
-    written, and never replaced.
+    It is written in a private folder next to the target. Links are followed, and a file that is replaced keeps its mode. GDAL's
+    files next to a raster are replaced with it. An existing device or FIFO is opened and written, never replaced.
 
     Parameters
     ----------
@@ -147,7 +146,7 @@ class Output:
         return self
 
     def path(self) -> str:
-        """Return a new path with the name of the file, for what opens its files itself."""
+        """Return a new path that ends in the name of the file, for libraries that open files themselves."""
         folder, name = os.path.split(self._target)
         if self._room is None:
             try:
@@ -161,13 +160,13 @@ class Output:
         return os.path.join(self._room, name)
 
     def stream(self) -> int:
-        """Return a descriptor that takes the bytes of the file."""
+        """Return a descriptor to which the file is written."""
         if self._stream is None:
             self._stream = os.open(self.path(), os.O_WRONLY | os.O_CREAT | os.O_EXCL, 0o666)
         return self._stream
 
     def keep(self) -> None:
-        """Give the file its name; what is no regular file gets the bytes."""
+        """Give the file its name, or copy its bytes to the device or FIFO."""
         if self._room is None or self._is_kept:
             return
         try:
@@ -193,7 +192,7 @@ class Output:
                 write_all(self._special, piece)
 
     def _adopt(self, part: str) -> None:
-        """Give the new file the owner and the mode of the one that it replaces."""
+        """Give the new file the owner and mode of the file that it replaces."""
         try:
             old = os.stat(self._target)
         except FileNotFoundError:
@@ -207,7 +206,7 @@ class Output:
         os.chmod(part, mode & ~0o070 if has_other_group else mode)
 
     def _replace(self, part: str) -> None:
-        """Put the new file and what belongs to it in place; if that fails, put the old ones back."""
+        """Move the new file and GDAL's files next to it into place; if that fails, restore the old ones."""
         assert self._room is not None
         with open(part, "rb") as file:
             os.fsync(file.fileno())
@@ -215,13 +214,13 @@ class Output:
         done: list[tuple[str, str]] = []
         try:
             for at, ending in enumerate(SIDECARS):
-                beside, kept = self._target + ending, os.path.join(self._room, f"old-{at}")
-                if os.path.lexists(beside):
-                    os.rename(beside, kept)
-                    done.append((kept, beside))
+                sidecar, kept = self._target + ending, os.path.join(self._room, f"old-{at}")
+                if os.path.lexists(sidecar):
+                    os.rename(sidecar, kept)
+                    done.append((kept, sidecar))
                 if os.path.lexists(part + ending):
-                    os.rename(part + ending, beside)
-                    done.append((beside, part + ending))
+                    os.rename(part + ending, sidecar)
+                    done.append((sidecar, part + ending))
             os.replace(part, self._target)
         except BaseException:
             for now, before in reversed(done):

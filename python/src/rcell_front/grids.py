@@ -1,9 +1,9 @@
 # SPDX-License-Identifier: Apache-2.0 OR GPL-2.0-or-later
-"""Grid files: what a file is by its first bytes, the header of a grid, and which cause a refused one has.
+"""Grid files: the kind of a file by its first bytes, the header of a grid, and why rcell rejects a grid.
 
-    kind_of(start)                   a Kind, or None where it may be a grid
-    header_of(start)                 the header's values by their keys
-    Diagnosis(grid, start, ..)       the cause of a refusal, with values for its advice
+    kind_of(start)               a Kind, or None if the file may be a grid
+    header_of(start)             the values of the header by key, and the first line of data
+    cause_of(grid, line, text)   the cause of an error, with values for its advice
 """
 import re
 from decimal import Decimal, InvalidOperation
@@ -23,7 +23,7 @@ NULL_WORDS = (b"nan", b"na", b"n/a", b"null", b"nodata", b"none", b"no", b"nil",
 
 
 class Kind:
-    """What a file is that is no grid: a noun with its article, how GDAL or another program reads it, and whether it is no text."""
+    """A kind of file that is not a grid: a noun with its article, its cause in messages.json, and whether it is binary."""
 
     def __init__(self, article, cause, is_binary=True):
         self.article, self.cause, self.is_binary = article, cause, is_binary
@@ -46,7 +46,7 @@ UNPACK = {"a zip archive": "unzip %s", "compressed by bzip2": "bunzip2 -k %s", "
 
 
 def kind_of(start):
-    """What a file that begins so is, where it is no grid; None where it may be one."""
+    """Return the kind of a file by its first bytes, or None if it may be a grid."""
     for magic, kind in MAGIC:
         if start.startswith(magic):
             return kind
@@ -84,7 +84,7 @@ def text_kind(start):
 
 
 def table_kind(line, words):
-    """A text that has no header of a grid."""
+    """Return the kind of a text that has no grid header, or None."""
     for separator, name in ((b",", "commas"), (b";", "semicolons")):
         if separator in line:
             return Kind("a table with %s" % name, "csv", False)
@@ -97,7 +97,7 @@ def table_kind(line, words):
 
 
 def header_of(start):
-    """The values of a grid's header by their keys, as text, and the number of the first line of data."""
+    """Return the values of a grid's header by key, as text, and the number of the first line of data."""
     values, number = {}, 0
     for number, line in enumerate(start.split(b"\n"), 1):
         words = line.split()
@@ -110,11 +110,11 @@ def header_of(start):
 
 
 class GridFile:
-    """A grid that was given: its name and path, how it begins, and its lines where they can be read (again)."""
+    """A grid of the command line: its name, path and first bytes, and its lines if they can be read again."""
 
     def __init__(self, name, path, start, lines):
         self.name, self.path, self.start = name, path, start
-        self.lines = lines  # a function: the line of a number, as bytes, or None
+        self.lines = lines  # a function from a line number to the line as bytes, or None
         self.values, self.data_line = header_of(start)
 
     def null(self):
@@ -125,12 +125,12 @@ class GridFile:
         return stem + ".txt" if stem + ".txt" != self.path else stem + "2.txt"
 
     def is_as_converted(self):
-        """Whether the header is as rcell-aaigrid writes it."""
+        """Return whether the header could have been written by rcell-aaigrid."""
         return list(self.values)[:6] == list(SIX)
 
 
 def cause_of(grid, line, text):
-    """The cause of a refusal with values for its advice, or None where it can't be known; and spans of the line to mark."""
+    """Return the cause of an error, values for its advice, and spans of the line to mark; None if the cause is not known."""
     judges = {"missing key": missing_key, "bad header line": bad_header_line, "key given twice": key_twice, "bad number": bad_number,
               "type not supported": bad_type, "bad region": bad_region, "bad cell": bad_cell, "cell out of range": out_of_range,
               "token too long": long_token, "too many blanks": lambda *_: ("blanks", {}, []),
@@ -145,7 +145,7 @@ def cause_of(grid, line, text):
 
 
 def quoted(path):
-    """A path as a shell takes it."""
+    """Return a path, quoted for a shell."""
     text = shown(path.encode("utf-8", "surrogateescape"))
     return text if re.fullmatch(r"[\w@%+=:,./-]+", text) else "'%s'" % text.replace("'", "'\\''")
 
@@ -195,7 +195,7 @@ def key_twice(grid, line, text):
 
 
 def degrees(value):
-    """The decimal degrees of 48:30:15N, or None."""
+    """Return a value such as 48:30:15N in decimal degrees, or None."""
     found = re.fullmatch(r"([0-9]{1,3}):([0-9]{1,2})(?::([0-9]{1,2}(?:\.[0-9]*)?))?([NSEW]?)", value, re.IGNORECASE)
     if not found:
         found = re.fullmatch(r"([0-9]{1,3}(?:\.[0-9]+)?)()()([NSEW])", value, re.IGNORECASE)
@@ -236,7 +236,7 @@ def bad_number(grid, line, text):
 
 
 def plain(value):
-    """A number with at most 8 decimals and no exponent; None where it is no edge."""
+    """Return a number with at most 8 decimals and no exponent, or None if it cannot be a coordinate."""
     try:
         exact = Decimal(value)
     except InvalidOperation:
@@ -271,7 +271,7 @@ def bad_region(grid, line, _):
 
 
 def first_word(grid, text, is_bad):
-    """The first word of a line that is bad, with its place, or None."""
+    """Return the start, end and bytes of the first bad word of a line, or None."""
     return next(((found.start(), found.end(), found.group()) for found in WORD.finditer(text or b"") if is_bad(found.group())), None)
 
 

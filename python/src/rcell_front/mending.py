@@ -1,16 +1,16 @@
 # SPDX-License-Identifier: Apache-2.0 OR GPL-2.0-or-later
-"""What to write in place of a line of a script that rcell has refused."""
+"""Suggest what to write instead of a script line that rcell rejects."""
 import re
 
 from .advice import Messages, shown
 from .script import Script
 
-LONGEST_SCRIPT = 65535  # bytes of a script that is looked at: a package does not wait for advice
+LONGEST_SCRIPT = 65535  # bytes; for longer scripts, advice would delay the package's error
 _messages = None
 
 
 def advice(script, names, line, text):
-    """The place of the word in the line that a message is about (from 1), and what to write instead; None where that is not known."""
+    """Return the position (from 1) of the word that a message is about, and what to write instead; None for both if unknown."""
     global _messages
     if len(script) > LONGEST_SCRIPT:
         return None, None
@@ -29,7 +29,7 @@ def advice(script, names, line, text):
 
 
 def order_of(fault):
-    """The order in which rcell tells the faults of a line: its form, a missing option, an unknown map, one that exists."""
+    """Return a sort key for rcell's order of errors in a line: its form, a missing option, an unknown map, a map that exists."""
     return {"missing option": 1, "unknown map": 2, "map exists": 3}.get(fault.text, 0), fault.start
 
 
@@ -38,7 +38,7 @@ def first_of(faults):
 
 
 def is_of_expression(script, fault):
-    """Whether a fault is told with a column."""
+    """Return whether rcell reports an error with a column."""
     if not 1 <= fault.line <= len(script.lines):
         return False
     is_mapcalc = (script.lines[fault.line - 1].split() or [""])[0].lower() == "r.mapcalc"
@@ -46,7 +46,7 @@ def is_of_expression(script, fault):
 
 
 def mended_lines(script, line, faults):
-    """The line as it is to be written, where all its faults can be mended and nothing else is wrong with it."""
+    """Return the line, as one line or more, with all errors corrected; an empty list if an error would remain."""
     if any(not fault.fixes for fault in faults):
         return []
     text, last = script.lines[line - 1], len(script.lines[line - 1]) + 1
@@ -61,7 +61,7 @@ def mended_lines(script, line, faults):
 
 
 def is_right(script, line, lines):
-    """Whether lines in the place of one have no fault, over the maps that are known there."""
+    """Return whether the lines that replace a line are free of errors, given the maps that are known there."""
     known = [name for name, whence in script.known.items() if whence == "a grid" or int(whence.split()[-1]) < line]
     text = "\n".join(lines)
     if lines[0].split()[0] == "r.reclass" and len(lines) == 1:

@@ -1,9 +1,9 @@
 # SPDX-License-Identifier: Apache-2.0 OR GPL-2.0-or-later
-"""Scripts of rcell with all their faults: each line is judged, mended as far as it can be, and the next one too.
+"""Find all errors of a script: each line is checked, and repaired as far as possible for the lines that follow.
 
-    judged(text, grids, path)   a Script: its faults, warnings and statements
+    Script(text, grids, path)   its faults, warnings and statements
 
-A line is kept as text of one character a byte, so that places in it are bytes.
+Lines are strings with one character per byte, so an index into a line is a position in bytes.
 """
 import re
 
@@ -13,8 +13,8 @@ from .grids import kind_of
 
 LONGEST_SCRIPT, LONGEST_LINE = 1048576, 65535
 MOST_INPUTS = 16
-MOST_FAULTS = 500  # that are looked for
-LONGEST_RULE = 2000  # characters of a rule whose forms are tried
+MOST_FAULTS = 500  # after so many errors the rest is not checked
+LONGEST_RULE = 2000  # characters; a longer rule gets no correction
 GREATEST = 2147483647
 LONGEST_NAME = 64
 NAME = re.compile(r"[A-Za-z_][A-Za-z0-9_.]{0,63}")
@@ -38,7 +38,7 @@ COMMANDS = {
     "r.out.ascii": Command("", ("input",), ("null_value",)),
 }
 WRITERS = ("r.stats", "r.out.ascii")
-# What is told of an expression before its tokens are looked at together.
+# Errors of single tokens, which are found before an expression is parsed.
 OF_TOKENS = ("bad byte", "bad number", "number not whole", "bad name")
 ALIASES = {"in": "input", "map": "input", "maps": "input", "raster": "input", "inp": "input", "out": "output", "fs": "separator",
            "sep": "separator", "null": "null_value", "nv": "null_value", "nodata": "null_value"}
@@ -91,7 +91,7 @@ def words_of(line, begin=0):
 
 
 class Statement:
-    """A command of a script with its line, and the maps that it reads."""
+    """A command of a script, its line, and the maps that it reads."""
 
     def __init__(self, line, command, inputs):
         self.line, self.command, self.inputs = line, command, inputs
@@ -112,7 +112,7 @@ class Script:
             self.find_made()
             self.judge()
 
-    # What a text is that is no script
+    # Texts that are not scripts
 
     def is_text(self, text):
         if len(text) > LONGEST_SCRIPT:
@@ -134,7 +134,7 @@ class Script:
         self.warnings.append((line, name, values))
 
     def find_made(self):
-        """The lines that make each map, for names that are used too early."""
+        """Find the line that makes each map, for the message about a map that is used too early."""
         for number, line in enumerate(self.lines, 1):
             words = line.split()
             if not words or words[0] not in COMMANDS:
@@ -187,18 +187,18 @@ class Script:
             self.judge_rules(number)
 
     def goes_on_with_rules(self):
-        """Whether the next line that is not skipped is a rule or the end of rules."""
+        """Return whether the next line that is not skipped is a rule or the end of rules."""
         following = next((line for line in self.lines[self.at :] if not is_skipped(line)), "")
         return following.split()[:1] == ["end"] or rule_fault(following) is None
 
     def other_command(self, number, line, start, end, word):
-        """Tells what a word is that is no command; answers the command that is meant, or None."""
+        """Report a word that is not a command; return the command that is meant, or None."""
         meant, cause, values, fix = None, None, {"word": shown(word)}, None
         near = near_name(word.lower(), COMMANDS, 0.8)
         before = self.lines[number - 2].rstrip(" \t\r") if number > 1 else ""
         if word.startswith("\xef\xbb\xbf"):
             if word[3:] in COMMANDS:
-                return word[3:]  # the mark is told already
+                return word[3:]  # the mark is already reported
             cause = "byte order mark"
         elif "\xc2\xa0" in word:
             meant, cause = next((it for it in COMMANDS if word.startswith(it + "\xc2\xa0")), None), "no-break space"
@@ -224,18 +224,18 @@ class Script:
         return meant
 
     def is_continued(self, number, line, command, word):
-        """Whether the backslash at the end of a line is refused: a text for null may end so."""
+        """Return whether the backslash at the end of a line is an error: a null_value may end in one."""
         return command == "r.mapcalc" or word == "\\" or "null_value=" not in word
 
     def continued(self, number, line, command):
-        """Tells of a line that ends with a backslash, and skips those that go on with it."""
+        """Report a line that ends with a backslash, and skip the lines that continue it."""
         at = len(line.rstrip(" \t\r")) - 1
         word, whole = WORD.findall(line)[-1], line[:at].rstrip()
         options, text = Options(self, number, line, command), "bad byte"
         if command == "r.mapcalc":
-            told = len(self.faults)
+            before = len(self.faults)
             judge_assignment(self, number, line[:at], words_of(line)[0][1])
-            self.faults[told:] = [fault for fault in self.faults[told:] if fault.text in OF_TOKENS]
+            self.faults[before:] = [fault for fault in self.faults[before:] if fault.text in OF_TOKENS]
         else:
             options.judge_words(words_of(line)[1:-1])
             text = "bad combination" if word.startswith("after=") and command == "r.stats" else options.raw_text(word)
@@ -270,12 +270,12 @@ class Script:
                 return
             self.judge_rule(number, line)
         self.report(command_line, 0, len(self.lines[command_line - 1]), "missing end", "missing end")
-        self.faults[-1].told_at = len(self.lines) + 1
+        self.faults[-1].reported_at = len(self.lines) + 1
 
     def judge_rule(self, number, line):
         text = rule_fault(line)
         if text:
-            self.tell_rule(number, line, text)
+            self.report_rule(number, line, text)
             return
         label = label_of(line)
         comment = re.search(r"(?:^|[ \t])(#.*)", label)
@@ -285,7 +285,7 @@ class Script:
         elif quoted:
             self.warn(number, "label quotes", word=shown(label))
 
-    def tell_rule(self, number, line, text):
+    def report_rule(self, number, line, text):
         start = len(line) - len(line.lstrip(" \t\r"))
         end = len(line.rstrip(" \t\r"))
         cause, fixed, values = rule_cause(line, text)
@@ -299,7 +299,7 @@ class Script:
 
 
 def lines_of(text):
-    """The lines of a script, one character a byte."""
+    """Return the lines of a script as strings with one character per byte."""
     pieces = text.decode("latin-1").split("\n")
     ended, last = pieces[:-1], pieces[-1]
     return [piece[:-1] if piece.endswith("\r") else piece for piece in ended] + ([last] if last else [])
@@ -310,12 +310,12 @@ def is_skipped(line):
 
 
 def is_next_command(words):
-    """Whether a line among rules is a command: a rule begins with a number or `*`."""
+    """Return whether a line among rules is a command: a rule begins with a number or `*`."""
     return words[0].lower() in COMMANDS or re.match(r"[rg]\.[a-z]", words[0]) is not None
 
 
 def kind_of_script(text):
-    """The cause why a text can't be a script, or None, and values for its advice."""
+    """Return why a text cannot be a script, or None, and the values for its advice."""
     if text[:3] == b"\xef\xbb\xbf":
         return "byte order mark", {}
     if text[:2] in (b"\xff\xfe", b"\xfe\xff") or (len(text) > 3 and text[:4].count(b"\0") == 2 and text[0:1].isascii()):
@@ -339,7 +339,7 @@ def rule_number(text):
 
 
 def rule_fault(line):
-    """What rcell says of a rule, or None."""
+    """Return rcell's message about a rule, or None."""
     left, equals, right = line.partition("=")
     tokens = WORD.findall(left.replace(",", " "))
     ends, at, is_star = [], 0, tokens == ["*"]
@@ -366,7 +366,7 @@ def label_of(line):
 
 
 def rule_cause(line, text):
-    """Which cause a refused rule has, the mended rule or None, and values for the advice."""
+    """Return the cause of an invalid rule, the corrected rule or None, and the values for the advice."""
     stripped = line.strip(" \t\r")
     left, equals, right = stripped.partition("=")
     if len(stripped) > LONGEST_RULE:
@@ -409,7 +409,7 @@ def number_cause(left, output):
 
 
 def mended(line):
-    """A mended rule, or None where rcell would refuse it still."""
+    """Return a corrected rule, or None if rcell would still reject it."""
     return None if rule_fault(line) else line
 
 
@@ -417,7 +417,7 @@ def mended(line):
 
 
 class Options:
-    """The words behind a command with all their faults; each is mended and looked at again."""
+    """The words after a command; each error is reported and repaired, and the word is checked again."""
 
     def __init__(self, script, number, line, command):
         self.script, self.number, self.line, self.command = script, number, line, command
@@ -439,7 +439,7 @@ class Options:
             at += self.judge_word(words, at)
 
     def judge_word(self, words, at):
-        """Judges the word at this place, and what belongs to it; answers how many words that are."""
+        """Check the word at an index and the words that belong to it; return how many words that is."""
         start, end, word = words[at]
         if word.startswith(("#", ">", "<", "|", "2>", "&>")):
             return self.tail(words, at)
@@ -467,7 +467,7 @@ class Options:
         return 1
 
     def tail(self, words, at):
-        """The rest of the line is a comment, or of the shell."""
+        """Report the rest of a line, which is a comment or is meant for the shell."""
         start, end = words[at][0], len(self.line.rstrip(" \t\r"))
         cause = "comment" if words[at][2].startswith("#") else "redirection"
         self.report(start, end, "bad option", cause, "")
@@ -476,7 +476,7 @@ class Options:
         return len(words) - at
 
     def spread(self, words, at, count, cause):
-        """An option that blanks have made into several words."""
+        """Report an option that blanks have split into several words."""
         start, end = words[at][0], words[at + count - 1][1]
         text = self.line[start:end]
         if cause == "quotes":
@@ -484,22 +484,22 @@ class Options:
         else:
             whole = re.sub(r"[ \t]+", "", text).rstrip(",")
         if "=" not in whole:
-            self.bare(start, end, whole, is_told="quotes" if cause == "quotes" else None)
+            self.bare(start, end, whole, "quotes" if cause == "quotes" else "no key")
             return count
-        self.option(start, end, *whole.split("=", 1), told=(self.raw_text(words[at][2]), cause, whole))
+        self.option(start, end, *whole.split("=", 1), found=(self.raw_text(words[at][2]), cause, whole))
         return count
 
     def raw_text(self, word):
-        """What rcell says of the first of several words that were meant as one."""
+        """Return rcell's message about the first of several words that were meant as one."""
         key, equals, value = word.partition("=")
         fault = self.option_fault(key, value) if equals and key in self.known.keys else None
         return fault[0] if fault else "bad option"
 
-    def bare(self, start, end, word, is_told=None):
-        """A word without `=`: the first option of GRASS may leave its key out."""
+    def bare(self, start, end, word, cause="no key"):
+        """Report a word without `=`: in GRASS the first option needs no key."""
         if self.command != "r.mapcalc" and "input" not in self.options and not word.startswith(";"):
             fixed = "input=" + word.replace('"', "").replace("'", "")
-            self.option(start, end, "input", fixed[6:], told=("bad option", is_told or "no key", fixed))
+            self.option(start, end, "input", fixed[6:], found=("bad option", cause, fixed))
         else:
             self.report(start, end, "bad option", "no equals sign")
 
@@ -542,11 +542,11 @@ class Options:
 
     # Options by key and value
 
-    def option(self, start, end, key, value, told=None):
-        """Tells each fault of an option, mends it and looks again; `told` is what is known of it (text, cause, mended)."""
+    def option(self, start, end, key, value, found=None):
+        """Report each error of an option, repair it and check again; `found` is a known error (text, cause, correction)."""
         faults = []
-        if told:
-            faults.append((told[0], told[1], {"fixed": shown(told[2])}))
+        if found:
+            faults.append((found[0], found[1], {"fixed": shown(found[2])}))
         while len(faults) < 8:
             fault = self.option_fault(key, value)
             if fault is None:
@@ -567,7 +567,7 @@ class Options:
             self.options[key], self.places[key] = value, (start, end)
 
     def option_fault(self, key, value):
-        """The first fault of an option: what rcell says, the cause, values for the advice, and the mended key and value."""
+        """Return the first error of an option: rcell's message, the cause, values for the advice, and the corrected key and value."""
         if key not in self.known.keys:
             return self.key_fault(key, value)
         if key in self.options:
@@ -631,7 +631,7 @@ class Options:
             return "bad name", "dash", {}, (key, fixed)
         return "bad name", "other byte", {}, None
 
-    # All of a line together
+    # The line as a whole
 
     def judge_whole(self):
         line_end = len(self.line.rstrip(" \t\r"))
@@ -651,7 +651,7 @@ class Options:
         self.script.statements.append(Statement(self.number, self.command, inputs))
 
     def has_fault_of(self, key):
-        """Whether a fault of this line is about the option that is missing: its value could not be taken."""
+        """Return whether a reported error already concerns this option, which is missing because its value is invalid."""
         return any(fault.line == self.number and (fault.values.get("key") == key or shown(key + "=") in str(fault.values.get("word")))
                    for fault in self.script.faults)
 
