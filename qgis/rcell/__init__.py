@@ -7,7 +7,7 @@ from typing import Any
 
 
 def classFactory(iface: Any) -> Any:
-    """What QGIS calls to have the plugin."""
+    """Return the plugin; QGIS calls this function."""
     from .plugin import RcellPlugin
 
     return RcellPlugin()

@@ -1,5 +1,5 @@
 # SPDX-License-Identifier: Apache-2.0 OR GPL-2.0-or-later
-"""Layers of QGIS as maps: what the user sees of a layer goes before what its file says."""
+"""Layers of QGIS as maps: what the user sees in QGIS takes precedence over the file."""
 
 from __future__ import annotations
 
@@ -19,35 +19,35 @@ from qgis.PyQt.QtGui import QColor
 from .core.errors import BadMap, Refused
 from .core.rasters import Raster
 
-# What the legends of this plugin add to a label.
+# The text that legends of this plugin add to a label.
 _COUNT = re.compile(r" \(\d+ cells(, [\d.e+]+ (ha|km2))?\)$")
 _NAME = re.compile(r"[A-Za-z_][A-Za-z0-9_.]{0,63}")
 _LEAST, _GREATEST = float("-inf"), float("inf")
 
 
 def raster_of(layer: QgsRasterLayer, name: str, band: int | None = None) -> Raster:
-    """A band of a layer as a map, the only one where none is named.
+    """Return a band of a layer as a map; without a band, the layer must have only one.
 
     Raises
     ------
     BadMap
-        Where the layer is not a raster that GDAL opens, or is no map of categories.
+        GDAL does not open the layer, or it is not a map of categories.
     """
     if layer.providerType() != "gdal":
-        told = f"its provider is {layer.providerType()}, and only rasters that GDAL opens are read"
-        raise BadMap(name, f"{told}: export it as a GeoTIFF first")
+        reason = f"its provider is {layer.providerType()}, and only rasters that GDAL opens are read"
+        raise BadMap(name, f"{reason}: export it as a GeoTIFF first")
     shown = band or 1
     return Raster.open(name, layer.source(), band, labels_of(layer, shown), null_ranges_of(layer, shown),
                        _uses_nodata(layer.dataProvider(), shown), wkt_of(layer.crs()))
 
 
 def wkt_of(crs: QgsCoordinateReferenceSystem) -> str:
-    """The well-known text of a reference system of QGIS; empty if there is none."""
+    """Return the well-known text of a coordinate reference system of QGIS; empty if it is not valid."""
     return str(crs.toWkt(QgsCoordinateReferenceSystem.WKT2_2019)) if crs.isValid() else ""
 
 
 def labels_of(layer: QgsRasterLayer, band: int) -> dict[int, str]:
-    """The labels of a layer's style, where it has one of classes and they are more than the numbers themselves."""
+    """Return the labels of a layer's style, without those that only repeat the number."""
     found = {}
     for value, label in _classes_of(layer.renderer(), band):
         text = _COUNT.sub("", label)
@@ -74,28 +74,30 @@ def _classes_of(renderer: Any, band: int) -> list[tuple[float, str]]:
 
 
 def colours_of(layer: QgsRasterLayer, band: int) -> dict[int, Any]:
-    """The colours of a layer's classes, where its style has classes."""
+    """Return the colours of a layer's classes; empty if its style has no classes."""
     renderer = layer.renderer()
     if isinstance(renderer, QgsPalettedRasterRenderer) and renderer.band() == band:
-        # A copy: the colour of a class is a part of it, and gone with it.
+        # A copy: the colour belongs to the class and is deleted with it.
         return {int(entry.value): QColor(entry.color) for entry in renderer.classes()}
     return {}
 
 
 def _uses_nodata(provider: Any, band: int) -> bool:
-    """Whether the nodata of the file is null: unless it was switched off. QGIS knows none that its type of cells cannot hold, as -128
-    of bytes with a sign, and that one is null all the same."""
+    """Return whether the nodata value of the file is null: unless the user switched it off.
+
+    QGIS does not know a value that its data type cannot hold, such as -128 in signed bytes; it is null all the same.
+    """
     return bool(provider.useSourceNoDataValue(band)) or not provider.sourceHasNoDataValue(band)
 
 
 def null_ranges_of(layer: QgsRasterLayer, band: int) -> list[tuple[float, float]]:
-    """What the layer's properties declare as nodata besides that of the file."""
+    """Return the ranges that the layer's properties declare as nodata, in addition to the file's value."""
     return [_bounds(found) for found in layer.dataProvider().userNoDataValues(band)]
 
 
 def _bounds(found: QgsRasterRange) -> tuple[float, float]:
     least, greatest = found.min(), found.max()
-    # Categories are whole numbers, so that the next one is a step away where an end does not belong to the range.
+    # Categories are whole numbers, so an exclusive end moves by 1.
     if found.bounds() in (QgsRasterRange.IncludeMax, QgsRasterRange.Exclusive):
         least = float(int(least // 1) + 1)
     if found.bounds() in (QgsRasterRange.IncludeMin, QgsRasterRange.Exclusive):
@@ -104,18 +106,18 @@ def _bounds(found: QgsRasterRange) -> tuple[float, float]:
 
 
 def names_of(layers: Sequence[QgsRasterLayer], given: str) -> list[str]:
-    """The names that a script has for layers: those given, or the layers' own with `_` for what a name cannot have.
+    """Return the names of layers in a script: the given ones, or the layers' own with `_` for characters that are not allowed.
 
     Raises
     ------
     Refused
-        Where there are not as many, one is no name, or one occurs twice.
+        There are too few or too many names, or one is invalid or given twice.
     """
     if not given.strip():
         return _made_names([layer.name() for layer in layers])
     names = [name.strip() for name in given.split(",")]
     if len(names) != len(layers):
-        raise Refused(f"{len(names)} names are given, and {len(layers)} rasters", status=2)
+        raise Refused(f"{len(names)} names for {len(layers)} rasters", status=2)
     for at, name in enumerate(names):
         if not _NAME.fullmatch(name):
             better = _made_names([name])[0]

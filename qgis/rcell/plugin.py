@@ -1,5 +1,5 @@
 # SPDX-License-Identifier: Apache-2.0 OR GPL-2.0-or-later
-"""The plugin: it has no menu and no window of its own, and adds its algorithms to the toolbox."""
+"""The plugin: it adds its algorithms to the toolbox, and has no menu or window."""
 
 from __future__ import annotations
 
@@ -10,26 +10,26 @@ from .translation import translator
 
 
 class RcellPlugin:
-    """What QGIS loads."""
+    """The plugin that QGIS loads."""
 
     def __init__(self) -> None:
         self._provider: RcellProvider | None = None
-        # Kept here: what it translates ends with it.
+        # Kept in an attribute: translation stops when the translator is deleted.
         self._translator = translator()
         if self._translator is not None:
             QgsApplication.installTranslator(self._translator)
 
     def initProcessing(self) -> None:
-        """Called alone where there is no window, as by qgis_process."""
+        """Add the provider; programs without a window, such as qgis_process, call only this method."""
         self._provider = RcellProvider()
         QgsApplication.processingRegistry().addProvider(self._provider)
 
     def initGui(self) -> None:
-        """Called where there is a window."""
+        """Add the provider; QGIS calls this method if it has a window."""
         self.initProcessing()
 
     def unload(self) -> None:
-        """Takes the algorithms out of the toolbox."""
+        """Remove the algorithms from the toolbox."""
         if self._provider is not None:
             QgsApplication.processingRegistry().removeProvider(self._provider)
             self._provider = None

@@ -18,23 +18,23 @@ class RcellProvider(QgsProcessingProvider):
     """All algorithms of the plugin."""
 
     def id(self) -> str:
-        """The first part of the names of the algorithms."""
+        """Return the first part of the algorithms' names."""
         return "rcell"
 
     def name(self) -> str:
-        """As the toolbox shows it."""
+        """Return the name in the toolbox."""
         return "rcell"
 
     def longName(self) -> str:
-        """As a list of providers shows it."""
+        """Return the name in lists of providers."""
         return "rcell (tables and maps of categories)"
 
     def icon(self) -> QIcon:
-        """Beside the name in the toolbox."""
+        """Return the icon next to the name."""
         return QIcon(ICON)
 
     def load(self) -> bool:
-        """Adds the setting under Settings, Options, Processing, Providers."""
+        """Add the setting under Settings, Options, Processing, Providers."""
         ProcessingConfig.settingIcons["rcell"] = self.icon()
         title = "Program rcell-pipe (empty: the plugin's own)"
         ProcessingConfig.addSetting(Setting("rcell", "RCELL_PROGRAM", title, "", valuetype=Setting.FILE))
@@ -43,10 +43,10 @@ class RcellProvider(QgsProcessingProvider):
         return True
 
     def unload(self) -> None:
-        """Takes the setting away."""
+        """Remove the setting."""
         ProcessingConfig.removeSetting("RCELL_PROGRAM")
 
     def loadAlgorithms(self) -> None:
-        """Makes one of each."""
+        """Add each algorithm of the plugin."""
         for algorithm in ALGORITHMS:
             self.addAlgorithm(algorithm())

@@ -1,5 +1,5 @@
 # SPDX-License-Identifier: Apache-2.0 OR GPL-2.0-or-later
-"""What the algorithms leave: rasters with a legend, and tables."""
+"""The results of algorithms: rasters with a legend, and tables."""
 
 from __future__ import annotations
 
@@ -30,7 +30,7 @@ from .core.files import Check, partly, write_raster
 from .core.rasters import Raster
 from .core.sizes import UNITS
 
-# A legend of more classes is none.
+# A map of more classes gets no legend.
 MOST_CLASSES = 1000
 _VERSION_OF_META_TYPES = 33800
 _GOLDEN = 0.618033988749895
@@ -40,7 +40,7 @@ _GOLDEN = 0.618033988749895
 
 
 def put_raster(path: str, grid: Grid, like: Raster, check: Check) -> None:
-    """Writes a map under a path, in the format of its ending.
+    """Write a map to a file, in the format of the file name extension.
 
     Raises
     ------
@@ -53,7 +53,7 @@ def put_raster(path: str, grid: Grid, like: Raster, check: Check) -> None:
 
 
 def put_legend(path: str, classes: Sequence[tuple[int, str]], colours: Mapping[int, Any], context: QgsProcessingContext) -> bool:
-    """Gives a raster a legend: the file .qml beside it, and the layer that QGIS loads of it. False where it has too many classes."""
+    """Give a raster a legend: a .qml file next to it, and the style of its layer. Return False if it has too many classes."""
     style = os.path.splitext(path)[0] + ".qml"
     if not os.path.isfile(path):
         return True
@@ -61,7 +61,7 @@ def put_legend(path: str, classes: Sequence[tuple[int, str]], colours: Mapping[i
         with contextlib.suppress(OSError):
             os.unlink(style)
         return not classes
-    # Its default style would have the statistics of the whole map reckoned, and left beside it.
+    # For the default style, QGIS would compute the statistics of the map and write them to a file.
     options = QgsRasterLayer.LayerOptions(loadDefaultStyle=False)
     layer = QgsRasterLayer(path, "legend", "gdal", options)
     entries = [
@@ -78,37 +78,37 @@ def put_legend(path: str, classes: Sequence[tuple[int, str]], colours: Mapping[i
 
 
 class _Style(QgsProcessingLayerPostProcessorInterface):
-    """Gives a result its legend once it is loaded: QGIS does not look for the .qml of a result."""
+    """Gives a result its legend once it is loaded: QGIS does not look for the .qml file of a result."""
 
     def __init__(self, path: str) -> None:
         super().__init__()
         self._path = path
 
     def postProcessLayer(self, layer: Any, context: Any, feedback: Any) -> None:
-        """Called in the thread of the window."""
+        """Load the style; QGIS calls this method in the main thread."""
         layer.loadNamedStyle(self._path)
         layer.triggerRepaint()
 
 
-# QGIS keeps no hold of them, and runs a copy of the algorithm, which is gone by then.
+# QGIS keeps no reference to them, and the algorithm that made them no longer exists when they are called.
 _styles: list[_Style] = []
 
 
 def _colour(place: int) -> QColor:
-    """Colours that differ from those beside them, always the same."""
+    """Return the colour of a place in the legend: always the same one, and different from its neighbours'."""
     red, green, blue = colorsys.hsv_to_rgb((0.33 + place * _GOLDEN) % 1.0, 0.45 + 0.15 * (place % 3), 0.92 - 0.16 * (place // 3 % 3))
     return QColor(round(red * 255), round(green * 255), round(blue * 255))
 
 
 def counted(label: str, cells: int, like: Raster) -> str:
-    """A label of a legend, with what it stands for: hectares, or square kilometres where a cell has one."""
+    """Return a legend's label with cells and area: in square kilometres if a cell covers at least one, else in hectares."""
     unit = "km2" if like.cell_area >= UNITS["km2"] else "ha"
     area = "" if like.is_geographic else f", {cells * like.cell_area / UNITS[unit]:.10g} {unit}"
     return f"{label} ({cells} cells{area})"
 
 
 def counted_classes(grid: Grid, like: Raster) -> list[tuple[int, str]]:
-    """The classes of a map for its legend, each with what it stands for."""
+    """Return the classes of a map for its legend, each with its label, cells and area."""
     counts = grid.counts().items()
     return [(category, counted(grid.labels.get(category, str(category)), cells, like)) for category, cells in counts]
 
@@ -117,13 +117,13 @@ def counted_classes(grid: Grid, like: Raster) -> list[tuple[int, str]]:
 
 
 def types_of_fields(version: int, core: Any = QtCore) -> dict[str, Any]:
-    """The types of fields: those of Qt's meta objects from QGIS 3.38 on, the only ones of Qt 6; variants before."""
+    """Return the types of fields: QMetaType from QGIS 3.38 on, since Qt 6 has no other, and QVariant before."""
     types = core.QMetaType.Type if version >= _VERSION_OF_META_TYPES else core.QVariant
     return {"whole": types.LongLong, "real": types.Double, "text": types.QString if version >= _VERSION_OF_META_TYPES else types.String}
 
 
 def fields_of(table: Table | Answer) -> QgsFields:
-    """The fields of a table."""
+    """Return the fields of a table."""
     fields = QgsFields()
     types = types_of_fields(Qgis.QGIS_VERSION_INT)
     for column in table.columns():
@@ -133,7 +133,7 @@ def fields_of(table: Table | Answer) -> QgsFields:
 
 
 def put_features(sink: QgsFeatureSink, table: Table | Answer, path: str) -> None:
-    """Puts the rows of a table into a sink.
+    """Write the rows of a table to a sink.
 
     Raises
     ------

@@ -1,5 +1,5 @@
 # SPDX-License-Identifier: Apache-2.0 OR GPL-2.0-or-later
-"""The texts of dialogs in the language of QGIS: those that i18n/rcell_LANGUAGE.qm has, and English else."""
+"""The texts of dialogs in the language of QGIS, if i18n/rcell_LANGUAGE.qm has them, else in English."""
 
 from __future__ import annotations
 
@@ -13,12 +13,12 @@ _FOLDER = os.path.join(os.path.dirname(os.path.abspath(__file__)), "i18n")
 
 
 def tr(text: str) -> str:
-    """A text in the language of QGIS."""
+    """Return a text in the language of QGIS."""
     return str(QCoreApplication.translate(CONTEXT, text))
 
 
 def translator() -> QTranslator | None:
-    """The translations into the language of QGIS, if there are any."""
+    """Return the translations into the language of QGIS, or None."""
     path = os.path.join(_FOLDER, f"rcell_{QgsApplication.locale()[:2]}.qm")
     found = QTranslator()
     return found if os.path.isfile(path) and found.load(path) else None

@@ -1,5 +1,5 @@
 # SPDX-License-Identifier: Apache-2.0 OR GPL-2.0-or-later
-"""Zones as layers: rasters, or polygons that are drawn on the grid of a raster by the centres of cells."""
+"""Zones as layers: rasters, or polygons, which are rasterised by the centres of cells."""
 
 from __future__ import annotations
 
@@ -20,13 +20,13 @@ from .core.program import Watch
 from .core.rasters import MAX_CATEGORY, Raster, quiet
 from .layers import raster_of, wkt_of
 
-# Of polygons that are named in a warning, so many are.
+# The most polygons that a warning lists.
 _SHOWN = 5
 _numbers = itertools.count()
 
 
 def zones_of(layer: Any, field: str, raster: Raster, watch: Watch) -> Raster:
-    """The zones of a layer as a map; polygons are those of the grid of a raster.
+    """Return the zones of a layer as a map; polygons are drawn on the grid of `raster`.
 
     Raises
     ------
@@ -37,7 +37,7 @@ def zones_of(layer: Any, field: str, raster: Raster, watch: Watch) -> Raster:
         return raster_of(layer, layer.name())
     name = layer.name()
     if not isinstance(layer, QgsVectorLayer) or layer.geometryType() != QgsWkbTypes.PolygonGeometry:
-        raise BadMap(name, "not polygons, and no raster")
+        raise BadMap(name, "neither polygons nor a raster")
     crs = wkt_of(layer.crs())
     if crs and raster.crs and not are_same(crs, raster.crs):
         other = f"that of `{raster.name}` is {shown(raster.crs)}"
@@ -49,13 +49,13 @@ def zones_of(layer: Any, field: str, raster: Raster, watch: Watch) -> Raster:
 
 
 def release(raster: Raster) -> None:
-    """Removes polygons that were drawn from memory."""
+    """Remove a map that was drawn from polygons from memory."""
     if raster.path.startswith("/vsimem/rcell_zones_"):
         gdal.Unlink(raster.path)
 
 
 def _polygons(layer: QgsVectorLayer, field: str) -> tuple[list[bytes], list[int], dict[int, str]]:
-    """The geometries, the zone of each, and the labels of zones: whole numbers of the field, else 1, 2, .. in the order of first use."""
+    """Return the geometries, their zones, and the zones' labels: integers of the field, else 1, 2, .. in the order of first use."""
     names = [each.name() for each in layer.fields()]
     if field and field not in names:
         raise BadMap(layer.name(), f"no field {field}: there are {', '.join(names)}")
@@ -69,7 +69,7 @@ def _polygons(layer: QgsVectorLayer, field: str) -> tuple[list[bytes], list[int]
 
 
 def _drawn(name: str, geometries: Sequence[bytes], raster: Raster, watch: Watch) -> NDArray[np.int32]:
-    """For each cell the place of the polygon that has its centre, the later one of several; -1 for none."""
+    """Return for each cell the index of the polygon that contains its centre: the last of several, or -1."""
     order = list(range(len(geometries)))
     found = _burnt(geometries, order, raster)
     if (found < 0).all():
@@ -106,7 +106,7 @@ def _burnt(geometries: Sequence[bytes], order: Sequence[int], raster: Raster) ->
 
 
 def _raster_of(name: str, cells: NDArray[np.int32], raster: Raster, crs: str, labels: dict[int, str]) -> Raster:
-    """Cells as a raster in memory, with the grid of another one."""
+    """Return cells as a raster in memory, on the grid of another raster."""
     path = f"/vsimem/rcell_zones_{next(_numbers)}.tif"
     options = ["COMPRESS=LZW", "TILED=NO"]
     file = gdal.GetDriverByName("GTiff").Create(path, raster.region.cols, raster.region.rows, 1, gdal.GDT_Int32, options)

@@ -147,11 +147,11 @@ class RefusalsTest(InSession):
         self.refused("arguments: classes are whole numbers with commas between them, as 31,32, and not `1;2`", "patches", INPUT=self.cover, CLASSES="1;2",
                      OUTPUT="TEMPORARY_OUTPUT")
         common = {"INPUT": [self.cover], "SCRIPT": "r.stats -c input=lc\nr.stats input=lc"}
-        self.refused("2 names are given, and 1 rasters", "script", **common, NAMES="a,b")
+        self.refused("2 names for 1 rasters", "script", **common, NAMES="a,b")
         self.refused("'1a' is no name of a map", "script", **common, NAMES="1a")
         self.refused("one table is asked for, and the script has r.stats in line 1, r.stats in line 2", "script", **common, NAMES="lc", TABLE="TEMPORARY_OUTPUT")
-        self.refused("the script makes none: name the map", "script", **common, NAMES="lc", OUTPUT=self.path("x.tif"))
-        self.refused("the map x is wanted, and no place for it is given", "script", **common, NAMES="lc", MAP="x")
+        self.refused("the script makes no map: name the output map", "script", **common, NAMES="lc", OUTPUT=self.path("x.tif"))
+        self.refused("the map x is requested, but no file for it is given", "script", **common, NAMES="lc", MAP="x")
 
     def test_reference_systems(self) -> None:
         far = session.districts()

@@ -53,7 +53,7 @@ class AlignAlgorithm(RcellAlgorithm):
     )
 
     def initAlgorithm(self, configuration: Any = None) -> None:
-        """Declares the parameters."""
+        """Declare the parameters."""
         self.add_raster()
         self.addParameter(QgsProcessingParameterRasterLayer("TO", tr("Raster that has the grid")))
         self.addParameter(QgsProcessingParameterEnum("RESAMPLE", tr("Resampling"), RESAMPLINGS, False, RESAMPLINGS[0], False, True))
@@ -63,7 +63,7 @@ class AlignAlgorithm(RcellAlgorithm):
             self.addOutput(QgsProcessingOutputNumber(name.upper(), tr(title)))
 
     def checked_rasters(self, parameters: Parameters, context: QgsProcessingContext) -> list[Raster]:
-        """The raster and the one that has the grid."""
+        """Return the raster, and the raster with the grid."""
         layer, to = self.raster_layer(parameters, context), self.parameterAsRasterLayer(parameters, "TO", context)
         if to is None or not to.isValid():
             raise_unreadable(parameters.get("TO"))
@@ -73,7 +73,7 @@ class AlignAlgorithm(RcellAlgorithm):
 
     def answer(self, program: str, parameters: Parameters, context: QgsProcessingContext, feedback: QgsProcessingFeedback,
                watch: Watch) -> dict[str, Any]:
-        """The map, and what was done to it."""
+        """Return the map and the numbers of cells that were used, repeated and lost."""
         resample = self.parameterAsEnumString(parameters, "RESAMPLE", context)
         made, aligned = align(program, self.rasters[0], self.rasters[1], "" if resample == RESAMPLINGS[0] else resample, watch)
         facts = asdict(aligned)

@@ -1,5 +1,5 @@
 # SPDX-License-Identifier: Apache-2.0 OR GPL-2.0-or-later
-"""What the algorithms have in common: how rasters come in, how a run is watched, how a refusal is told."""
+"""The common part of the algorithms: reading rasters, watching a run, and reporting errors."""
 
 from __future__ import annotations
 
@@ -46,10 +46,10 @@ from ..results import MOST_CLASSES, fields_of, put_features, put_legend, put_ras
 from ..translation import tr
 from ..zones import release, zones_of
 
-# The units of areas, as the functions of the other packages have them.
+# The units of areas, as in the other packages.
 AREAS = ["none", "ha", "km2", "m2"]
 MOST_RASTERS = 16
-# So many cells are looked at before a run: what is wrong among them is told in the dialog.
+# So many cells are checked before a run, while the dialog can still show an error.
 _GLANCE_CELLS = 1 << 18
 _NO_BREAK = "\u00a0"
 # The page of the plugin: in the zip, or in the sources.
@@ -60,7 +60,7 @@ Parameters = Mapping[str, Any]
 
 
 class RcellAlgorithm(QgsProcessingAlgorithm):
-    """An algorithm over one raster, `INPUT`, of which `BAND` may name a band; others say where they differ."""
+    """An algorithm over the raster `INPUT` and its band `BAND`; algorithms over several rasters override parts of it."""
 
     NAME = ""
     TITLE = ""
@@ -75,44 +75,44 @@ class RcellAlgorithm(QgsProcessingAlgorithm):
         self.colours: dict[int, Any] = {}
         self.watch = Watch()
 
-    # What QGIS asks of each algorithm
+    # Methods that QGIS calls
 
     def createInstance(self) -> QgsProcessingAlgorithm:
-        """A copy, which is the one that is run."""
+        """Return a copy, which QGIS then runs."""
         return type(self)()
 
     def name(self) -> str:
-        """The part of its name after `rcell:`."""
+        """Return the part of the name after `rcell:`."""
         return self.NAME
 
     def displayName(self) -> str:
-        """As the toolbox shows it."""
+        """Return the name in the toolbox."""
         return tr(self.TITLE)
 
     def shortDescription(self) -> str:
-        """What it shows where the mouse rests."""
+        """Return the tooltip."""
         return tr(self.SHORT)
 
     def shortHelpString(self) -> str:
-        """Beside the dialog."""
+        """Return the text next to the dialog."""
         return "".join(tr(part) for part in self.HELP)
 
     def helpUrl(self) -> str:
-        """The page of the plugin, which the button Help opens."""
+        """Return the page of the plugin, which the Help button opens."""
         paths = [os.path.normpath(os.path.join(os.path.dirname(os.path.abspath(__file__)), name)) for name in _HELP]
         path = next((path for path in paths if os.path.isfile(path)), "")
         return str(QUrl.fromLocalFile(path).toString()) if path else ""
 
     def tags(self) -> list[str]:
-        """Words by which it is found."""
+        """Return the words for the search in the toolbox."""
         return list(self.TAGS)
 
     def icon(self) -> QIcon:
-        """In the toolbox."""
+        """Return the icon in the toolbox."""
         return QIcon(_ICON)
 
     def canExecute(self) -> tuple[bool, str]:
-        """Whether there is a program: asked before the dialog is shown, and not at all by qgis_process."""
+        """Return whether the program is found; QGIS calls this before the dialog, and qgis_process does not call it."""
         try:
             find_program(program_setting())
         except RcellError as error:
@@ -120,7 +120,7 @@ class RcellAlgorithm(QgsProcessingAlgorithm):
         return True, ""
 
     def checkParameterValues(self, parameters: Parameters, context: QgsProcessingContext) -> tuple[bool, str]:
-        """Refuses before the run what can be known of the rasters and of the words: the dialog stays open."""
+        """Check parameters and rasters before the run, so that the dialog stays open after an error."""
         try:
             if self.has_rasters(parameters):
                 self._glance(self.checked_rasters(parameters, context))
@@ -130,7 +130,7 @@ class RcellAlgorithm(QgsProcessingAlgorithm):
         return answer
 
     def _glance(self, rasters: Sequence[Raster]) -> None:
-        """Reads the first rows of some rasters."""
+        """Read the first rows of rasters, and so find most invalid cells."""
         try:
             for raster in rasters:
                 if not raster.is_text:
@@ -140,7 +140,7 @@ class RcellAlgorithm(QgsProcessingAlgorithm):
                 release(raster)
 
     def prepareAlgorithm(self, parameters: Parameters, context: QgsProcessingContext, feedback: QgsProcessingFeedback) -> bool:
-        """Takes what is asked of layers in the thread of the window."""
+        """Read the layers in the main thread, the only one that may use them."""
         self.watch = Watch(warn=feedback.pushWarning)
         try:
             self.rasters = self.checked_rasters(parameters, context)
@@ -152,7 +152,7 @@ class RcellAlgorithm(QgsProcessingAlgorithm):
         return True
 
     def processAlgorithm(self, parameters: Parameters, context: QgsProcessingContext, feedback: QgsProcessingFeedback) -> dict[str, Any]:
-        """The run, in a thread of its own; what is refused is told in the words of the program."""
+        """Run the program, in a thread of its own; errors have the program's message."""
         self.watch = Watch(
             is_cancelled=feedback.isCanceled,
             progress=lambda share: feedback.setProgress(100 * share),
@@ -163,85 +163,85 @@ class RcellAlgorithm(QgsProcessingAlgorithm):
             self.check_targets(parameters, context)
             return self.answer(find_program(program_setting()), parameters, context, feedback, self.watch)
         except RcellError as error:
-            raise QgsProcessingException(told(error, feedback)) from None
+            raise QgsProcessingException(message_of(error, feedback)) from None
         finally:
             for raster in self.rasters:
                 release(raster)
 
-    # What each algorithm says of itself
+    # Methods that algorithms override
 
     def answer(self, program: str, parameters: Parameters, context: QgsProcessingContext, feedback: QgsProcessingFeedback,
                watch: Watch) -> dict[str, Any]:
-        """What it makes: the results by the names of its outputs."""
+        """Return the results by the names of the outputs."""
         raise NotImplementedError
 
     def checked_rasters(self, parameters: Parameters, context: QgsProcessingContext) -> list[Raster]:
-        """Its rasters, which fit each other."""
+        """Return the rasters after checking that they fit each other."""
         layer = self.raster_layer(parameters, context)
         return [raster_of(layer, layer.name(), self.band(parameters, context))]
 
-    # For the algorithms
+    # Methods that algorithms call
 
     def add_raster(self) -> None:
-        """The parameters of an algorithm over one raster."""
+        """Add the parameters of an algorithm over one raster."""
         self.addParameter(QgsProcessingParameterRasterLayer("INPUT", tr("Raster")))
         self.add_band()
 
     def add_band(self) -> None:
-        """The band of `INPUT`."""
-        title = tr("Band (needed where the raster has several)")
+        """Add the parameter for the band of `INPUT`."""
+        title = tr("Band (required if the raster has several)")
         self.addParameter(QgsProcessingParameterBand("BAND", title, parentLayerParameterName="INPUT", optional=True))
 
     def add_crs(self) -> None:
-        """The parameter of an algorithm over several rasters."""
+        """Add the parameter for the coordinate reference system of rasters that have none."""
         title = tr("Coordinate reference system of rasters that have none")
         parameter = QgsProcessingParameterCrs("CRS", title, optional=True)
         parameter.setFlags(parameter.flags() | QgsProcessingParameterDefinition.FlagAdvanced)
         self.addParameter(parameter)
 
     def add_rasters(self, title: str) -> None:
-        """The parameter of an algorithm over several rasters."""
+        """Add the parameter for several rasters."""
         self.addParameter(QgsProcessingParameterMultipleLayers("INPUT", title, QgsProcessing.TypeRaster))
 
     def add_area(self) -> None:
-        """The unit of areas."""
+        """Add the parameter for the unit of areas."""
         self.addParameter(QgsProcessingParameterEnum("AREA", tr("Unit of areas"), AREAS, False, "ha", False, True))
 
     def add_labels(self) -> None:
-        """A legend in a file."""
+        """Add the parameter for a legend in a file."""
         title = tr("Labels of classes: a CSV file with value,label, or a style (empty: the labels of the layer)")
         self.addParameter(QgsProcessingParameterFile("LABELS", title, optional=True, fileFilter="Legends (*.csv *.qml)"))
 
     def add_zones(self, is_optional: bool = True) -> None:
-        """Zones and their labels."""
+        """Add the parameters for zones and their labels."""
         kinds = [QgsProcessing.TypeRaster, QgsProcessing.TypeVectorPolygon]
         self.addParameter(QgsProcessingParameterMapLayer("ZONES", tr("Zones: a raster, or polygons"), None, is_optional, kinds))
-        self.addParameter(QgsProcessingParameterString("ZONE_FIELD", tr("Field of the polygons that has the zones"), optional=True))
+        self.addParameter(QgsProcessingParameterString("ZONE_FIELD", tr("Field of the polygons with the zones"), optional=True))
         title = tr("Labels of zones: a CSV file with value,label, or a style (empty: the labels of the layer)")
         self.addParameter(QgsProcessingParameterFile("ZONE_LABELS", title, optional=True, fileFilter="Legends (*.csv *.qml)"))
 
     def add_table(self, title: str = "", name: str = "OUTPUT", is_optional: bool = False) -> None:
-        """A table that comes out."""
+        """Add the parameter for an output table."""
         self.addParameter(QgsProcessingParameterFeatureSink(name, title or tr("Table"), QgsProcessing.TypeVector, None, is_optional, not is_optional))
 
     def area(self, parameters: Parameters, context: QgsProcessingContext) -> str:
-        """The unit of areas that is chosen, or nothing."""
+        """Return the unit of areas, or an empty text for none."""
         unit: str = self.parameterAsEnumString(parameters, "AREA", context)
         return "" if unit == AREAS[0] else unit
 
     def labelled(self, raster: Raster, parameters: Parameters, name: str, context: QgsProcessingContext) -> Raster:
-        """A map with the labels of the file of a parameter, if one is given."""
+        """Return a map with the labels of the file that a parameter names, if it names one."""
         path: str = self.parameterAsFile(parameters, name, context)
         return replace(raster, labels=legend_of(path, name.lower())) if path else raster
 
     def warn_of_lacking(self, parameters: Parameters, name: str, table: Answer, column: str, raster: Raster) -> None:
-        """Warns of classes for which the file of a parameter has no label."""
+        """Warn of classes that have no label in the file that a parameter names."""
         values = next((each.values for each in table.columns() if each.title == column), [])
         if parameters.get(name):
             warn_of_lacking(raster.labels, [int(value) for value in values if value is not None], name.lower(), raster.name, self.watch)
 
     def zoned_rasters(self, parameters: Parameters, context: QgsProcessingContext) -> list[Raster]:
-        """The raster of `INPUT` and, if they are given, its zones."""
+        """Return the raster of `INPUT` and its zones, if there are zones."""
         layer = self.raster_layer(parameters, context)
         raster = raster_of(layer, layer.name(), self.band(parameters, context))
         found = [self.labelled(raster, parameters, "LABELS", context)]
@@ -260,12 +260,12 @@ class RcellAlgorithm(QgsProcessingAlgorithm):
             raise
 
     def raster_layers(self, parameters: Parameters, context: QgsProcessingContext, names: Sequence[str] = ()) -> list[Any]:
-        """The layers of a list of rasters.
+        """Return the layers of a list of rasters.
 
         Raises
         ------
         RcellError
-            Where one cannot be read, or there are too many.
+            A layer cannot be read, or there are too many.
         """
         given = parameters["INPUT"] if isinstance(parameters["INPUT"], (list, tuple)) else [parameters["INPUT"]]
         if not given:
@@ -279,12 +279,12 @@ class RcellAlgorithm(QgsProcessingAlgorithm):
         return list(layers)
 
     def crs(self, parameters: Parameters, context: QgsProcessingContext) -> str:
-        """The reference system that is chosen for rasters that have none, as well-known text; empty if none is.
+        """Return the coordinate reference system for rasters that have none, as well-known text, or an empty text.
 
         Raises
         ------
         Refused
-            The choice is no reference system.
+            The parameter is not a coordinate reference system.
         """
         given = parameters.get("CRS")
         wkt = wkt_of(self.parameterAsCrs(parameters, "CRS", context))
@@ -293,22 +293,22 @@ class RcellAlgorithm(QgsProcessingAlgorithm):
         return wkt
 
     def has_rasters(self, parameters: Parameters) -> bool:
-        """Whether anything is given, so that it can be looked at."""
+        """Return whether rasters are given, which can then be checked."""
         return parameters.get("INPUT") is not None
 
     def raster_layer(self, parameters: Parameters, context: QgsProcessingContext) -> QgsRasterLayer:
-        """The layer of `INPUT`."""
+        """Return the layer of `INPUT`."""
         layer = self.parameterAsRasterLayer(parameters, "INPUT", context)
         if layer is None or not layer.isValid():
             raise_unreadable(parameters["INPUT"])
         return layer
 
     def band(self, parameters: Parameters, context: QgsProcessingContext) -> int | None:
-        """The band that is named, or none."""
+        """Return the band of `BAND`, or None."""
         return self.parameterAsInt(parameters, "BAND", context) if parameters.get("BAND") not in (None, "", -1, 0) else None
 
     def check_targets(self, parameters: Parameters, context: QgsProcessingContext) -> None:
-        """That what is to be written can be, before any work is done."""
+        """Check that all outputs can be written, before any work is done."""
         for definition in self.destinationParameterDefinitions():
             path = plain_path(parameters.get(definition.name()))
             if path and definition.type() != "folderDestination":
@@ -316,15 +316,15 @@ class RcellAlgorithm(QgsProcessingAlgorithm):
 
     def put_map(self, parameters: Parameters, context: QgsProcessingContext, grid: Grid, classes: Sequence[tuple[int, str]],
                 feedback: QgsProcessingFeedback, name: str = "OUTPUT", like: Raster | None = None) -> str:
-        """Writes a map with its legend, and answers its path."""
+        """Write a map with its legend and return its path."""
         path: str = self.parameterAsOutputLayer(parameters, name, context)
         put_raster(path, grid, like or self.rasters[0], self.watch.check)
         if not put_legend(path, classes, self.colours, context):
-            feedback.pushInfo(f"The map has {len(classes):,} classes: over {MOST_CLASSES:,} are no legend, and it is left grey.")
+            feedback.pushInfo(f"The map has {len(classes):,} classes. With more than {MOST_CLASSES:,} it has no legend and stays grey.")
         return path
 
     def put_table(self, parameters: Parameters, context: QgsProcessingContext, name: str, table: Table | Answer) -> str:
-        """Writes a table to an output: a file under another name first, or what else QGIS has for tables, as a layer in memory."""
+        """Write a table to an output: a file, or another sink of QGIS such as a layer in memory."""
         if not table.columns()[0].values:
             self.watch.warn(tr("The table is empty: all cells are without data or left out."))
         path = plain_path(parameters.get(name))
@@ -342,15 +342,15 @@ class RcellAlgorithm(QgsProcessingAlgorithm):
 
 
 def as_log(text: str) -> str:
-    """A text for the log: that of a window would drop blanks at the beginning of a line."""
+    """Return a text for the log: the log of a window drops blanks at the start of a line."""
     if qgis.utils.iface is None:
         return text
     lines = (line.replace("\t", "    ") for line in text.split("\n"))
     return "\n".join(_NO_BREAK * (len(line) - len(line.lstrip(" "))) + line.lstrip(" ") for line in lines)
 
 
-def told(error: RcellError, feedback: QgsProcessingFeedback) -> str:
-    """What is said of an error. Errors are shown in letters of several widths in a window: there a mark goes to the log before them."""
+def message_of(error: RcellError, feedback: QgsProcessingFeedback) -> str:
+    """Return the message of an error; in a window, which has no fixed-width font for it, the mark goes to the log."""
     text = str(error)
     if qgis.utils.iface is None or not isinstance(error, Refused) or error.content is None or error.column is None:
         return as_log(text)
@@ -360,12 +360,12 @@ def told(error: RcellError, feedback: QgsProcessingFeedback) -> str:
 
 
 def program_setting() -> str:
-    """The program that the settings name, or nothing."""
+    """Return the program that the settings name, or an empty text."""
     return str(ProcessingConfig.getSetting("RCELL_PROGRAM") or "").strip()
 
 
 def plain_path(value: Any) -> str:
-    """The path of a destination that is a file; empty for layers in memory, databases, and what is left to QGIS."""
+    """Return the path of a destination that is a file; empty for layers in memory, databases and temporary outputs."""
     if isinstance(value, QgsProcessingOutputLayerDefinition):
         value = value.sink.staticValue()
     text = str(value or "")
@@ -374,7 +374,7 @@ def plain_path(value: Any) -> str:
 
 
 def raise_unreadable(value: Any, name: str = "") -> None:
-    """Says why a raster cannot be read, in GDAL's words where it is a path.
+    """Raise the reason why a raster cannot be read: GDAL's own if it is a path.
 
     Raises
     ------

@@ -41,7 +41,7 @@ class MajorityAlgorithm(RcellAlgorithm):
     )
 
     def initAlgorithm(self, configuration: Any = None) -> None:
-        """Declares the parameters."""
+        """Declare the parameters."""
         self.add_raster()
         self.addParameter(QgsProcessingParameterEnum("SIZE", tr("Side of the square in cells"), SIZES, False, SIZES[0], False, True))
         self.addParameter(QgsProcessingParameterBoolean("FILL", tr("Fill cells without data from their neighbours"), False))
@@ -49,7 +49,7 @@ class MajorityAlgorithm(RcellAlgorithm):
 
     def answer(self, program: str, parameters: Parameters, context: QgsProcessingContext, feedback: QgsProcessingFeedback,
                watch: Watch) -> dict[str, Any]:
-        """The map."""
+        """Return the map."""
         size = int(self.parameterAsEnumString(parameters, "SIZE", context))
         made = landscape.majority(program, self.rasters[0], size, self.parameterAsBoolean(parameters, "FILL", context), watch)
         classes = [(category, made.labels.get(category, str(category))) for category in made.counts()]

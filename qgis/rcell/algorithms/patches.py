@@ -38,26 +38,26 @@ class PatchesAlgorithm(RcellAlgorithm):
     TAGS = ("patches", "clumps", "r.clump", "islands", "sieve", "segments", "regions", "landscape", "connected areas", "perimeter", "core")
     HELP = (
         QT_TRANSLATE_NOOP("rcell", (
-            "<p>Cells are of one patch if they have one class and a path of such cells joins them: by edges (connectivity 4), "
-            "or by edges and corners (8). Patches are numbered in the order of their first cells, from the top left.</p>"
+            "<p>Cells belong to one patch if they have the same class and a path of such cells connects them: by edges "
+            "(connectivity 4), or by edges and corners (8). Patches are numbered by their first cells, from the top left.</p>"
         )),
         QT_TRANSLATE_NOOP("rcell", (
-            "<p>Patches of fewer cells than the smallest number, and of classes that are not listed, are left out of the "
-            "table and the map; the others keep their numbers. The table joins to the map by <code>patch</code>.</p>"
+            "<p>Patches below the smallest number of cells, and classes that are not listed, are left out of the table and "
+            "the map; the others keep their numbers. Join the table to the map by <code>patch</code>.</p>"
         )),
         QT_TRANSLATE_NOOP("rcell", (
             "<p>The perimeter is the length of all sides to other patches, to cells without data and to the edge of the map. "
-            "The core has the cells whose neighbours within some steps are all of the patch. In degrees there is no "
-            "perimeter.</p>"
+            "The core consists of the cells whose neighbours, up to the depth of the core, are all in the patch. In degrees "
+            "there is no perimeter.</p>"
         )),
     )
 
     def initAlgorithm(self, configuration: Any = None) -> None:
-        """Declares the parameters."""
+        """Declare the parameters."""
         self.add_raster()
         self.addParameter(QgsProcessingParameterEnum("CONNECTIVITY", tr("Connectivity"), CONNECTIVITIES, False, CONNECTIVITIES[0], False, True))
         self.add_area()
-        self.addParameter(QgsProcessingParameterString("CLASSES", tr("Classes, divided by commas (empty: all)"), optional=True))
+        self.addParameter(QgsProcessingParameterString("CLASSES", tr("Classes, separated by commas (empty: all)"), optional=True))
         self.addParameter(QgsProcessingParameterNumber("LEAST", tr("Smallest number of cells"), defaultValue=1, minValue=1))
         title = tr("Depth of the core in cells")
         self.addParameter(QgsProcessingParameterNumber("CORE_DEPTH", title, defaultValue=1, minValue=1, maxValue=max(landscape.DEPTHS)))
@@ -69,7 +69,7 @@ class PatchesAlgorithm(RcellAlgorithm):
         self.addOutput(QgsProcessingOutputNumber("PATCHES", tr("Number of patches")))
 
     def checkParameterValues(self, parameters: Parameters, context: QgsProcessingContext) -> tuple[bool, str]:
-        """Looks at the list of classes as well."""
+        """Check the list of classes, then the other parameters."""
         try:
             numbers_of(self.parameterAsString(parameters, "CLASSES", context), "classes")
         except RcellError as error:
@@ -77,12 +77,12 @@ class PatchesAlgorithm(RcellAlgorithm):
         return super().checkParameterValues(parameters, context)
 
     def checked_rasters(self, parameters: Parameters, context: QgsProcessingContext) -> list[Raster]:
-        """The raster and its zones."""
+        """Return the raster and its zones."""
         return self.zoned_rasters(parameters, context)
 
     def answer(self, program: str, parameters: Parameters, context: QgsProcessingContext, feedback: QgsProcessingFeedback,
                watch: Watch) -> dict[str, Any]:
-        """The table, how many patches there are, and the map if it is asked for."""
+        """Return the table, the number of patches, and the map if it is requested."""
         raster, zones = [*self.rasters, None][:2]
         assert raster is not None
         found, grid = landscape.patches(
@@ -106,7 +106,7 @@ class PatchesAlgorithm(RcellAlgorithm):
 
 
 def _legend(found: Answer, raster: Raster) -> list[tuple[int, str]]:
-    """The number of each patch, its class and its size; of very many, numbers alone, since they are no legend."""
+    """Return the legend: number, class and size of each patch; too many patches get entries that only count them."""
     if len(found) > MOST_CLASSES:
         return [(0, "")] * len(found)
     values = {column.title: column.values for column in found.columns()}

@@ -24,14 +24,14 @@ class ReclassAlgorithm(RcellAlgorithm):
     TAGS = ("reclassify", "r.reclass", "rules", "recode", "group", "labels", "legend")
     HELP = (
         QT_TRANSLATE_NOOP("rcell", (
-            "<p>A rule is a line: classes, <code>=</code>, the new class, and its label where it has one.</p>"
+            "<p>A rule is a line: classes, <code>=</code>, the new class, and its label if it has one.</p>"
         )),
         QT_TRANSLATE_NOOP("rcell", (
             "<p><code>1 thru 3 = 1 forest<br>4 7 9 = 2 open land<br>12 = NULL<br>* = 3 all else</code></p>"
         )),
         QT_TRANSLATE_NOOP("rcell", (
-            "<p>Ranges have both their ends. A class that no rule names has no data in the result; <code>*</code> is all that "
-            "is not named above, and <code>* = *</code> keeps it. Lines that begin with <code>#</code> are notes.</p>"
+            "<p>Ranges include both ends. Classes without a rule have no data in the result; <code>*</code> means all other "
+            "classes, and <code>* = *</code> keeps them. Lines that begin with <code>#</code> are comments.</p>"
         )),
         QT_TRANSLATE_NOOP("rcell", (
             "<p>The result has its labels as category names in the file, and a legend with the cells and hectares of each "
@@ -40,14 +40,14 @@ class ReclassAlgorithm(RcellAlgorithm):
     )
 
     def initAlgorithm(self, configuration: Any = None) -> None:
-        """Declares the parameters."""
+        """Declare the parameters."""
         self.add_raster()
-        self.addParameter(QgsProcessingParameterString("RULES", tr("Rules, one a line"), "1 thru 3 = 1 low\n* = 2 high", multiLine=True))
+        self.addParameter(QgsProcessingParameterString("RULES", tr("Rules, one per line"), "1 thru 3 = 1 low\n* = 2 high", multiLine=True))
         self.addParameter(QgsProcessingParameterRasterDestination("OUTPUT", tr("Reclassified map")))
 
     def answer(self, program: str, parameters: Parameters, context: QgsProcessingContext, feedback: QgsProcessingFeedback,
                watch: Watch) -> dict[str, Any]:
-        """The map by the rules."""
+        """Return the reclassified map."""
         raster = self.rasters[0]
         made = answers.reclass(program, raster, self.parameterAsString(parameters, "RULES", context), watch)
         self.colours = {}

@@ -32,7 +32,7 @@ from ..results import counted_classes, put_legend
 from ..translation import tr
 from .base import AREAS, Parameters, RcellAlgorithm, program_setting
 
-# Rows of a table that the log shows.
+# The most rows of a table that the log shows.
 _SHOWN_ROWS = 20
 
 
@@ -46,30 +46,30 @@ class ScriptAlgorithm(RcellAlgorithm):
     IS_OF_ONE_RASTER = False
     HELP = (
         QT_TRANSLATE_NOOP("rcell", (
-            "<p>The script calls the rasters by the names that are given, in their order, or by the names of their layers "
-            "with <code>_</code> for each letter that a name cannot have.</p>"
+            "<p>The script refers to the rasters by the given names, in their order, or by the names of their layers with "
+            "<code>_</code> for each character that a name cannot have.</p>"
         )),
         QT_TRANSLATE_NOOP("rcell", (
             "<p><code>r.mapcalc wet = if(cover == 4 &amp;&amp; slope &lt; 2, 1, null())<br>r.clump -d input=wet "
             "output=ponds<br>r.stats -c -n input=ponds,zone</code></p>"
         )),
         QT_TRANSLATE_NOOP("rcell", (
-            "<p>The map output is the map that you name, or the only one that the script makes. The table output is the only "
-            "<code>r.stats</code>. The folder gets everything that the script writes: a table for each <code>r.stats</code>, "
-            "named after its line, and a GeoTIFF for each <code>r.out.ascii</code>.</p>"
+            "<p>The map output is the map that you name, or the only map that the script makes. The table output is the table "
+            "of the only <code>r.stats</code>. The folder gets all outputs of the script: a table for each "
+            "<code>r.stats</code>, named after its line, and a GeoTIFF for each <code>r.out.ascii</code>.</p>"
         )),
         QT_TRANSLATE_NOOP("rcell", (
-            "<p>If a line is rejected, the log shows it with a mark under the place. Numbers are whole, and never wrap or "
-            "round.</p>"
+            "<p>If a line has an error, the log shows it with a mark under the place. Numbers are whole, and never wrap around "
+            "or are rounded.</p>"
         )),
     )
 
     def initAlgorithm(self, configuration: Any = None) -> None:
-        """Declares the parameters."""
+        """Declare the parameters."""
         self.add_rasters(tr("Rasters, 1 to 16"))
-        self.addParameter(QgsProcessingParameterString("NAMES", tr("Their names in the script, divided by commas"), optional=True))
+        self.addParameter(QgsProcessingParameterString("NAMES", tr("Their names in the script, separated by commas"), optional=True))
         self.addParameter(QgsProcessingParameterString("SCRIPT", tr("Script"), multiLine=True))
-        self.addParameter(QgsProcessingParameterString("MAP", tr("Map that is wanted (empty: the only one that is made)"), optional=True))
+        self.addParameter(QgsProcessingParameterString("MAP", tr("Name of the output map (empty: the only map of the script)"), optional=True))
         self.addParameter(QgsProcessingParameterEnum("AREA", tr("Unit of areas of the table"), AREAS, False, AREAS[0], False, True))
         self.addParameter(QgsProcessingParameterBoolean("PERCENT", tr("Percentages of the table"), False))
         self.addParameter(QgsProcessingParameterRasterDestination("OUTPUT", tr("Map"), optional=True, createByDefault=False))
@@ -80,7 +80,7 @@ class ScriptAlgorithm(RcellAlgorithm):
         self.add_crs()
 
     def checkParameterValues(self, parameters: Parameters, context: QgsProcessingContext) -> tuple[bool, str]:
-        """Looks at what is wanted as well."""
+        """Check the requested outputs, then the other parameters."""
         try:
             self._check_wanted(parameters, context)
         except RcellError as error:
@@ -88,12 +88,12 @@ class ScriptAlgorithm(RcellAlgorithm):
         return super().checkParameterValues(parameters, context)
 
     def checked_rasters(self, parameters: Parameters, context: QgsProcessingContext) -> list[Raster]:
-        """The rasters under the names of the script."""
+        """Return the rasters with their names in the script."""
         return fitted([raster_of(layer, name) for name, layer in self._named_layers(parameters, context)], self.crs(parameters, context))
 
     def answer(self, program: str, parameters: Parameters, context: QgsProcessingContext, feedback: QgsProcessingFeedback,
                watch: Watch) -> dict[str, Any]:
-        """What is wanted of the script."""
+        """Return the requested outputs of the script."""
         script, wanted = self._script(parameters, context), self._wanted(self._outline(parameters, context), parameters, context)
         maps = {raster.name: raster for raster in self.rasters}
         found = answers.run(program, script, maps, [wanted] if wanted else [], watch)
@@ -116,7 +116,7 @@ class ScriptAlgorithm(RcellAlgorithm):
         return list(zip(names_of(layers, given), layers))
 
     def _check_wanted(self, parameters: Parameters, context: QgsProcessingContext) -> None:
-        """Looks for what is wanted, if the program accepts the script; if not, the run says why, with a mark in the log."""
+        """Check that the script makes the requested outputs; errors in the script are left to the run, which marks them in the log."""
         if self.has_rasters(parameters):
             try:
                 outline = self._outline(parameters, context)
@@ -136,20 +136,20 @@ class ScriptAlgorithm(RcellAlgorithm):
         return script.rstrip("\n")
 
     def _wanted(self, outline: Outline, parameters: Parameters, context: QgsProcessingContext) -> str:
-        """The map that is wanted; empty where none is."""
+        """Return the name of the requested map, or an empty text."""
         name: str = self.parameterAsString(parameters, "MAP", context).strip()
         if not parameters.get("OUTPUT"):
             if name:
-                raise Refused(f"the map {name} is wanted, and no place for it is given", status=2)
+                raise Refused(f"the map {name} is requested, but no file for it is given", status=2)
             return ""
         made = list(outline.made)
         if not name and len(made) != 1:
-            told = f"makes {', '.join(made)}" if made else "makes none"
-            raise Refused(f"the script {told}: name the map that is wanted", status=2)
+            maps = f"makes {', '.join(made)}" if made else "makes no map"
+            raise Refused(f"the script {maps}: name the output map", status=2)
         return name or made[0]
 
     def _measure(self, found: Answers, parameters: Parameters, context: QgsProcessingContext) -> None:
-        """Puts areas and percentages into the tables, where they are asked for."""
+        """Add areas and percentages to the tables, if they are requested."""
         unit = self.area(parameters, context)
         percent = self.parameterAsBoolean(parameters, "PERCENT", context)
         if unit or percent:
@@ -158,7 +158,7 @@ class ScriptAlgorithm(RcellAlgorithm):
             found.outputs = [measured.get(id(output), output) for output in found.outputs]
 
     def _put_all(self, folder: str, found: Answers, wanted: str, context: QgsProcessingContext) -> str:
-        """A file for each output of the script."""
+        """Write a file for each output of the script and return the folder."""
         try:
             os.makedirs(folder, exist_ok=True)
         except OSError as error:
@@ -175,15 +175,15 @@ class ScriptAlgorithm(RcellAlgorithm):
 
 
 def _check_table(outline: Outline, parameters: Parameters) -> None:
-    """A table that is wanted is the only one."""
+    """Check that the script has a single table, if the table is requested."""
     tables = [frame.line for frame in outline.frames if not isinstance(frame, GridFrame)]
     if parameters.get("TABLE") and len(tables) != 1:
-        told = ", ".join(f"r.stats in line {line}" for line in tables) or "no r.stats"
-        raise Refused(f"one table is asked for, and the script has {told}: a folder has all outputs", "script")
+        found = ", ".join(f"r.stats in line {line}" for line in tables) or "no r.stats"
+        raise Refused(f"one table is asked for, and the script has {found}: a folder has all outputs", "script")
 
 
 def _shown(table: Table) -> str:
-    """The first rows of a table, for the log."""
+    """Return the first rows of a table, for the log."""
     columns = table.columns()
     rows = [["" if value is None else f"{value:.10g}" if isinstance(value, float) else str(value) for value in row]
             for row in list(zip(*(column.values for column in columns)))[:_SHOWN_ROWS]]

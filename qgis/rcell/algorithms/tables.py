@@ -17,32 +17,32 @@ from ..translation import tr
 from .base import Parameters, RcellAlgorithm
 
 _DEGREES = QT_TRANSLATE_NOOP("rcell", (
-    "<p>In a raster in degrees, the cells of each row are weighed by their size on the ellipsoid of the reference system.</p>"
+    "<p>In a raster in degrees, the cells of each row have their area on the ellipsoid of the reference system.</p>"
 ))
 _ZONES = QT_TRANSLATE_NOOP("rcell", (
-    "<p>Zones are a raster that fits to the cell, or polygons: a cell belongs to a polygon if its centre lies in it. Whole numbers of "
-    "the field are the zones; other values are their labels, and get the numbers 1, 2, ..</p>"
+    "<p>Zones are a raster on the same grid, or polygons: a cell belongs to a polygon if its centre lies in it. Whole numbers in "
+    "the field are the zones; other values become labels of zones numbered 1, 2, ..</p>"
 ))
 
 
 class CompositionAlgorithm(RcellAlgorithm):
-    """Counts the cells of each class, in all of a raster or by zone."""
+    """Counts the cells of each class, in total or by zone."""
 
     NAME = "composition"
     TITLE = QT_TRANSLATE_NOOP("rcell", "Composition")
-    SHORT = QT_TRANSLATE_NOOP("rcell", "Lists the classes of a raster with cells, areas and percentages, in all of it or in each zone.")
+    SHORT = QT_TRANSLATE_NOOP("rcell", "Lists the classes of a raster with cells, areas and percentages, in total or by zone.")
     TAGS = ("area", "land cover", "unique values", "count", "percent", "zonal histogram", "tabulate area", "r.report", "r.stats")
     HELP = (
         QT_TRANSLATE_NOOP("rcell", (
-            "<p>A row for each class that occurs, or for each class of each zone. Percentages are of the cells that have "
-            "data.</p>"
+            "<p>The table has a row for each class that occurs, or for each class of each zone. Percentages are of the cells "
+            "that have data.</p>"
         )),
         _ZONES,
         _DEGREES,
     )
 
     def initAlgorithm(self, configuration: Any = None) -> None:
-        """Declares the parameters."""
+        """Declare the parameters."""
         self.add_raster()
         self.add_zones()
         self.add_area()
@@ -52,12 +52,12 @@ class CompositionAlgorithm(RcellAlgorithm):
         self.add_table()
 
     def checked_rasters(self, parameters: Parameters, context: QgsProcessingContext) -> list[Raster]:
-        """The raster and its zones."""
+        """Return the raster and its zones."""
         return self.zoned_rasters(parameters, context)
 
     def answer(self, program: str, parameters: Parameters, context: QgsProcessingContext, feedback: QgsProcessingFeedback,
                watch: Watch) -> dict[str, Any]:
-        """The table."""
+        """Return the table."""
         raster, zones = [*self.rasters, None][:2]
         assert raster is not None
         is_null = self.parameterAsBoolean(parameters, "NULL", context)
@@ -80,14 +80,14 @@ class CrossAlgorithm(RcellAlgorithm):
             "areas and percentages of all cells that have data in every raster.</p>"
         )),
         QT_TRANSLATE_NOOP("rcell", (
-            "<p>The rasters must have one coordinate reference system and fit each other to the cell: nothing is reprojected "
-            "or resampled. <i>Align</i> puts one onto the grid of another.</p>"
+            "<p>The rasters must have the same coordinate reference system and the same grid: nothing is reprojected or "
+            "resampled. <i>Align</i> puts one raster on the grid of another.</p>"
         )),
         _DEGREES,
     )
 
     def initAlgorithm(self, configuration: Any = None) -> None:
-        """Declares the parameters."""
+        """Declare the parameters."""
         self.add_rasters(tr("Rasters, 1 to 16"))
         self.add_area()
         self.addParameter(QgsProcessingParameterBoolean("NULL", tr("Rows of cells without data"), False))
@@ -95,12 +95,12 @@ class CrossAlgorithm(RcellAlgorithm):
         self.add_table()
 
     def checked_rasters(self, parameters: Parameters, context: QgsProcessingContext) -> list[Raster]:
-        """The rasters, which fit each other."""
+        """Return the rasters after checking that they fit each other."""
         return fitted([raster_of(layer, layer.name()) for layer in self.raster_layers(parameters, context)], self.crs(parameters, context))
 
     def answer(self, program: str, parameters: Parameters, context: QgsProcessingContext, feedback: QgsProcessingFeedback,
                watch: Watch) -> dict[str, Any]:
-        """The table."""
+        """Return the table."""
         found = composition.cross(program, self.rasters, self.area(parameters, context), self.parameterAsBoolean(parameters, "NULL", context), watch)
         return {"OUTPUT": self.put_table(parameters, context, "OUTPUT", found)}
 
@@ -110,13 +110,13 @@ class ChangeAlgorithm(RcellAlgorithm):
 
     NAME = "change"
     TITLE = QT_TRANSLATE_NOOP("rcell", "Change between years")
-    SHORT = QT_TRANSLATE_NOOP("rcell", "Lists what became what between years, as a table, a matrix and a summary of gains and losses.")
+    SHORT = QT_TRANSLATE_NOOP("rcell", "Lists the changes between years, as a table, a matrix and a summary of gains and losses.")
     TAGS = ("change", "transition", "gain", "loss", "swap", "cross table", "land cover change", "time series")
     IS_OF_ONE_RASTER = False
     HELP = (
         QT_TRANSLATE_NOOP("rcell", (
-            "<p>The rasters are in the order of time; more than two need their years. Cells count that have data in both "
-            "years.</p>"
+            "<p>The rasters are in chronological order; more than two need their years. Only cells that have data in both "
+            "years count.</p>"
         )),
         QT_TRANSLATE_NOOP("rcell", (
             "<p>The summary has for each class its area before and after, gain, loss, net change (gain less loss), swap "
@@ -127,9 +127,9 @@ class ChangeAlgorithm(RcellAlgorithm):
     )
 
     def initAlgorithm(self, configuration: Any = None) -> None:
-        """Declares the parameters."""
-        self.add_rasters(tr("Rasters in the order of time, 2 to 16"))
-        self.addParameter(QgsProcessingParameterString("YEARS", tr("Years, divided by commas (needed for more than two rasters)"), optional=True))
+        """Declare the parameters."""
+        self.add_rasters(tr("Rasters in chronological order, 2 to 16"))
+        self.addParameter(QgsProcessingParameterString("YEARS", tr("Years, separated by commas (required for more than two rasters)"), optional=True))
         self.add_area()
         self.add_labels()
         self.add_crs()
@@ -138,14 +138,14 @@ class ChangeAlgorithm(RcellAlgorithm):
         self.add_table(tr("Summary"), "SUMMARY", True)
 
     def checked_rasters(self, parameters: Parameters, context: QgsProcessingContext) -> list[Raster]:
-        """The rasters, which fit each other."""
+        """Return the rasters after checking that they fit each other."""
         layers = self.raster_layers(parameters, context)
         rasters = [self.labelled(raster_of(layer, layer.name()), parameters, "LABELS", context) for layer in layers]
         return fitted(rasters, self.crs(parameters, context))
 
     def answer(self, program: str, parameters: Parameters, context: QgsProcessingContext, feedback: QgsProcessingFeedback,
                watch: Watch) -> dict[str, Any]:
-        """The table and, if they are asked for, the matrix and the summary."""
+        """Return the table and, if they are requested, the matrix and the summary."""
         years = [int(year) for year in numbers_of(self.parameterAsString(parameters, "YEARS", context), "years")]
         table, *rest = composition.change(program, self.rasters, years, self.area(parameters, context), watch)
         self.warn_of_lacking(parameters, "LABELS", rest[1], "class", self.rasters[0])
@@ -157,7 +157,7 @@ class ChangeAlgorithm(RcellAlgorithm):
 
 
 class ZonalAlgorithm(RcellAlgorithm):
-    """Statistics of the whole numbers of a raster by zone."""
+    """Summarises a raster of integers by zone."""
 
     NAME = "zonal"
     TITLE = QT_TRANSLATE_NOOP("rcell", "Statistics by zone")
@@ -172,21 +172,21 @@ class ZonalAlgorithm(RcellAlgorithm):
     )
 
     def initAlgorithm(self, configuration: Any = None) -> None:
-        """Declares the parameters."""
+        """Declare the parameters."""
         self.addParameter(QgsProcessingParameterRasterLayer("INPUT", tr("Raster of values")))
         self.add_band()
         self.add_zones(False)
-        self.addParameter(QgsProcessingParameterString("QUANTILES", tr("Quantiles from 0 to 1, divided by commas"), "0.5", optional=True))
+        self.addParameter(QgsProcessingParameterString("QUANTILES", tr("Quantiles from 0 to 1, separated by commas"), "0.5", optional=True))
         self.add_crs()
         self.add_table()
 
     def checked_rasters(self, parameters: Parameters, context: QgsProcessingContext) -> list[Raster]:
-        """The values and the zones."""
+        """Return the values and the zones."""
         return self.zoned_rasters(parameters, context)
 
     def answer(self, program: str, parameters: Parameters, context: QgsProcessingContext, feedback: QgsProcessingFeedback,
                watch: Watch) -> dict[str, Any]:
-        """The table."""
+        """Return the table."""
         values, zones = self.rasters
         quantiles = numbers_of(self.parameterAsString(parameters, "QUANTILES", context), "quantiles")
         found = composition.zonal(program, values, zones, quantiles, watch)
@@ -195,12 +195,12 @@ class ZonalAlgorithm(RcellAlgorithm):
 
 
 def numbers_of(text: str, name: str) -> list[float]:
-    """The numbers of a list.
+    """Return the numbers of a comma-separated list.
 
     Raises
     ------
     Refused
-        A part is no number, or of years and classes no whole one.
+        A part is not a number, or is a year or class and not an integer.
     """
     try:
         return [float(part) if name == "quantiles" else int(part) for part in text.split(",") if text.strip()]
