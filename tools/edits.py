@@ -1,7 +1,7 @@
 #!/usr/bin/env python3
 """Tries the edits of crates/NAME/edits, many in one check: each must be refused by the function that it changes.
 
-    edits.py [--one-by-one] [CRATE..]       without names, all crates that have such edits
+    edits.py [--one-by-one] [--all | CRATE..]       without names, the crates that tools/edits.txt names for the gate
 
 A check judges each function by itself, over the contracts of what it calls. So edits of different functions stand in one copy of
 the crate and do not touch each other; each next copy begins with what the check before it kept. An edit is refused if a function
@@ -27,6 +27,7 @@ HEAD = re.compile(r"^( *)(?:pub(?:\([\w:]+\))? )?(?:const )?fn (\w+)", re.MULTIL
 IMPL = re.compile(r"^impl(?:<.*?>)? (?:(?:\w+::)*(\w+)(?:<.*>)? for )?&?(?:'\w+ )?(\w+)", re.MULTILINE)
 VERDICT = re.compile(r"^(?:fn|impl|enum|struct|trait) \w+::(\S+): (.*)$", re.MULTILINE)
 PROVED = re.compile(r"proved\b|no proof: it calls .*, which is not proved$")
+IN_GATE = pathlib.Path(build.ROOT, "tools/edits.txt")
 BYTES_OF_A_CHECK = 4 << 30  # at most
 
 
@@ -189,8 +190,8 @@ def edits_in(crate):
     return sorted(pathlib.Path(build.ROOT, "crates", crate, "edits").glob("*.edit"))
 
 
-def crates_with_edits():
-    return sorted(it.parent.name for it in pathlib.Path(build.ROOT, "crates").glob("*/edits"))
+def crates_in_gate():
+    return [line.split("#")[0].strip() for line in IN_GATE.read_text(encoding="utf-8").splitlines() if line.split("#")[0].strip()]
 
 
 def checks_at_a_time():
@@ -216,9 +217,11 @@ def try_all(names, one_by_one):
 def main():
     words = argparse.ArgumentParser(description=__doc__, formatter_class=argparse.RawDescriptionHelpFormatter)
     words.add_argument("--one-by-one", action="store_true")
+    words.add_argument("--all", action="store_true", help="all crates that have edits outside must-fail/")
     words.add_argument("crates", nargs="*", metavar="CRATE")
     given = words.parse_args()
-    counts = try_all(given.crates or crates_with_edits(), given.one_by_one)
+    every = sorted(it.parent.name for it in pathlib.Path(build.ROOT, "crates").glob("*/edits"))
+    counts = try_all(every if given.all else given.crates or crates_in_gate(), given.one_by_one)
     passed, failed, kept = (sum(it[at] for it in counts) for at in range(3))
     print(f"ran: {passed + failed - kept} of {passed + failed} edits; the others are kept from earlier runs on this machine")
     print(f"{passed} passed, {failed} failed")

@@ -14,6 +14,7 @@ import subprocess
 import sys
 
 import build
+import edits
 
 ROOT = build.ROOT
 # The key of each program in what the gate leaves.
@@ -54,7 +55,7 @@ def gate_record(commit):
 
 def counted():
     crates = build.crates_of(build.PROGRAMS)
-    tried = [*glob.glob(f"{ROOT}/crates/*/must-fail/*.edit"), *glob.glob(f"{ROOT}/crates/*/edits/*.edit")]
+    tried = [*glob.glob(f"{ROOT}/crates/*/must-fail/*.edit"), *(it for crate in edits.crates_in_gate() for it in edits.edits_in(crate))]
     lines = read(f"{ROOT}/crates.txt").splitlines()
     every = sum(":" in line.split("#")[0] for line in lines)
     return f"""{every} crates, {len(crates)} of which make up the programs;

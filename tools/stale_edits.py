@@ -1,5 +1,8 @@
 #!/usr/bin/env python3
-"""Prints each edit of crates/*/edits/ whose old text is not exactly once in its file: the gate tries edits an hour later."""
+"""Tells each edit of crates/*/edits/ whose old text does not stand exactly once in its file.
+
+The gate tries only those of the crates of tools/edits.txt (`make edits` all), but none may go stale.
+"""
 import glob
 import os
 import sys
