@@ -4,7 +4,7 @@ from __future__ import annotations
 import re
 import struct
 from dataclasses import dataclass, field
-from typing import Any, Callable, Optional
+from typing import Any, Callable, Iterable, Optional
 
 NULL = -(2**31)
 # The letter of `struct`, the smallest and the largest number, by the code of the type.
@@ -15,6 +15,7 @@ TYPES = {
 NAME = re.compile(rb"[A-Za-z_][A-Za-z0-9_.]{0,63}")
 COORDINATE = re.compile(rb"([+-]?)(\d{0,10})(?:\.(\d{0,8}))?")
 UNITS = 10**8  # of a coordinate
+SIDES = (b"north", b"south", b"east", b"west")
 MOST_MAPS, MOST_SIDE, MOST_CELLS, MOST_SCRIPT = 65535, 65535, 2**31 - 1, 1048576
 
 Row = list[int]
@@ -198,11 +199,9 @@ class Response:
         frame["labels"] = [[self.text() for _ in range(width)] for _ in range(entries)] if labels else None
         return frame
 
-    def lines(self) -> Frame:
-        return {"line": self.numbers(1)[0], "text": self.text()}
-
     def grid(self) -> Frame:
         frame: Frame = {"line": self.numbers(1)[0], "null": self.text(), "name": self.text()}
+        frame["edges"] = [self.text() for _ in SIDES]
         rows, cols = self.numbers(2)
         is_small = self.take(1) == b"\1"
         cells, null = self.numbers(rows * cols, "B" if is_small else "i"), 255 if is_small else NULL
@@ -216,7 +215,7 @@ class Response:
         """Return the frames, of which the last is DONE."""
         if self.take(8) != b"RCELLA1\n":
             raise ValueError("another magic")
-        kinds: dict[bytes, Callable[[], Frame]] = {b"TABL": self.table, b"TEXT": self.lines, b"GRID": self.grid, b"DONE": self.done}
+        kinds: dict[bytes, Callable[[], Frame]] = {b"TABL": self.table, b"CELL": self.table, b"GRID": self.grid, b"DONE": self.done}
         found: list[Frame] = []
         while not found or found[-1]["kind"] != b"DONE":
             kind = self.take(4)
@@ -232,14 +231,17 @@ def cell_text(cell: Optional[int], null: bytes) -> bytes:
     return null if cell is None or cell == NULL else b"%d" % cell
 
 
-def printed(frame: Frame, head: bytes) -> bytes:
-    """Return the text that `rcell` prints for a frame; `head` is the header of its grids."""
-    if frame["kind"] == b"TEXT":
-        return frame["text"]
+def header(edges: Iterable[bytes], rows: int, cols: int) -> bytes:
+    """Return the lines of a region."""
+    return b"".join(b"%s: %s\n" % pair for pair in zip(SIDES, edges)) + b"rows: %d\ncols: %d\n" % (rows, cols)
+
+
+def printed(frame: Frame) -> bytes:
+    """Return the text that `rcell` prints for a frame."""
     if frame["kind"] == b"GRID":
         null = b"" if frame["null"] == b"*" else b"null: " + frame["null"] + b"\n"
         rows = (b" ".join(cell_text(cell, frame["null"]) for cell in row) + b"\n" for row in frame["rows"])
-        return head + null + b"".join(rows)
+        return header(frame["edges"], len(frame["rows"]), len(frame["rows"][0])) + null + b"".join(rows)
     out = b""
     for place, cells in enumerate(frame["cells"]):
         fields = []

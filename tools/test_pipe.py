@@ -28,13 +28,12 @@ from typing import Iterator, Optional
 import cases
 from fuzz import damaged_bytes
 from made_cases import NAMES, ScriptMaker
-from pipe_model import NULL, TYPES, Frame, Raster, Reader, Rejected, Response, cell_text, printed, request
+from pipe_model import NULL, TYPES, UNITS, Edges, Frame, Raster, Reader, Rejected, Response, cell_text, header, printed, request
 
 ROOT = os.path.dirname(os.path.dirname(os.path.abspath(__file__)))
 SIZES = [(1, 1), (1, 70), (3, 5), (7, 130), (40, 1), (9, 64), (5, 65), (2, 3), (4, 4)]
 LABELS = [b"wood", b"a b", b"x", b"l\xc3\xa4nge"]
 STATUS_DONE, STATUS_REJECTED, STATUS_MEMORY, STATUS_FAILED = 0, 1, 3, 4
-PLAIN = re.compile(rb"0|-?[1-9][0-9]{0,9}")
 TAKEN = re.compile(rb"q[0-9]")  # names of the grids that r.reclass reads
 MESSAGE = re.compile(rb"rcell: script:(\d+): (.*?(?: at column (\d+))?)\n")
 MOST_MEMORY = 64 << 20  # of a program that is given a large header and no rows
@@ -67,7 +66,7 @@ class Programs:
         words, before = [b"script"], b""
         for place, it in enumerate(maps):
             rows = (b" ".join(cell_text(cell, b"*") for cell in row) + b"\n" for row in it.cells())
-            self.put(f"{place}", head_of(it) + b"".join(rows))
+            self.put(f"{place}", header(it.edges, len(it.rows), len(it.rows[0])) + b"".join(rows))
             words.append(b"q%d=%d" % (place, place))
             labels = b"".join(b"%d = %d %s\n" % (category, category, text) for category, text in dict(it.labels).items())
             before += b"r.reclass input=q%d output=%s\n%s* = *\nend\n" % (place, it.name, labels)
@@ -90,16 +89,10 @@ class Count:
             print(f"{what}: {wrong}", flush=True)
 
 
-def head_of(raster: Raster) -> bytes:
-    names = (b"north", b"south", b"east", b"west")
-    edges = b"".join(b"%s: %s\n" % pair for pair in zip(names, raster.edges))
-    return edges + b"rows: %d\ncols: %d\n" % (len(raster.rows), len(raster.rows[0]))
-
-
 # Requests made at random
 
 
-def random_raster(choice: random.Random, name: bytes, rows: int, cols: int) -> Raster:
+def random_raster(choice: random.Random, name: bytes, edges: Edges, rows: int, cols: int) -> Raster:
     code = choice.randint(1, 7)
     _, smallest, largest = TYPES[code]
     low, high = max(smallest, choice.choice([-2, -300, NULL + 1])), min(largest, choice.choice([3, 300, 254, 2**31 - 1]))
@@ -113,7 +106,23 @@ def random_raster(choice: random.Random, name: bytes, rows: int, cols: int) -> R
             row.append(choice.randint(smallest, largest) if mask and mask[place][column] else number)
         table.append(row)
     labels = [(choice.randint(low, high), choice.choice(LABELS)) for _ in range(choice.choice([0, 0, 1, 4]))]
-    return Raster(name, (b"%d" % rows, b"0", b"%d" % cols, b"0"), code, table, nodata, mask, labels)
+    return Raster(name, edges, code, table, nodata, mask, labels)
+
+
+def random_edges(choice: random.Random) -> Edges:
+    """North, south, east and west as texts, not always as rcell prints them."""
+    south, west = (choice.choice([0, 1, -1, -99999999, 5 * 10**7, choice.randint(-(10**17), 10**17)]) for _ in range(2))
+    north, east = (edge + choice.choice([1, 10**8, choice.randint(1, 10**16)]) for edge in (south, west))
+    return tuple(coordinate(choice, units) for units in (north, south, east, west))
+
+
+def coordinate(choice: random.Random, units: int) -> bytes:
+    """A number of units as a text of its many, with or without zeros that mean nothing."""
+    sign = "-" if units < 0 else choice.choice(["", "", "+"])
+    whole, part = divmod(abs(units), UNITS)
+    digits = f"{part:08}"
+    decimals = digits if choice.random() < 0.3 else digits.rstrip("0")
+    return f"{sign}{whole}{'.' if decimals else ''}{decimals}".encode()
 
 
 def random_request(choice: random.Random) -> tuple[list[Raster], bytes]:
@@ -121,7 +130,8 @@ def random_request(choice: random.Random) -> tuple[list[Raster], bytes]:
     names = choice.sample(NAMES, choice.choice([1, 1, 2, 3]))
     maker = ScriptMaker(choice)
     maker.badness = choice.choice([0, 0, 0, 0.02, 0.1])
-    return [random_raster(choice, name, rows, cols) for name in names], maker.script(names)
+    edges = random_edges(choice)
+    return [random_raster(choice, name, edges, rows, cols) for name in names], maker.script(names)
 
 
 # What is wrong, or ''
@@ -134,7 +144,7 @@ def wrong_run(programs: Programs, maps: list[Raster], script: bytes) -> str:
     if end["status"] != status:
         return f"{end}; rcell: {status} {message!r}; {script!r}"
     if status == STATUS_DONE:
-        text = b"".join(printed(frame, head_of(maps[0])) for frame in frames)
+        text = b"".join(map(printed, frames))
         return "" if text == output else f"{script!r}: {text!r} is not {output!r}"
     found = MESSAGE.fullmatch(message)
     if found is None:
@@ -162,8 +172,8 @@ def wrong_reading(programs: Programs, data: bytes) -> str:
 
 
 def is_plain(raster: Raster) -> bool:
-    """Whether a map can be given to rcell as text: its labels as rules, its edges as rcell prints them."""
-    return all(text in LABELS for _, text in raster.labels) and all(map(PLAIN.fullmatch, raster.edges)) and not TAKEN.match(raster.name)
+    """Whether a map can be given to rcell as text: its labels as rules."""
+    return all(text in LABELS for _, text in raster.labels) and not TAKEN.match(raster.name)
 
 
 def named_errors() -> Iterator[tuple[str, bytes]]:

@@ -26,6 +26,7 @@ from fuzz import damaged_bytes
 from made_cases import ScriptMaker
 from model_expressions import FUNCTIONS, Binary, Call, Expression, MapCell, Negated, Not
 from model_grids import Refused, is_name
+from pipe_model import NULL
 
 MOST_NAMES = 65535
 WRITES, LABELS, WHOLE, POSITION = 1, 2, 4, 8
@@ -57,6 +58,9 @@ class Frame:
     made: bytes
     reads: tuple[tuple[bytes, Need], ...]
     needs: tuple[tuple[bytes, Need], ...]
+    options: int
+    inputs: tuple[bytes, ...]
+    after: tuple[int, ...]
 
 
 @dataclass(frozen=True)
@@ -96,8 +100,26 @@ def reads_of(statement: model.Statement) -> list[tuple[bytes, Need]]:
             for part in within(statement.expression)
             if isinstance(part, MapCell)
         ]
-    inputs = statement.inputs if isinstance(statement, model.Stats) else [statement.input]
-    return [(name, Need()) for name in inputs]
+    return [(name, Need()) for name in inputs_of(statement)]
+
+
+def inputs_of(statement: model.Statement) -> list[bytes]:
+    """The maps of `input=`."""
+    if isinstance(statement, model.Mapcalc):
+        return []
+    return statement.inputs if isinstance(statement, model.Stats) else [statement.input]
+
+
+def options_of(statement: model.Statement) -> int:
+    if not isinstance(statement, model.Stats):
+        return 0
+    skip = 8 if b"n" in statement.flags else 16 if b"N" in statement.flags else 0
+    return sum(value for flag, value in ((b"c", 1), (b"l", 2), (b"1", 4)) if flag in statement.flags) + skip
+
+
+def after_of(statement: model.Statement) -> tuple[int, ...]:
+    after = getattr(statement, "after", None) or ()
+    return tuple(NULL if cell is None else cell for cell in after)
 
 
 def flags_of(statement: model.Statement) -> int:
@@ -132,7 +154,8 @@ def plan(names: list[bytes], statements: list[tuple[int, model.Statement]]) -> l
             known.append(made)
             needs_of[made] = needs
         command = COMMANDS.index(type(statement)) + 1
-        frames.append(Frame(line, command, flags_of(statement), made, tuple(reads.items()), tuple(needs.items())))
+        options = options_of(statement), tuple(inputs_of(statement)), after_of(statement)
+        frames.append(Frame(line, command, flags_of(statement), made, tuple(reads.items()), tuple(needs.items()), *options))
     return frames
 
 
@@ -221,7 +244,9 @@ class ResponseReader(Reader):
 
     def frame(self) -> Frame:
         line, command, flags, made = self.number("Q"), self.number("B"), self.number("B"), self.text()
-        return Frame(line, command, flags, made, self.needs(False), self.needs(True))
+        reads, needs, options = self.needs(False), self.needs(True), self.number("B")
+        inputs = tuple(self.text() for _ in range(self.number("Q")))
+        return Frame(line, command, flags, made, reads, needs, options, inputs, tuple(self.number("i") for _ in range(self.number("Q"))))
 
     def response(self) -> Response:
         if self.take(8) != b"RCELLA1\n":
@@ -247,6 +272,7 @@ EXAMPLES = {
                                    {b"b": {b"g": Need(0, 0, 0, 3, True)}, b"c": {b"g": Need(0, 0, 0, 3, True), b"h": Need(1)}}),
     "the widest of several": (b"r.mapcalc a = g[-1,4] + g[2,-3] + g\n", {b"a": {b"g": Need(1, 2, 3, 4)}}),
     "rules pass needs on": (b"r.mapcalc a = k[5,0]\nr.reclass input=a output=b\n1 = 2 wood\nend\n", {b"b": {b"k": Need(0, 5)}}),
+    "maps in their order": (b"r.stats -nlc input=h,g,h after=1,*,-2\nr.stats -1N input=k\n", {}),
     "a position needs no map": (b"r.mapcalc a = row() * ncols()\n", {b"a": {}}),
 }
 

@@ -1,5 +1,5 @@
 -- What the bytes of a request denote: maps of one region under distinct names, and the bytes of a script (profile).
-use Rattle.std.specs.Prelude.{◌≡◌, ⊤, ℕ, ◌+◌, ◌-◌, ◌&&◌, nat_le, List, [], ◌∷◌, ◌++◌, length, Option, Some, None, Result, Ok, Err, ◌==◌, if◌then◌else◌, codes, bytes_eq}
+use Rattle.std.specs.Prelude.{ℕ, ◌+◌, ◌-◌, ◌&&◌, nat_le, List, [], ◌∷◌, ◌++◌, length, Option, Some, None, Result, Ok, Err, ◌==◌, if◌then◌else◌}
 use Rattle.std.specs.FinMap as finmap
 use Rattle.std.specs.Ordering.{int_cmp}
 use Rattle.std.specs.Int.{w32}
@@ -113,30 +113,8 @@ run_at c = do
   script ← error_at first.0.0 0 (last_script_at shelf.1)
   Ok (record { shelf = shelf.0; script = script.0 }, script.1)
 
--- the first eight bytes
-unfoldable pub magic_at : Coming → FieldReading Unit
-magic_at c = do
-  magic ← bytes_at 8 c
-  if bytes_eq magic.0 (codes "RCELLQ1\n") then Ok (tt, magic.1) else Err kinds.BadMagic
-
--- the whole request
-unfoldable pub request_at : Coming → Placed RunRequestValue
-request_at c = do
-  magic ← error_at 0 0 (magic_at c)
-  run_at magic.1
-
--- what bytes denote, or their first error
-abbrev pub request_of : Coming → Result RunRequestValue RequestError
-request_of c = request_at c >>= λ run. Ok run.0
-
 abbrev pub named_value : NamedMap → NamedGrid
 named_value named = record { name = named.name; grid = named.map }
 
 abbrev pub run_request_value : Request → RunRequestValue
 run_request_value request = record { shelf = request.shelf; script = request.script.items }
-
--- what is returned is what the bytes denote, and an error is their first; memory may run out at any time
-abbrev pub ReadsRequest : Result Request RequestStop → Result RunRequestValue RequestError → Type 0
-ReadsRequest (Ok request) denoted = denoted ≡ Ok (run_request_value request)
-ReadsRequest (Err request_stops.Memory) denoted = ⊤
-ReadsRequest (Err (request_stops.Error error)) denoted = denoted ≡ Err error

@@ -1,13 +1,12 @@
 //! Requests, read whole.
 
-ghost use Rattle.std.specs.Prelude.{◌≡◌, ◌+◌, ◌-◌, ◌<◌, ◌≤◌, ◌++◌, List, [], ◌∷◌, length, OnOk, IfOk, IfErr, IfSome, bytes_eq, codes};
-ghost use Rattle.cell_core.specs.Shelf.{ShelfValue};
+ghost use Rattle.std.specs.Prelude.{◌≡◌, ◌+◌, ◌<◌, ◌≤◌, length, OnOk, IfOk, IfErr};
 ghost use Rattle.rcell_pipe_request.specs.RequestFields.{steps};
-ghost use Rattle.rcell_pipe_request.specs.Feeds.{left, ReadsField, ReadsPlaced};
-ghost use Rattle.rcell_pipe_request.specs.Requests.{ReadsRequest, first_shelf, shelf_with, count_at, script_at, last_script_at, first_map_at, one_more_map, run_at, magic_at, request_at, request_of, named_value, run_request_value};
+ghost use Rattle.rcell_pipe_request.specs.Feeds.{ReadsField, ReadsPlaced};
+ghost use Rattle.rcell_pipe_request.specs.Requests.{first_shelf, shelf_with, count_at, script_at, last_script_at, first_map_at, one_more_map, run_at, named_value, run_request_value};
 
 use crate::error::{ErrorKind, FieldStop, RequestStop};
-use crate::feed::{Feed, read_bytes, read_end, read_into, read_u32};
+use crate::feed::{Feed, read_bytes, read_end, read_u32};
 use crate::named_map::{NamedMap, read_map};
 use cell_core::shelf::Shelf;
 use cell_core::source::Source;
@@ -148,7 +147,11 @@ fn read_first_map<R: Source>(alloc: Global, feed: &mut Feed<R>) -> Result<FirstM
     }
 }
 
-/// The maps and the script.
+/// Reads the maps and the script of a run, to the end of its source. Memory grows with the bytes that have come.
+///
+/// # Errors
+///
+/// The first error of the bytes, or [`RequestStop::Memory`] if memory ran out.
 #[tactic(auto, unfolding(crate::specs::Requests::run_at))]
 pub fn read_run<R: Source>(alloc: Global, feed: &mut Feed<R>) -> Result<Request, RequestStop>
     ensures { ReadsPlaced run_request_value feed.old result feed.new run_at }
@@ -166,45 +169,4 @@ pub fn read_run<R: Source>(alloc: Global, feed: &mut Feed<R>) -> Result<Request,
         Ok(script) => Ok(Request { shelf, script }),
         Err(stop) => Err(stop.at(count, 0)),
     }
-}
-
-fn is_magic(bytes: &[u8]) -> bool
-    ensures { result ≡ bytes_eq bytes.now (codes "RCELLQ1\n") }
-{
-    bytes == b"RCELLQ1\n".as_slice()
-}
-
-// The first eight bytes.
-#[tactic(auto, unfolding(crate::specs::Requests::magic_at))]
-fn read_magic<R: Source>(feed: &mut Feed<R>) -> Result<(), FieldStop>
-    ensures { ReadsField (λ done. done) feed.old result feed.new magic_at }
-{
-    let mut magic = [0u8; 8];
-    read_into(feed, &mut magic)?;
-    if !is_magic(&magic) {
-        return Err(FieldStop::Error(ErrorKind::BadMagic));
-    }
-    Ok(())
-}
-
-#[tactic(auto, unfolding(crate::specs::Requests::request_at))]
-fn read_whole<R: Source>(alloc: Global, feed: &mut Feed<R>) -> Result<Request, RequestStop>
-    ensures { ReadsPlaced run_request_value feed.old result feed.new request_at }
-{
-    match read_magic(feed) {
-        Ok(()) => read_run(alloc, feed),
-        Err(stop) => Err(stop.at(0, 0)),
-    }
-}
-
-/// Reads a request to the end of its source. Memory grows with the bytes that have come.
-///
-/// # Errors
-///
-/// The first error of the bytes, or [`RequestStop::Memory`] if memory ran out.
-pub fn read_request<R: Source + Drop>(alloc: Global, source: R) -> Result<Request, RequestStop>
-    ensures { IfSome (R.coming source) (λ c. ReadsRequest result (request_of c)) }
-{
-    let mut feed = Feed::new(alloc, source)?;
-    read_whole(alloc, &mut feed)
 }

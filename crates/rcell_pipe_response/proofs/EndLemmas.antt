@@ -134,10 +134,6 @@ end_failed read {before} {now} {start} {after} {block} {outcome} shelf next firs
   flushed = λ other. absurd (other is);
 }
 
-pub if_some : {X : Type 0} (P Q : X → Type 0) (found : Option X) → ((x : X) → P x → Q x) → IfSome found P → IfSome found Q
-if_some P Q None on one = tt
-if_some P Q (Some x) on one = on x one
-
 -- what is no want of memory
 pub not_memory : (kind : ScriptKind) → is_memory kind ≡ false → kind ≢ script_kinds.Memory
 not_memory kind not same = absurd (cc (not, ap is_memory same))
@@ -168,15 +164,3 @@ not_write fault errors.Memory end is same = cc
 not_write fault (errors.Request error) end is same = is
 not_write fault (errors.MemoryAt line) end is same = is
 not_write fault errors.Write end is same = is
-
--- a run of an accepted script is done, if memory lasts and the sink takes everything
-pub complete_of : NoFaultOfAScript → (read : Result RunRequestValue RequestError) (before now : Option (List ℕ)) (failed : Bool) (error : Option PipeError) (status : ℕ) → IsPipeEnd read before now error → status ≡ status_after error → (error ≡ Some errors.Write → failed ≡ true)
-    → (shelf : ShelfValue) (statements : List Statement) → IsPipeAccepted read shelf statements → status ≢ 3 → failed ≡ false → IsNone error
-complete_of law read before now failed None status end is write shelf statements accepted lasts good = refl
-complete_of law read before now failed (Some (errors.Request error)) status end is write shelf statements accepted lasts good = absurd (cc (end.is.0, accepted.request))
-complete_of law read before now failed (Some (errors.Script fault)) status end is write shelf statements accepted lasts good =
-    let same : of_run shelf accepted.script ≡ of_run end.is.shelf end.is.script = cc (end.is.request, accepted.request) in
-    absurd (law end.is.shelf.names end.is.script statements fault (subst (λ (r : RunRequestValue). IsScript r.shelf.names r.script statements) same accepted.denoted) end.is.first)
-complete_of law read before now failed (Some errors.Memory) status end is write shelf statements accepted lasts good = absurd (lasts is)
-complete_of law read before now failed (Some (errors.MemoryAt line)) status end is write shelf statements accepted lasts good = absurd (lasts is)
-complete_of law read before now failed (Some errors.Write) status end is write shelf statements accepted lasts good = absurd (cc (write refl, good))

@@ -9,13 +9,14 @@ use Rattle.cell_core.specs.Shelf.{ShelfValue}
 use Rattle.cell_ascii_meaning.specs.Writing.{grid_text}
 use Rattle.cell_stats_combinations.specs.Combinations.{Combination}
 use Rattle.cell_stats.specs.CategoryTables.{Pairs}
-use Rattle.cell_stats.specs.TableText.{FormatValue, cell_fields, combination_fields, count_fields, label_of_cell, line_text, pair_line, table_text}
+use Rattle.cell_stats_combinations.specs.LeftOut.{kept_cells}
+use Rattle.cell_stats.specs.TableText.{FormatValue, cell_fields, cell_line, cell_lines, combination_fields, count_fields, label_of_cell, line_text, pair_line, table_text}
 use Rattle.rcell_script.specs.declared.statement.Statement.{Statement}
 use Rattle.rcell_script_commands.specs.declared.command.Command.{Command}
 use Rattle.rcell_script_commands.specs.declared.command.Command.TheVariants.{Mapcalc, Reclass, Clump, Stats, OutAscii}
 use Rattle.rcell_script_commands.specs.declared.command.StatsOptions.{StatsOptions}
-use Rattle.rcell.specs.Output.{Executes, command_text, stats_text, format_of}
-use Rattle.rcell_pipe_response.specs.Frames.{OutputFrame, Lines, Table, printed_fields, printed_line, frame_text, combination_labels, listed_pairs, cell_lines_of, table_frame, stats_frame, map_frames, command_frames, GivesFrames}
+use Rattle.rcell.specs.Output.{Executes, combinations_of, command_text, stats_text, format_of}
+use Rattle.rcell_pipe_response.specs.Frames.{OutputFrame, Cells, Table, printed_fields, printed_line, frame_text, combination_labels, listed_pairs, each_once, cell_pairs, cells_format, table_frame, stats_frame, map_frames, command_frames, GivesFrames}
 use Rattle.rcell_pipe_response.specs.FrameLaw.{FramesAreOutput, OutputIsFrames}
 
 -- the fields of the cells of a combination with its labels
@@ -34,6 +35,13 @@ table-same format maps places (pair ∷ pairs) =
     ap (λ (l : List ℕ). l ++ flat_map (printed_line format) (zip pairs (map (combination_labels maps places) pairs))) (line-same format maps places pair)
     ∙ ap (λ (l : List ℕ). pair_line format maps places pair ++ l) (table-same format maps places pairs)
 
+-- cells are printed without counts
+cells-same : (options : StatsOptions) (maps : List Grid) (places : List ℕ) (cells : List Combination) → table_text (cells_format options) maps places (each_once cells) ≡ flat_map (cell_line (format_of options) maps places) cells
+cells-same options maps places [] = refl
+cells-same options maps places (k ∷ ks) =
+    ap (λ (fields : List (List ℕ)). line_text (format_of options) fields ++ table_text (cells_format options) maps places (each_once ks)) (append-nil (combination_fields (format_of options) maps places k))
+    ∙ ap (λ (l : List ℕ). cell_line (format_of options) maps places k ++ l) (cells-same options maps places ks)
+
 -- of two frames one is chosen, as of two texts
 chosen : (b : Bool) (x y : OutputFrame) (one other : List ℕ) → frame_text x ≡ one → frame_text y ≡ other → frame_text (if b then x else y) ≡ (if b then one else other)
 chosen true x y one other first second = first
@@ -41,7 +49,9 @@ chosen false x y one other first second = second
 
 stats-same : (shelf : ShelfValue) (line : ℕ) (places : List ℕ) (options : StatsOptions) → frame_text (stats_frame shelf line places options) ≡ stats_text shelf places options
 stats-same shelf line places options =
-    chosen options.cells (Lines (record { line = line; text = cell_lines_of shelf places options })) (Table (table_frame shelf line places options (listed_pairs shelf places options))) (cell_lines_of shelf places options) (table_text (format_of options) shelf.maps places (listed_pairs shelf places options)) refl
+    chosen options.cells (Cells (table_frame shelf line places (cells_format options) (cell_pairs shelf places options))) (Table (table_frame shelf line places (format_of options) (listed_pairs shelf places options)))
+    (cell_lines (format_of options) options.skip shelf.maps places shelf.region.rows shelf.region.cols) (table_text (format_of options) shelf.maps places (listed_pairs shelf places options))
+    (table-same (cells_format options) shelf.maps places (cell_pairs shelf places options) ∙ cells-same options shelf.maps places (kept_cells options.skip (combinations_of shelf places)))
     (table-same (format_of options) shelf.maps places (listed_pairs shelf places options))
 
 map-same : (shelf : ShelfValue) (line place : ℕ) (null_text : List ℕ) (found : Option Grid) → flat_map frame_text (map_frames shelf line place null_text found) ≡ option_map_or (grid_text null_text) found []

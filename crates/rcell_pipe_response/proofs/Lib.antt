@@ -1,5 +1,6 @@
 pub mod LawLemmas
 pub mod ExecutionLemmas
+pub mod CellsLemmas
 pub mod CountLemmas
 pub mod EndLemmas
 pub mod ListingLemmas

@@ -2,12 +2,11 @@
 use Rattle.std.specs.Prelude.{ℕ, pos, negsuc, Bool, true, false, List, [], ◌∷◌, ◌++◌, length, map, flat_map, codes, Some, None, if◌then◌else◌, nat_le}
 use Rattle.std.specs.List.{list_all}
 use Rattle.std.specs.Int.{w32, w64, to_le_bytes, cast_unsigned}
-use Rattle.cell_core_devices.specs.Blocks.{capped_count}
 use Rattle.cell_core_values.specs.Cell.{pattern_of_cell}
 use Rattle.cell_core.specs.Grid.{CellValue}
 use Rattle.cell_stats.specs.CategoryTables.{Pairs}
 use Rattle.cell_stats.specs.TableText.{FormatValue}
-use Rattle.rcell_pipe_response.specs.Frames.{TableFrame, LinesFrame, GridFrame, OutputFrame, Table, Lines, Map}
+use Rattle.rcell_pipe_response.specs.Frames.{TableFrame, GridFrame, OutputFrame, Table, Cells, Map}
 
 -- a number in eight bytes, the lowest first
 abbrev pub number_bytes : ℕ → List ℕ
@@ -26,10 +25,10 @@ abbrev pub flag : Bool → ℕ
 flag true = 1
 flag false = 0
 
--- what a table begins with: line, number of combinations and of maps, whether there are counts and labels, the separator, the null text, and the names of the maps
-abbrev pub head_bytes : ℕ → ℕ → FormatValue → List (List ℕ) → List ℕ
-head_bytes line entries format names =
-    codes "TABL" ++ number_bytes line ++ number_bytes entries ++ number_bytes (length names)
+-- what a table begins with: its four letters, line, number of combinations and of maps, whether there are counts and labels, the separator, the null text, and the names of the maps
+abbrev pub head_bytes : List ℕ → ℕ → ℕ → FormatValue → List (List ℕ) → List ℕ
+head_bytes letters line entries format names =
+    letters ++ number_bytes line ++ number_bytes entries ++ number_bytes (length names)
     ++ (flag format.counts ∷ flag format.labels ∷ format.separator ∷ []) ++ text_bytes format.null_text ++ flat_map text_bytes names
 
 -- the counts, if they are asked for
@@ -44,12 +43,8 @@ combinations_bytes pairs = flat_map (λ pair. flat_map wide_bytes pair.0) pairs
 abbrev pub labels_bytes : FormatValue → List (List (List ℕ)) → List ℕ
 labels_bytes format labels = if format.labels then flat_map (flat_map text_bytes) labels else []
 
-abbrev pub table_bytes : TableFrame → List ℕ
-table_bytes t = head_bytes t.line (length t.pairs) t.format t.names ++ counts_bytes t.format t.pairs ++ combinations_bytes t.pairs ++ labels_bytes t.format t.labels
-
--- lines, after the number of their bytes
-abbrev pub lines_bytes : LinesFrame → List ℕ
-lines_bytes t = codes "TEXT" ++ number_bytes t.line ++ number_bytes (capped_count (length t.text)) ++ t.text
+abbrev pub table_bytes : List ℕ → TableFrame → List ℕ
+table_bytes letters t = head_bytes letters t.line (length t.pairs) t.format t.names ++ counts_bytes t.format t.pairs ++ combinations_bytes t.pairs ++ labels_bytes t.format t.labels
 
 -- whether a cell fits a byte: null, or a category from 0 to 254
 abbrev pub is_small_cell : CellValue → Bool
@@ -71,17 +66,22 @@ byte_of_cell (Some (negsuc n)) = 255
 abbrev pub rows_bytes : List (List CellValue) → List ℕ
 rows_bytes rows = if are_small rows then 1 ∷ flat_map (map byte_of_cell) rows else 6 ∷ flat_map (flat_map wide_bytes) rows
 
--- what a map begins with: line, null text, name, numbers of rows and columns
-abbrev pub grid_head : ℕ → List ℕ → List ℕ → ℕ → ℕ → List ℕ
-grid_head line null_text name rows cols = codes "GRID" ++ number_bytes line ++ text_bytes null_text ++ text_bytes name ++ number_bytes rows ++ number_bytes cols
+-- north, south, east and west
+abbrev pub edges_bytes : List ℕ → List ℕ → List ℕ → List ℕ → List ℕ
+edges_bytes north south east west = text_bytes north ++ text_bytes south ++ text_bytes east ++ text_bytes west
+
+-- what a map begins with: line, null text, and name
+abbrev pub grid_head : ℕ → List ℕ → List ℕ → List ℕ
+grid_head line null_text name = codes "GRID" ++ number_bytes line ++ text_bytes null_text ++ text_bytes name
 
 abbrev pub grid_bytes : GridFrame → List ℕ
-grid_bytes g = grid_head g.line g.null_text g.name g.grid.region.rows g.grid.region.cols ++ rows_bytes g.grid.rows
+grid_bytes g =
+    grid_head g.line g.null_text g.name ++ edges_bytes g.north g.south g.east g.west ++ (number_bytes g.rows ++ number_bytes g.cols) ++ rows_bytes g.cells
 
 -- the bytes of a frame
 abbrev pub frame_bytes : OutputFrame → List ℕ
-frame_bytes (Table t) = table_bytes t
-frame_bytes (Lines t) = lines_bytes t
+frame_bytes (Table t) = table_bytes (codes "TABL") t
+frame_bytes (Cells t) = table_bytes (codes "CELL") t
 frame_bytes (Map g) = grid_bytes g
 
 -- the bytes of frames

@@ -1,13 +1,14 @@
 -- The frames of a response: one for each statement that writes, in order, with all that it writes (r.stats and r.out.ascii manuals; profile).
-use Rattle.std.specs.Prelude.{ℕ, ◌≡◌, List, [], ◌∷◌, ◌++◌, map, flat_map, slice_get, unwrap_or, Option, Some, None, if◌then◌else◌}
+use Rattle.std.specs.Prelude.{ℕ, ◌≡◌, false, List, [], ◌∷◌, ◌++◌, map, flat_map, slice_get, unwrap_or, codes, decimal, Option, Some, None, if◌then◌else◌}
 use Rattle.std.specs.List.{zip}
 use Rattle.cell_core.specs.Grid.{Grid, CellValue}
 use Rattle.cell_core.specs.Shelf.{ShelfValue}
 use Rattle.cell_core.specs.Text.{cell_text}
-use Rattle.cell_ascii_meaning.specs.Writing.{grid_text}
+use Rattle.cell_ascii_meaning.specs.Writing.{coordinate_text, line_of_key, null_line, row_text}
 use Rattle.cell_stats_combinations.specs.Combinations.{Combination}
 use Rattle.cell_stats.specs.CategoryTables.{Pairs, table_of}
-use Rattle.cell_stats.specs.TableText.{FormatValue, printed_pairs, line_text, count_fields, label_of_cell, cell_lines}
+use Rattle.cell_stats_combinations.specs.LeftOut.{kept_cells}
+use Rattle.cell_stats.specs.TableText.{FormatValue, printed_pairs, line_text, count_fields, label_of_cell}
 use Rattle.rcell_script.specs.declared.statement.Statement.{Statement}
 use Rattle.rcell_script_commands.specs.declared.command.Command.{Command}
 use Rattle.rcell_script_commands.specs.declared.command.Command.TheVariants.{Mapcalc, Reclass, Clump, Stats, OutAscii}
@@ -23,22 +24,23 @@ pub record TableFrame : Type 0 where
   pub pairs : Pairs
   pub labels : List (List (List ℕ))
 
--- printed lines: the line of their statement, and their text
-pub record LinesFrame : Type 0 where
-  pub line : ℕ
-  pub text : List ℕ
-
--- a map: the line of its statement, the text that stands for null, its name, and the map
+-- a map: the line of its statement, the text that stands for null, its name, its edges as they are printed, and its cells row by row
 pub record GridFrame : Type 0 where
   pub line : ℕ
   pub null_text : List ℕ
   pub name : List ℕ
-  pub grid : Grid
+  pub north : List ℕ
+  pub south : List ℕ
+  pub east : List ℕ
+  pub west : List ℕ
+  pub rows : ℕ
+  pub cols : ℕ
+  pub cells : List (List CellValue)
 
 -- the result of a statement that writes
 pub data OutputFrame : Type 0 where
   Table : TableFrame → OutputFrame
-  Lines : LinesFrame → OutputFrame
+  Cells : TableFrame → OutputFrame
   Map : GridFrame → OutputFrame
 
 -- a cell and its label as they are printed
@@ -49,11 +51,25 @@ printed_fields format given = cell_text format.null_text given.0 ∷ (if format.
 abbrev pub printed_line : FormatValue → (Combination × ℕ) × List (List ℕ) → List ℕ
 printed_line format given = line_text format (flat_map (printed_fields format) (zip given.0.0 given.1) ++ count_fields format given.0.1)
 
+-- the lines of a table
+abbrev pub printed_lines : TableFrame → List ℕ
+printed_lines t = flat_map (printed_line t.format) (zip t.pairs t.labels)
+
+-- the six lines of a region
+abbrev pub frame_header : GridFrame → List ℕ
+frame_header g =
+    line_of_key (codes "north") g.north
+    ++ line_of_key (codes "south") g.south
+    ++ line_of_key (codes "east") g.east
+    ++ line_of_key (codes "west") g.west
+    ++ line_of_key (codes "rows") (decimal g.rows)
+    ++ line_of_key (codes "cols") (decimal g.cols)
+
 -- the text that rcell writes for a frame
 abbrev pub frame_text : OutputFrame → List ℕ
-frame_text (Table t) = flat_map (printed_line t.format) (zip t.pairs t.labels)
-frame_text (Lines t) = t.text
-frame_text (Map g) = grid_text g.null_text g.grid
+frame_text (Table t) = printed_lines t
+frame_text (Cells t) = printed_lines t
+frame_text (Map g) = frame_header g ++ null_line g.null_text ++ flat_map (row_text g.null_text) g.cells
 
 -- the name of the map in a place, nothing where there is none
 abbrev pub name_in : ShelfValue → ℕ → List ℕ
@@ -67,25 +83,48 @@ combination_labels maps places pair = map (λ p. label_of_cell maps p.0 p.1) (zi
 abbrev pub listed_pairs : ShelfValue → List ℕ → StatsOptions → Pairs
 listed_pairs shelf places options = printed_pairs options.after (table_of options.skip (combinations_of shelf places))
 
--- the lines that r.stats -1 prints
-abbrev pub cell_lines_of : ShelfValue → List ℕ → StatsOptions → List ℕ
-cell_lines_of shelf places options = cell_lines (format_of options) options.skip shelf.maps places shelf.region.rows shelf.region.cols
+-- the cells that r.stats -1 prints: each a combination that occurs once
+abbrev pub each_once : List Combination → Pairs
+each_once cells = map (λ k. (k, 1)) cells
+
+abbrev pub cell_pairs : ShelfValue → List ℕ → StatsOptions → Pairs
+cell_pairs shelf places options = each_once (kept_cells options.skip (combinations_of shelf places))
+
+-- how they are printed: without counts
+abbrev pub cells_format : StatsOptions → FormatValue
+cells_format options = record (format_of options) { counts = false }
 
 -- the frame of a table
-abbrev pub table_frame : ShelfValue → ℕ → List ℕ → StatsOptions → Pairs → TableFrame
-table_frame shelf line places options pairs = record { line = line; format = format_of options; names = map (name_in shelf) places; pairs = pairs; labels = map (combination_labels shelf.maps places) pairs }
+abbrev pub table_frame : ShelfValue → ℕ → List ℕ → FormatValue → Pairs → TableFrame
+table_frame shelf line places format pairs =
+    record { line = line; format = format; names = map (name_in shelf) places; pairs = pairs; labels = map (combination_labels shelf.maps places) pairs }
 
 -- the frame of r.stats
 abbrev pub stats_frame : ShelfValue → ℕ → List ℕ → StatsOptions → OutputFrame
 stats_frame shelf line places options =
     if options.cells
-    then Lines (record { line = line; text = cell_lines_of shelf places options })
-    else Table (table_frame shelf line places options (listed_pairs shelf places options))
+    then Cells (table_frame shelf line places (cells_format options) (cell_pairs shelf places options))
+    else Table (table_frame shelf line places (format_of options) (listed_pairs shelf places options))
+
+-- the frame of a map
+abbrev pub grid_frame : ℕ → List ℕ → List ℕ → Grid → GridFrame
+grid_frame line null_text name grid = record {
+  line = line;
+  null_text = null_text;
+  name = name;
+  north = coordinate_text grid.region.north;
+  south = coordinate_text grid.region.south;
+  east = coordinate_text grid.region.east;
+  west = coordinate_text grid.region.west;
+  rows = grid.region.rows;
+  cols = grid.region.cols;
+  cells = grid.rows;
+}
 
 -- the frame of r.out.ascii, nothing where there is no map
 abbrev pub map_frames : ShelfValue → ℕ → ℕ → List ℕ → Option Grid → List OutputFrame
 map_frames shelf line place null_text None = []
-map_frames shelf line place null_text (Some grid) = Map (record { line = line; null_text = null_text; name = name_in shelf place; grid = grid }) ∷ []
+map_frames shelf line place null_text (Some grid) = Map (grid_frame line null_text (name_in shelf place) grid) ∷ []
 
 -- the frames of a command over a shelf: one if it writes
 abbrev pub command_frames : ShelfValue → ℕ → Command → List OutputFrame

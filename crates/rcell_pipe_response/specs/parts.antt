@@ -1,5 +1,7 @@
 -- What only private functions and proofs cite.
+pub mod CellEntries
 pub mod CellLabels
+pub mod Coordinates
 pub mod LastFrames
 pub mod ScriptKinds
 pub mod Execution

@@ -44,7 +44,7 @@ pub(crate) fn push_cell<W: Sink>(out: &mut W, block: &mut OutputBlock, cell: Cel
 }
 
 /// Cells in four bytes each.
-pub(crate) fn push_cells<W: Sink>(out: &mut W, block: &mut OutputBlock, cells: &[Cell])
+pub fn push_cells<W: Sink>(out: &mut W, block: &mut OutputBlock, cells: &[Cell])
     ensures { Appends W.taken W.faults out.old block.old
         (flat_map wide_bytes cells.now) out.new block.new }
 {

@@ -9,7 +9,8 @@ ghost use Rattle.rcell_pipe_response.specs.Frames.{command_frames, stats_frame};
 ghost use Rattle.rcell_pipe_response.specs.FrameBytes.{frame_bytes, frames_bytes};
 ghost use Rattle.rcell_pipe_response.specs.parts.Execution.{HasGiven, Stops};
 
-use crate::frames::{push_grid, push_lines};
+use crate::cells_frame::push_cells_frame;
+use crate::frames::push_grid;
 use crate::table_frame::push_table;
 use cell_core::block::OutputBlock;
 use cell_core::memory::Memory;
@@ -48,7 +49,7 @@ fn push_stats<W: Sink>(
     ensures err { OnErr result ((out.new ≡ out.old) × (block.new ≡ block.old)) }
 {
     if options.cells {
-        return push_lines(alloc, out, block, line, shelf, places, options);
+        return push_cells_frame(alloc, out, block, line, shelf, places, options);
     }
     let Ok(table) = tally(alloc, shelf, places, options.skip) else {
         return Err(Memory);

@@ -3,6 +3,8 @@
 
 pub mod bytes;
 mod cells;
+mod cells_frame;
+mod coordinates;
 pub mod end;
 mod execution;
 mod frames;

@@ -1,32 +1,24 @@
-//! A run, from bytes to bytes.
+//! A run, from a request to bytes.
 
-ghost use Rattle.std.specs.Prelude.{ℕ, ◌≡◌, ◌≢◌, List, [], ◌++◌, true, false, Option, IfSome, Some, Result, Ok, Err};
-ghost use Rattle.std.specs.Option.{IsNone};
-ghost use Rattle.cell_core_devices.specs.Device.{Faults, has_failed, after_flush};
+ghost use Rattle.std.specs.Prelude.{ℕ, ◌≡◌, List, [], ◌++◌, Option, Some, Result, Ok};
+ghost use Rattle.cell_core_devices.specs.Device.{Faults};
 ghost use Rattle.cell_core_devices.specs.Blocks.{Appended};
-ghost use Rattle.cell_core.specs.Shelf.{ShelfValue};
 ghost use Rattle.rcell_script.specs.FittingScripts.{Fits};
-ghost use Rattle.rcell_script.specs.declared.statement.Statement.{Statement};
 ghost use Rattle.rcell_pipe_request.specs.declared.error.RequestError.{RequestError};
-ghost use Rattle.rcell_pipe_request.specs.Requests.{RunRequestValue, ReadsRequest, request_of, run_request_value};
+ghost use Rattle.rcell_pipe_request.specs.Requests.{RunRequestValue, run_request_value};
 ghost use Rattle.rcell_pipe_response.specs.FrameBytes.{response_magic, response_bytes, end_bytes};
-ghost use Rattle.rcell_pipe_response.specs.RunEnds.{status_after, IsPipeAccepted, IsPipeEnd, end_value};
+ghost use Rattle.rcell_pipe_response.specs.RunEnds.{status_after, IsPipeAccepted, end_value};
 ghost use Rattle.rcell_pipe_response.specs.Endings.{error_after, Finished, Rejected, IsEndOfRun};
 ghost use Rattle.rcell_pipe_response.specs.parts.LastFrames.{EndsResponse};
 
-use crate::end::{
-    End, PipeError, done_end, is_memory, memory_end, request_end, script_end, status_after,
-};
+use crate::end::{End, PipeError, done_end, is_memory, memory_end, script_end, status_after};
 use crate::execution::{PipeStop, execute};
 use crate::frames::push_end;
 use cell_core::block::OutputBlock;
 use cell_core::shelf::Shelf;
 use cell_core::sink::Sink;
-use cell_core::source::Source;
 use rcell_loading::loading::shelf_names;
-use rcell_pipe_request::error::RequestStop;
-use rcell_pipe_request::request::{Request, read_request};
-use rcell_script::law::no_fault_of_a_script;
+use rcell_pipe_request::request::Request;
 use rcell_script::script_fault::ScriptFault;
 use rcell_script::script_parsing::parse_script;
 use rcell_script::statement::Script;
@@ -163,48 +155,5 @@ pub fn run_request<W: Sink>(alloc: Global, request: Request, out: &mut W) -> Pip
                 reject_script(alloc, out, error)
             }
         }
-    }
-}
-
-/// Rejects what is no request.
-pub fn reject_request<W: Sink>(out: &mut W, stop: RequestStop) -> PipeOutcome
-    ensures end { (read : Result RunRequestValue RequestError) → ReadsRequest (Err stop) read
-        → IsPipeEnd read (W.taken out.old) (W.taken out.new) result.error }
-    ensures status { result.status ≡ status_after result.error }
-    ensures write { result.error ≡ Some PipeError.Write → has_failed (W.faults out.new) ≡ true }
-    ensures flushed { result.error ≢ Some PipeError.Write
-        → W.faults out.new ≡ after_flush (W.faults out.old) false }
-{
-    match stop {
-        RequestStop::Error(error) => reject(out, PipeError::Request(error), &request_end(error)),
-        RequestStop::Memory => reject(out, PipeError::Memory, &memory_end(0)),
-    }
-}
-
-/// Reads a request, runs its script over its maps, and writes the response.
-///
-/// The request is read whole before the first statement is executed. Each statement has all that it needs of memory before
-/// its first byte is written.
-pub fn run_pipe<R: Source + Drop, W: Sink>(alloc: Global, source: R, out: &mut W) -> PipeOutcome
-    // The error says what has been written. Without one: the frames of the statements and the end. Otherwise: the end with
-    // the first error of the request or of its script, after the frames of the statements before memory ran out. If a write
-    // failed: the first bytes of such a response.
-    ensures end { IfSome (R.coming source)
-        (λ c. IsPipeEnd (request_of c) (W.taken out.old) (W.taken out.new) result.error) }
-    ensures status { result.status ≡ status_after result.error }
-    // Write comes only if the sink failed; otherwise it did not fail and was flushed once.
-    ensures write { result.error ≡ Some PipeError.Write → has_failed (W.faults out.new) ≡ true }
-    ensures flushed { result.error ≢ Some PipeError.Write
-        → W.faults out.new ≡ after_flush (W.faults out.old) false }
-    // If the script of a request is accepted, memory lasts and the sink takes everything, the run is done.
-    ensures complete { IfSome (R.coming source)
-        (λ c. (shelf : ShelfValue) (statements : List Statement)
-        → IsPipeAccepted (request_of c) shelf statements → result.status ≢ 3
-        → has_failed (W.faults out.new) ≡ false → IsNone result.error) }
-{
-    no_fault_of_a_script();
-    match read_request(alloc, source) {
-        Ok(request) => run_request(alloc, request, out),
-        Err(stop) => reject_request(out, stop),
     }
 }

@@ -1,6 +1,6 @@
 //! The frame of a table.
 
-ghost use Rattle.std.specs.Prelude.{◌≡◌, ◌<◌, All, [], length, map, flat_map, IfSome, if◌then◌else◌};
+ghost use Rattle.std.specs.Prelude.{◌≡◌, ◌<◌, All, [], length, map, flat_map, codes, IfSome, if◌then◌else◌};
 ghost use Rattle.std.specs.List.{zip};
 ghost use Rattle.cell_core_devices.specs.Blocks.{Appends};
 ghost use Rattle.cell_stats.specs.TableText.{label_of_cell, printed_pairs};
@@ -81,8 +81,8 @@ fn label_of<'a>(shelf: &'a Shelf, place: usize, cell: Cell) -> &'a [u8]
     }
 }
 
-// The labels of the cells of a combination.
-fn push_cell_labels<W: Sink>(
+/// The labels of the cells of a combination.
+pub(crate) fn push_cell_labels<W: Sink>(
     out: &mut W,
     block: &mut OutputBlock,
     shelf: &Shelf,
@@ -129,26 +129,29 @@ fn push_labels<W: Sink>(
     }
 }
 
-// What a table begins with.
-fn push_head<W: Sink>(
+/// What a table begins with: its letters, and whether it has counts.
+pub(crate) fn push_head<W: Sink>(
     out: &mut W,
     block: &mut OutputBlock,
+    letters: &[u8],
     line: u64,
     shelf: &Shelf,
     places: &[usize],
     entries: u64,
+    counts: bool,
     options: &StatsOptions,
 )
     requires { All (λ place. place < length shelf.now.maps) places.now }
     ensures { Appends W.taken W.faults out.old block.old
-        (head_bytes line entries (format_of options.now) (map (name_in shelf.now) places.now))
+        (head_bytes letters.now line entries (record (format_of options.now) { counts = counts })
+        (map (name_in shelf.now) places.now))
         out.new block.new }
 {
-    block.push(out, b"TABL");
+    block.push(out, letters);
     push_number(out, block, line);
     push_number(out, block, entries);
     push_number(out, block, places.len() as u64);
-    let counts = flag(options.counts);
+    let counts = flag(counts);
     let labels = flag(options.labels);
     block.push(out, &[counts, labels, options.separator]);
     push_text(out, block, options.null_text.bytes());
@@ -204,14 +207,24 @@ pub(crate) fn push_table<W: Sink>(
     requires width { table.now.width ≡ length places.now }
     requires after { IfSome options.now.after (λ k. length k ≡ length places.now) }
     ensures { Appends W.taken W.faults out.old block.old
-        (table_bytes (table_frame shelf.now line places.now options.now
-        (printed_pairs options.now.after table.now.pairs)))
+        (table_bytes (codes "TABL") (table_frame shelf.now line places.now
+        (format_of options.now) (printed_pairs options.now.after table.now.pairs)))
         out.new block.new }
 {
     let _len = table.len();
     let _width = table.width();
     let count = count_of(listed(table, options));
-    push_head(out, block, line, shelf, places, count, options);
+    push_head(
+        out,
+        block,
+        b"TABL",
+        line,
+        shelf,
+        places,
+        count,
+        options.counts,
+        options,
+    );
     push_asked_counts(out, block, options, listed(table, options));
     push_combinations(out, block, listed(table, options));
     push_asked_labels(out, block, options, shelf, places, listed(table, options));

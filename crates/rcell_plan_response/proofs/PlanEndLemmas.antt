@@ -1,7 +1,7 @@
 -- How responses end.
-use Rattle.std.proofs.Common.{◌≡◌, ◌∙◌, ℕ, Bool, true, false, List, [], ◌++◌, Option, Some, None, Result, Ok, Err}
-use Rattle.std.proofs.Common.{refl, sym, ap, subst, append_assoc}
-use Rattle.std.specs.Prelude.{◌≢◌, IfSome, flat_map, length, unwrap_or}
+use Rattle.std.proofs.Common.{◌≡◌, ◌∙◌, ℕ, suc, Bool, true, false, List, [], ◌∷◌, ◌++◌, Option, Some, None}
+use Rattle.std.proofs.Common.{Result, Ok, Err, refl, sym, ap, subst, append_assoc}
+use Rattle.std.specs.Prelude.{◌≢◌, IfSome, length, unwrap_or}
 use Rattle.std.specs.Option.{IsNone, is_some}
 use Rattle.cell_core_devices.specs.Device.{Faults, Coming}
 use Rattle.cell_core.specs.Shelf.{ShelfValue}
@@ -27,9 +27,10 @@ use Rattle.rcell_pipe_response.specs.Endings.{error_after, Finished, IsRejection
 use Rattle.rcell_plan_response.specs.declared.responding.RequestForm.{RequestForm}
 use Rattle.rcell_plan_response.specs.declared.responding.RequestForm.TheVariants as form
 use Rattle.rcell_plan.specs.declared.planning.Plan.{Plan}
-use Rattle.rcell_plan.specs.Plans.{plans_of, given_needs}
+use Rattle.rcell_plan.specs.Plans.{plans_of, given_needs, needs_after}
+use Rattle.rcell_plan.specs.declared.needs.Need.{Need}
 use Rattle.rcell_plan_response.specs.PlanRequests.{PlanRequestValue}
-use Rattle.rcell_plan_response.specs.PlanFrames.{plan_bytes, all_names, plan_response}
+use Rattle.rcell_plan_response.specs.PlanFrames.{plans_bytes, all_names, plan_response}
 use Rattle.rcell_plan_response.specs.PlanEnds.{IsPlanResponse}
 use Rattle.rcell_plan_response.specs.Written.{WasWritten, HasResponded, EndsAs}
 use Rattle.rcell_plan_response.specs.Responses.{IsResponseTo, IsRequestAccepted}
@@ -133,16 +134,22 @@ finished_plans {before} {now} {start} {after} {error} {outcome} frames one end s
     (ap (λ (e : EndValue). (response_magic ++ frames) ++ end_bytes e) same
     ∙ append_assoc response_magic frames (end_bytes end)) finished
 
+-- there is a plan for each statement
+pub length-plans : (known : List (List Need)) (statements : List Statement)
+    → length (plans_of known statements) ≡ length statements
+length-plans known [] = refl
+length-plans known (s ∷ ss) = ap suc (length-plans (needs_after known s.command) ss)
+
 -- the names of all maps, and the plans of statements
 pub finished_plan : {before now : Option (List ℕ)} {start after : Faults} {outcome : PipeOutcome}
     (names all : List (List ℕ)) (statements : List Statement) (plans : List Plan) → all ≡ all_names names statements
     → plans ≡ plans_of (given_needs (length names)) statements
-    → Finished before start now after None (response_magic ++ flat_map
-    (plan_bytes all) plans ++ end_bytes done_end) outcome
+    → Finished before start now after None (response_magic ++ plans_bytes all plans statements
+    ++ end_bytes done_end) outcome
     → Finished before start now after None (plan_response names statements) outcome
 finished_plan {before} {now} {start} {after} {outcome} names all statements plans all_is plans_is finished =
     subst (λ (t : List ℕ). Finished before start now after None t outcome)
-    (λ i. response_magic ++ flat_map (plan_bytes (all_is i)) (plans_is i) ++ end_bytes done_end) finished
+    (λ i. response_magic ++ plans_bytes (all_is i) (plans_is i) statements ++ end_bytes done_end) finished
 
 -- ---- rejected scripts
 

@@ -1,5 +1,7 @@
 -- Plan requests, their responses, and responses to requests of either form.
 pub mod PlanRequests
+pub mod MapNames
+pub mod PlanOptions
 pub mod PlanFrames
 pub mod PlanEnds
 pub mod Written

@@ -1,5 +1,6 @@
 -- The frames of a plan, and the response to a plan request (profile).
-use Rattle.std.specs.Prelude.{ℕ, List, [], ◌∷◌, ◌++◌, length, flat_map, slice_get, codes, unwrap_or, Option, Some, None}
+use Rattle.std.specs.Prelude.{ℕ, List, [], ◌∷◌, ◌++◌, length, flat_map, codes, Option, Some, None}
+use Rattle.std.specs.List.{zip}
 use Rattle.rcell_script.specs.KnownMaps.{known_after}
 use Rattle.rcell_script.specs.declared.statement.Statement.{Statement}
 use Rattle.rcell_pipe_response.specs.FrameBytes.{number_bytes, text_bytes, flag, response_magic, end_bytes}
@@ -8,10 +9,8 @@ use Rattle.rcell_plan.specs.declared.needs.Margin.{Margin}
 use Rattle.rcell_plan.specs.declared.needs.Need.{Need}
 use Rattle.rcell_plan.specs.declared.planning.Plan.{Plan}
 use Rattle.rcell_plan.specs.Plans.{plans_of, given_needs}
-
--- the name of the map at a place, nothing if there is none
-abbrev pub name_of_place : List (List ℕ) → ℕ → List ℕ
-name_of_place names place = unwrap_or (slice_get names place) []
+use Rattle.rcell_plan_response.specs.PlanOptions.{options_bytes}
+use Rattle.rcell_plan_response.specs.MapNames.{name_of_place}
 
 -- the name of the map that a statement makes, nothing if it makes none
 abbrev pub made_name : List (List ℕ) → Option ℕ → List ℕ
@@ -42,9 +41,14 @@ abbrev pub plan_head : List (List ℕ) → Plan → List ℕ
 plan_head names p =
     codes "PLAN" ++ number_bytes p.line ++ (p.code ∷ p.flags ∷ []) ++ text_bytes (made_name names p.made)
 
--- the frame of a statement, over the names of all maps
-abbrev pub plan_bytes : List (List ℕ) → Plan → List ℕ
-plan_bytes names p = plan_head names p ++ reads_bytes names p.reads ++ needs_bytes names p.needs
+-- the frame of a statement by its plan, over the names of all maps
+abbrev pub plan_bytes : List (List ℕ) → Plan × Statement → List ℕ
+plan_bytes names p =
+    plan_head names p.0 ++ reads_bytes names p.0.reads ++ needs_bytes names p.0.needs ++ options_bytes names p.1.command
+
+-- the frames of statements
+abbrev pub plans_bytes : List (List ℕ) → List Plan → List Statement → List ℕ
+plans_bytes names plans statements = flat_map (plan_bytes names) (zip plans statements)
 
 -- the names of all maps: of those that are given, and of those that statements make
 abbrev pub all_names : List (List ℕ) → List Statement → List (List ℕ)
@@ -54,6 +58,5 @@ all_names names (s ∷ ss) = all_names (known_after names s.command) ss
 -- the response to a plan request whose script denotes the statements
 abbrev pub plan_response : List (List ℕ) → List Statement → List ℕ
 plan_response names statements =
-    response_magic ++ flat_map (plan_bytes (all_names names statements))
-    (plans_of (given_needs (length names)) statements)
+    response_magic ++ plans_bytes (all_names names statements) (plans_of (given_needs (length names)) statements) statements
     ++ end_bytes done_end

@@ -1,26 +1,17 @@
 //! The frames of a plan as bytes.
 
-ghost use Rattle.std.specs.Prelude.{◌≡◌, flat_map};
+ghost use Rattle.std.specs.Prelude.{◌≡◌, length, flat_map};
 ghost use Rattle.cell_core_devices.specs.Blocks.{Appends};
-ghost use Rattle.rcell_pipe_response.specs.FrameBytes.{flag};
-ghost use Rattle.rcell_plan_response.specs.PlanFrames.{name_of_place, made_name, margin_bytes, read_bytes, need_bytes, reads_bytes, needs_bytes, plan_head, plan_bytes};
+ghost use Rattle.rcell_plan_response.specs.PlanFrames.{made_name, margin_bytes, read_bytes, need_bytes, reads_bytes, needs_bytes, plan_head, plan_bytes, plans_bytes};
 
+use crate::plan_options::{flag, name_of_place, push_options};
 use cell_core::block::OutputBlock;
 use cell_core::name::Names;
 use cell_core::sink::Sink;
 use rcell_pipe_response::bytes::{push_number, push_text};
 use rcell_plan::needs::{Margin, Need};
 use rcell_plan::planning::Plan;
-
-fn name_of_place<'a>(names: &'a Names, place: usize) -> &'a [u8]
-    ensures { result.now ≡ name_of_place names.now place }
-{
-    if place < names.len() {
-        names.name(place).bytes()
-    } else {
-        b""
-    }
-}
+use rcell_script::statement::Statement;
 
 fn made_name<'a>(names: &'a Names, made: Option<usize>) -> &'a [u8]
     ensures { result.now ≡ made_name names.now made }
@@ -29,12 +20,6 @@ fn made_name<'a>(names: &'a Names, made: Option<usize>) -> &'a [u8]
         Some(place) => name_of_place(names, place),
         None => b"",
     }
-}
-
-fn flag(is: bool) -> u8
-    ensures { result ≡ flag is }
-{
-    if is { 1 } else { 0 }
 }
 
 fn push_margin<W: Sink>(out: &mut W, block: &mut OutputBlock, margin: Margin)
@@ -110,26 +95,35 @@ fn push_plan_head<W: Sink>(out: &mut W, block: &mut OutputBlock, names: &Names, 
 }
 
 // The frame of a statement.
-fn push_plan<W: Sink>(out: &mut W, block: &mut OutputBlock, names: &Names, plan: &Plan)
-    ensures { Appends W.taken W.faults out.old block.old (plan_bytes names.now plan.now)
-        out.new block.new }
+fn push_plan<W: Sink>(
+    out: &mut W,
+    block: &mut OutputBlock,
+    names: &Names,
+    plan: &Plan,
+    statement: &Statement,
+)
+    ensures { Appends W.taken W.faults out.old block.old
+        (plan_bytes names.now (plan.now, statement.now)) out.new block.new }
 {
     push_plan_head(out, block, names, plan);
     push_reads(out, block, names, plan.reads.in_order());
     push_needs(out, block, names, plan.needs.in_order());
+    push_options(out, block, names, &statement.command);
 }
 
-/// The frames of statements, over the names of all maps.
+/// The frames of statements by their plans, over the names of all maps.
 pub(crate) fn push_plans<W: Sink>(
     out: &mut W,
     block: &mut OutputBlock,
     names: &Names,
     plans: &[Plan],
+    statements: &[Statement],
 )
+    requires { length plans.now ≡ length statements.now }
     ensures { Appends W.taken W.faults out.old block.old
-        (flat_map (plan_bytes names.now) plans.now) out.new block.new }
+        (plans_bytes names.now plans.now statements.now) out.new block.new }
 {
-    for plan in plans {
-        push_plan(out, block, names, plan);
+    for i in 0..plans.len() {
+        push_plan(out, block, names, &plans[i], &statements[i]);
     }
 }

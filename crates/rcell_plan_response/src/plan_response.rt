@@ -1,13 +1,13 @@
 //! The response to a plan request.
 
-ghost use Rattle.std.specs.Prelude.{◌++◌, None, Ok, Result, flat_map};
+ghost use Rattle.std.specs.Prelude.{◌≡◌, ◌++◌, length, None, Ok, Result};
 ghost use Rattle.rcell_script.specs.FittingScripts.{Fits};
 ghost use Rattle.rcell_pipe_response.specs.FrameBytes.{response_magic, end_bytes};
 ghost use Rattle.rcell_pipe_response.specs.RunEnds.{done_end};
 ghost use Rattle.rcell_pipe_response.specs.Endings.{Finished};
 ghost use Rattle.rcell_pipe_request.specs.declared.error.RequestError.{RequestError};
 ghost use Rattle.rcell_plan_response.specs.PlanRequests.{PlanRequestValue, plan_request_value};
-ghost use Rattle.rcell_plan_response.specs.PlanFrames.{plan_bytes};
+ghost use Rattle.rcell_plan_response.specs.PlanFrames.{plans_bytes};
 ghost use Rattle.rcell_plan_response.specs.PlanEnds.{IsPlanAccepted, IsPlanResponse};
 ghost use Rattle.rcell_plan_response.specs.Written.{EndsAs};
 
@@ -25,13 +25,19 @@ use rcell_script::statement::Statement;
 use std::alloc::Global;
 
 // Writes the plans of statements, over the names of all maps.
-fn write_plans<W: Sink>(out: &mut W, names: &Names, plans: &[Plan]) -> PipeOutcome
+fn write_plans<W: Sink>(
+    out: &mut W,
+    names: &Names,
+    plans: &[Plan],
+    statements: &[Statement],
+) -> PipeOutcome
+    requires { length plans.now ≡ length statements.now }
     ensures { Finished (W.taken out.old) (W.faults out.old) (W.taken out.new) (W.faults out.new)
-        None (response_magic ++ flat_map (plan_bytes names.now) plans.now
+        None (response_magic ++ plans_bytes names.now plans.now statements.now
         ++ end_bytes done_end) result }
 {
     let mut block = begin(out);
-    push_plans(out, &mut block, names, plans);
+    push_plans(out, &mut block, names, plans, statements);
     end_run(out, block, None, &done_end())
 }
 
@@ -54,7 +60,7 @@ fn plan_statements<W: Sink>(
     let Ok(all) = all_names(alloc, names, statements) else {
         return reject(out, PipeError::Memory, &memory_end(0));
     };
-    write_plans(out, &all, plans.as_slice())
+    write_plans(out, &all, plans.as_slice(), statements)
 }
 
 /// Responds to a plan request: with the plan of each statement, or with the first error of the script.

@@ -7,7 +7,7 @@ use Rattle.cell_core_devices.proofs.BlockLemmas.{appends_none}
 use Rattle.rcell_script_commands.specs.declared.command.Command.{Command}
 use Rattle.rcell_script_commands.specs.declared.command.Command.TheVariants.{Stats, OutAscii}
 use Rattle.rcell_script_commands.specs.declared.command.StatsOptions.{StatsOptions}
-use Rattle.rcell_pipe_response.specs.Frames.{command_frames, stats_frame}
+use Rattle.rcell_pipe_response.specs.Frames.{command_frames, grid_frame, stats_frame}
 use Rattle.rcell_pipe_response.specs.FrameBytes.{frame_bytes, frames_bytes, grid_bytes}
 use Rattle.rcell_pipe_response.proofs.execution.execute_statement.Goals as goal
 
@@ -25,8 +25,8 @@ stats_command shelf line command places options is = sym (append-nil (frame_byte
 
 -- the bytes of the frame of r.out.ascii
 grid_command : (shelf : ShelfValue) (line : ℕ) (command : Command) (place : ℕ) (null_text name : List ℕ) (grid : Grid) → command ≡ OutAscii place null_text → slice_get shelf.maps place ≡ Some grid → slice_get shelf.names place ≡ Some name
-    → grid_bytes (record { line = line; null_text = null_text; name = name; grid = grid }) ≡ frames_bytes (command_frames shelf line command)
-grid_command shelf line command place null_text name grid is map named = rw (is, map, named) (sym (append-nil (grid_bytes (record { line = line; null_text = null_text; name = name; grid = grid }))))
+    → grid_bytes (grid_frame line null_text name grid) ≡ frames_bytes (command_frames shelf line command)
+grid_command shelf line command place null_text name grid is map named = rw (is, map, named) (sym (append-nil (grid_bytes (grid_frame line null_text name grid))))
 
 pub returns-in-Mapcalc-clause-after : goal.returns-in-Mapcalc-clause-after
 returns-in-Mapcalc-clause-after g c = rw c.in-Mapcalc.is c.make_values.ensures.ok

@@ -12,6 +12,9 @@ returns g c =
     let places = c.args.places.now in
     let shelf = c.args.shelf.now in
     let width : length places ≡ length (map (name_in shelf) places) = sym (length-map places (name_in shelf)) in
-    let names : flat_map (λ place. text_bytes (name_in shelf place)) places ≡ flat_map text_bytes (map (name_in shelf) places) = sym (flat_map-map text_bytes (name_in shelf) places) in
-    appends_then c.push.ensures (appends_then c.push_number.ensures (appends_then c.push_number-2.ensures (appends_then (rw width at c.push_number-3.ensures)
-    (appends_then (rw (c.flag-counts.ensures, c.flag-labels.ensures) at c.push-2.ensures) (appends_then (rw c.bytes.ensures.value at c.push_text.ensures) (rw names at c.push_names.ensures))))))
+    let names : flat_map (λ place. text_bytes (name_in shelf place)) places
+    ≡ flat_map text_bytes (map (name_in shelf) places) = sym (flat_map-map text_bytes (name_in shelf) places) in
+    appends_then (appends_then (appends_then (appends_then (appends_then
+    (appends_then c.push.ensures c.push_number.ensures) c.push_number-2.ensures)
+    (rw width at c.push_number-3.ensures)) (rw (c.flag-counts.ensures, c.flag-labels.ensures) at c.push-2.ensures))
+    (rw c.bytes.ensures.value at c.push_text.ensures)) (rw names at c.push_names.ensures)

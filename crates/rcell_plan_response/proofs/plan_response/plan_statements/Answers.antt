@@ -1,10 +1,11 @@
-use Rattle.std.proofs.Common.{◌∙◌, [], Some, None, ap, refl}
+use Rattle.std.proofs.Common.{◌≡◌, ◌∙◌, List, [], Some, None, length, ap, refl}
 use Rattle.rcell_plan.specs.Plans.{plans_of, given_needs}
+use Rattle.rcell_plan.specs.declared.planning.Plan.{Plan}
 use Rattle.rcell_pipe_response.specs.declared.end.PipeError.TheVariants as errors
 use Rattle.rcell_pipe_response.specs.RunEnds.{memory_end, end_value}
 use Rattle.rcell_pipe_response.proofs.EndLemmas.{finished_frames}
 use Rattle.rcell_plan_response.specs.PlanEnds.{IsPlanResponse}
-use Rattle.rcell_plan_response.proofs.PlanEndLemmas.{ends_as, finished_plan}
+use Rattle.rcell_plan_response.proofs.PlanEndLemmas.{ends_as, finished_plan, length-plans}
 use Rattle.rcell_plan_response.proofs.plan_response.plan_statements.Goals as goal
 
 pub returns-in_default : goal.returns-in_default
@@ -17,6 +18,10 @@ returns-in_default-all_names g c = λ read accepted.
     ends_as (IsPlanResponse read) (Some errors.Memory) refl (λ write. cc)
     (finished_frames [] (end_value c.memory_end-in_default-all_names.result) (memory_end 0)
     c.memory_end-in_default-all_names.ensures c.reject-in_default-all_names.ensures)
+
+pub write_plans-requires : goal.write_plans-requires
+write_plans-requires g c =
+    ap (λ (l : List Plan). length l) (c.as_slice.ensures.value ∙ c.in-Ok.ensures) ∙ length-plans _ c.args.statements.now
 
 pub returns : goal.returns
 returns g c = λ read accepted.
