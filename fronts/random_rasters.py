@@ -297,12 +297,10 @@ def answer_of_shell(asked: Asked) -> Answer:
     sys.path[:0] = [str(REPOSITORY / "helpers")] * (str(REPOSITORY / "helpers") not in sys.path)
     import rcell_tif
 
-    program = str(pathlib.Path(os.environ["RCELL"]).with_name("rcell-pipe"))
-
     def text_of(path: str) -> bytes:
         written: list[bytes] = []
         dataset = gdal.Open(path)
-        rcell_tif.write_grid(program, dataset, rcell_tif.one_band(dataset), written.append)
+        rcell_tif.write_grid(dataset, rcell_tif.one_band(dataset), written.append)
         return b"".join(written)
 
     return answer_of_program(asked, text_of)

@@ -1,5 +1,5 @@
 # SPDX-License-Identifier: Apache-2.0 OR GPL-2.0-or-later
-"""Mark the outputs of a script, run rcell, and write each output to its own file: the work of rcell-split.
+"""Mark the outputs of a script, which rcell-pipe plans, run rcell, and write each output to its own file: the work of rcell-split.
 
 The table of a map of nulls is a single line, its null_value, so a statement can print any word. The word of the marks has
 sixteen random digits, so no script contains it; everything else that is printed is in the script or is a number.
@@ -11,6 +11,7 @@ import shutil
 import subprocess
 import sys
 
+from rcell_front import pipe
 from rcell_front.files import private_folder, write_all
 from rcell_front.programs import above_standard
 from rcell_run import Missing, found_program
@@ -18,7 +19,7 @@ from rcell_run import Missing, found_program
 LONGEST_SCRIPT = 1048576
 LONGEST_FILE_NAME = 255
 PIECE = 1 << 18
-WRITERS = (b"r.stats", b"r.out.ascii")
+WRITERS = ("r.stats", "r.out.ascii")
 MESSAGE = re.compile(rb"(rcell: (script|arguments):)([0-9]+)(: .*)", re.DOTALL)
 USAGE_STATUS, REFUSED_STATUS = 2, 1
 
@@ -30,37 +31,31 @@ class Refused(Exception):
 class Output:
     """An output of a script: its position among the outputs, its command, and its maps."""
 
-    def __init__(self, place, command, maps):
-        self.place, self.command, self.maps = place, command.decode(), maps.decode("ascii", "replace")
+    def __init__(self, place, statement):
+        self.place, self.command, self.maps = place, statement.command, ",".join(statement.inputs)
 
     def file_name(self, digits):
         begin, end = "%0*d-%s-" % (digits, self.place, self.command), ".txt"
         room = LONGEST_FILE_NAME - len(begin) - len(end)
         maps = self.maps if len(self.maps) <= room else self.maps[: room - 2] + ".."
-        return begin + maps.replace("/", "_") + end
+        return begin + maps + end
 
 
 class Marked:
     """A script with a mark before each output, and the number in the user's script of each of its lines."""
 
-    def __init__(self, text):
+    def __init__(self, text, plan):
         self.word = b"--%s" % binascii.hexlify(os.urandom(8))
         nothing = b"nothing_%s" % self.word[2:]
-        self.outputs, lines, self.users_lines = [], [], []
-        is_among_rules = False
+        writers = {it.line: it for it in plan if it.command in WRITERS}
+        self.outputs = [Output(place, it) for place, it in enumerate(writers.values(), 1)]
+        lines, self.users_lines = [], []
         for number, line in enumerate(text.split(b"\n"), 1):
-            words = line.split()
-            first = words[0] if words else b""
-            if first in WRITERS and not is_among_rules:
-                marks = [] if self.outputs else [b"r.mapcalc %s = null()" % nothing]
-                marks.append(b"r.stats input=%s null_value=%s" % (nothing, self.word))
-                lines += marks
-                self.users_lines += [number] * len(marks)
-                maps = next((word[6:] for word in words if word.startswith(b"input=")), b"")
-                self.outputs.append(Output(len(self.outputs) + 1, first, maps))
-            is_among_rules = first == b"r.reclass" or (is_among_rules and words != [b"end"])
-            lines.append(line)
-            self.users_lines.append(number)
+            marks = [b"r.stats input=%s null_value=%s" % (nothing, self.word)] if number in writers else []
+            if number == min(writers, default=0):
+                marks.insert(0, b"r.mapcalc %s = null()" % nothing)
+            lines += [*marks, line]
+            self.users_lines += [number] * (len(marks) + 1)
         self.text = b"\n".join(lines)
         if len(self.text) > LONGEST_SCRIPT >= len(text):
             raise Refused("the marks of %d outputs make the script %d bytes long, but rcell takes %d: write fewer outputs in one run"
@@ -142,10 +137,21 @@ def given_as_file(text):
     return "/dev/fd/%d" % file
 
 
-def run(program, words, folder):
+def plan_of(program, text, words):
+    """Return the plan of a script, or None if rcell is to say what is wrong."""
+    try:
+        return pipe.plan(program, [word.partition("=")[0] for word in words], text)
+    except pipe.Rejected:
+        return None
+    except (pipe.Killed, pipe.NoAnswer) as fault:
+        raise Refused("%s failed: %s" % (program, fault)) from None
+
+
+def run(program, words, folder, planner):
     """Run rcell and write its outputs to a folder, which gets its name when it is complete; return the status."""
     text = read_script(words[0])
-    marked = Marked(text if text is not None else b"")
+    plan = plan_of(planner, text or b"", words[2:])
+    marked = Marked(text or b"", plan or [])
     script = words[0] if text is None else given_as_file(marked.text)
     room = private_folder(os.path.dirname(folder), os.path.basename(folder))
     try:
@@ -162,6 +168,8 @@ def run(program, words, folder):
             child.wait()
         sys.stderr.buffer.write(marked.users_message(message))
         sys.stderr.buffer.flush()
+        if status == 0 and plan is None:
+            raise Refused("%s rejects the script, which rcell runs" % planner)
         if status == 0 and not parts.is_whole():
             raise Refused("%d outputs were marked, but %d came" % (len(parts.names), parts.count))
         if status == 0:
@@ -190,7 +198,7 @@ def main(words, here, usage):
     folder = os.path.abspath(words[1])
     try:
         refuse_existing(folder)
-        return run(found_program(here), words, folder)
+        return run(found_program(here), words, folder, found_program(here, "rcell-pipe", "RCELL_PIPE"))
     except Refused as fault:
         sys.stderr.write("rcell-split: %s\n" % fault)
         return REFUSED_STATUS

@@ -1,11 +1,11 @@
 # SPDX-License-Identifier: Apache-2.0 OR GPL-2.0-or-later
 """Convert rasters that GDAL reads to rcell grids, and grids to GeoTIFFs. Needs numpy, and GDAL's Python for opening files.
 
-    CellText(program, null_values).of(..)   the rows of a grid for a block of an array, as text
-    Region.of_transform(..), .header()      exact edges for rcell, from a geotransform
-    write_grid(program, dataset, number, ..) write a band of an open dataset as a grid, block by block
-    Grid(read), rows_of(grid)               a grid's header, and its cells as arrays of 32 bits
-    write_tif(grid, path, ..)               write a grid as a GeoTIFF
+    CellText(null_values).of(..)        the rows of a grid for a block of an array, as text
+    Region.of_transform(..), .header()  exact edges for rcell, from a geotransform
+    write_grid(dataset, number, ..)     write a band of an open dataset as a grid, block by block
+    Grid(read), rows_of(grid)           a grid's header, and its cells as arrays of 32 bits
+    write_tif(grid, path, ..)           write a grid as a GeoTIFF
 
 If a raster cannot be a grid, `Refused` says why. GDAL's settings are not changed.
 """
@@ -15,7 +15,7 @@ from fractions import Fraction
 
 import numpy as np
 
-from rcell_front import pipe
+from rcell_front.spelling import rows_text
 
 GREATEST = 2147483647  # the limit of cells, above and below 0
 NULL = -GREATEST - 1  # in arrays of cells and in new GeoTIFFs
@@ -23,10 +23,8 @@ GREATEST_SIDE, MOST_CELLS = 65535, 2147483647
 EDGE_DIGITS, EDGE_DECIMALS = 10, 8
 EDGES = ("north", "south", "east", "west")
 BLOCK_CELLS = 1 << 20  # cells that are converted at once
-LINES_JOINED = bytes.maketrans(b"\n", b" ")
 PIECE = 1 << 22  # bytes of a grid that are read at once
 MOST_HEADER = 1 << 16  # bytes within which the header of a grid ends
-
 
 VISIBLE = re.compile(rb"[!-~]{1,64}")
 LONE_SIGN = re.compile(rb"[+-](?![0-9])")
@@ -110,11 +108,11 @@ class Region:
 
 
 class CellText:
-    """The text of blocks of cells, as the rows of a grid, made with rcell-pipe."""
+    """The text of blocks of cells, as the rows of a grid."""
 
-    def __init__(self, program, null_values=()):
+    def __init__(self, null_values=()):
         """Cells with these whole numbers are null."""
-        self.program, self.null_values = program, null_values
+        self.null_values = null_values
 
     def of(self, block, null=None):
         """Return the text of a two-dimensional array of integers; cells are also null if `null` is true for them."""
@@ -127,7 +125,7 @@ class CellText:
         cells = np.ascontiguousarray(block.astype(np.int32))
         if null is not None:
             cells[null] = NULL
-        return self.listed(cells)
+        return rows_text(cells, NULL)
 
     @staticmethod
     def check(block, null):
@@ -138,19 +136,6 @@ class CellText:
         if bad.any():
             row, col = np.argwhere(bad)[0]
             raise BadCell(int(row), int(col), "%d is beyond %d" % (int(block[row, col]), GREATEST))
-
-    def listed(self, cells):
-        """The program lists a cell a line; the lines of a row are joined here."""
-        rows, cols = cells.shape
-        sent = pipe.Map("g", (str(rows), "0", str(cols), "0"), rows, cols, "i32", [pipe.Block(cells.data)], NULL)
-        try:
-            [frame] = pipe.run(self.program, [sent], b"r.stats -1 input=g\n")
-        except (pipe.Rejected, pipe.Killed, pipe.NoAnswer) as fault:
-            raise Refused("%s failed: %s" % (self.program, getattr(fault, "text", fault))) from None
-        row_ends = np.flatnonzero(np.frombuffer(frame.text, np.uint8) == ord("\n"))[cols - 1 :: cols]
-        text = frame.text.translate(LINES_JOINED)
-        np.frombuffer(text, np.uint8)[row_ends] = ord("\n")
-        return text
 
 
 class BadCell(Refused):
@@ -230,8 +215,8 @@ def blocks_of(band, is_turned):
     return [(start, min(step, rows - start)) for start in (reversed(starts) if is_turned else starts)]
 
 
-def write_grid(program, dataset, number, write, nodata=None, like=None, like_name="the other grid"):
-    """Write a band of a dataset as a grid: its region, with exact edges, then its cells, block by block with rcell-pipe."""
+def write_grid(dataset, number, write, nodata=None, like=None, like_name="the other grid"):
+    """Write a band of a dataset as a grid: its region, with exact edges, then its cells, block by block."""
     band = dataset.GetRasterBand(number)
     region, is_turned = Region.of_transform(dataset.GetGeoTransform(can_return_null=True), band.YSize, band.XSize)
     if like is not None:
@@ -239,7 +224,7 @@ def write_grid(program, dataset, number, write, nodata=None, like=None, like_nam
     check_meaning(dataset, band)
     values, masks = null_values_of(band, nodata), masks_of(dataset, number, nodata)
     whole = [int(value) for value in values if value == value and abs(value) < 2**64 and value == int(value)]
-    texts = CellText(program, whole)
+    texts = CellText(whole)
     write(region.header())
     for first, count in blocks_of(band, is_turned):
         block = read_block(band, first, count)
@@ -259,7 +244,7 @@ def text_of(block, null, values, texts, is_turned):
         block, null = block[::-1], null if null is None else null[::-1]
     if block.dtype.kind == "f":
         block, null = whole_cells(block, values, null)
-        texts = CellText(texts.program)
+        texts = CellText()
     return texts.of(block, null)
 
 

@@ -162,7 +162,7 @@ def ways_of_tiff(helper, gdal, rcell):
     def by_helper(path):
         written = []
         dataset = gdal.Open(path)
-        helper.write_grid(f"{ROOT}/bin/rcell-pipe", dataset, helper.one_band(dataset), written.append)
+        helper.write_grid(dataset, helper.one_band(dataset), written.append)
         return cells_of(b"".join(written))
 
     def by_package(path):

@@ -16,9 +16,7 @@ import numpy as np
 import rcell
 from rcell._grid import Grid
 from rcell._libraries import has
-from rcell._program import execute, find_pipe
-from rcell._script import labels_in
-from rcell_front.outlines import listings_in, made_in
+from rcell._program import execute, find_pipe, labels_of, planned
 
 
 def by_files(script: str, **grids: bytes) -> tuple[int, bytes, str]:
@@ -271,7 +269,7 @@ class Scripts(unittest.TestCase):
             status, output, message = by_files(script, lc=text_of(np.ma.MaskedArray(LAND)))
             self.assertEqual((status, message), (0, ""))
             told = {int(line.split("\t")[0]): line.split("\t")[1] for line in output.decode().splitlines()}
-            labels = labels_in(script).get("k", {})
+            labels = labels_of(planned(script, ["lc"])[0])
             self.assertEqual({category: label for category, label in told.items() if label}, {c: labels[c] for c in told if c in labels}, rules)
 
     def test_texts_of_the_printed_table_change_no_value(self) -> None:
@@ -297,11 +295,6 @@ class Scripts(unittest.TestCase):
             with self.assertRaises(rcell.Refused) as caught:
                 rcell.grid(f"{lines}r.reclass input=lc output=k\n1 = 1", "k", lc=LAND)
             self.assertEqual((caught.exception.text, caught.exception.line), ("missing end", 2 if lines else 1))
-
-    def test_outlines(self) -> None:
-        script = "r.mapcalc x = 1\n\tr.stats -c -n\tinput=a,b after=1,* \r\n# r.stats -1 input=z\nr.reclass input=a output=b\n* = *\nend\nr.clump output=k -d input=c\n r.stats -1n\tinput=b,a -l \r"
-        self.assertEqual(made_in(script), {"x": "mapcalc", "b": "reclass", "k": "clump"})
-        self.assertEqual(listings_in(script), {8: (("b", "a"), "1nl")})
 
 
 def done(*fields: Any) -> str:

@@ -35,8 +35,13 @@ def text(given: bytes) -> bytes:
 
 DONE = b"DONE" + struct.pack("<5Q", 0, 0, 0, 0, 0) + text(b"")
 TABLE = b"TABL" + struct.pack("<3Q", 4, 2, 1) + b"\1\1;" + text(b"NA") + text(b"lc") + struct.pack("<2Q2i", 5, 2**40, -7, pipe.NULL) + text(b"wood") + text(b"no data")
-GRID = b"GRID" + struct.pack("<Q", 5) + text(b"*") + text(b"k") + struct.pack("<2Q", 1, 2) + b"\6" + struct.pack("<2i", 300, pipe.NULL)
-TEXT = b"TEXT" + struct.pack("<Q", 6) + text(b"1\n*\n")
+GRID = b"GRID" + struct.pack("<Q", 5) + b"".join(map(text, (b"*", b"k", b"2", b"0", b"3.5", b"-0.5"))) + struct.pack("<2Q", 1, 2) + b"\6" + struct.pack("<2i", 300, pipe.NULL)
+CELLS = b"CELL" + struct.pack("<3Q", 6, 2, 1) + b"\0\0 " + text(b"*") + text(b"lc") + struct.pack("<2i", 1, pipe.NULL)
+PLAN = (
+    b"PLAN" + struct.pack("<Q", 7) + b"\1\x08" + text(b"k") + struct.pack("<Q", 1) + text(b"lc") + struct.pack("<4Q", 1, 2, 3, 4)
+    + struct.pack("<Q", 2) + text(b"lc") + struct.pack("<4QB", 5, 6, 7, 8, 0) + text(b"ws") + struct.pack("<4QB", 0, 0, 0, 0, 1)
+    + b"\x15" + struct.pack("<Q", 2) + text(b"k") + text(b"lc") + struct.pack("<Q2i", 2, 9, pipe.NULL)
+)
 
 
 class Asked(unittest.TestCase):
@@ -104,19 +109,28 @@ class Requests(Asked):
 
 class Answers(Asked):
     def test_each_frame(self) -> None:
-        table, grid, lines = pipe.run(self.answering(MAGIC + TABLE + GRID + TEXT + DONE), [a_map()], b"")
-        assert isinstance(table, pipe.TableFrame) and isinstance(grid, pipe.GridFrame) and isinstance(lines, pipe.TextFrame)
+        table, grid, cells = pipe.run(self.answering(MAGIC + TABLE + GRID + CELLS + DONE), [a_map()], b"")
+        assert isinstance(table, pipe.TableFrame) and isinstance(grid, pipe.GridFrame) and isinstance(cells, pipe.TableFrame)
         self.assertEqual((table.line, table.names, table.separator, table.null_text, table.entries), (4, ("lc",), b";", b"NA", 2))
         assert table.counts is not None
         self.assertEqual((table.counts.tolist(), table.cells.tolist(), table.labels), ([5, 2**40], [-7, pipe.NULL], [b"wood", b"no data"]))
         self.assertEqual(table.printed(), b"-7;wood;5\nNA;no data;1099511627776\n")
         self.assertEqual((grid.line, grid.name, grid.null_text, grid.rows, grid.cols, grid.type, grid.null), (5, "k", b"*", 1, 2, "i32", pipe.NULL))
         self.assertEqual((grid.cells.tolist(), array("i", grid.cells).tolist()), ([300, pipe.NULL], [300, pipe.NULL]))
-        self.assertEqual((lines.line, bytes(lines.text)), (6, b"1\n*\n"))
+        self.assertEqual(grid.edges, ("2", "0", "3.5", "-0.5"))
+        self.assertEqual((cells.line, cells.names, cells.counts, cells.cells.tolist(), cells.printed()), (6, ("lc",), None, [1, pipe.NULL], b"1\n*\n"))
+
+    def test_a_statement(self) -> None:
+        [found] = pipe.plan(self.answering(MAGIC + PLAN + DONE), ["lc", "ws"], b"x")
+        self.assertEqual((found.line, found.command, found.is_placed, found.made), (7, "r.mapcalc", True, "k"))
+        self.assertEqual((found.reads, found.needs), ({"lc": (1, 2, 3, 4)}, {"lc": (5, 6, 7, 8), "ws": None}))
+        self.assertEqual((found.options, found.inputs, found.after, found.text), ("c1N", ("k", "lc"), (9, pipe.NULL), ""))
+        with open(f"{self.folder}/request", "rb") as file:
+            self.assertEqual(file.read(), b"RCELLP1\n" + struct.pack("<I", 2) + b"\2lc\2ws" + struct.pack("<I", 1) + b"x")
 
     def test_what_is_cut_or_goes_on_is_no_answer(self) -> None:
-        answer = MAGIC + TABLE + GRID + TEXT + DONE
-        for given in [*(answer[:end] for end in range(0, len(answer), 7)), answer + b"\0", b"RCELLA2\n" + DONE, MAGIC + b"FILE" + DONE]:
+        answer = MAGIC + TABLE + GRID + CELLS + PLAN + DONE
+        for given in [*(answer[:end] for end in range(0, len(answer), 7)), answer + b"\0", b"RCELLA2\n" + DONE, MAGIC + b"TEXT" + DONE]:
             with self.subTest(given=given), self.assertRaises(pipe.NoAnswer):
                 pipe.run(self.answering(given), [a_map()], b"")
         with self.assertRaisesRegex(pipe.NoAnswer, "ended in status 4 and said: nothing"):
@@ -182,7 +196,8 @@ class Runs(unittest.TestCase):
             cells = [chance.choice([1, 2, -30, 400, 2**31 - 1, pipe.NULL]) for _ in range(12)]
             maps = [a_map(name=name, rows=3, cols=4, type="i32", nodata=pipe.NULL, blocks=[pipe.Block(memoryview(array("i", part)))])
                     for name, part in (("a", cells), ("b", cells[::-1]))]
-            flags, more = chance.choice(["c", "cl", "l", "cn", "cN", "n"]), chance.choice(["", " separator=comma null_value=NA", " separator=tab", " after=1,*"])
+            flags, more = chance.choice(["c", "cl", "l", "cn", "cN", "n", "1", "1l", "1n", "1N"]), chance.choice(["", " separator=comma null_value=NA", " separator=tab", " after=1,*"])
+            more = "" if "1" in flags and "after" in more else more
             script = f"r.reclass input=a output=k\n1 = 1 wood\n* = *\nend\nr.stats -{flags} input=k,b{more}\n".encode()
             with tempfile.TemporaryDirectory() as folder:
                 words = []
@@ -196,6 +211,19 @@ class Runs(unittest.TestCase):
                 wanted = subprocess.run([rcell.program(), f"{folder}/script", *words], capture_output=True, check=True).stdout
             self.assertEqual(b"".join(frame.printed() for frame in pipe.run(find_pipe(), maps, script)), wanted)  # type: ignore[union-attr]
 
+    def test_plans(self) -> None:
+        script = (
+            "r.mapcalc x = row()\n\tr.stats -c -n\tinput=a,b after=1,* \r\n# r.stats -1 input=z\nr.reclass input=a output=d\n1 = 1 wood\n2 = 1 grove\nend\n"
+            "r.clump output=k -d input=c\n r.mapcalc y = d[1,0] + k\nr.stats -1N\tinput=b,a,b -l \r"
+        )
+        found = pipe.plan(find_pipe(), ["a", "b", "c"], script.encode())
+        self.assertEqual([(one.line, one.command, one.made, one.inputs, one.options, one.is_placed) for one in found], [
+            (1, "r.mapcalc", "x", (), "", True), (2, "r.stats", "", ("a", "b"), "cn", False), (4, "r.reclass", "d", ("a",), "", False),
+            (8, "r.clump", "k", ("c",), "", False), (9, "r.mapcalc", "y", (), "", False), (10, "r.stats", "", ("b", "a", "b"), "l1N", False)])
+        self.assertEqual((found[1].after, found[2].text, found[5].text), (
+            (1, pipe.NULL), "r.reclass input=a output=d\n1 = 1 wood\n2 = 1 grove\nend", "r.stats -1N\tinput=b,a,b -l \r"))
+        self.assertEqual((found[4].reads, found[4].needs), ({"d": (0, 1, 0, 0), "k": (0, 0, 0, 0)}, {"a": (0, 1, 0, 0), "c": None}))
+
     def test_rejections(self) -> None:
         numbers = a_map(name="n", type="i64", blocks=[pipe.Block(memoryview(array("q", [1, 2, 3, 4, 2**31, 6])))])
         for maps, script, told in (
@@ -207,6 +235,9 @@ class Runs(unittest.TestCase):
             with self.subTest(told=told), self.assertRaises(pipe.Rejected) as caught:
                 pipe.run(find_pipe(), maps, script)
             self.assertEqual(caught.exception.args, told)
+        with self.assertRaises(pipe.Rejected) as caught:
+            pipe.plan(find_pipe(), ["lc"], b"\nr.mapcalc x = lc * 0.5")
+        self.assertEqual(caught.exception.args, (1, "script", 0, 2, 20, "number not whole at column 20"))
 
 
 if __name__ == "__main__":

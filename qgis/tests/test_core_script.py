@@ -11,7 +11,7 @@ import made
 from rcell.core import answers
 from rcell.core.errors import Refused
 from rcell.core.front.pipe import NULL
-from rcell.core.program import find_program, outline_of
+from rcell.core.program import find_program, plan_of
 from rcell.core.rasters import Raster
 
 
@@ -27,19 +27,17 @@ class ScriptTest(unittest.TestCase):
         script = ("\tr.mapcalc x= a == 1\n# r.mapcalc y = 1\nr.reclass output=k input=a\n1 = 2 r.clump output=no\n end \r\n"
                   "r.clump -d input=k\toutput=c.1\nr.stats input=a\nr.mapcalc\tinput = output")
         with self.assertRaisesRegex(Refused, "script, line 8: unknown map at column 19"):
-            outline_of(self.program, script, ["a"])
-        found = outline_of(self.program, script.replace("= output", "= x"), ["a"])
-        self.assertEqual(found.made, {"x": "mapcalc", "k": "reclass", "c.1": "clump", "input": "mapcalc"})
-        self.assertEqual([frame.line for frame in found.frames], [7])
+            plan_of(self.program, script, ["a"])
+        found = plan_of(self.program, script.replace("= output", "= x"), ["a"])
+        self.assertEqual([(each.line, each.made, each.command) for each in found], [
+            (1, "x", "r.mapcalc"), (3, "k", "r.reclass"), (6, "c.1", "r.clump"), (7, "", "r.stats"), (8, "input", "r.mapcalc")])
 
-    def test_cells_come_as_maps(self) -> None:
+    def test_cells_come_as_tables(self) -> None:
         script = "r.stats input=a\nr.stats -1 -n\tinput=b,a separator=comma\nr.stats -1N input=x,a\nr.stats -1l input=k\nr.out.ascii input=k"
         script = f"r.mapcalc x = null()\nr.reclass input=a output=k\n1 = 7 seven\nend\n{script}"
         with mock.patch("rcell.core.answers.frames_of", wraps=answers.frames_of) as run:
             found = answers.run(self.program, script, self.maps, ["b"])
-        lines = run.call_args.args[3].split("\n")
-        self.assertEqual(lines[4:9], ["r.stats input=a", "", "", "", "r.out.ascii input=k"])
-        self.assertEqual(lines[9:], [*(f"r.out.ascii input={name}" for name in "baxk"), "r.stats -l -n input=k"])
+        self.assertEqual(run.call_args.args[3], f"{script}\nr.out.ascii input=b\nr.stats -l -n input=k")
         self.assertEqual([type(output).__name__ for output in found.outputs], ["Table", "Table", "Table", "Table", "Grid", "Grid"])
         self.assertEqual([table.categories.tolist() for table in found.tables],
                          [[[1], [2], [NULL]], [[1, 1], [2, 2]], [[NULL, 1], [NULL, 2]], [[7], [NULL], [NULL]]])

@@ -9,7 +9,7 @@ import prose
 
 MOST_LINES = {
     "README.md": 220, "docs/tutorial.md": 350, "docs/howto.md": 300, "docs/large-maps.md": 220, "docs/commands.md": 500,
-    "docs/rcell-join.md": 150, "docs/pipe.md": 280, "docs/errors.md": 350, "docs/grass.md": 280, "docs/python.md": 380, "docs/r.md": 280, "docs/qgis.md": 220,
+    "docs/rcell-join.md": 150, "docs/pipe.md": 280, "docs/errors.md": 350, "docs/grass.md": 280, "docs/python.md": 350, "docs/r.md": 280, "docs/qgis.md": 220,
     "docs/proofs.md": 280, "docs/speed.md": 200, "docs/architecture.md": 350, "docs/DECISIONS.md": 150, "docs/cheatsheet.md": 80,
 }
 MOST_COLUMNS = 120

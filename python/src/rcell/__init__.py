@@ -42,7 +42,6 @@ from ._patches import patches
 from ._program import find_program
 from ._region import Region
 from ._table import Pivot, StatsTable, Table
-from ._version import __version__
 from ._zonal import zonal
 
 __all__ = [
@@ -85,6 +84,7 @@ __all__ = [
 
 if TYPE_CHECKING:
     from . import tiles
+    from ._version import __version__
 
     __all__ += ["tiles"]
 
@@ -148,7 +148,9 @@ def joiner(path: str | os.PathLike[str] | None = None) -> str:
 
 
 def __getattr__(name: str) -> Any:
-    """`rcell.tiles` is imported when it is first used, since it needs Dask."""
+    """Import when first used: `rcell.tiles` needs Dask, and looking up the version takes as long as half of the package."""
     if name == "tiles":
         return importlib.import_module(".tiles", __name__)
+    if name == "__version__":
+        return importlib.import_module("._version", __name__).__version__
     raise AttributeError(f"module {__name__!r} has no attribute {name!r}")

@@ -4,15 +4,15 @@
 from __future__ import annotations
 
 from collections.abc import Sequence
+from functools import cached_property
 from typing import Any, Iterable, Mapping, overload
 
-from rcell_front.outlines import made_in
+from rcell_front.pipe import Statement
 
 from ._errors import Refused
 from ._grid import Grid
 from ._maps import Source, named_once, sources_of
-from ._program import Output, execute, judge
-from ._script import labels_in
+from ._program import Output, execute, labels_of, planned
 from ._table import StatsTable
 
 __all__ = ["Result", "grid", "grids_of", "outputs_with", "run", "run_of", "table"]
@@ -92,7 +92,11 @@ class _Run:
         self.sources: dict[str, Source]
         self.sources, self.crs = sources_of(named_once(maps, named), crs)
         self.first = next(iter(self.sources.values()))
-        self._made = labels_in(script)
+
+    @cached_property
+    def made(self) -> dict[str, Statement]:
+        """The statements that make maps, by their names."""
+        return {statement.made: statement for statement in planned(self.script, self.sources) if statement.made}
 
     def outputs(self, wanted: Sequence[str] = ()) -> list[StatsTable | Grid]:
         """Run the script and return its outputs; after them the cells of the maps that are wanted."""
@@ -101,7 +105,7 @@ class _Run:
 
     def labels(self, name: str) -> Mapping[int, str]:
         """The labels of a map: from the rules that made it, or from the map that was given."""
-        return self.sources[name].labels if name in self.sources else self._made.get(name, {})
+        return self.sources[name].labels if name in self.sources else labels_of(self.made[name])
 
     def _answer(self, output: Output) -> StatsTable | Grid:
         if output.command == "r.out.ascii":
@@ -295,9 +299,7 @@ def grids_of(of: _Run, names: Sequence[str]) -> list[Grid]:
 
 def outputs_with(of: _Run, names: Sequence[str]) -> list[StatsTable | Grid]:
     """Return the outputs of a run, and after them some of its maps."""
-    known = [*of.sources, *made_in(of.script)]
     for name in names:
-        if name not in known:
-            judge(of.script, of.sources)
-            raise Refused(f"no map {name}: there are {', '.join(known)}", status=2)
+        if name not in of.sources and name not in of.made:
+            raise Refused(f"no map {name}: there are {', '.join([*of.sources, *of.made])}", status=2)
     return of.outputs(wanted=names)

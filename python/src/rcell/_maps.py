@@ -7,10 +7,11 @@ import json
 import math
 import numbers
 import os
+import re
 import sys
 import warnings
 from dataclasses import dataclass, field
-from typing import Any, Iterator, Mapping, NamedTuple, Protocol, Sequence
+from typing import Any, Iterable, Iterator, Mapping, NamedTuple, Protocol, Sequence
 
 import numpy as np
 from numpy.typing import ArrayLike, NDArray
@@ -22,9 +23,11 @@ from ._errors import BadMap, OtherRegion, Refused
 from ._labels import checked_labels
 from ._masked import as_bools, data_of, is_masked_array, mask_of
 from ._region import Region, Shift, Transform, six_numbers
-from ._script import check_names
 
-__all__ = ["MAX_CATEGORY", "Aligned", "ArrayMap", "Block", "Cells", "Map", "Mask", "Source", "check_array", "check_computed", "checked", "is_converted", "nodata_of", "type_of"]
+__all__ = [
+    "MAX_CATEGORY", "Aligned", "ArrayMap", "Block", "Cells", "Map", "Mask", "Source", "check_array", "check_computed", "check_names", "checked", "is_converted",
+    "nodata_of", "type_of",
+]
 
 MAX_CATEGORY = 2_147_483_647
 # Cells of a block, about: large enough that a block costs more than its call, small enough for the cache of a processor.
@@ -454,6 +457,19 @@ def source_of(name: str, given: Any) -> Source:
     if isinstance(given, (np.ndarray, list)):
         return Map(given).source(name)
     raise BadMap(name, f"neither a path nor an array nor a raster, but a {type(given).__name__}")
+
+
+_NAME = re.compile(r"[A-Za-z_][A-Za-z0-9_.]{0,63}")
+
+
+def check_names(names: Iterable[str]) -> None:
+    """Raise Refused for the first that is no name of a map."""
+    for name in names:
+        if not (isinstance(name, str) and _NAME.fullmatch(name)):
+            better = re.sub(r"[^A-Za-z0-9_.]", "_", str(name))[:64]
+            better = better if _NAME.fullmatch(better) else f"m_{better[:60]}"
+            told = f"{name!r} is no name of a map: 1 to 64 letters, digits, _ and ., a letter or _ first; write {better}"
+            raise Refused(told, status=2)
 
 
 def named_once(maps: Any, named: Mapping[str, Any]) -> dict[str, Any]:

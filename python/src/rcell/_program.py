@@ -20,20 +20,21 @@ from numpy.typing import NDArray
 
 from rcell_front import pipe as front
 from rcell_front.files import write_all
-from rcell_front.outlines import listings_in
 from rcell_front.pipe import NULL
 from rcell_front.programs import Started, close, found_on_path, pipe
+from rcell_front.spelling import rows_text
 
 from ._errors import Killed, MissingProgram, OutOfMemory, RcellError, Refused, WrongProgram
-from ._maps import ArrayMap, Source
+from ._maps import MAX_CATEGORY, ArrayMap, Source
 from ._region import Region
 
-__all__ = ["Output", "candidates", "execute", "find_beside", "find_pipe", "find_program", "grid_text", "judge", "known_after", "table_text"]
+__all__ = ["Output", "candidates", "execute", "find_beside", "find_pipe", "find_program", "grid_text", "known_after", "labels_of", "planned", "table_text"]
 
 PROBE_SECONDS = 60
 """So long a program may take for a map of three cells, on a machine that has much else to do."""
 
-PIECE_BYTES = 1 << 20
+_NUMBER = re.compile("0*([0-9]{1,10})")
+_PROBE_COLS = 1 << 10
 _AT_COLUMN = re.compile(r" at column [0-9]+$")
 _MESSAGE = re.compile(r"rcell: ([^:]*):(\d+): (.*)")
 
@@ -172,11 +173,11 @@ def _probe_pipe(path: str) -> None:
         raise MissingProgram(_NOT_STARTED.format(path, error.strerror)) from None
     except (front.Rejected, front.Killed, front.NoAnswer):
         frames = []
-    if [bytes(getattr(frame, "cells", b"") or getattr(frame, "text", b"")) for frame in frames] != _PIPE_ANSWER:
+    if [bytes(frame.cells) for frame in frames] != _PIPE_ANSWER:
         raise WrongProgram(_UNKNOWN.format(path, "rcell-pipe"))
 
 
-_PIPE_ANSWER = [np.array([12, 2, NULL, NULL], np.int32).tobytes(), b"1\n*\n2\n", b"\1\xff\2"]
+_PIPE_ANSWER = [np.array([12, 2, NULL, NULL], np.int32).tobytes(), np.array([1, NULL, 2], np.int32).tobytes(), b"\1\xff\2"]
 
 
 # Runs of rcell-pipe
@@ -197,7 +198,7 @@ def execute(
     maps : mapping of str to Source
         By their names; at least one. They all have the region of the first.
     wanted : sequence of str
-        Maps whose cells are returned after the outputs of the script.
+        Maps of the script, which has been planned, whose cells are returned after its outputs.
     program : path, optional
         Of rcell-pipe.
 
@@ -214,34 +215,27 @@ def execute(
         A cell can't be sent.
     OutOfMemory, Killed, MissingProgram, WrongProgram
     """
-    listings = listings_in(script)
-    names = list(dict.fromkeys([*(name for each in listings.values() for name in each.maps), *wanted]))
-    frames = _frames(script, maps, names, program)
-    own, rest = frames[: len(frames) - len(names)], frames[len(frames) - len(names) :]
-    cells = {name: _cells(frame) for name, frame in zip(names, rest) if isinstance(frame, front.GridFrame)}
-    outputs: list[Output] = []
-    for frame in own:
-        if isinstance(frame, front.TableFrame):
-            outputs.append(Output("r.stats", frame.line, frame.names, _entries(frame), frame.counts is not None, frame.labels is not None))
-        elif isinstance(frame, front.GridFrame):
-            outputs.append(Output("r.out.ascii", frame.line, (frame.name,), _cells(frame)))
-        else:
-            each = listings[frame.line]
-            listed = _listed([cells[name] for name in each.maps], each.flags)
-            outputs.append(Output("r.stats", frame.line, each.maps, listed, has_labels="l" in each.flags))
-    return outputs + [Output("r.out.ascii", 0, (name,), cells[name]) for name in wanted]
+    frames = _frames(script, maps, wanted, program)
+    return [_output(frame, at < len(frames) - len(wanted)) for at, frame in enumerate(frames)]
 
 
-def judge(script: str, names: Iterable[str]) -> None:
-    """Have the program judge a script over maps of one null cell.
+def planned(script: str, names: Iterable[str], *, program: str | os.PathLike[str] | None = None) -> list[front.Statement]:
+    """Return what each statement of a script reads, makes and needs, over maps of some names; the errors are those of `execute`."""
+    known = list(names)
+    with _told(script, known, path := find_pipe(program)):
+        return front.plan(path, known, front.script_bytes(script))
 
-    Raises
-    ------
-    Refused
-        The program rejects the script.
-    """
-    null = np.ones((1, 1), np.bool_)
-    _frames(script, {name: ArrayMap(name, np.zeros((1, 1), np.uint8), Region.of_cells(1, 1), null) for name in names})
+
+def labels_of(statement: front.Statement) -> dict[int, str]:
+    """Return the labels of the map that a statement makes: the program applies its rules to a map of all numbers that they name and those next to them."""
+    if statement.command != "r.reclass":
+        return {}
+    named = {0, *(int(number) for number in _NUMBER.findall(statement.text))}
+    near = np.unique([sign * number + step for number in named for sign in (-1, 1) for step in (-1, 0, 1)])
+    cells = np.resize(near[abs(near) <= MAX_CATEGORY], (-(-near.size // _PROBE_COLS), _PROBE_COLS))
+    [frame] = _frames(f"{statement.text}\nr.stats -l -n input={statement.made}", {statement.inputs[0]: ArrayMap("rules", cells, Region.of_cells(*cells.shape))})
+    assert isinstance(frame, front.TableFrame) and frame.labels is not None
+    return {code: label.decode("utf-8", "surrogateescape") for code, label in zip(frame.cells.tolist(), frame.labels) if label}
 
 
 def table_text(script: str, maps: Mapping[str, Source], *, program: str | os.PathLike[str] | None = None) -> bytes:
@@ -258,31 +252,28 @@ def table_text(script: str, maps: Mapping[str, Source], *, program: str | os.Pat
 
 
 def grid_text(source: Source) -> bytes:
-    """Return a map as a grid text: rcell-pipe lists its cells, and here they get their rows."""
-    [frame] = _frames("r.stats -1 input=map", {"map": source})
-    assert isinstance(frame, front.TextFrame)
-    letters, cells, cols = np.asarray(memoryview(frame.text)), 0, source.region.cols
-    for start in range(0, letters.size, PIECE_BYTES):
-        piece = letters[start : start + PIECE_BYTES]
-        ends = np.flatnonzero(piece == ord("\n"))
-        piece[ends[np.arange(cells + 1, cells + 1 + ends.size) % cols != 0]] = ord(" ")
-        cells += ends.size
-    return source.region.header().encode() + bytes(frame.text)
+    """Return a map as a grid text."""
+    [frame] = _frames("r.out.ascii input=map", {"map": source})
+    assert isinstance(frame, front.GridFrame)
+    return source.region.header().encode() + rows_text(np.asarray(frame.cells).reshape(frame.rows, frame.cols), frame.null)
 
 
 def _frames(
     script: str, maps: Mapping[str, Source], wanted: Sequence[str] = (), program: str | os.PathLike[str] | None = None
 ) -> list[front.Frame]:
     """The frames of a script, and after them those of some of its maps."""
-    path = find_pipe(program)
     lines = [script, *(f"r.out.ascii input={name}" for name in wanted)]
-    sent = [_sent(name, source) for name, source in maps.items()]
+    with _told(script, list(maps), path := find_pipe(program)):
+        return front.run(path, [_sent(name, source) for name, source in maps.items()], front.script_bytes("\n".join(lines)))
+
+
+@contextlib.contextmanager
+def _told(script: str, names: list[str], path: str) -> Iterator[None]:
+    """Raise the errors of rcell-pipe as errors of this package."""
     try:
-        return front.run(path, sent, front.script_bytes("\n".join(lines)))
+        yield
     except front.Rejected as end:
-        if end.source == "script" and end.line > script.count("\n") + 1:
-            judge(script, maps)  # raises: its last r.reclass has no end
-        raise _fault(end, script, list(maps)) from None
+        raise _fault(end, script, names) from None
     except front.Killed as error:
         raise Killed(int(error.args[0])) from None
     except front.NoAnswer as error:
@@ -296,6 +287,13 @@ def _sent(name: str, source: Source) -> front.Map:
     kind = source.dtype.kind + str(8 * source.dtype.itemsize)
     blocks = (front.Block(block.cells.data, None if block.null is None else block.null.view(np.uint8).data) for block in source.blocks())
     return front.Map(name, source.region.edges, *source.region.shape, kind, blocks, source.nodata, source.is_masked)
+
+
+def _output(frame: front.Frame, is_own: bool) -> Output:
+    line = frame.line if is_own else 0
+    if isinstance(frame, front.GridFrame):
+        return Output("r.out.ascii", line, (frame.name,), _cells(frame))
+    return Output("r.stats", line, frame.names, _entries(frame), frame.counts is not None, frame.labels is not None)
 
 
 def _entries(frame: front.TableFrame) -> NDArray[np.int64]:
@@ -313,14 +311,6 @@ def _cells(frame: front.GridFrame) -> NDArray[np.int32]:
     wide = cells.astype(np.int32)
     np.copyto(wide, NULL, where=cells == frame.null)
     return wide
-
-
-def _listed(maps: list[NDArray[np.int32]], flags: str) -> NDArray[np.int64]:
-    """The cells of maps, a row for each cell, without those that -n or -N leaves out."""
-    cells: NDArray[np.int64] = np.column_stack([each.reshape(-1) for each in maps]).astype(np.int64)
-    if "n" in flags or "N" in flags:
-        cells = cells[(cells != NULL).all(axis=1) if "n" in flags else (cells != NULL).any(axis=1)]
-    return cells
 
 
 def _fault(end: front.Rejected, script: str, names: list[str]) -> RcellError:

@@ -1,6 +1,5 @@
 # SPDX-License-Identifier: Apache-2.0 OR GPL-2.0-or-later
 """The text of rcell-explain: errors with their causes from messages.json, and lines with marks under the errors."""
-import difflib
 import json
 import os
 import re
@@ -93,6 +92,8 @@ def near_name(name, known, cutoff=0.6):
     """Return a list of the known name most similar to this one, or an empty list; of very many names, only some are compared."""
     names = list(known)
     names = names if len(names) <= MOST_NAMES else names[: MOST_NAMES // 2] + names[-MOST_NAMES // 2 :]
+    import difflib  # only errors need it
+
     return difflib.get_close_matches(name[:LONGEST_NAME], names, n=1, cutoff=cutoff)
 
 

@@ -11,12 +11,15 @@ import os
 import select
 import struct
 from collections.abc import Callable, Iterable, Iterator, Mapping, Sequence
-from dataclasses import dataclass, field
+from dataclasses import dataclass, field, replace
 from typing import NamedTuple, NoReturn, Optional, Union
 
 from .programs import WATCH_SECONDS, Started, close, pipe
 
-__all__ = ["NULL", "Block", "Buffer", "Frame", "GridFrame", "Killed", "Map", "NoAnswer", "NotStarted", "Rejected", "TableFrame", "TextFrame", "request", "run", "script_bytes"]
+__all__ = [
+    "NULL", "Block", "Buffer", "Frame", "GridFrame", "Killed", "Map", "Margin", "NoAnswer", "NotStarted", "Rejected", "Statement", "TableFrame", "plan", "request", "run",
+    "script_bytes",
+]
 
 NULL = -2_147_483_648
 """Null among cells of i32: no category has this value."""
@@ -29,6 +32,9 @@ CELL_BYTES = {"u8": 1, "i8": 1, "u16": 2, "i16": 2, "u32": 4, "i32": 4, "i64": 8
 
 _CODES = {name: code for code, name in enumerate(CELL_BYTES, 1)}
 _SOURCES = {1: "request", 2: "script"}
+_COMMANDS = ("r.mapcalc", "r.reclass", "r.clump", "r.stats", "r.out.ascii")
+_OPTIONS = "cl1nN"
+_IS_PLACED = 8
 # Rows and their masks are put together in pieces that stay in the cache of a processor.
 PIECE_BYTES = 1 << 18
 
@@ -149,12 +155,17 @@ def script_bytes(script: str) -> bytes:
         raise Rejected(1, "script", 0, line, column, f"lone surrogate U+{ord(script[error.start]):04X} at column {column}") from None
 
 
+def _plan_request(names: Sequence[str], script: bytes) -> Iterator[Buffer]:
+    """Yield the bytes of a request for a plan."""
+    yield b"RCELLP1\n" + struct.pack("<I", len(names)) + b"".join(map(_short, names)) + struct.pack("<I", len(script)) + script
+
+
 # The response
 
 
 @dataclass(frozen=True)
 class TableFrame:
-    """The table of an `r.stats`.
+    """The table of an `r.stats`; of an `r.stats -1`, the cells in reading order.
 
     Attributes
     ----------
@@ -165,6 +176,7 @@ class TableFrame:
     separator, null_text : bytes
         Of the printed table.
     entries : int
+        Combinations or cells.
     counts : memoryview or None
         An unsigned number of 64 bits for each entry; None without the flag `-c`.
     cells : memoryview
@@ -195,14 +207,6 @@ class TableFrame:
 
 
 @dataclass(frozen=True)
-class TextFrame:
-    """The lines of an `r.stats -1`, as rcell prints them."""
-
-    line: int
-    text: bytearray
-
-
-@dataclass(frozen=True)
 class GridFrame:
     """The map of an `r.out.ascii`.
 
@@ -212,6 +216,8 @@ class GridFrame:
     name : str
     null_text : bytes
         Of the printed grid.
+    edges : tuple of str
+        North, south, east and west, as rcell prints them.
     rows, cols : int
     type : {"u8", "i32"}
         u8, in which 255 is null, if all categories are from 0 to 254; else i32, in which `NULL` is null.
@@ -222,6 +228,7 @@ class GridFrame:
     line: int
     name: str
     null_text: bytes
+    edges: tuple[str, ...]
     rows: int
     cols: int
     type: str
@@ -233,7 +240,58 @@ class GridFrame:
         return NULL_BYTE if self.type == "u8" else NULL
 
 
-Frame = Union[TableFrame, TextFrame, GridFrame]
+Frame = Union[TableFrame, GridFrame]
+
+
+class Margin(NamedTuple):
+    """Rows above and below, and columns to the left and to the right of a cell."""
+
+    up: int = 0
+    down: int = 0
+    left: int = 0
+    right: int = 0
+
+
+@dataclass(frozen=True)
+class Statement:
+    """A statement of a script, as the program plans it.
+
+    Attributes
+    ----------
+    line : int
+        Its first line, from 1.
+    command : {"r.mapcalc", "r.reclass", "r.clump", "r.stats", "r.out.ascii"}
+    is_placed : bool
+        Whether it depends on the position: by `row()`, `col()`, `nrows()` or `ncols()`.
+    made : str
+        The map that it makes, or empty.
+    reads : dict of str to Margin
+        Each map that it reads, and how far around a cell.
+    needs : dict of str to Margin or None
+        Each given map that it depends on, through maps made before too, and how far around a cell; None is the full map.
+    options : str
+        The letters of the flags of r.stats.
+    inputs : tuple of str
+        The maps of `input=`, in its order.
+    after : tuple of int
+        The categories of `after=`.
+    text : str
+        Its lines, of an r.reclass up to the next statement.
+    """
+
+    line: int
+    command: str
+    is_placed: bool
+    made: str
+    reads: dict[str, Margin]
+    needs: dict[str, Optional[Margin]]
+    options: str = ""
+    inputs: tuple[str, ...] = ()
+    after: tuple[int, ...] = ()
+    text: str = ""
+
+
+_AnyFrame = Union[Frame, Statement]
 
 
 class Rejected(Exception):
@@ -300,8 +358,17 @@ class _Response:
     def numbers(self, count: int) -> tuple[int, ...]:
         return struct.unpack(f"<{count}Q", self.take(8 * count))
 
+    def count(self) -> int:
+        return self.numbers(1)[0]
+
     def text(self) -> bytearray:
-        return self.take(self.numbers(1)[0])
+        return self.take(self.count())
+
+    def name(self) -> str:
+        return self.text().decode("utf-8", "surrogateescape")
+
+    def names(self, count: int) -> tuple[str, ...]:
+        return tuple(self.name() for _ in range(count))
 
     def cells(self, count: int, letter: str) -> memoryview:
         return memoryview(self.take(count * struct.calcsize(letter))).cast(letter)
@@ -309,13 +376,11 @@ class _Response:
     def table(self) -> TableFrame:
         line, entries, width = self.numbers(3)
         counts, labels, separator = self.take(3)
-        null_text = bytes(self.text())
-        names = tuple(self.text().decode("ascii", "replace") for _ in range(width))
         return TableFrame(
             line=line,
-            names=names,
             separator=bytes([separator]),
-            null_text=null_text,
+            null_text=bytes(self.text()),
+            names=self.names(width),
             entries=entries,
             counts=self.cells(entries, "Q") if counts else None,
             cells=self.cells(entries * width, "i"),
@@ -323,11 +388,28 @@ class _Response:
         )
 
     def grid(self) -> GridFrame:
-        line = self.numbers(1)[0]
-        null_text, name = bytes(self.text()), self.text().decode("ascii", "replace")
+        line, null_text, name, edges = self.count(), bytes(self.text()), self.name(), self.names(4)
         rows, cols = self.numbers(2)
         kind, letter = {1: ("u8", "B"), 6: ("i32", "i")}.get(self.take(1)[0]) or self.unknown()
-        return GridFrame(line, name, null_text, rows, cols, kind, self.cells(rows * cols, letter))
+        return GridFrame(line, name, null_text, edges, rows, cols, kind, self.cells(rows * cols, letter))
+
+    def statement(self) -> Statement:
+        line, (command, flags) = self.count(), self.take(2)
+        return Statement(
+            line=line,
+            command=_COMMANDS[command - 1] if 0 < command <= len(_COMMANDS) else self.unknown(),
+            is_placed=bool(flags & _IS_PLACED),
+            made=self.name(),
+            reads={self.name(): Margin(*self.numbers(4)) for _ in range(self.count())},
+            needs={self.name(): self.need() for _ in range(self.count())},
+            options="".join(letter for bit, letter in zip(f"{self.take(1)[0]:05b}"[::-1], _OPTIONS) if bit == "1"),
+            inputs=self.names(self.count()),
+            after=tuple(self.cells(self.count(), "i")),
+        )
+
+    def need(self) -> Optional[Margin]:
+        margin = Margin(*self.numbers(4))
+        return None if self.take(1)[0] else margin
 
     def unknown(self) -> NoReturn:
         raise _NotUnderstood
@@ -336,12 +418,10 @@ class _Response:
         status, source, map, line, column = self.numbers(5)
         return Rejected(status, _SOURCES.get(source, ""), map, line, column, self.text().decode("utf-8", "surrogateescape"))
 
-    def frames(self) -> tuple[list[Frame], Rejected]:
+    def frames(self) -> tuple[list[_AnyFrame], Rejected]:
         """Return the frames, and how the run ended."""
-        found: list[Frame] = []
-        kinds: dict[bytes, Callable[[], Frame]] = {
-            b"TABL": self.table, b"GRID": self.grid, b"TEXT": lambda: TextFrame(self.numbers(1)[0], self.text())
-        }
+        found: list[_AnyFrame] = []
+        kinds: dict[bytes, Callable[[], _AnyFrame]] = {b"TABL": self.table, b"CELL": self.table, b"GRID": self.grid, b"PLAN": self.statement}
         if self.take(8) != b"RCELLA1\n":
             raise _NotUnderstood
         while (kind := bytes(self.take(4))) != b"DONE":
@@ -386,10 +466,31 @@ def run(
     TimeoutError
         It takes too long.
     """
+    return [frame for frame in _answered(program, request(maps, script), seconds, watch) if not isinstance(frame, Statement)]
+
+
+def plan(
+    program: str,
+    names: Sequence[str],
+    script: bytes,
+    *,
+    seconds: Optional[float] = None,
+    watch: Optional[Callable[[], None]] = None,
+) -> list[Statement]:
+    """Return what each statement of a script does, over maps of these names; no map is needed. The rest is as in `run`."""
+    found = [frame for frame in _answered(program, _plan_request(names, script), seconds, watch) if isinstance(frame, Statement)]
+    lines = script.decode("utf-8", "surrogateescape").split("\n")
+    ends = [*(each.line - 1 for each in found[1:]), len(lines)]
+    texts = (lines[each.line - 1 : end if each.command == "r.reclass" else each.line] for each, end in zip(found, ends))
+    return [replace(each, text="\n".join(text)) for each, text in zip(found, texts)]
+
+
+def _answered(program: str, sent: Iterator[Buffer], seconds: Optional[float], watch: Optional[Callable[[], None]]) -> list[_AnyFrame]:
+    """Send a request, and return the frames of its response."""
     process, writer = _started(program, seconds, watch)
     with process:
         try:
-            _send(writer, request(maps, script), watch)
+            _send(writer, sent, watch)
         finally:
             close(writer)
         response = _read(process)
@@ -437,7 +538,7 @@ def _send(writer: int, pieces: Iterator[Buffer], watch: Optional[Callable[[], No
                 return
 
 
-def _read(process: Started) -> Optional[tuple[list[Frame], Rejected]]:
+def _read(process: Started) -> Optional[tuple[list[_AnyFrame], Rejected]]:
     """Return the response, or None if it is not understood; all output is read."""
     pieces = process.pieces()
     try:

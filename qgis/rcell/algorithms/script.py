@@ -23,9 +23,8 @@ from ..core import answers
 from ..core.answers import Answers, Table
 from ..core.errors import RcellError, Refused, WriteFailed
 from ..core.files import check_target, write_raster, write_table
-from ..core.front.outlines import Outline
-from ..core.front.pipe import GridFrame
-from ..core.program import Watch, find_program, outline_of
+from ..core.front.pipe import Statement
+from ..core.program import Watch, find_program, plan_of
 from ..core.rasters import Raster, fitted
 from ..layers import names_of, raster_of
 from ..results import counted_classes, put_legend
@@ -94,7 +93,7 @@ class ScriptAlgorithm(RcellAlgorithm):
     def answer(self, program: str, parameters: Parameters, context: QgsProcessingContext, feedback: QgsProcessingFeedback,
                watch: Watch) -> dict[str, Any]:
         """Return the requested outputs of the script."""
-        script, wanted = self._script(parameters, context), self._wanted(self._outline(parameters, context), parameters, context)
+        script, wanted = self._script(parameters, context), self._wanted(self._plan(parameters, context), parameters, context)
         maps = {raster.name: raster for raster in self.rasters}
         found = answers.run(program, script, maps, [wanted] if wanted else [], watch)
         self._measure(found, parameters, context)
@@ -119,30 +118,30 @@ class ScriptAlgorithm(RcellAlgorithm):
         """Check that the script makes the requested outputs; errors in the script are left to the run, which marks them in the log."""
         if self.has_rasters(parameters):
             try:
-                outline = self._outline(parameters, context)
+                plan = self._plan(parameters, context)
             except Refused as error:
                 if error.content is not None:
                     return
                 raise
-            self._wanted(outline, parameters, context)
-            _check_table(outline, parameters)
+            self._wanted(plan, parameters, context)
+            _check_table(plan, parameters)
 
-    def _outline(self, parameters: Parameters, context: QgsProcessingContext) -> Outline:
+    def _plan(self, parameters: Parameters, context: QgsProcessingContext) -> list[Statement]:
         names = [name for name, _ in self._named_layers(parameters, context)]
-        return outline_of(find_program(program_setting()), self._script(parameters, context), names)
+        return plan_of(find_program(program_setting()), self._script(parameters, context), names)
 
     def _script(self, parameters: Parameters, context: QgsProcessingContext) -> str:
         script: str = self.parameterAsString(parameters, "SCRIPT", context)
         return script.rstrip("\n")
 
-    def _wanted(self, outline: Outline, parameters: Parameters, context: QgsProcessingContext) -> str:
+    def _wanted(self, plan: list[Statement], parameters: Parameters, context: QgsProcessingContext) -> str:
         """Return the name of the requested map, or an empty text."""
         name: str = self.parameterAsString(parameters, "MAP", context).strip()
         if not parameters.get("OUTPUT"):
             if name:
                 raise Refused(f"the map {name} is requested, but no file for it is given", status=2)
             return ""
-        made = list(outline.made)
+        made = [each.made for each in plan if each.made]
         if not name and len(made) != 1:
             maps = f"makes {', '.join(made)}" if made else "makes no map"
             raise Refused(f"the script {maps}: name the output map", status=2)
@@ -174,9 +173,9 @@ class ScriptAlgorithm(RcellAlgorithm):
         return folder
 
 
-def _check_table(outline: Outline, parameters: Parameters) -> None:
+def _check_table(plan: list[Statement], parameters: Parameters) -> None:
     """Check that the script has a single table, if the table is requested."""
-    tables = [frame.line for frame in outline.frames if not isinstance(frame, GridFrame)]
+    tables = [each.line for each in plan if each.command == "r.stats"]
     if parameters.get("TABLE") and len(tables) != 1:
         found = ", ".join(f"r.stats in line {line}" for line in tables) or "no r.stats"
         raise Refused(f"one table is asked for, and the script has {found}: a folder has all outputs", "script")

@@ -11,9 +11,8 @@ from numpy.typing import NDArray
 
 from .errors import Refused
 from .front import pipe
-from .front.outlines import Listing
 from .front.pipe import NULL
-from .program import Watch, frames_of, outline_of
+from .program import Watch, frames_of, plan_of
 from .rasters import Raster, fitted
 from .sizes import UNITS
 
@@ -185,38 +184,25 @@ def run(program: str, script: str, maps: Mapping[str, Raster], wanted: Sequence[
         raise Refused("no map is given", status=2)
     fitted(list(maps.values()))
     watch = watch or Watch()
-    outline = outline_of(program, script, list(maps), watch)
+    plan = plan_of(program, script, list(maps), watch)
+    made = {each.made: each.command for each in plan if each.made}
     for name in wanted:
-        if name not in maps and name not in outline.made:
-            raise Refused(f"no map {name}: there are {', '.join([*maps, *outline.made])}", status=2)
-    listed = [name for listing in outline.listings.values() for name in listing.maps]
-    shown = [frame.name for frame in outline.frames if isinstance(frame, pipe.GridFrame)]
-    asked = list(dict.fromkeys([*listed, *wanted]))
-    labelled = [name for name in dict.fromkeys([*shown, *asked]) if outline.made.get(name) == "reclass"]
-    # The cells of a listing come as maps.
-    lines = ["" if number in outline.listings else line for number, line in enumerate(script.split("\n"), 1)]
-    lines += [*(f"r.out.ascii input={name}" for name in asked), *(f"r.stats -l -n input={name}" for name in labelled)]
-    frames = iter(frames_of(program, maps, script, "\n".join(lines), watch))
-    own = [None if isinstance(frame, pipe.TextFrame) else next(frames) for frame in outline.frames]
-    cells = {name: _cells_of(next(frames)) for name in asked}
-    labels = {**{name: raster.labels for name, raster in maps.items()}, **{name: _labels_of(next(frames))[0] for name in labelled}}
-    outputs: list[Table | Grid] = []
-    for place, frame in enumerate(own):
-        if isinstance(frame, pipe.GridFrame):
-            outputs.append(Grid(frame.name, _cells_of(frame), labels=labels.get(frame.name, {})))
-        elif isinstance(frame, pipe.TableFrame):
-            outputs.append(_table(frame, maps))
-        else:
-            line = outline.frames[place].line
-            outputs.append(_listing(outline.listings[line], line, cells, labels, maps))
-    outputs += [Grid(name, cells[name], labels=labels.get(name, {})) for name in wanted]
+        if name not in maps and name not in made:
+            raise Refused(f"no map {name}: there are {', '.join([*maps, *made])}", status=2)
+    shown = [each.inputs[0] for each in plan if each.command == "r.out.ascii"]
+    labelled = [name for name in dict.fromkeys([*shown, *wanted]) if made.get(name) == "r.reclass"]
+    more = [*(f"r.out.ascii input={name}" for name in wanted), *(f"r.stats -l -n input={name}" for name in labelled)]
+    frames = frames_of(program, maps, script, "\n".join([script, *more]), watch)
+    labels = {**{name: raster.labels for name, raster in maps.items()},
+              **{name: _labels_of(frame)[0] for name, frame in zip(labelled, frames[len(frames) - len(labelled) :])}}
+    outputs = [Grid(frame.name, _cells_of(frame), labels=labels.get(frame.name, {})) if isinstance(frame, pipe.GridFrame) else _table(frame, maps)
+               for frame in frames[: len(frames) - len(labelled)]]
     tables = [output for output in outputs if isinstance(output, Table)]
     return Answers(tables, [output for output in outputs if isinstance(output, Grid)], outputs)
 
 
-def _cells_of(frame: pipe.Frame) -> NDArray[np.int32]:
+def _cells_of(frame: pipe.GridFrame) -> NDArray[np.int32]:
     """The cells of a map, NULL for null."""
-    assert isinstance(frame, pipe.GridFrame)
     cells = np.asarray(frame.cells).reshape(frame.rows, frame.cols)
     return cells if frame.null == NULL else np.where(cells == frame.null, np.int32(NULL), cells)
 
@@ -242,16 +228,6 @@ def _table(frame: pipe.TableFrame, maps: Mapping[str, Raster]) -> Table:
     )
 
 
-def _listing(listing: Listing, line: int, cells: Mapping[str, NDArray[np.int32]], labels: Mapping[str, Mapping[int, str]],
-             maps: Mapping[str, Raster]) -> Table:
-    """The cells of maps, an entry for each cell that its flags do not leave out."""
-    entries = np.column_stack([cells[name].reshape(-1) for name in listing.maps]).astype(np.int64)
-    if "n" in listing.flags or "N" in listing.flags:
-        entries = entries[(entries != NULL).all(axis=1) if "n" in listing.flags else (entries != NULL).any(axis=1)]
-    titles = tuple(maps[name].name if name in maps else name for name in listing.maps)
-    return Table(titles, entries, None, tuple(labels.get(name, {}) if "l" in listing.flags else None for name in listing.maps), line)
-
-
 def grid(program: str, script: str, name: str, raster: Raster, watch: Watch | None = None) -> Grid:
     """A map that a script makes of one map, which it calls `map`."""
     return run(program, script, {"map": raster}, [name], watch).grids[-1]
@@ -266,9 +242,11 @@ def reclass(program: str, raster: Raster, rules: str, watch: Watch | None = None
         As the program refuses; the lines are those of the rules.
     """
     lines = rules.rstrip("\n").split("\n")
-    if [line for line in lines if line.strip(" \t\r") == "end"]:
-        lines = lines[: next(at for at, line in enumerate(lines) if line.strip(" \t\r") == "end")]
-    script = "\n".join(["r.reclass input=map output=classes", *lines, "end"])
+    script = "\n".join(["r.reclass input=map output=classes", *lines])
+    try:
+        plan_of(program, script, ["map"], watch)
+    except Refused:  # it has no end of its own, or another fault, which the run tells
+        script += "\nend"
     try:
         return grid(program, script, "classes", raster, watch)
     except Refused as refusal:

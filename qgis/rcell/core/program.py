@@ -16,8 +16,7 @@ from typing import Any, Callable, Iterator, Mapping, Sequence
 import numpy as np
 
 from .errors import Cancelled, Killed, MissingProgram, OutOfMemory, RcellError, Refused, WrongProgram
-from .front import outlines, pipe
-from .front.outlines import Outline
+from .front import pipe
 from .front.pipe import NULL
 from .front.programs import Started, above_standard, found_on_path
 from .rasters import Cells, Mask, Raster, Warn
@@ -109,7 +108,7 @@ def _set_executable(path: str) -> None:
 
 
 _PROBE_SCRIPT = b"r.clump -d input=probe output=k\nr.stats -c input=probe,k after=7,1\nr.stats -1 input=k\nr.out.ascii input=k\n"
-_PROBE_CELLS = [np.array([12, 2, NULL, NULL], np.int32).tobytes(), b"1\n*\n2\n", b"\1\xff\2"]
+_PROBE_CELLS = [np.array([12, 2, NULL, NULL], np.int32).tobytes(), np.array([1, NULL, 2], np.int32).tobytes(), b"\1\xff\2"]
 
 
 def _probe(path: str) -> None:
@@ -122,15 +121,15 @@ def _probe(path: str) -> None:
         pass
     except OSError as error:
         raise MissingProgram(f"the program {path} cannot be executed: {error.strerror}") from None
-    if [bytes(getattr(frame, "cells", b"") or getattr(frame, "text", b"")) for frame in frames] != _PROBE_CELLS:
+    if [bytes(frame.cells) for frame in frames] != _PROBE_CELLS:
         raise WrongProgram(f"{path} is not a program rcell-pipe of a version that this plugin knows")
 
 
 # Runs
 
 
-def outline_of(program: str, script: str, names: Sequence[str], watch: Watch | None = None) -> Outline:
-    """Return the outline of a script over maps of some names.
+def plan_of(program: str, script: str, names: Sequence[str], watch: Watch | None = None) -> list[pipe.Statement]:
+    """Return what each statement of a script does, over maps of some names.
 
     Raises
     ------
@@ -138,8 +137,8 @@ def outline_of(program: str, script: str, names: Sequence[str], watch: Watch | N
         The program rejects the script.
     """
     with _errors_of(script, names):
-        outline: Outline = outlines.outline_of(program, script, names, (watch or Watch()).check)
-    return outline
+        plan: list[pipe.Statement] = pipe.plan(program, names, pipe.script_bytes(script), watch=(watch or Watch()).check)
+    return plan
 
 
 def frames_of(program: str, maps: Mapping[str, Raster], script: str, sent: str, watch: Watch) -> list[pipe.Frame]:
@@ -154,7 +153,7 @@ def frames_of(program: str, maps: Mapping[str, Raster], script: str, sent: str, 
     script : str
         As the user wrote it.
     sent : str
-        The same lines, of which some may be empty, and further lines.
+        The same lines, and further lines.
     watch : Watch
 
     Raises

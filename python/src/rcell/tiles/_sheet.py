@@ -15,11 +15,10 @@ from .._crs import common_crs, wkt_of
 from .._errors import BadMap, OtherRegion
 from .._labels import read_labels
 from .._libraries import need
-from .._maps import ArrayMap, check_computed, checked, nodata_of
+from .._maps import ArrayMap, check_computed, check_names, checked, nodata_of
 from .._masked import unmasked
 from .._rasters import Layer, only_band, open_dataset, told_of_reading, upright
 from .._region import Region, Transform, differences_of, edges_of_transform, units_of
-from .._script import check_names
 from .._xarray import flat_of, is_lazy, variables_of
 from .joining import Rectangle
 

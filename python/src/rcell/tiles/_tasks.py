@@ -19,7 +19,7 @@ from .._maps import ArrayMap, Source
 from .._program import execute, table_text
 from .._region import Region
 from .._table import StatsTable
-from ._scripts import NO_REACH, Reach, Statement, TileScript
+from ._scripts import NO_REACH, Reach, Statement, TileScript, counting
 from ._sheet import MapCells, MapFile, Sheet
 from .joining import Joined, Rectangle, TileNumbers, join, renumber, sizes
 
@@ -112,10 +112,10 @@ def told_of_size(maps: dict[str, Source]) -> Iterator[None]:
         raise OutOfMemory(f"{fault.text} for a tile of {rows} x {cols} cells: give a smaller size", fault.source, 0, 3) from None
 
 
-def made_cells(text: str, maps: dict[str, Source], name: str | None) -> Integers:
+def made_cells(text: str, maps: dict[str, Source], name: str) -> Integers:
     """The cells of a map that a script makes of a tile."""
     with told_of_size(maps):
-        cells: Integers = execute(text, maps, wanted=[name] if name else [])[-1].values
+        cells: Integers = execute(text, maps, wanted=[name])[-1].values
     return cells
 
 
@@ -127,11 +127,11 @@ def tile_table(task: TileRun, place: Rectangle, cells: Sequence[Any]) -> bytes:
     script = task.script
     if outer != place:
         # The cells of the halo are other tiles' to count: a map more, and of the table the entries where it is 1, which come first.
-        script = replace(script, statements=(*script.statements[:-1], stats.counting(task.inside)))
+        script = script.with_last(counting(stats, task.inside))
         maps[task.inside] = ArrayMap(task.inside, mask_of(place, outer), Region.of_cells(*outer[2:]), nodata_value=0)
     with told_of_size(maps):
         text = table_text(script.text(outer, task.sheet.rows, task.sheet.cols), maps)
-    return text if outer == place else without_halo(text, "N" in stats.flags)
+    return text if outer == place else without_halo(text, "N" in stats.options)
 
 
 def without_halo(text: bytes, leaves_out_null: bool) -> bytes:
@@ -174,7 +174,7 @@ class TableForm:
     def frame(self, text: bytes) -> Any:
         """Return the table as `rcell.table` returns it."""
         counts = counts_of(text, len(self.stats.inputs))
-        cells = counts.cells if "c" in self.stats.flags else None
+        cells = counts.cells if "c" in self.stats.options else None
         table = StatsTable("r.stats", self.stats.line, self.stats.inputs, counts.combinations, cells, self.labels, cell=self.sheet.cell, crs=self.sheet.crs)
         table = table if self.area is None else table.with_area(self.area)
         return (table.with_percent() if self.percent else table).frame()
@@ -186,7 +186,7 @@ def grid_cells(task: TileRun, place: Rectangle, cells: Sequence[Any]) -> Integer
     text = task.script.text(outer, task.sheet.rows, task.sheet.cols)
     # Law `halo_is_enough`, or `reach_is_enough` where the script asks for rows and columns: inside of the halo the values
     # are those over the whole.
-    made = made_cells(text, task.maps(outer, cells), task.script.statements[-1].output)
+    made = made_cells(text, task.maps(outer, cells), task.script.statements[-1].made)
     return np.ascontiguousarray(inner(made, place, outer))
 
 

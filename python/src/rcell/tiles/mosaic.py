@@ -21,9 +21,8 @@ from .._errors import RcellError, Refused
 from .._joiner import check_files, find_joiner
 from .._maps import named_once
 from .._patches import check_connectivity
-from .._program import judge
+from .._program import labels_of, planned
 from .._region import CELL_LIMIT, SIDE_LIMIT
-from .._script import labels_in
 from .._xarray import data_array
 from . import _tasks
 from ._cluster import SHARE, Room, free_memory
@@ -31,7 +30,7 @@ from ._engine import Engine, Progress
 from ._graph import Cuts, cuts_for, cuts_of, merged, over_tiles, places_of
 from ._memory import Demand, clump_demand, grid_demand, patches_demand, size_for, table_demand
 from ._output import tile_writer
-from ._scripts import COMMANDS, NO_REACH, Statement, TileScript, spare_name, statements
+from ._scripts import NO_REACH, Statement, TileScript, counting, spare_name
 from ._sheet import MapCells, MapFile, Maps, open_maps
 from .joining import Joined, Rectangle
 
@@ -276,9 +275,8 @@ class Mosaic:
         2   3      1  16.666667
         """
         stats, run = self._table_run(script)
-        made = labels_in(script)
-        labels = {name: self._maps.labels_of(name) if name in self._files else made.get(name, {}) for name in stats.inputs}
-        form = _tasks.TableForm(stats, labels if "l" in stats.flags else None, self.sheet, area, percent)
+        labels = self._labels(run.script.statements) if "l" in stats.options else None
+        form = _tasks.TableForm(stats, labels, self.sheet, area, percent)
         tiles = self._tiles(table_demand(self._read(run), run.made, run.reach), compute)
         find_joiner()  # it is needed at the end, and missed at the beginning
         parts = _parts(self._over(_tasks.tile_table, run, tiles))
@@ -325,7 +323,9 @@ class Mosaic:
         [[1, 2, None], [2, 2, None]]
         """
         self._refuse_inputs(path)
-        name, run, labels = self._grid_run(script)
+        run = self._grid_run(script)
+        last = run.script.statements[-1]
+        name, labels = last.made, labels_of(last)
         tiles = self._tiles(grid_demand(self._read(run), run.made, run.reach), path is not None)
         work = self._over(_tasks.grid_cells, run, tiles, dtype="int32")
         if path is None:
@@ -451,40 +451,49 @@ class Mosaic:
 
     # Scripts
 
-    def _judged(self, script: str) -> list[Statement]:
-        """Return the statements of a script, once the program has taken it."""
-        judge(script, self._files)
-        return statements(script)
-
     def _table_run(self, script: str) -> tuple[Statement, _tasks.TileRun]:
-        found = self._judged(script)
-        tables = [statement for statement in found if statement.command == "r.stats"]
+        plan = planned(script, self._files)
+        tables = [statement for statement in plan if statement.command == "r.stats"]
         if len(tables) != 1:
             raise Refused(f"{len(tables)} lines of r.stats, where one is needed", "script")
         stats = tables[0]
-        if "1" in stats.flags:
+        if "1" in stats.options:
             raise refused(script, stats, "-1 lists cells, of which there is no table to merge")
-        run = self._run(script, [*found[: found.index(stats)], stats.counting()])
-        if run.script.reach != NO_REACH and len(stats.inputs) > 15:
+        run = self._run(script, plan, stats)
+        run = replace(run, script=run.script.with_last(counting(stats)))
+        if run.reach != NO_REACH and len(stats.inputs) > 15:
             raise refused(script, stats, "16 maps, where an expression with offsets leaves room for 15 when it is done by tiles")
         return stats, run
 
-    def _grid_run(self, script: str) -> tuple[str, _tasks.TileRun, Mapping[int, str]]:
-        lines = (line.split() for line in script.split("\n") if line.strip() and not line.lstrip().startswith("#"))
-        text = script if next(lines, [""])[0] in COMMANDS else f"r.mapcalc {script.strip()}"
-        found = self._judged(text)
-        last = found[-1] if found else None
-        if last is None or last.output is None or last.command == "r.clump":
-            raise refused(text, last, "the last line does not make a map by r.mapcalc or r.reclass")
-        return last.output, self._run(text, found), labels_in(text).get(last.output, {})
+    def _labels(self, script: Sequence[Statement]) -> dict[str, Mapping[int, str]]:
+        """Return the labels of the maps that the last statement reads."""
+        made = {statement.made: statement for statement in script}
+        return {name: self._maps.labels_of(name) if name in self._files else labels_of(made[name]) for name in script[-1].inputs}
 
-    def _run(self, script: str, found: list[Statement]) -> _tasks.TileRun:
-        run = TileScript.of(found, self._files)
+    def _grid_run(self, script: str) -> _tasks.TileRun:
+        text, plan = self._planned(script)
+        last = plan[-1] if plan else None
+        if last is None or not last.made or last.command == "r.clump":
+            raise refused(text, last, "the last line does not make a map by r.mapcalc or r.reclass")
+        return self._run(text, plan, last)
+
+    def _planned(self, script: str) -> tuple[str, list[Statement]]:
+        """Return statements as they are, and an assignment alone as an r.mapcalc, with their plan."""
+        try:
+            return script, planned(script, self._files)
+        except Refused as fault:
+            if fault.text != "unknown command" or (fault.content or "").strip() != script.strip():
+                raise
+        text = f"r.mapcalc {script.strip()}"
+        return text, planned(text, self._files)
+
+    def _run(self, script: str, plan: list[Statement], last: Statement) -> _tasks.TileRun:
+        run = TileScript.of(plan, last, self._files)
         for statement in run.statements:
             if statement.command == "r.clump":
                 raise refused(script, statement, "patches continue outside a tile: Mosaic.clump writes them, Mosaic.patches counts them")
-        files = tuple(file for name, file in self._files.items() if name in run.maps)
-        taken = {*self._files, run.row, run.col, *(statement.output for statement in found)}
+        files = tuple(file for name, file in self._files.items() if name in last.needs)
+        taken = {*self._files, run.row, run.col, *(statement.made for statement in plan)}
         return _tasks.TileRun(self.sheet, files, run, spare_name("inside", taken))
 
     # Tiles
