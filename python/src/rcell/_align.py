@@ -1,5 +1,5 @@
 # SPDX-License-Identifier: Apache-2.0 OR GPL-2.0-or-later
-"""Maps brought onto the grid of another map, on request and with an account of what was done."""
+"""Align maps with the grid of another map, on request, and report what was done."""
 
 from __future__ import annotations
 
@@ -17,20 +17,20 @@ from ._region import Region, Shift
 
 __all__ = ["align"]
 
-# By how much of a cell a centre may be north or west of the border of two cells and still be in the southern or eastern one.
+# A centre so close to the northern or western border of a cell, in cells, still lies in it.
 _ON_BORDER = 1e-6
 _BLOCK = 1 << 20
 
 
 def align(map: Any, to: Any, resample: str | None = None, *, crs: Any = None) -> Map:
-    """Bring a map onto the grid of another one: by whole cells, or if you ask for it with the nearest cell.
+    """Bring a map onto the grid of another map: by whole cells, or on request with the nearest cell.
 
     Parameters
     ----------
     map, to : path, array, .. as maps of `run`
-        The map that is changed, and the one whose grid it gets.
+        The map to align, and the map with the grid.
     resample : {"nearest"}, optional
-        Takes the cell in which the centre of the new cell is; on a border the southern or eastern one. Without it, only whole rows and
+        Each new cell gets the cell in which its centre lies; on a border, the southern or eastern one. By default, only whole rows and
         columns are cut off, or added as null.
     crs : any, optional
         The reference system of maps that have none.
@@ -44,7 +44,7 @@ def align(map: Any, to: Any, resample: str | None = None, *, crs: Any = None) ->
     Raises
     ------
     OtherRegion
-        The grids are not apart by whole cells, or their cells differ in size, and `resample` is not given.
+        The grids differ by part of a cell, or their cells differ in size, and `resample` is not given.
     OtherCrs
         The reference systems differ, and `resample` is not given.
 
@@ -76,7 +76,7 @@ def align(map: Any, to: Any, resample: str | None = None, *, crs: Any = None) ->
 
 
 def _cells_of(source: Source) -> tuple[Cells, Mask]:
-    """The cells of a map, and which of them are null."""
+    """Return the cells of a map, and which of them are null."""
     blocks = list(source.blocks())
     cells = np.concatenate([block.cells for block in blocks])
     null = np.zeros(cells.shape, np.bool_) if source.nodata is None else cells == source.nodata
@@ -86,7 +86,7 @@ def _cells_of(source: Source) -> tuple[Cells, Mask]:
 
 
 def _shifted(source: Source, like: Source, cells: Cells, null: Mask, resample: str | None) -> tuple[Any, Aligned]:
-    """Whole rows and columns, or those in which the centres of the new ones are."""
+    """Return a map on the grid of another one: moved by whole rows and columns, or with the nearest cells."""
     shift = Shift.between(source.transform, like.transform, like.region.shape)
     if resample is None and not shift.is_whole:
         raise OtherRegion("map", f'{shift.told("to")}: resample="nearest" takes the nearest cell')
@@ -102,14 +102,14 @@ def _shifted(source: Source, like: Source, cells: Cells, null: Mask, resample: s
 
 
 def _run(places: NDArray[np.int64]) -> Any:
-    """Ascending places as a slice, if none is left out or repeated: that is many times faster."""
+    """Return consecutive indices as a slice, which indexes many times faster; other indices unchanged."""
     if not places.size:
         return slice(0, 0)
     return slice(int(places[0]), int(places[-1]) + 1) if places[-1] - places[0] + 1 == places.size else places
 
 
 def _projected(source: Source, like: Source, cells: Cells, null: Mask) -> tuple[Any, Aligned]:
-    """The cells in which the centres of the new ones are, in the reference system of the map."""
+    """Return a map on the grid of another one: with the nearest cells, in another reference system."""
     pyproj = need("pyproj", "gis", "to align maps of two reference systems")
     systems = (pyproj.CRS.from_user_input(crs.to_wkt() if hasattr(crs, "to_wkt") else crs) for crs in (like.crs, source.crs))
     change = pyproj.Transformer.from_crs(*systems, always_xy=True)
@@ -132,7 +132,7 @@ def _projected(source: Source, like: Source, cells: Cells, null: Mask) -> tuple[
 
 
 def _centres(like: Source, rows: slice) -> list[NDArray[np.float64]]:
-    """The coordinates of the centres of some rows."""
+    """Return the coordinates of the centres of some rows."""
     width, _, west, _, height, north = like.transform
     x, y = west + width * (np.arange(like.region.cols) + 0.5), north + height * (np.arange(rows.start, rows.stop) + 0.5)
     return list(np.meshgrid(x, y))

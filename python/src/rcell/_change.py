@@ -22,14 +22,14 @@ _PARTS = ("before", "after", "gain", "loss", "net", "swap", "persistence")
 
 
 class Change:
-    """How much of which class became which; what `change` returns.
+    """The areas of each change from class to class; the result of `change`.
 
     Parameters
     ----------
     tables : mapping of str to Table
         `table`, `matrix` and `summary`.
     keys : int
-        How many columns of the matrix come before its areas.
+        The number of columns of the matrix before its areas.
     classes : list of int, optional
         The classes of the other columns, if they have no labels.
 
@@ -82,7 +82,7 @@ class Change:
     def summary(self) -> Any:
         """A row for each class: its area before and after, gain, loss, net change, swap and persistence.
 
-        Swap is twice the smaller one of gain and loss: what a class lost in one place and gained in another.
+        Swap is twice the smaller of gain and loss: what a class lost in one place and gained in another.
 
         Examples
         --------
@@ -94,14 +94,14 @@ class Change:
 
 
 class _Pairs:
-    """The counts of each pair of years, with what is needed to arrange them."""
+    """The counts of each pair of years, arranged as tables."""
 
     def __init__(self, pairs: list[Counts], years: list[int] | None, labels: list[Mapping[int, str]], is_legend: bool, measure: Measure) -> None:
         self.pairs, self.labels, self._measure = pairs, labels, measure
         self._years, self._is_legend, self._by_row = years, is_legend, measure.by_row is not None
 
     def table(self) -> Table:
-        """A row for each change that occurs."""
+        """Return a table with a row for each change that occurs."""
         classes = np.concatenate([pair.classes for pair in self.pairs])
         columns = self._years_of([pair.cells.size for pair in self.pairs])
         for place, name in enumerate(("from", "to")):
@@ -113,7 +113,7 @@ class _Pairs:
         return Table(columns + together.columns(self._measure, np.concatenate(percent)))
 
     def matrix(self) -> tuple[Table, list[int]]:
-        """A row for each class before, a column for each class after; and these classes."""
+        """Return a matrix with a row for each class before and a column for each class after, and the classes of its columns."""
         after = np.unique(np.concatenate([pair.classes[:, 1] for pair in self.pairs]))
         first, blocks, names = list[Numbers](), list[Numbers](), list[str]()
         for pair, labels in zip(self.pairs, self.labels):
@@ -128,7 +128,7 @@ class _Pairs:
         return Table([*self._years_of([before.size for before in first]), head, *rest]), after.tolist()
 
     def summary(self) -> Table:
-        """A row for each class."""
+        """Return a table with a row for each class."""
         summed = [_summed(pair, pair.measured() if self._by_row else pair.cells) for pair in self.pairs]
         texts = [self._texts("label", found, {**self.labels[at], **self.labels[at + 1]}) for at, (found, _) in enumerate(summed)]
         classes = Column("class", "class", np.concatenate([found for found, _ in summed]))
@@ -140,31 +140,31 @@ class _Pairs:
         return Table([*self._years_of([found.size for found, _ in summed]), classes, *_joined(texts), *measures])
 
     def _years_of(self, often: list[int]) -> list[Column]:
-        """The columns of years, for so many rows of each pair."""
+        """Return the columns of years; `often` has the number of rows of each pair."""
         if self._years is None:
             return []
         years = np.array(self._years, np.int64)
         return [Column("year_from", "class", np.repeat(years[:-1], often)), Column("year_to", "class", np.repeat(years[1:], often))]
 
     def _texts(self, title: str, classes: Numbers, labels: Mapping[int, str]) -> list[Column]:
-        """The column of the labels of a pair of years, if any map has labels."""
+        """Return the column of labels of a pair of years, if any map has labels."""
         made = label_columns(title, classes, labels, self._is_legend, title.removesuffix("_label"))
         return made or ([Column(title, "label", [""] * classes.size)] if any(self.labels) else [])
 
 
 def _names(classes: Numbers, labels: Mapping[int, str]) -> list[str]:
-    """The labels of classes; the number of a class, if it has none or another class has the same one."""
+    """Return the labels of classes; a class without a label, or with another class's label, gets its number."""
     texts = [labels.get(code, "") for code in classes.tolist()]
     return [text if text and texts.count(text) == 1 else str(code) for text, code in zip(texts, classes.tolist())]
 
 
 def _joined(blocks: list[list[Column]]) -> list[Column]:
-    """The columns of labels of all pairs, one below the other."""
+    """Return the columns of labels of all pairs, one below the other."""
     return [Column(columns[0].name, "label", [text for column in columns for text in column.values]) for columns in zip(*blocks)]
 
 
 def _summed(pair: Counts, measured: Numbers) -> tuple[Numbers, Numbers]:
-    """The classes of two years, and for each the seven measures of a summary."""
+    """Return the classes of two years, and for each of them the seven measures of a summary."""
     classes, at = np.unique(pair.classes, return_inverse=True)
     before, after = at.reshape(-1, 2).T
     kept = before == after
@@ -192,12 +192,12 @@ def change(
     before, after : path, array, .. as a map of `run`
         Two maps; or a list of maps in the order of their years, each of which is compared with the next one.
     years : iterable of int, optional
-        The year of each map; needed for more than two.
+        The year of each map; required for more than two maps.
     area : {"ha", "km2", "m2"} or None
         The unit of areas; None leaves them out.
     labels : path, dict or DataFrame, optional
-        The legend of all maps in place of the labels that they have, as in `composition`. Maps without labels have those of the first
-        map with labels.
+        The legend of all maps, which replaces their own labels, as in `composition`. By default, maps without labels get the labels of
+        the first map that has some.
     crs : any, optional
         The reference system of maps that have none.
 
@@ -209,7 +209,7 @@ def change(
     Raises
     ------
     Refused
-        As `run`; years that are not one for each map.
+        As for `run`, and if there is not one year for each map.
 
     Examples
     --------
@@ -239,7 +239,7 @@ def change(
 
 
 def _checked(years: Iterable[int] | None, maps: int) -> list[int] | None:
-    """The years, if there is one for each map."""
+    """Return the years, after checking that there is one for each map."""
     if years is None and maps == 2:
         return None
     told = [] if years is None else list(years)

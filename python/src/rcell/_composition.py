@@ -30,19 +30,19 @@ def composition(
     null: bool = False,
     crs: Any = None,
 ) -> Table:
-    """Count the cells of each class of a map, with areas and percentages, in all of it or by zone.
+    """Count the cells of each class of a map, with areas and percentages, in total or by zone.
 
     Parameters
     ----------
     map : path, array, .. as a map of `run`
     zones : map, or path of polygons, or GeoDataFrame, optional
-        Polygons are rasterised with GDAL: a cell is in the polygon that has its centre.
+        Polygons are rasterised with GDAL: a cell belongs to the polygon that contains its centre.
     area : {"ha", "km2", "m2"} or None
-        The unit of areas; None leaves them out. In degrees areas are those on the ellipsoid of the reference system.
+        The unit of areas; None leaves them out. In degrees, areas are on the ellipsoid of the reference system.
     labels, zone_labels : path, dict or DataFrame, optional
-        A legend in place of the labels that the map, or the zones, have: a CSV `value,label`, a QML, or labels by values.
+        A legend that replaces the labels of the map, or of the zones: a CSV `value,label`, a QML, or labels by value.
     zone_field : str, optional
-        The field of the polygons that has the ids of the zones, or their names.
+        The field of the polygons with the ids or names of the zones.
     null : bool
         Whether to add the cells that are null.
     crs : any, optional
@@ -51,13 +51,13 @@ def composition(
     Returns
     -------
     pandas.DataFrame
-        Columns `zone`, `zone_label`, `class`, `label`, `cells`, `area_ha` and `percent`, of the non-null cells of the zone; zones only
-        if there are some, labels only if there are some.
+        Columns `zone` and `zone_label` (with zones), `class`, `label` (if there are labels), `cells`, `area_ha`, and `percent` of the
+        non-null cells of the zone.
 
     Raises
     ------
     Refused
-        As `run`, and for legends and polygons that are not right.
+        As for `run`, and for invalid legends and polygons.
 
     Examples
     --------
@@ -82,7 +82,7 @@ def composition(
 
 
 def _percent(found: Counts, groups: NDArray[np.int64]) -> NDArray[np.float64]:
-    """The percentages of the non-null cells of each group, which has its rows one after the other; NaN for null."""
+    """Return the percentages of the non-null cells of each group of consecutive rows, NaN for null."""
     counted = np.where((found.classes == NULL).any(axis=1), 0, found.cells)
     if not counted.size:
         return np.empty(0)
@@ -107,7 +107,7 @@ def cross(
     Parameters
     ----------
     maps : mapping, optional
-        Maps by name, as in `named`; for names that are words of this call.
+        Maps by name, as in `named`; for names that are parameters of this call.
     area : {"ha", "km2", "m2"} or None
         The unit of areas; None leaves them out.
     labels : mapping, optional
@@ -122,13 +122,13 @@ def cross(
     Returns
     -------
     pandas.DataFrame
-        For each map a column of its name, and `NAME_label` if it has labels; then `cells`, `area_ha`, and `percent` of the cells that
-        are null in no map.
+        For each map a column `NAME`, and `NAME_label` if it has labels; then `cells`, `area_ha`, and `percent` of the cells that are
+        null in no map.
 
     Raises
     ------
     Refused
-        As `run`, and for legends that are not right.
+        As for `run`, and for invalid legends.
 
     Examples
     --------

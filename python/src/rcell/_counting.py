@@ -1,5 +1,5 @@
 # SPDX-License-Identifier: Apache-2.0 OR GPL-2.0-or-later
-"""The maps of a call, and how often their classes occur together, with the areas of their cells."""
+"""The maps of a call, and the counts and areas of combinations of their classes."""
 
 from __future__ import annotations
 
@@ -22,7 +22,7 @@ from ._zones import zones_of
 
 __all__ = ["Counts", "Maps", "label_columns", "places_of"]
 
-# An r.stats takes so many maps; in degrees the number of the row is one of them.
+# The most maps of an r.stats; in degrees the number of the row is one of them.
 MOST_MAPS = 16
 _SHOWN = 5
 
@@ -31,7 +31,7 @@ Integers = NDArray[np.int64]
 
 @dataclass(frozen=True)
 class Counts:
-    """How often classes occur together.
+    """The number of cells of each combination of classes.
 
     Attributes
     ----------
@@ -39,7 +39,7 @@ class Counts:
         Ascending, -2147483648 for null, which comes last.
     cells : array of int64
     area : array of float64 or None
-        In the unit that was asked for.
+        In the requested unit.
     """
 
     classes: Integers
@@ -61,13 +61,13 @@ class Counts:
 
 
 class Maps:
-    """The maps of a call: of one region and one reference system.
+    """The maps of a call, with one region and one reference system.
 
     Parameters
     ----------
     maps : mapping of str to any
     crs : any
-        The reference system that is stated for maps without one.
+        The reference system of maps that have none.
     zones : any, optional
         A map, or polygons, which become the map `zones`.
     zone_field : str, optional

@@ -1,5 +1,5 @@
 # SPDX-License-Identifier: Apache-2.0 OR GPL-2.0-or-later
-"""The tables that rcell-join writes, as arrays."""
+"""Tables that rcell-join writes, as arrays."""
 
 from __future__ import annotations
 
@@ -21,11 +21,11 @@ Integers = npt.NDArray[Any]
 
 MOST_CELLS = 2**63 - 1
 GREAT_COUNT = re.compile(rb"[0-9]{19}")
-"""What a text has where a count may be above it; no category has so many digits."""
+"""The digits of any count above it; no category has so many."""
 
 
 class TooManyCells(RcellError, ArithmeticError):
-    """A count of a merged table passes 2^63 - 1; `combination` is the one that it belongs to.
+    """A count of a merged table is above 2^63 - 1; `combination` is its combination of categories.
 
     Examples
     --------
@@ -39,7 +39,7 @@ class TooManyCells(RcellError, ArithmeticError):
 
     @classmethod
     def of_words(cls, words: Iterable[bytes]) -> TooManyCells:
-        """The fault of a combination as a table has it."""
+        """Return the error of a combination as a table prints it."""
         return cls(tuple(None if word == b"*" else int(word) for word in words))
 
     def __str__(self) -> str:
@@ -49,7 +49,7 @@ class TooManyCells(RcellError, ArithmeticError):
 
 @dataclass(frozen=True, eq=False)
 class Counts:
-    """A table: combinations of categories, ascending (null is last) and each once, and how many cells have them.
+    """A table: each combination of categories once, in ascending order with null last, and its number of cells.
 
     Attributes
     ----------
@@ -80,7 +80,7 @@ def counts_of(text: bytes, maps: int) -> Counts:
     Raises
     ------
     TooManyCells
-        A count passes 2^63 - 1.
+        A count is above 2^63 - 1.
 
     Examples
     --------

@@ -18,12 +18,12 @@ if TYPE_CHECKING:
 __all__ = ["profile_of", "smallest_type", "write_geotiff"]
 
 TILE = 256
-# From so many cells on a file may pass 4 GB before it is compressed.
+# A file with at least so many cells may exceed 4 GB before compression.
 _BIG_FROM = 1 << 29
 
 
 def smallest_type(least: int, greatest: int) -> tuple[str, int]:
-    """The smallest type that has room for categories and for a nodata that is none of them, and that nodata.
+    """Return the smallest type that holds all categories and one more value for nodata, and that nodata.
 
     Examples
     --------
@@ -38,7 +38,7 @@ def smallest_type(least: int, greatest: int) -> tuple[str, int]:
 
 
 def profile_of(rows: int, cols: int, transform: tuple[float, ...], crs: Any, dtype: str, nodata: int) -> dict[str, Any]:
-    """The creation profile of a GeoTIFF for rasterio.
+    """Return rasterio's creation profile of a GeoTIFF.
 
     Examples
     --------
@@ -63,9 +63,9 @@ def profile_of(rows: int, cols: int, transform: tuple[float, ...], crs: Any, dty
 
 
 def write_geotiff(grid: Grid, path: str) -> None:
-    """Write a grid as GeoTIFF under a path, whole or not at all.
+    """Write a grid as a GeoTIFF, completely or not at all.
 
-    The file is made in memory, compressed, and written by Python: the library that makes it does not report a full disk.
+    The compressed file is made in memory and written by Python, since the library does not report a full disk.
 
     Raises
     ------
@@ -75,7 +75,7 @@ def write_geotiff(grid: Grid, path: str) -> None:
         It cannot hold a label.
     """
     rasterio = need("rasterio", "gis", "to write a GeoTIFF")
-    labels = checked_labels(grid.name, grid.labels)  # those of rules may have bytes that are no text
+    labels = checked_labels(grid.name, grid.labels)  # labels of rules may have bytes that are not text
     kept = compressed(grid.array)
     dtype, nodata = smallest_type(int(kept.min()), int(kept.max())) if kept.size else smallest_type(0, 0)
     cells = filled(grid.array, nodata).astype(dtype)
@@ -83,7 +83,7 @@ def write_geotiff(grid: Grid, path: str) -> None:
     with replacing(path) as beside, told_of(path, rasterio.errors.RasterioError):
         with need("rasterio.io", "gis", "to write a GeoTIFF").MemoryFile() as memory:
             with memory.open(**profile) as dataset:
-                if grid.colors and dtype == "uint8":  # the only one of the three types that has a colour table
+                if grid.colors and dtype == "uint8":  # the only one of the three types with a colour table
                     dataset.write_colormap(1, {code: tuple(bytes.fromhex(color[1:])) for code, color in grid.colors.items() if 0 <= code < nodata})
                 dataset.write(cells, 1)
             with open(beside, "wb") as file:

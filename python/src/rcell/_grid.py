@@ -1,5 +1,5 @@
 # SPDX-License-Identifier: Apache-2.0 OR GPL-2.0-or-later
-"""Grids: maps that come out."""
+"""Grids: maps that a run returns."""
 
 from __future__ import annotations
 
@@ -25,7 +25,7 @@ __all__ = ["Grid"]
 
 # The longer side of the picture in a notebook, in pixels.
 THUMBNAIL = 320
-# So many categories have a legend that can be read.
+# With more categories, a legend cannot be read.
 LEGEND_LIMIT = 30
 _PALETTES = ("tab20", "tab20b", "tab20c")
 
@@ -42,14 +42,14 @@ class Grid:
         Masked where the map is null.
     region : Region
     transform : tuple of six float
-        That of the first map of the run, never read back from text.
+        The transform of the first map of the run, never read back from text.
     crs : any
-        That of the first map of the run; None where it has none.
+        The reference system of the first map of the run, or None.
     labels, colors : mapping of int to str
-        Of the rules of the script, or of the map that was given; colours as `#rrggbb`.
+        From the rules of the script, or from the input map; colours as `#rrggbb`.
     command : str
     line : int
-        The line of the script; 0 where the map was asked for by name.
+        The line of the script; 0 if the map was requested by name.
 
     Examples
     --------
@@ -71,7 +71,7 @@ class Grid:
 
     @property
     def maps(self) -> tuple[str, ...]:
-        """Its name, as a table has the names of its maps.
+        """The name as a tuple, like the maps of a table.
 
         Examples
         --------
@@ -108,7 +108,7 @@ class Grid:
         return cls(array=masked(values, values == NULL), **words)
 
     def as_map(self) -> Map:
-        """Return the same as a map that goes in; a call does that by itself.
+        """Return the grid as an input map; calls that take maps do this themselves.
 
         Returns
         -------
@@ -142,14 +142,14 @@ class Grid:
         return found
 
     def write(self, path: str | os.PathLike[str]) -> str:
-        """Write the map to a file, whole or not at all.
+        """Write the map to a file, completely or not at all.
 
         Parameters
         ----------
         path : path
-            `.tif` or `.tiff` for a GeoTIFF (compressed, of the smallest type that has room for the categories and for
-            nodata) with transform, reference system, nodata, labels as category names and colours as a colour table; `.txt` for a grid of the
-            program's own form, which GRASS reads too. A file that is there is replaced.
+            `.tif` or `.tiff` for a GeoTIFF (compressed, of the smallest type that holds the categories and nodata) with transform,
+            reference system, nodata, labels as category names and colours as a colour table; `.txt` for an rcell grid, which GRASS
+            also reads. An existing file is replaced.
 
         Returns
         -------
@@ -159,11 +159,11 @@ class Grid:
         Raises
         ------
         WriteFailed
-            The file cannot be written; nothing new is there then.
+            The file cannot be written; an old file is unchanged.
         Refused
-            The name says no form that is known.
+            The format of the file name extension is not known.
         MissingLibrary
-            Rasterio is needed and not installed.
+            Rasterio is required and not installed.
 
         Examples
         --------
@@ -205,7 +205,7 @@ class Grid:
         return grid_text(Map(self.array, self.region).source("map"))
 
     def xarray(self) -> Any:
-        """Return the map as a DataArray: coordinates of the centres of cells, reference system as rioxarray has it.
+        """Return the map as a DataArray, with coordinates of cell centres and the reference system as rioxarray stores it.
 
         Returns
         -------
@@ -233,10 +233,9 @@ class Grid:
         Parameters
         ----------
         ax : matplotlib.axes.Axes, optional
-            Where it is drawn; a new figure if it is not given.
+            Where to draw the map; by default in a new figure.
         legend : bool
-            Whether a legend of the labels, or of the categories, is drawn next to the map; a map of more than 30
-            categories has a scale in its place.
+            Whether to draw a legend of the labels, or of the categories, next to the map; for more than 30 categories it is a scale.
 
         Returns
         -------
@@ -272,7 +271,7 @@ class Grid:
         return ax
 
     def _colored(self, categories: list[int]) -> tuple[Any, Any, Any]:
-        """What is drawn, its colours, and its scale: places among few categories, else the categories themselves."""
+        """Return the values to draw, their colours and their scale: indices of a few categories, or the categories themselves."""
         matplotlib = need("matplotlib", "plot", "to draw a map")
         colors_of = need("matplotlib.colors", "plot", "to draw a map")
         if not 0 < len(categories) <= LEGEND_LIMIT:
@@ -293,7 +292,7 @@ class Grid:
         ax.legend(handles=handles, loc="upper left", bbox_to_anchor=(1.02, 1.0), borderaxespad=0.0, frameon=False)
 
     def picture(self) -> bytes:
-        """Return the map as a PNG, a pixel a cell, null transparent; a large map has a cell of some.
+        """Return the map as a PNG with one pixel per cell and null transparent; large maps are drawn with fewer cells.
 
         Returns
         -------

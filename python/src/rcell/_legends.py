@@ -1,5 +1,5 @@
 # SPDX-License-Identifier: Apache-2.0 OR GPL-2.0-or-later
-"""Legends: the labels and colours of classes, from CSV, QML, a raster, a dict or a DataFrame."""
+"""Legends: labels and colours of classes, from a CSV, a QML, a raster, a dict or a DataFrame."""
 
 from __future__ import annotations
 
@@ -50,13 +50,13 @@ def legend_of(given: Any) -> Legend:
     Parameters
     ----------
     given : path, dict or DataFrame
-        A CSV with the header `value,label[,colour]`, a QML of QGIS, or a raster that has labels; labels by their values; columns
-        `value`, `label` and, if there is one, `colour`.
+        A CSV with the header `value,label[,colour]`, a QML of QGIS, or a raster with labels; a dict of labels by value; a DataFrame
+        with the columns `value`, `label` and optionally `colour`.
 
     Raises
     ------
     Refused
-        A value that is no whole number or is there twice, a colour that is none, a header that is missing, an empty file.
+        A value is not a whole number or occurs twice, a colour is invalid, the header is missing, or the file is empty.
     """
     if isinstance(given, (str, os.PathLike)):
         return _of_path(os.fspath(given))
@@ -98,7 +98,7 @@ def _of_csv(path: str) -> Legend:
 
 
 def _columns_of(names: list[str], told: str) -> tuple[int, int, int | None]:
-    """The places of the value, the label and the colour."""
+    """Return the indices of the columns value, label and colour."""
     titles = [name.strip().lower() for name in names]
     if "value" not in titles or "label" not in titles:
         raise _refused(f"no header value,label: {told}")
@@ -112,7 +112,7 @@ def _picked(row: Any, at: tuple[int, int, int | None]) -> tuple[Any, Any, Any]:
 
 
 def _of_rows(rows: Iterable[tuple[str, tuple[Any, Any, Any]]]) -> Legend:
-    """A legend of values, labels and colours, each with the place that errors name."""
+    """Return a legend of values, labels and colours, each with its place for errors."""
     legend = Legend({}, {})
     for place, (given, label, color) in rows:
         value = _whole(place, given)
@@ -135,7 +135,7 @@ def _whole(place: str, given: Any) -> int:
 
 
 def legend_of_qml(path: str) -> Legend:
-    """Return the legend of a style of QGIS: the entries of a palette, or the items of a colour ramp."""
+    """Return the legend of a QGIS style: the entries of a palette, or the items of a colour ramp."""
     try:
         root = ElementTree.parse(path).getroot()
     except OSError as error:

@@ -1,5 +1,5 @@
 # SPDX-License-Identifier: Apache-2.0 OR GPL-2.0-or-later
-"""Libraries that some calls need and the package does not."""
+"""Optional libraries, which only some calls need."""
 
 from __future__ import annotations
 
@@ -13,7 +13,7 @@ __all__ = ["has", "need"]
 
 
 def has(library: str) -> bool:
-    """Whether a library can be imported.
+    """Return whether a library can be imported.
 
     Examples
     --------
@@ -24,7 +24,7 @@ def has(library: str) -> bool:
 
 
 def need(library: str, extra: str, purpose: str) -> Any:
-    """Return a module by its full name; raise MissingLibrary if it, or a library that it needs itself, is not installed.
+    """Return a module by its full name; raise MissingLibrary if the module, or a library that it needs, is not installed.
 
     Examples
     --------

@@ -15,21 +15,21 @@ from ._maps import source_of
 __all__ = ["majority", "majority_script"]
 
 SIZES = range(3, 16, 2)
-# An expression has so many tokens at most; some are left for `x = if(isnull(map), null(), nmode(..))`.
+# The most tokens of an expression, less those of `x = if(isnull(map), null(), nmode(..))`.
 _MOST_TOKENS, _TOKENS_AROUND = 1000, 25
 _TOKENS_OF_NAME = 2
 
 
 def majority(map: Any, size: int = 3, fill: bool = False, *, crs: Any = None) -> Grid:
-    """Give each cell the most frequent class of the square around it, of several the smallest.
+    """Give each cell the most frequent class of the square around it; ties go to the smallest class.
 
     Parameters
     ----------
     map : path, array, .. as a map of `run`
     size : int
-        Rows and columns of the square: odd, 3 to 15. Cells outside the map count as null, and null is not counted.
+        Rows and columns of the square: odd, 3 to 15. Cells outside the map are null; nulls do not count.
     fill : bool
-        Whether cells that are null get a class as well; else they stay null.
+        Whether null cells also get a class; by default they stay null.
     crs : any, optional
         The reference system of a map that has none.
 
@@ -41,7 +41,7 @@ def majority(map: Any, size: int = 3, fill: bool = False, *, crs: Any = None) ->
     Raises
     ------
     Refused
-        As `run`; a size that is even or out of range.
+        As for `run`, and if the size is even or out of range.
 
     Examples
     --------
@@ -59,8 +59,8 @@ def majority(map: Any, size: int = 3, fill: bool = False, *, crs: Any = None) ->
 def majority_script(size: int, fill: bool) -> str:
     """Return the script that makes the map `majority` of the map `map`.
 
-    Squares of 13 and 15 cells have too many tokens for one expression. So some cells are maps of their own first, those with the
-    longest offsets; a map without an offset has fewer tokens.
+    Squares of 13 and 15 cells have too many tokens for one expression. So the cells with the longest offsets are first made into
+    maps; a map without an offset has fewer tokens.
 
     Examples
     --------
@@ -70,7 +70,7 @@ def majority_script(size: int, fill: bool) -> str:
     reach = range(-(size // 2), size // 2 + 1)
     offsets = [(row, col) for row in reach for col in reach]
     terms = {place: "map[{},{}]".format(*place) if any(place) else "map" for place in offsets}
-    # A term with its comma: map [ row , col ] and a sign for each negative offset.
+    # A term and its comma: map [ row , col ] and a sign for each negative offset.
     tokens = {place: 7 + (place[0] < 0) + (place[1] < 0) if any(place) else _TOKENS_OF_NAME for place in offsets}
     lines: list[str] = []
     for place in sorted(offsets, key=lambda place: -tokens[place]):

@@ -1,5 +1,5 @@
 # SPDX-License-Identifier: Apache-2.0 OR GPL-2.0-or-later
-"""What cells measure: one area for all of a projected map, and one for each row of a map in degrees."""
+"""The areas of cells: one area for all cells of a projected map, one for each row of a map in degrees."""
 
 from __future__ import annotations
 
@@ -19,7 +19,7 @@ __all__ = ["Measure", "measure_of", "row_areas"]
 
 
 def row_areas(north: float, height: float, width: float, rows: int, ellipsoid: tuple[float, float]) -> NDArray[np.float64]:
-    """Return the area of a cell of each row in square metres: on the ellipsoidal zone between the row's two parallels.
+    """Return the area of a cell of each row in square metres: a part of the ellipsoid between two parallels.
 
     Parameters
     ----------
@@ -39,7 +39,7 @@ def row_areas(north: float, height: float, width: float, rows: int, ellipsoid: t
     upper, lower = np.minimum(edges[:-1], math.pi / 2), np.maximum(edges[1:], -math.pi / 2)
     if rows and (lower.max() >= math.pi / 2 or upper.min() <= -math.pi / 2):
         raise Refused(f"rows beyond the pole: north is {math.degrees(north):g}", "map")
-    # The difference of the sines without the loss of digits that subtracting them has for thin rows.
+    # The difference of the sines, computed without subtracting them: that would lose digits for thin rows.
     step = np.where((upper < edges[:-1]) | (lower > edges[1:]), upper - lower, height)
     risen = 2 * np.cos((upper + lower) / 2) * np.sin(step / 2)
     if flattening == 0:
@@ -52,18 +52,18 @@ def row_areas(north: float, height: float, width: float, rows: int, ellipsoid: t
 
 @dataclass(frozen=True)
 class Measure:
-    """What cells measure in a unit of area.
+    """The areas of cells, in a unit.
 
     Attributes
     ----------
     unit : str or None
-        None: no areas are asked for.
+        None if no areas are requested.
     divisor : float
-        Square metres of the unit.
+        The unit in square metres.
     cell : float
-        Square metres of a cell of a projected map.
+        The area of a cell of a projected map in square metres.
     by_row : array of float64 or None
-        Square metres of a cell of each row of a map in degrees, if areas are asked for.
+        The area of a cell of each row of a map in degrees, in square metres, if areas are requested.
     is_geographic : bool
     """
 
@@ -75,21 +75,21 @@ class Measure:
 
     @property
     def column(self) -> str:
-        """How columns end that have this measure."""
+        """The ending of the names of columns in this unit."""
         return self.unit or "cells"
 
     def area(self, cells: NDArray[np.int64]) -> NDArray[np.float64]:
-        """Return the areas of so many cells of a projected map."""
+        """Return the area of each number of cells in a projected map."""
         return cells * self.cell / self.divisor
 
 
 def measure_of(unit: str | None, source: Source, crs: Any) -> Measure:
-    """Return what the cells of a map measure.
+    """Return the areas of a map's cells.
 
     Raises
     ------
     Refused
-        The unit is unknown, or the reference system has no unit of length or angle that is known.
+        The unit of area, or the reference system's unit of length or angle, is unknown.
     """
     is_in_degrees = is_geographic(crs)
     if unit is None or (is_in_degrees and unit in UNITS_OF_AREA):
@@ -100,7 +100,7 @@ def measure_of(unit: str | None, source: Source, crs: Any) -> Measure:
 
 
 def _by_row(source: Source, crs: Any) -> NDArray[np.float64]:
-    """The area of a cell in each row, on the ellipsoid of a reference system."""
+    """Return the area of a cell of each row, on the ellipsoid of a reference system."""
     system = need("pyproj", "gis", "to compute areas of a map in degrees").CRS.from_user_input(_plain(crs))
     ellipsoid = system.get_geod()
     radians = system.axis_info[0].unit_conversion_factor if system.axis_info else math.radians(1)
@@ -113,5 +113,5 @@ def _plain(crs: Any) -> Any:
 
 
 def metres(crs: Any) -> float:
-    """Return how many metres a unit of length has; NaN in degrees."""
+    """Return the length of a reference system's unit in metres; NaN in degrees."""
     return math.nan if is_geographic(crs) else metres_of_unit(crs)

@@ -20,7 +20,7 @@ from ._table import Column, Table, framed
 __all__ = ["check_connectivity", "patches"]
 
 MOST_CORE_DEPTH = 20
-# A cell has up to two ends (sides to the north and south) and up to two flanks (to the west and east) that leave its patch.
+# Of the sides of a cell on the border of its patch, up to two are ends (north, south) and up to two are flanks (west, east).
 _FLANK = 3
 
 Integers = NDArray[np.int64]
@@ -41,27 +41,27 @@ def patches(
     zone_field: str | None = None,
     crs: Any = None,
 ) -> Table:
-    """List the patches of a map: its connected cells of one class, as r.clump numbers them.
+    """List the patches of a map: connected cells of one class, with the numbers of r.clump.
 
     Parameters
     ----------
     map : path, array, .. as a map of `run`
     connectivity : {4, 8}
-        4 connects cells that share an edge, 8 also those that share a corner.
+        4 connects cells that share an edge, 8 also cells that share a corner.
     area : {"ha", "km2", "m2"} or None
-        The unit of areas; None leaves them out and gives `core_cells`.
+        The unit of areas; None leaves them out and adds `core_cells`.
     zones : map, or path of polygons, or GeoDataFrame, optional
-        As in `composition`. A patch is in the zone that has most of its cells, in the smaller one if two have as many.
+        As in `composition`. A patch gets the zone with most of its cells; ties go to the smaller zone.
     classes : iterable of int, optional
-        Lists only patches of these classes. They keep their numbers.
+        Lists only patches of these classes. Patches keep their numbers.
     least : int, optional
-        Lists only patches of so many cells or more. They keep their numbers.
+        Lists only patches with at least so many cells. Patches keep their numbers.
     core_depth : int
-        A cell is in the core if all cells within so many steps, over edges, are of its patch.
+        A cell is in the core if all cells within so many steps, across edges, are in its patch.
     labels, zone_labels : path, dict or DataFrame, optional
         Legends, as in `composition`.
     zone_field : str, optional
-        The field of polygons that has the ids or names of the zones.
+        The field of the polygons with the ids or names of the zones.
     crs : any, optional
         The reference system of maps that have none.
 
@@ -69,13 +69,13 @@ def patches(
     -------
     pandas.DataFrame
         Columns `patch`, `class`, `label`, `cells`, `area_ha`, `perimeter_m`, `core_ha`, `west`, `south`, `east`, `north`, and with zones
-        `zone` and `zone_label`. The perimeter counts sides to other patches, to null and to the map's edge; in degrees it is NaN,
-        and a warning says so.
+        `zone` and `zone_label`. The perimeter includes sides to other patches, to null and along the map's edge; in degrees it is NaN,
+        with a warning.
 
     Raises
     ------
     Refused
-        As `run`, and for arguments that are out of range.
+        As for `run`, and for arguments out of range.
 
     Examples
     --------
@@ -117,7 +117,7 @@ def check_connectivity(connectivity: Any) -> None:
 
 
 def _script(connectivity: int, classes: list[int] | None, core_depth: int, has_zones: bool, by_row: bool) -> str:
-    """A script whose tables have all that is known of patches: sides, cores, rows and columns, and zones."""
+    """Return a script whose tables have the sides, cores, rows, columns and zones of patches."""
     leaves = "(isnull(patch[{0}]) ||| patch[{0}] != patch)"
     north, south, west, east = (leaves.format(place) for place in ("-1,0", "1,0", "0,-1", "0,1"))
     core = "if({0}[-1,0] == {0} && {0}[1,0] == {0} && {0}[0,-1] == {0} && {0}[0,1] == {0}, {0}, null())"
@@ -137,12 +137,12 @@ def _script(connectivity: int, classes: list[int] | None, core_depth: int, has_z
 
 
 class _Patches:
-    """The patches of a map, of which some are kept.
+    """The patches of a map with at least so many cells.
 
     Parameters
     ----------
     sides : array of int64
-        Patch, class, sides that leave the patch, and cells.
+        Patch, class, sides on the border of the patch, and cells.
     least : int
     """
 
@@ -154,7 +154,7 @@ class _Patches:
         self._ends, self._flanks = (self.summed(sides[:, 0], sides[:, 3] * part) for part in (sides[:, 2] % _FLANK, sides[:, 2] // _FLANK))
 
     def summed(self, numbers: Integers, values: NDArray[Any]) -> NDArray[Any]:
-        """The sums of values by the numbers of patches; equal numbers follow each other."""
+        """Return the sum of the values of each patch; equal numbers must be consecutive."""
         first = places_of(numbers)
         found = np.zeros(self.numbers.size, values.dtype)
         if first.size:
@@ -163,31 +163,31 @@ class _Patches:
         return found
 
     def _found(self, numbers: Integers) -> tuple[NDArray[np.intp], NDArray[np.bool_]]:
-        """The places of the numbers that are kept, and which these are."""
+        """Return the indices of the numbers that are kept, and which numbers these are."""
         at = np.minimum(np.searchsorted(self.numbers, numbers), max(self.numbers.size - 1, 0))
         kept = self.numbers[at] == numbers if self.numbers.size else np.zeros(numbers.size, np.bool_)
         return at[kept], kept
 
     def perimeter(self, transform: tuple[float, ...], unit: float) -> NDArray[np.float64]:
-        """The lengths of the sides that leave the patches: ends are as long as a cell is wide, flanks as it is high."""
+        """Return the perimeters of the patches: an end is as long as a cell is wide, a flank as long as it is high."""
         return (self._ends * transform[0] + self._flanks * -transform[4]) * unit
 
     def extents(self, rows: Integers, cols: Integers, transform: tuple[float, ...]) -> list[Column]:
-        """The outer edges of the outer cells."""
+        """Return the bounding box of each patch."""
         width, _, west, _, height, north = transform
         (top, bottom), (left, right) = (self._ends_of(table) for table in (rows, cols))
         edges = {"west": west + width * (left - 1), "south": north + height * bottom, "east": west + width * right, "north": north + height * (top - 1)}
         return [Column(name, "measure", values) for name, values in edges.items()]
 
     def _ends_of(self, table: Integers) -> tuple[Integers, Integers]:
-        """The first and the last row, or column, of each patch."""
+        """Return the first and last row, or column, of each patch."""
         first = places_of(table[:, 0])
         last = np.concatenate([first[1:], [len(table)]]).astype(np.intp) - 1 if first.size else first
         kept = self._found(table[first, 0])[1]
         return table[first[kept], 1], table[last[kept], 1]
 
     def zones(self, table: Integers) -> Integers:
-        """The zone of most cells of each patch, the smaller one of two; null if no cell has one."""
+        """Return the zone of most cells of each patch: of two, the smaller; null if no cell has a zone."""
         found = np.full(self.numbers.size, NULL, np.int64)
         order = np.lexsort([table[:, 1], -table[:, 2], table[:, 0]])
         first = order[places_of(table[order, 0])]
@@ -197,7 +197,7 @@ class _Patches:
 
 
 def _areas(found: _Patches, measure: Measure, rows: Integers | None, core: Integers) -> list[Column]:
-    """The areas of patches and of their cores; without areas the cells of the cores."""
+    """Return the areas of patches and of their cores; without a unit, the number of core cells."""
     if rows is None or measure.by_row is None:
         inner = found.summed(core[:, 0], core[:, -1])
         if measure.unit is None:

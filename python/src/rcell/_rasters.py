@@ -1,5 +1,5 @@
 # SPDX-License-Identifier: Apache-2.0 OR GPL-2.0-or-later
-"""Rasters that rasterio opens, as maps: read by windows, never whole."""
+"""Rasters that rasterio opens, as maps: they are read by windows, never as a whole."""
 
 from __future__ import annotations
 
@@ -24,25 +24,25 @@ __all__ = ["Layer", "RasterMap", "only_band", "open_dataset", "open_raster", "to
 
 _PURPOSE = "to read a raster"
 _IDENTITY: Transform = (1.0, 0.0, 0.0, 0.0, 1.0, 0.0)
-# Cells of a block at most, where a file keeps very many rows together.
+# The most cells of a block, for files whose blocks have very many rows.
 MOST_BLOCK_CELLS = 1 << 23
 
 
 def open_raster(name: str, given: Any) -> RasterMap:
-    """A raster as a map.
+    """Return a raster as a map.
 
     Parameters
     ----------
     name : str
-        The name of the map, for refusals.
+        The name of the map, for errors.
     given : path, rasterio.DatasetReader or rasterio.Band
 
     Raises
     ------
     ReadFailed
-        Where it cannot be opened.
+        The raster cannot be opened.
     BadMap
-        Where it has several bands, scaled values, a rotated transform or control points in place of one.
+        The raster has several bands, scaled values, a rotated transform, or control points instead of a transform.
     """
     rasterio = need("rasterio", "gis", _PURPOSE)
     with told_of_reading(name, "cannot open"):
@@ -54,9 +54,9 @@ def open_raster(name: str, given: Any) -> RasterMap:
 
 @contextlib.contextmanager
 def told_of_reading(name: str, told: str) -> Iterator[None]:
-    """Raise what rasterio and the system say of a broken raster as ReadFailed."""
+    """Raise errors of rasterio and the system about a broken raster as ReadFailed."""
     rasterio = need("rasterio", "gis", _PURPOSE)
-    gdal_error = need("rasterio._err", "gis", _PURPOSE).CPLE_BaseError  # some properties of a dataset raise it as it is
+    gdal_error = need("rasterio._err", "gis", _PURPOSE).CPLE_BaseError  # some properties of a dataset raise it unchanged
     try:
         yield
     except (rasterio.errors.RasterioError, gdal_error, OSError, ValueError, TypeError) as error:
@@ -66,12 +66,12 @@ def told_of_reading(name: str, told: str) -> Iterator[None]:
 
 
 def open_dataset(name: str, path: str) -> Any:
-    """An open dataset of rasterio; without a warning where it has no georeference.
+    """Open a dataset with rasterio, without a warning if it has no georeference.
 
     Raises
     ------
     ReadFailed
-        Where it cannot be opened.
+        The dataset cannot be opened.
     """
     rasterio = need("rasterio", "gis", _PURPOSE)
     with warnings.catch_warnings():
@@ -82,7 +82,7 @@ def open_dataset(name: str, path: str) -> Any:
 
 @dataclass(frozen=True)
 class Layer:
-    """A band of a raster with all that says which of its cells are null.
+    """A band of a raster, and what makes its cells null.
 
     Attributes
     ----------
@@ -92,7 +92,7 @@ class Layer:
     has_mask : bool
         Whether the raster has a mask of its own.
     alpha : int or None
-        The band that says which cells are transparent: those are null.
+        The band that marks transparent cells, which are null.
     """
 
     band: int
@@ -103,7 +103,7 @@ class Layer:
 
     @classmethod
     def of(cls, name: str, dataset: Any, band: int, enums: Any) -> Layer:
-        """Return a band of a dataset, unless its values are scaled or no whole numbers."""
+        """Return a band of a dataset; raise BadMap if its values are scaled or not whole numbers."""
         check_scale(name, dataset, band)
         dtype, nodata = dataset.dtypes[band - 1], dataset.nodatavals[band - 1]
         if dtype.startswith("complex") or dtype not in np.sctypeDict:
@@ -129,14 +129,14 @@ class Layer:
             cells: Cells = dataset.read(self.band, window=window)
             masks: list[Mask] = [dataset.read_masks(self.band, window=window) == 0] if self.has_mask else []
             masks += [] if self.alpha is None else [dataset.read(self.alpha, window=window) == 0]
-        # rasterio before 1.4 exchanges the two types of 64 bits, not their bits.
+        # rasterio before 1.4 swaps the names of the two 64-bit types, not the bits.
         return cells.view(self.dtype) if cells.dtype.itemsize == 8 else cells, np.logical_or.reduce(masks) if masks else None
 
 
 def _of_64_bits(dataset: Any, band: int) -> tuple[str, int | None]:
-    """Return the type and the nodata of a band of 64 bits exactly, from GDAL's description of the raster as a VRT.
+    """Return the exact type and nodata value of a band of 64 bits, from GDAL's description of the raster as a VRT.
 
-    rasterio itself knows nodata as a float, and before 1.4 exchanges the two types of 64 bits.
+    rasterio itself has nodata as a float, and before 1.4 swaps the two 64-bit types.
     """
     with need("rasterio.io", "gis", _PURPOSE).MemoryFile(ext=".vrt") as memory:
         need("rasterio.shutil", "gis", _PURPOSE).copy(dataset, memory.name, driver="VRT")
@@ -153,7 +153,7 @@ class RasterMap:
     ----------
     name : str
     dataset : rasterio.DatasetReader
-        The caller's own, or one that is open as long as this map is there: opening costs milliseconds.
+        The caller's own, or one that stays open as long as this map exists: opening costs milliseconds.
     layer : Layer
     region : Region
     transform : tuple of six float
@@ -175,7 +175,7 @@ class RasterMap:
 
     @classmethod
     def of_dataset(cls, name: str, dataset: Any, band: int | None) -> RasterMap:
-        """A band of an open dataset; the only one where it is None."""
+        """Return a band of an open dataset as a map; without a band, the dataset must have only one."""
         enums = need("rasterio.enums", "gis", _PURPOSE)
         band = only_band(name, dataset, enums) if band is None else band
         transform, is_upside_down = upright(name, dataset)
@@ -222,7 +222,7 @@ class RasterMap:
         return read_legend(self.labels_path, self.dataset, self.layer.band)
 
     def blocks(self) -> Iterator[Block]:
-        """Its rows from north to south, so many at a time as the file keeps together, or a multiple or a part of them."""
+        """Yield the rows from north to south, in blocks that fit the blocks of the file."""
         rows, cols = self.region.shape
         height = self.block_shape[0]
         step = max(1, round(BLOCK_CELLS / cols / height)) * height
@@ -231,14 +231,14 @@ class RasterMap:
             yield self.window(row, 0, min(step, rows - row), cols)
 
     def window(self, row: int, col: int, rows: int, cols: int) -> Block:
-        """Some of its cells, counted from the north-west corner.
+        """Return some of the cells, counted from the north-west corner.
 
         Raises
         ------
         ReadFailed
-            Where a part of the file is broken.
+            A part of the file is broken.
         BadMap
-            Where a cell is no whole number in range.
+            A cell is not a whole number in range.
         """
         top = self.region.rows - row - rows if self.is_upside_down else row
         cells, null = self.layer.read(self.name, self.dataset, (top, col, rows, cols), f"rows {row + 1} to {row + rows}")
@@ -248,12 +248,12 @@ class RasterMap:
 
 
 def alphas(dataset: Any, enums: Any) -> list[int]:
-    """The alpha bands. A broken file may tell of 65,535 bands, and rasterio looks at all of them whenever it is asked."""
+    """Return the alpha bands. Reading `colorinterp` once matters: rasterio looks at all bands, 65,535 in a broken file."""
     return [band for band, kind in zip(dataset.indexes, dataset.colorinterp) if kind == enums.ColorInterp.alpha]
 
 
 def only_band(name: str, dataset: Any, enums: Any) -> int:
-    """The band that has the cells: there must be one, an alpha band aside."""
+    """Return the only band that is not an alpha band; raise BadMap if there are several."""
     bands = sorted({*dataset.indexes} - {*alphas(dataset, enums)})
     if len(bands) != 1:
         raise BadMap(name, f"has {len(bands)} bands: give one, as rasterio.band(dataset, 1)")
@@ -261,22 +261,21 @@ def only_band(name: str, dataset: Any, enums: Any) -> int:
 
 
 def check_scale(name: str, dataset: Any, band: int) -> None:
-    """Refuses a band whose cells stand for other values."""
+    """Raise BadMap if the values of a band are scaled."""
     scale, offset = dataset.scales[band - 1], dataset.offsets[band - 1]
     if (scale, offset) != (1, 0):
-        told = f"each cell times {scale:g}, plus {offset:g}; write them out as whole numbers first"
-        raise BadMap(name, f"its values are scaled: {told}")
+        raise BadMap(name, f"its values are scaled: each cell times {scale:g}, plus {offset:g}; write them out as whole numbers first")
 
 
 def upright(name: str, dataset: Any) -> tuple[Transform, bool]:
-    """The transform of a dataset with its rows from north to south, and whether the file has them the other way.
+    """Return the transform of a dataset with rows from north to south, and whether the file has them the other way.
 
-    Where there is none, it is that of cells of side 1 whose bottom left corner is at 0, 0.
+    Without a transform, cells have side 1 and the bottom left corner is at 0, 0.
 
     Raises
     ------
     BadMap
-        Where it is rotated, or has its columns from east to west; control points in place of one.
+        The transform is rotated, has columns from east to west, or is given by control points.
     """
     a, b, c, d, e, f = transform = six_numbers(name, dataset.transform)
     if transform == _IDENTITY:

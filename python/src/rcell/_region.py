@@ -1,5 +1,5 @@
 # SPDX-License-Identifier: Apache-2.0 OR GPL-2.0-or-later
-"""The region of a map: its edges, as the program sees them, and its rows and columns."""
+"""The region of a map: its edges, as the program sees them, and its numbers of rows and columns."""
 
 from __future__ import annotations
 
@@ -16,7 +16,7 @@ from ._errors import BadMap
 
 __all__ = ["Region", "Shift", "Transform", "check_upright", "differences_of", "edges_of_transform", "six_numbers", "units_of"]
 
-# a, b, c, d, e, f of x = a * column + b * row + c and y = d * column + e * row + f, as rasterio's Affine has them.
+# a, b, c, d, e, f of x = a * column + b * row + c and y = d * column + e * row + f, as in rasterio's Affine.
 Transform = tuple[float, float, float, float, float, float]
 # North, south, east and west in units of 10^-8.
 Units = tuple[int, int, int, int]
@@ -26,12 +26,12 @@ UNITS = 10**DECIMALS
 EDGE_LIMIT = 10**10 * UNITS
 SIDE_LIMIT = 65_535
 CELL_LIMIT = 2_147_483_647
-# By so much of a cell two grids may be apart and still count as apart by whole cells.
+# Two grids are a whole number of cells apart if the distance differs from it by at most this part of a cell.
 NEARLY_WHOLE = 1e-3
 
 
 def units_of(edge: float | Fraction) -> int:
-    """Return an edge in units of 10^-8, which is all that the program keeps of it."""
+    """Return an edge in units of 10^-8, the precision of the program."""
     return int(round(Fraction(edge) * UNITS))
 
 
@@ -40,7 +40,7 @@ def _is_number(given: Any) -> bool:
 
 
 def six_numbers(name: str, given: Any) -> Transform:
-    """Return a transform of any kind as its six numbers."""
+    """Return the six numbers of a transform of any kind."""
     try:
         a, b, c, d, e, f = (float(number) for number in tuple(given)[:6])
     except (TypeError, ValueError):
@@ -55,7 +55,7 @@ def _edge_text(units: int) -> str:
 
 
 def check_upright(name: str, transform: Transform) -> None:
-    """Refuses, as the map of a name, a transform whose rows are not from north to south, or whose columns from west to east."""
+    """Raise BadMap unless rows run from north to south and columns from west to east."""
     a, b, _, d, e, _ = transform
     if not all(map(math.isfinite, transform)):
         raise BadMap(name, f"a transform with a number that is not finite: {transform}")
@@ -66,13 +66,13 @@ def check_upright(name: str, transform: Transform) -> None:
 
 
 def edges_of_transform(transform: Transform, rows: int, cols: int) -> tuple[Fraction, Fraction, Fraction, Fraction]:
-    """North, south, east and west of an upright map, exactly."""
+    """Return north, south, east and west of an upright map, exactly."""
     width, _, west, _, height, north = map(Fraction, transform)
     return north, north + height * rows, west + width * cols, west
 
 
 def differences_of(mine: tuple[Units, tuple[int, int]], its: tuple[Units, tuple[int, int]]) -> list[str]:
-    """In which edges and sizes the second of two maps differs from the first, and by how much.
+    """Return the edges and sizes in which the second of two maps differs from the first, with the difference.
 
     Examples
     --------
@@ -87,22 +87,22 @@ def differences_of(mine: tuple[Units, tuple[int, int]], its: tuple[Units, tuple[
 
 @dataclass(frozen=True, eq=False)
 class Region:
-    """Four edges, and a number of rows and columns.
+    """Four edges, and the numbers of rows and columns.
 
-    The program keeps edges to 8 decimals, and so two regions are equal where their edges rounded to 8 decimals are.
+    The program keeps edges to 8 decimals, so two regions are equal if their edges, rounded to 8 decimals, are equal.
 
     Parameters
     ----------
     north, south, east, west : float
         The outer edges of the outer cells, in the units of the map.
     rows, cols : int
-        How many cells there are from north to south and from west to east, 1 to 65,535 each.
+        The numbers of cells from north to south and from west to east, 1 to 65,535 each.
 
     Raises
     ------
     BadMap
-        Where the program has no such region: an edge of more than ten digits before the point, north not above south or
-        east not above west once they are rounded, too many rows, columns or cells.
+        The region is not allowed: an edge has more than ten digits before the point, north is not above south or east
+        not above west after rounding, or there are too many rows, columns or cells.
 
     Examples
     --------
@@ -144,7 +144,7 @@ class Region:
 
     @classmethod
     def from_transform(cls, transform: Sequence[float], rows: int, cols: int) -> Region:
-        """Return the region of a transform that is not rotated, its rows from north to south.
+        """Return the region of a transform that is not rotated and has rows from north to south.
 
         Parameters
         ----------
@@ -160,7 +160,7 @@ class Region:
         Raises
         ------
         BadMap
-            Where the transform is rotated, or turned over.
+            The transform is rotated or upside down.
 
         Examples
         --------
@@ -175,7 +175,7 @@ class Region:
 
     @classmethod
     def of_cells(cls, rows: int, cols: int) -> Region:
-        """Return the region of an array alone: cells of side 1, the bottom left corner at 0, 0.
+        """Return the region of an array without a position: cells of side 1, the bottom left corner at 0, 0.
 
         Parameters
         ----------
@@ -209,7 +209,7 @@ class Region:
 
     @property
     def shape(self) -> tuple[int, int]:
-        """Rows and columns, as numpy has them.
+        """Rows and columns, as in numpy.
 
         Examples
         --------
@@ -233,7 +233,7 @@ class Region:
 
     @property
     def transform(self) -> Transform:
-        """The six numbers of its transform, as `rasterio.Affine` takes them.
+        """The six numbers of its transform, in the order of `rasterio.Affine`.
 
         Examples
         --------
@@ -313,7 +313,7 @@ class Region:
         )
 
     def differences(self, other: Region) -> list[str]:
-        """Return in which edges and sizes another region differs from this one, and by how much.
+        """Return the edges and sizes in which another region differs from this one, with the difference.
 
         Parameters
         ----------
@@ -346,12 +346,12 @@ class Region:
 
 @dataclass(frozen=True)
 class Shift:
-    """Where the cells of one grid are in another.
+    """The position of one grid in another.
 
     Attributes
     ----------
     rows, cols : float
-        The row and the column of the other grid, from 0, at which the first cell begins; whole numbers if all cells are whole cells.
+        The row and column of the other grid, from 0, at which the first cell begins; integers if whole numbers of cells.
     height, width : float
         The size of a cell, in cells of the other grid.
     shape : tuple of int
@@ -368,7 +368,7 @@ class Shift:
 
     @classmethod
     def between(cls, other: Transform, grid: Transform, shape: tuple[int, int]) -> Shift:
-        """Return where a grid of so many rows and columns is in another one.
+        """Return the position of a grid in another one.
 
         Examples
         --------
@@ -383,23 +383,23 @@ class Shift:
 
     @property
     def has_other_cells(self) -> bool:
-        """Whether cells differ in size, so that the last one is off by more than a trifle."""
+        """Whether the sizes of cells differ so much that the last cell is off."""
         return any(abs(size - 1) * count > NEARLY_WHOLE for size, count in zip((self.height, self.width), self.shape))
 
     @property
     def is_whole(self) -> bool:
-        """Whether each cell is a whole cell of the other grid, or next to it."""
+        """Whether each cell coincides with a cell of the other grid."""
         return isinstance(self.rows, int) and isinstance(self.cols, int) and not self.has_other_cells
 
     def centres(self) -> tuple[NDArray[np.float64], NDArray[np.float64]]:
-        """Return the rows and columns of the other grid in which the centres of the rows and columns are."""
+        """Return the centres of the rows and columns, in rows and columns of the other grid."""
         if self.is_whole:
             return self.rows + np.arange(self.shape[0]) + 0.5, self.cols + np.arange(self.shape[1]) + 0.5
         (rows, cols) = self.shape
         return self.rows + self.height * (np.arange(rows) + 0.5), self.cols + self.width * (np.arange(cols) + 0.5)
 
     def told(self, name: str) -> str:
-        """Return what is in the way of taking whole cells."""
+        """Return the reason why whole cells cannot be taken."""
         if self.has_other_cells:
             mine, its = (f"{width:.10g} x {height:.10g}" for height, width in self.sizes)
             return f"cells of {mine}, and those of `{name}` are {its}"

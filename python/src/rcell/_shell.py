@@ -1,5 +1,5 @@
 # SPDX-License-Identifier: Apache-2.0 OR GPL-2.0-or-later
-"""The command line of `rcell-gis`: GeoTIFF in; tables as CSV, Markdown or JSON, and GeoTIFF, out."""
+"""The command line of `rcell-gis`: it reads GeoTIFFs, and writes tables as CSV, Markdown or JSON, and GeoTIFFs."""
 
 from __future__ import annotations
 
@@ -49,10 +49,10 @@ _MEMORY, _FILES, _COMMAND_LINE = 3, 4, 2
 
 
 class _Parser(argparse.ArgumentParser):
-    """A parser that says in one line what is wrong."""
+    """A parser whose errors have one line."""
 
     def error(self, message: str) -> NoReturn:
-        """End with status 2 and one line."""
+        """End with status 2 and a message of one line."""
         sys.stderr.write(f"{self.prog}: {message}; see {self.prog} --help\n")
         sys.exit(_COMMAND_LINE)
 
@@ -82,7 +82,7 @@ def _wholes(text: str) -> list[int]:
 
 
 def _pairs(words: Sequence[str]) -> dict[str, str]:
-    """Words NAME=PATH by their names."""
+    """Return arguments NAME=PATH as a dict."""
     found: dict[str, str] = {}
     for word in words:
         name, equals, path = word.partition("=")
@@ -94,7 +94,7 @@ def _pairs(words: Sequence[str]) -> dict[str, str]:
     return found
 
 
-# The commands. Each says in `given` which files it reads, by the names that errors have for them.
+# The commands. Each sets `given` to the files that it reads, by the names that errors use for them.
 
 
 def _composition(words: argparse.Namespace) -> None:
@@ -165,13 +165,13 @@ def _run(words: argparse.Namespace) -> None:
 
 
 def _write_maps(targets: list[str], inputs: Iterable[str], make: Callable[[], list[Grid]]) -> None:
-    """Write maps to files, all or none, unless one of these is an input, or of a form that is not known."""
+    """Write maps to files, all or none; raise Refused if a file is an input or its format is not known."""
     for path in targets:
         if not path.lower().endswith((".tif", ".tiff", ".txt", *_PICTURES)):
             raise Refused(f"{path}: a map is written as .tif, .tiff, .txt or a picture ({', '.join(_PICTURES)})", status=_COMMAND_LINE)
     refuse_inputs(targets, inputs)
     grids = make()
-    with contextlib.ExitStack() as files:  # each takes its name at the end
+    with contextlib.ExitStack() as files:  # the files get their names at the end
         parts = [files.enter_context(replacing(path)) for path in targets]
         for grid, path, part in zip(grids, targets, parts):
             try:
@@ -181,7 +181,7 @@ def _write_maps(targets: list[str], inputs: Iterable[str], make: Callable[[], li
 
 
 def _write_map(grid: Grid, path: str, ending: str) -> None:
-    """Write a map in the form of an ending, which the path need not have: links are followed."""
+    """Write a map in the format of an ending, which `path` need not have: links are followed."""
     if ending == ".txt":
         write_beside(path, grid.text())
     elif ending in _PICTURES:
@@ -213,7 +213,7 @@ def _put(words: argparse.Namespace, table: Table) -> None:
     write_beside(words.out, text.encode("utf-8", "surrogateescape"))
 
 
-# The commands with what they write, the options that several have, and their own.
+# Each command with its function, its result, the options that it shares with others, and its own options.
 
 OPTIONS: dict[str, dict[str, dict[str, Any]]] = {
     "map": {"map": {"metavar": "MAP", "help": "a raster that GDAL reads, or a grid of rcell"}},
@@ -302,7 +302,7 @@ COMMANDS: dict[str, tuple[Callable[[argparse.Namespace], None], str, str, dict[s
 }
 
 
-# What the command line of tiles uses as well
+# Functions that the command line of tiles also uses
 
 
 def script_of(word: str) -> str:
@@ -318,7 +318,7 @@ def script_of(word: str) -> str:
 
 @contextlib.contextmanager
 def _told_of_script(path: str) -> Iterator[None]:
-    """Raise what goes wrong with a script as Refused."""
+    """Raise errors in reading a script as Refused."""
     try:
         yield
     except (OSError, ValueError) as error:
@@ -326,7 +326,7 @@ def _told_of_script(path: str) -> Iterator[None]:
 
 
 def refuse_inputs(outputs: Iterable[str], inputs: Iterable[str]) -> None:
-    """Raise Refused if a file is to be written that is read too, or that is named twice."""
+    """Raise Refused if an output file is also an input, or is named twice."""
     seen: list[str] = []
     kept = list(inputs)
     for path in outputs:
@@ -338,7 +338,7 @@ def refuse_inputs(outputs: Iterable[str], inputs: Iterable[str]) -> None:
 
 
 def emit(text: str) -> None:
-    """Write to standard output, and at once: what it does not take is not tried again when Python ends."""
+    """Write to standard output immediately, so that Python does not try again at exit after an error."""
     sys.stdout.flush()
     with told_of("standard output"), Output("-") as output:
         write_all(output.stream(), text.encode("utf-8", "surrogateescape"))
@@ -383,7 +383,7 @@ def _tell(text: str) -> None:
 
 
 def _in_one_line(error: RcellError) -> str:
-    """An error with the line of the script and what to write instead, all in one line."""
+    """Return an error, the line of the script and what to write instead, all in one line."""
     if not isinstance(error, Refused):
         return str(error).replace("\n", "; ")
     place = f"{error.source}, line {error.line}" if error.line else error.source
@@ -392,7 +392,7 @@ def _in_one_line(error: RcellError) -> str:
 
 
 def _align_words(error: Refused, given: dict[str, str]) -> str | None:
-    """The command that aligns a map with the first one, if it is known which these are."""
+    """Return the command that aligns a map with the first one, if both are known."""
     first = next(iter(given), "")
     if not error.advice or error.source not in given or error.source == first:
         return "--resample nearest" if error.advice else None

@@ -1,5 +1,5 @@
 # SPDX-License-Identifier: Apache-2.0 OR GPL-2.0-or-later
-"""Tables: columns with names, and the table that an r.stats of a script writes."""
+"""Tables: columns with names, and the table that an r.stats of a script prints."""
 
 from __future__ import annotations
 
@@ -23,7 +23,7 @@ __all__ = ["Column", "Pivot", "StatsTable", "Table", "framed", "shortest"]
 
 Value = int | float | str | None
 Words = ParamSpec("Words")
-# Rows that a notebook shows.
+# The most rows that a notebook shows.
 SHOWN_ROWS = 20
 
 
@@ -59,7 +59,7 @@ class Column:
     ----------
     name : str
     kind : {"class", "label", "count", "measure"}
-        Whole numbers, of which -2147483648 is null; texts, of which None is missing; whole numbers; floats, of which NaN is missing.
+        Integers, with -2147483648 for null; texts, with None for missing; integers; floats, with NaN for missing.
     values : array, or list of str or None
     """
 
@@ -68,7 +68,7 @@ class Column:
     values: Any
 
     def listed(self) -> list[Value]:
-        """Return the values, None for those that are missing."""
+        """Return the values, with None for missing ones."""
         if self.kind == "label":
             return list(self.values)
         values: list[Value] = self.values.tolist()
@@ -77,14 +77,14 @@ class Column:
         return [None if value != value else value for value in values] if self.kind == "measure" else values
 
     def series(self, pandas: Any) -> Any:
-        """Return the values as a column of a DataFrame has them."""
+        """Return the values for a column of a DataFrame."""
         if self.kind == "class":
             return pandas.arrays.IntegerArray(self.values.astype(np.int64), self.values == NULL)
         return pandas.array(self.values, dtype="string") if self.kind == "label" else self.values
 
 
 class Table:
-    """Columns with names, which `frame` returns as a DataFrame.
+    """Columns with names; `frame` returns them as a DataFrame.
 
     Parameters
     ----------
@@ -118,7 +118,7 @@ class Table:
 
     @cached_property
     def rows(self) -> list[tuple[Value, ...]]:
-        """The rows, with None for what is missing.
+        """The rows, with None for missing values.
 
         Examples
         --------
@@ -153,12 +153,12 @@ class Table:
         0   1      2
         1   2      1
         """
-        import pandas  # here, since it takes longer to load than all the rest
+        import pandas  # imported here, since it takes longer to load than everything else
 
         return pandas.DataFrame({column.name: column.series(pandas) for column in self._all()})
 
     def csv(self) -> str:
-        """Return the table as comma-separated values with a header; what is missing is empty.
+        """Return the table as comma-separated values with a header; missing values are empty.
 
         Returns
         -------
@@ -180,7 +180,7 @@ class Table:
         return text.getvalue()
 
     def json(self) -> str:
-        """Return the table as a list of objects in JSON; what is missing is null.
+        """Return the table as a JSON list of objects; missing values are null.
 
         Returns
         -------
@@ -198,7 +198,7 @@ class Table:
         return "[" + ",\n ".join(objects) + "]\n"
 
     def markdown(self) -> str:
-        """Return the table in Markdown, numbers on the right, with at most ten digits.
+        """Return the table in Markdown, numbers aligned to the right, with at most ten digits.
 
         Returns
         -------
@@ -231,7 +231,7 @@ class Table:
 
 @dataclass(frozen=True, repr=False)
 class StatsTable(Table):
-    """What one r.stats of a script wrote.
+    """The table of one r.stats of a script.
 
     Parameters
     ----------
@@ -242,11 +242,11 @@ class StatsTable(Table):
     maps : tuple of str
         The maps, in the order of the columns.
     categories : array of int64, entries x maps
-        -2147483648 stands for null.
+        -2147483648 is null.
     cells : array of int64 or None
-        How many cells have the combination; None if the script did not ask for it (`-c`).
+        The number of cells of each combination; None if the script has no `-c`.
     labels : mapping or None
-        By the names of maps, the labels of their categories; None without `-l`.
+        The labels of the categories of each map, by its name; None without `-l`.
     unit : str or None
         The unit of `area`.
     area, percent : array of float64 or None
@@ -276,7 +276,7 @@ class StatsTable(Table):
 
     @cached_property
     def _made(self) -> list[Column]:
-        """Each map, `NAME_label` with `-l`, `cells`, the area, and `percent`; a name that occurs already has `_2` after it."""
+        """The columns: each map, `NAME_label` with `-l`, `cells`, the area and `percent`; repeated names get `_2`."""
         found: list[Column] = []
         for place, name in enumerate(self.maps):
             codes = self.categories[:, place]
@@ -347,7 +347,7 @@ class StatsTable(Table):
         return self.cells
 
     def pivot(self) -> Pivot:
-        """Return the table of two maps as a matrix: of percentages or areas if the table has them, else of cells.
+        """Return the table of two maps as a matrix: of percentages or areas if the table has them, otherwise of cells.
 
         Returns
         -------
@@ -376,20 +376,20 @@ class StatsTable(Table):
         return Pivot(self._named(rows, 0), self._named(columns, 1), values)
 
     def _sides(self, place: int) -> tuple[NDArray[np.int64], NDArray[np.intp]]:
-        """The categories of a map, null last, and the place of each row among them."""
+        """Return the categories of a map, null last, and the index of each row among them."""
         ordered = np.where(self.categories[:, place] == NULL, np.iinfo(np.int64).max, self.categories[:, place])
         categories, at = np.unique(ordered, return_inverse=True)
         return np.where(categories == np.iinfo(np.int64).max, NULL, categories), at
 
     def _named(self, categories: NDArray[np.int64], place: int) -> list[int | str | None]:
-        """The labels of categories; those that two have, or that read as null, with the category after them."""
+        """Return the labels of categories; a label that occurs twice, or reads as null, is followed by its category."""
         labels = (self.labels or {}).get(self.maps[place], {})
         names = [None if category == NULL else labels.get(category, category) for category in categories.tolist()]
         often = Counter("null" if name is None else str(name) for name in names)
         return [f"{name} ({category})" if isinstance(name, str) and often[name] > 1 else name for name, category in zip(names, categories.tolist())]
 
     def pivot_frame(self) -> Any:
-        """Return the matrix as a DataFrame, the names of the maps over its rows and columns.
+        """Return the matrix as a DataFrame, with the names of the maps above its rows and columns.
 
         Returns
         -------
@@ -414,7 +414,7 @@ class StatsTable(Table):
 
 
 def framed(make: Callable[Words, Table]) -> Callable[Words, Any]:
-    """Return a call that returns its table as a DataFrame; `inspect.unwrap` has the one of the Table."""
+    """Return a function that returns its table as a DataFrame; `inspect.unwrap` gives the one that returns the Table."""
 
     @wraps(make)
     def call(*words: Words.args, **named: Words.kwargs) -> Any:
@@ -424,7 +424,7 @@ def framed(make: Callable[Words, Table]) -> Callable[Words, Any]:
 
 
 def _named_once(columns: Iterable[Column]) -> list[Column]:
-    """Columns, each name once: one that is there already has the first number after it that makes it new."""
+    """Return columns with unique names: a repeated name gets the first number that makes it unique."""
     found: dict[str, Column] = {}
     for column in columns:
         number, new = 2, column.name
@@ -435,7 +435,7 @@ def _named_once(columns: Iterable[Column]) -> list[Column]:
 
 
 def shortest(value: Value) -> str:
-    """Return a value as CSV has it: numbers in the shortest form that reads back, what is missing as an empty text.
+    """Return a value for a CSV: numbers in the shortest form that reads back the same, missing values as an empty text.
 
     Examples
     --------
@@ -454,5 +454,5 @@ def _escaped(text: str) -> str:
 
 
 def _axis(names: list[int | str | None]) -> list[Any]:
-    """Names of an axis, null as text, since an axis of whole numbers has no place for it."""
+    """Return the names of an axis with null as text, since an axis of integers cannot hold null."""
     return ["null" if name is None else name for name in names]

@@ -1,5 +1,5 @@
 # SPDX-License-Identifier: Apache-2.0 OR GPL-2.0-or-later
-"""Grids of the program's own form: rcell reads them, and lists their cells."""
+"""Text grids: rcell reads them and lists their cells."""
 
 from __future__ import annotations
 
@@ -24,7 +24,7 @@ from ._region import Region, Transform, units_of
 
 __all__ = ["TextMap", "open_path"]
 
-# A header of six short lines, and as many more as anyone may write before it.
+# Room for a header of six short lines, and for blank lines before it.
 HEADER_BYTES = 1 << 16
 _KEYS = ("north", "south", "east", "west", "rows", "cols", "null", "type", "multiplier")
 _FIRST_LINE = re.compile(rb"\s*(?:%s):" % "|".join(_KEYS).encode())
@@ -34,7 +34,7 @@ _VIRTUAL = re.compile(r"/vsi|[A-Za-z][A-Za-z0-9+.-]+:")
 
 @dataclass(frozen=True)
 class TextMap:
-    """A file that is a grid; made by `open_path`.
+    """A file that contains a grid; made by `open_path`.
 
     Attributes
     ----------
@@ -42,7 +42,7 @@ class TextMap:
     path : str
     region : Region
     held : bytes or None
-        What has been read of a pipe, which can be read once; None for a file.
+        The bytes that were already read of a pipe; None for a file, which can be read again.
     """
 
     name: str
@@ -59,16 +59,16 @@ class TextMap:
 
     @property
     def transform(self) -> Transform:
-        """The transform that answers get."""
+        """The transform for results."""
         return self.region.transform
 
     def blocks(self) -> Iterator[Block]:
-        """Its rows from north to south, as rcell reads them.
+        """Yield the rows from north to south, as rcell reads them.
 
         Raises
         ------
         Refused
-            As rcell refuses the grid.
+            rcell rejects the grid.
         """
         from ._program import fault_of_text
 
@@ -87,7 +87,7 @@ class TextMap:
 
     @contextmanager
     def _listing(self) -> Iterator[Started]:
-        """A run of rcell that lists the cells of the grid, with a number for null."""
+        """Start a run of rcell that lists the cells of the grid, with a number for null."""
         from ._program import find_program, start_on_text
 
         program = find_program()
@@ -106,7 +106,7 @@ class TextMap:
             yield run
 
     def _feed(self, writer: int) -> None:
-        """Write the text of a pipe, what has been read of it first; rcell writes nothing before it has read it all."""
+        """Write the text of a pipe, first what was already read of it; rcell writes nothing before it has read everything."""
         assert self.held is not None and self.stream is not None
         try:
             with suppress(BrokenPipeError), self.stream:
@@ -125,16 +125,16 @@ def _opened(name: str, path: str) -> int:
 
 
 def open_path(name: str, path: str | os.PathLike[str]) -> Source:
-    """A path as a map: a grid of the program's own form, or anything that rasterio opens.
+    """Return a path as a map: a text grid, or anything that rasterio opens.
 
     Raises
     ------
     ReadFailed
-        Where it cannot be opened.
+        The file cannot be opened.
     BadMap
-        Where it can't be a map.
+        The file cannot be a map.
     Refused
-        As the program refuses, where it is a grid with a bad header.
+        rcell rejects the header of the grid.
     """
     text = os.fsdecode(path)
     if "\0" in text:
@@ -167,7 +167,7 @@ def _raster(name: str, path: str) -> Source:
 
 
 def _head_of(stream: io.FileIO, is_file: bool) -> bytes:
-    """The first bytes: of a file so many, of a pipe until the header is whole."""
+    """Return the first bytes: of a file a fixed number, of a pipe the complete header."""
     head = b""
     while len(head) < HEADER_BYTES:
         piece = stream.read(HEADER_BYTES - len(head))
@@ -178,7 +178,7 @@ def _head_of(stream: io.FileIO, is_file: bool) -> bytes:
 
 
 def _fields(head: bytes) -> tuple[dict[str, str], bool]:
-    """The header's values by their keys, and whether the first line of cells has been seen."""
+    """Return the header's values by key, and whether the first line of cells was found."""
     fields: dict[str, str] = {}
     for line in head.decode("latin-1").split("\n")[:-1]:
         key, colon, value = line.strip().partition(":")
@@ -191,7 +191,7 @@ def _fields(head: bytes) -> tuple[dict[str, str], bool]:
 
 
 def _region_of(name: str, head: bytes) -> Region | None:
-    """The region of a header; None where it is not one, which the program then says in its own words."""
+    """Return the region of a header, or None if it is invalid, which rcell then reports."""
     fields = _fields(head + b"\n")[0]
     try:
         north, south, east, west = (_edge_of(fields[key]) for key in ("north", "south", "east", "west"))
@@ -205,13 +205,13 @@ def _region_of(name: str, head: bytes) -> Region | None:
 
 
 def _edge_of(text: str) -> float | Fraction:
-    """Return an edge as a float, if that is exact enough for the program; else exactly."""
+    """Return an edge as a float if that is exact enough for the program, otherwise exactly."""
     exact = Fraction(text) if _EDGE.fullmatch(text) else Fraction(float(text))
     return float(exact) if units_of(float(exact)) == units_of(exact) else exact
 
 
 def _refused_region(name: str, path: str, is_file: bool) -> Region:
-    """Has the program refuse a grid whose header is bad."""
+    """Raise rcell's error about a grid whose header is invalid."""
     if is_file:
         for _ in TextMap(name, path, Region.of_cells(1, 1)).blocks():
             pass

@@ -29,17 +29,17 @@ def zonal(
     zone_labels: Any = None,
     crs: Any = None,
 ) -> Table:
-    """Compute statistics of the values of a map of whole numbers by zone.
+    """Compute statistics of a map of whole numbers by zone.
 
     Parameters
     ----------
     values : path, array, .. as a map of `run`
     zones : map, or path of polygons, or GeoDataFrame
-        Polygons are rasterised with GDAL: a cell is in the polygon that has its centre.
+        Polygons are rasterised with GDAL: a cell belongs to the polygon that contains its centre.
     quantiles : iterable of float
-        From 0 to 1, each a column: 0.5 is `q50`, 0.025 is `q2_5`. They are linear, as numpy's are by default.
+        From 0 to 1; each is a column: 0.5 is `q50`, 0.025 is `q2_5`. They are interpolated linearly, as numpy does by default.
     zone_field : str, optional
-        The field of the polygons that has the ids of the zones, or their names.
+        The field of the polygons with the ids or names of the zones.
     zone_labels : path, dict or DataFrame, optional
         The legend of the zones, as in `composition`.
     crs : any, optional
@@ -54,7 +54,7 @@ def zonal(
     Raises
     ------
     Refused
-        As `run`; quantiles that are not from 0 to 1.
+        As for `run`, and if a quantile is not from 0 to 1.
 
     Examples
     --------
@@ -74,7 +74,7 @@ def zonal(
 
 
 def _title(quantile: Any) -> str:
-    """The name of the column of a quantile: q and its percentage, with _ for the point."""
+    """Return the name of the column of a quantile: q and its percentage, with _ for the point."""
     try:
         number = float(quantile)
     except (TypeError, ValueError):
@@ -87,7 +87,7 @@ def _title(quantile: Any) -> str:
 
 
 def _moments(values: Integers, cells: Integers, first: NDArray[np.intp]) -> list[Column]:
-    """Sums and what follows from them, in whole numbers until they are divided."""
+    """Return sums, means, extremes and variances, with integers until the final division."""
     if not first.size:
         sums = squares = count = least = most = np.empty(0, np.int64)
     else:
@@ -107,7 +107,7 @@ def _moments(values: Integers, cells: Integers, first: NDArray[np.intp]) -> list
 
 
 def _quantiles(values: Integers, cells: Integers, first: NDArray[np.intp], asked: list[tuple[str, float]]) -> list[Column]:
-    """Quantiles between the neighbours in the order of the cells of a zone, as numpy's method `linear` has them."""
+    """Return quantiles, interpolated between neighbouring cells of a zone like numpy's method `linear`."""
     if not first.size:
         return [Column(title, "measure", np.empty(0)) for title, _ in asked]
     until = np.cumsum(cells)

@@ -21,7 +21,7 @@ __all__ = ["zones_of"]
 _VECTOR = re.compile(r"\.(gpkg|shp|geojson|json|fgb|gml|kml|sqlite)$", re.IGNORECASE)
 _LAYER = "|layername="
 _SHOWN = 3
-# The only one that GeoJSON has.
+# The only reference system of GeoJSON.
 GEOJSON_CRS = "EPSG:4326"
 _PURPOSE = "to read polygons"
 
@@ -43,7 +43,7 @@ class _Polygons:
         self.values = [number if field is None else feature["properties"][field] for number, feature in kept]
 
     def ids(self) -> tuple[list[int], dict[int, str]]:
-        """The zone of each polygon, and the labels of the zones."""
+        """Return the zone of each polygon, and the labels of the zones."""
         if all(_is_whole(value) for value in self.values):
             return [int(value) for value in self.values], {}
         numbers: dict[str, int] = {}
@@ -56,28 +56,28 @@ def _is_whole(value: Any) -> bool:
 
 
 def zones_of(given: Any, field: str | None, like: Source, crs: Any = None) -> Any:
-    """Return zones as a map: polygons rasterised on the grid of another map, anything else as it is.
+    """Return zones as a map: polygons are rasterised on the grid of another map, anything else is returned unchanged.
 
-    A cell is in the polygon that has its centre. Of several the later one has it, and a warning says so.
+    A cell belongs to the polygon that contains its centre: to the last of several, with a warning.
 
     Parameters
     ----------
     given : path, GeoDataFrame, GeoJSON as a dict, or a map
         Paths of vector files may name a layer, as `FILE|layername=NAME`.
     field : str or None
-        The field that has the ids of the zones, if these are whole numbers, or their names; without it the zones are 1, 2, ..
+        The field with the ids (whole numbers) or names of the zones; without it the zones are 1, 2, ..
     like : Source
     crs : any
-        The reference system that is stated for maps without one.
+        The reference system of maps that have none.
 
     Raises
     ------
     OtherCrs
         The polygons have another reference system than the map.
     BadMap
-        No polygon has the centre of a cell.
+        No polygon contains the centre of a cell.
     Refused
-        There is no such field or layer, or features are not polygons.
+        The field or layer does not exist, or features are not polygons.
     """
     polygons = _polygons(given, field)
     if polygons is None:
@@ -95,7 +95,7 @@ def zones_of(given: Any, field: str | None, like: Source, crs: Any = None) -> An
 
 
 def _burnt(shapes: list[Any], like: Source) -> NDArray[np.int32]:
-    """The number of the last polygon that has the centre of each cell, from 1; 0 for none."""
+    """Return for each cell the number, from 1, of the last polygon that contains its centre; 0 for none."""
     features = need("rasterio.features", "gis", _PURPOSE)
     add = need("rasterio.enums", "gis", _PURPOSE).MergeAlg.add
     words = {"out_shape": like.region.shape, "transform": need("affine", "gis", _PURPOSE).Affine(*like.transform), "dtype": "int32"}
@@ -109,7 +109,7 @@ def _burnt(shapes: list[Any], like: Source) -> NDArray[np.int32]:
 
 
 def _tell_of_lost(burnt: NDArray[np.int32], names: list[str]) -> None:
-    """Warn of polygons without a cell; raise BadMap if all are."""
+    """Warn of polygons without a cell; raise BadMap if no polygon has one."""
     cells = np.bincount(burnt.reshape(-1), minlength=len(names) + 1)[1:]
     lost = [name for name, count in zip(names, cells.tolist()) if count == 0]
     if len(lost) == len(names):
@@ -120,7 +120,7 @@ def _tell_of_lost(burnt: NDArray[np.int32], names: list[str]) -> None:
 
 
 def _polygons(given: Any, field: str | None) -> _Polygons | None:
-    """The features of a layer or a GeoDataFrame; None of anything else."""
+    """Return the features of a layer or a GeoDataFrame; None for anything else."""
     if hasattr(given, "iterfeatures") and hasattr(given, "crs"):
         features = list(given.iterfeatures(na="null"))
         return _Polygons(features, field, given.crs)
