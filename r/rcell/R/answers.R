@@ -40,7 +40,7 @@ rcell_grid <- function(.script, .name, ..., filename = "", overwrite = FALSE, cr
   sources <- sources_of(asked$maps, crs)
   check_inputs(filename, sources)
   answer <- answer_of(asked, sources, wanted = .name)
-  written(raster_of(answer, .name), filename)
+  written(raster_of(end_of(answer$frames), answer), filename)
 }
 
 # The maps of a call and its script, which the program has accepted before a map is looked for.
@@ -63,17 +63,17 @@ run_own <- function(script, sources, program = NULL) run_pipe(rcell_program(prog
 
 # An output as a data frame, or as a raster with the geometry of the first map.
 output_of <- function(output, answer) {
-  if (output$kind == "GRID") return(raster_of(answer, output$maps))
   if (output$kind == "TEXT") return(printed_of(output, answer))
   frame <- Find(function(frame) frame$line == output$line, answer$frames)
+  if (output$kind == "GRID") return(raster_of(frame, answer))
   table_of(output, frame$codes, frame$cells, answer$labels)
 }
 
-cells_of <- function(answer, name) Find(function(frame) frame$kind == "GRID" && frame$maps == name, answer$frames)$cells
+cells_of <- function(frame) as.integer(values(frame$raster, mat = FALSE))
 
 # The cells of maps side by side, as r.stats -1 prints them: without those that are null in any map, or in all.
 printed_of <- function(output, answer) {
-  cells <- lapply(output$maps, function(name) cells_of(answer, name))
+  cells <- lapply(output$maps, function(name) cells_of(Find(function(frame) frame$kind == "GRID" && frame$maps == name, answer$frames)))
   if (any(c("n", "N") %in% output$flags)) {
     is_null <- lapply(cells, is.na)
     kept <- !Reduce(if ("n" %in% output$flags) `|` else `&`, is_null)
@@ -82,17 +82,19 @@ printed_of <- function(output, answer) {
   table_of(output, cells, NULL, answer$labels)
 }
 
-# A map as a raster with the geometry of the first map, and with its labels.
-raster_of <- function(answer, name) {
-  raster <- rast(answer$template)
-  values(raster) <- cells_of(answer, name)
-  labels <- answer$labels[[name]]
+# The raster of a frame with the geometry of the first map, its name and its labels. All is set in place: terra copies the cells of a
+# raster that is assigned to.
+raster_of <- function(frame, answer) {
+  raster <- frame$raster
+  set.ext(raster, ext(answer$template))
+  set.crs(raster, crs(answer$template))
+  labels <- answer$labels[[frame$maps]]
   if (length(labels$codes)) {
     table <- data.frame(labels$codes, labels$labels)[order(labels$codes), ]
-    names(table) <- c("value", name)
-    levels(raster) <- table
+    names(table) <- c("value", frame$maps)
+    set.cats(raster, 1, table)
   }
-  names(raster) <- name
+  set.names(raster, frame$maps)
   raster
 }
 

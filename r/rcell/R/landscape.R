@@ -116,8 +116,8 @@ rcell_majority <- function(x, size = 3, fill = FALSE, filename = "", overwrite =
     class_lines(size, run_own("r.stats -n input=map", sources, program)[[1]]$codes[[1]])
   script <- c(script, if (fill) "r.mapcalc majority = commonest" else "r.mapcalc majority = if(isnull(map), null(), commonest)",
     "r.out.ascii input=majority")
-  answer <- list(frames = run_own(script, sources, program), template = sources$map$template, labels = list(majority = sources$map$labels))
-  written(raster_of(answer, "majority"), filename)
+  answer <- list(template = sources$map$template, labels = list(majority = sources$map$labels))
+  written(raster_of(run_own(script, sources, program)[[1]], answer), filename)
 }
 
 # The commonest class of a window as one expression.

@@ -259,7 +259,7 @@ warn_of_floats <- function(name) {
 }
 
 # A raster of a file whose cells can be nothing but categories.
-is_exact_type <- function(raster) isTRUE(is.int(raster)) && isTRUE(datatype(raster) %in% EXACT_TYPES)
+is_exact_type <- function(raster) !inMemory(raster) && isTRUE(is.int(raster)) && isTRUE(datatype(raster) %in% EXACT_TYPES)
 
 # The cells of some rows, those that are transparent null. A broken part of a file is an error, and never null.
 read_block <- function(source, row, count) {

@@ -6,7 +6,11 @@ RESPONSE_MAGIC <- charToRaw("RCELLA1\n")
 TYPE_U8 <- 1L
 TYPE_I32 <- 6L
 HAS_NODATA <- 1L
-NULL_BYTE <- 255L
+# Columns, rows, north, type, null, file, first byte, bytes a cell and bytes a row.
+RAW_RASTER <- "<VRTDataset rasterXSize=\"%.0f\" rasterYSize=\"%.0f\"><GeoTransform>0, 1, 0, %.0f, 0, -1</GeoTransform>
+<VRTRasterBand dataType=\"%s\" band=\"1\" subClass=\"VRTRawRasterBand\"><NoDataValue>%s</NoDataValue>
+<SourceFilename relativeToVRT=\"1\">%s</SourceFilename><ImageOffset>%.0f</ImageOffset><PixelOffset>%.0f</PixelOffset>
+<LineOffset>%.0f</LineOffset><ByteOrder>LSB</ByteOrder></VRTRasterBand></VRTDataset>"
 
 bytes_of <- function(numbers) writeBin(as.integer(numbers), raw(), endian = "little")
 
@@ -36,13 +40,19 @@ write_request <- function(path, sources, script) {
 }
 
 # Reads the fields of a response one after another. `wrong` is called if the file ends before a field does.
-reader_of <- function(from, size, wrong) {
-  left <- size
+reader_of <- function(from, path, wrong) {
+  at <- 0
+  end <- file.size(path)
+  # Returns where the bytes begin.
+  pass <- function(bytes) {
+    # `bytes` may itself be read here.
+    force(bytes)
+    at <<- at + bytes
+    if (is.na(at) || at > end) wrong()
+    at - bytes
+  }
   take <- function(kind, count, width) {
-    # `count` may itself be read here.
-    size <- count * width
-    left <<- left - size
-    if (is.na(left) || left < 0) wrong()
+    pass(count * width)
     readBin(from, kind, count, width, endian = "little")
   }
   numbers <- function(count = 1) {
@@ -56,7 +66,27 @@ reader_of <- function(from, size, wrong) {
     Encoding(found) <- "UTF-8"
     found
   }
-  list(bytes = bytes, integers = function(count) take("integer", count, 4L), numbers = numbers, text = text, is_at_end = function() left == 0)
+  raster <- function(rows, cols, is_small) {
+    begin <- pass(rows * cols * (if (is_small) 1 else 4))
+    seek(from, at)
+    raster_at(path, begin, rows, cols, is_small)
+  }
+  list(bytes = bytes, integers = function(count) take("integer", count, 4L), numbers = numbers, text = text, raster = raster,
+    is_at_end = function() at == end)
+}
+
+# A raster of the cells in a file, null as NA. GDAL reads them, since each cell that R has in between costs as much as that again.
+raster_at <- function(path, begin, rows, cols, is_small) {
+  header <- paste0(path, ".vrt")
+  on.exit(unlink(header))
+  type <- if (is_small) c("Byte", "255") else c("Int32", "-2147483648")
+  bytes <- if (is_small) 1 else 4
+  writeLines(sprintf(RAW_RASTER, cols, rows, rows, type[[1]], type[[2]], basename(path), begin, bytes, bytes * cols), header)
+  raster <- with_path(header, rast(header))
+  varnames(raster) <- ""
+  set.values(raster)
+  setMinMax(raster)
+  raster
 }
 
 table_frame <- function(reader) {
@@ -77,16 +107,9 @@ grid_frame <- function(reader) {
   line <- as.integer(reader$numbers())
   reader$text()
   name <- reader$text()
-  count <- prod(reader$numbers(2))
+  size <- reader$numbers(2)
   is_small <- as.integer(reader$bytes(1)) == TYPE_U8
-  list(kind = "GRID", line = line, maps = name, cells = if (is_small) integers_of(reader$bytes(count)) else reader$integers(count))
-}
-
-# Bytes as integers, null as NA.
-integers_of <- function(bytes) {
-  cells <- as.integer(bytes)
-  cells[which(bytes == as.raw(NULL_BYTE))] <- NA
-  cells
+  list(kind = "GRID", line = line, maps = name, raster = reader$raster(size[[1]], size[[2]], is_small))
 }
 
 text_frame <- function(reader) {
@@ -106,7 +129,7 @@ FRAMES <- list(TABL = table_frame, GRID = grid_frame, TEXT = text_frame, DONE = 
 read_response <- function(path, wrong) {
   from <- file(path, "rb")
   on.exit(close(from))
-  reader <- reader_of(from, file.size(path), wrong)
+  reader <- reader_of(from, path, wrong)
   if (!identical(reader$bytes(length(RESPONSE_MAGIC)), RESPONSE_MAGIC)) wrong()
   frames <- list()
   repeat {

@@ -62,7 +62,7 @@ probe <- function(path) {
     rcell_wrong_program = wrong, rcell_killed = wrong, rcell_refused = wrong)
   table <- list(list(c(12L, NA), c(2L, NA)), c(1L, 1L))
   if (!identical(lapply(found, `[[`, "kind"), list("TABL", "GRID")) || !identical(unname(found[[1]][c("codes", "cells")]), table) ||
-      !identical(found[[2]]$cells, c(1L, NA, 2L))) wrong()
+      !identical(cells_of(found[[2]]), c(1L, NA, 2L))) wrong()
 }
 
 # A map of a few cells in one row.

@@ -26,8 +26,11 @@ aggregate_up <- function(map, side, rows, cols) {
   map
 }
 
-# As rows from north to south.
-as_rows <- function(map) matrix(values(map, mat = FALSE), nrow(map), ncol(map), byrow = TRUE)
+# As rows from north to south. Null is NA in some rasters of terra and NaN in others.
+as_rows <- function(map) {
+  cells <- values(map, mat = FALSE)
+  matrix(replace(cells, is.na(cells), NA), nrow(map), ncol(map), byrow = TRUE)
+}
 
 # What a call is refused with, or NULL.
 refusal <- function(call) tryCatch({

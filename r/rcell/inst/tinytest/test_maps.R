@@ -19,10 +19,16 @@ for (type in c("INT1U", "INT2U", "INT2S", "FLT4S", "FLT8S")) {
   expect_identical(counts(file("typed.tif")), counts(first), info = type)
 }
 
+# A raster of a file keeps the type of the file if cells are set in it, and these may be fractions.
+writeRaster(first, file("typed.tif"), datatype = "INT1U", overwrite = TRUE)
+changed <- rast(file("typed.tif"))
+changed[2, 3] <- 0.5
+expect_identical(refusal(counts(changed))$text, "not a map of whole numbers: the cell at row 2, column 3 is 0.5")
+
 # Blocks of rows, and a single row or column.
 many <- made_map(1100, 1000, 9, seed = 4)
 expect_identical(counts(many)$cells, as.integer(table(values(many, mat = FALSE), useNA = "ifany")))
-expect_identical(values(rcell_grid("", "x", x = many), mat = FALSE), values(many, mat = FALSE))
+expect_identical(as_rows(rcell_grid("", "x", x = many)), as_rows(many))
 for (size in list(c(1, 7), c(7, 1), c(1, 1))) {
   thin <- made_map(size[[1]], size[[2]], 3, seed = 9)
   expect_identical(as_rows(rcell_grid("", "x", x = thin)), as_rows(thin))

@@ -30,7 +30,7 @@ expect_identical(rcell_run("r.stats -cn input=x\nr.stats -c input=x", x = matrix
 outputs <- rcell_run("r.stats -c input=lc\nr.out.ascii input=lc\nr.stats -1 input=zone\nr.stats -cn input=lc,zone", lc = lc, zone = zone)
 expect_identical(names(outputs), c("lc", "lc", "zone", "lc,zone"))
 expect_identical(outputs[[1]], found)
-expect_identical(values(outputs[[2]], mat = FALSE), values(lc, mat = FALSE))
+expect_identical(as_rows(outputs[[2]]), as_rows(lc))
 expect_identical(outputs[[3]]$zone, as.integer(values(zone, mat = FALSE)))
 expect_identical(sum(outputs[[4]]$cells), 10L)
 expect_identical(length(rcell_table("r.stats -c input=lc\nr.stats -c input=zone", lc = lc, zone = zone)), 2L)
