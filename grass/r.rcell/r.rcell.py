@@ -71,6 +71,7 @@ import tempfile
 import time
 from collections import namedtuple
 from contextlib import contextmanager
+from dataclasses import replace
 
 import grass.script as gs
 from grass.exceptions import CalledModuleError
@@ -79,6 +80,7 @@ NULL = -2147483648  # of r.out.bin and r.in.bin; no category has this value
 MOST_SIDE = 65535  # rows or columns that rcell takes
 MOST_CELLS = 2147483647
 BLOCK_CELLS = 1 << 20  # cells that are sent at a time
+ENTRIES_OF_A_PIECE = 1 << 16  # of a table that is printed
 SECONDS_OF_A_STEP = 0.5  # of the line of progress
 BLANKS = b" \t\r"
 NAME = re.compile(r"[A-Za-z_][A-Za-z0-9_.]{0,63}")
@@ -100,20 +102,23 @@ class Stopped(Exception):
 # Scripts
 
 
-def with_labels(script, outline):
+def with_labels(script, statements):
     """The script with the flag -l in each r.stats that lacks it."""
     lines = script.split("\n")
-    for frame in outline.frames:
-        listing = outline.listings.get(frame.line)
-        if "l" not in listing.flags if listing else getattr(frame, "labels", ()) is None:
-            lines[frame.line - 1] = lines[frame.line - 1].replace("r.stats", "r.stats -l", 1)
+    for it in statements:
+        if it.command == "r.stats" and "l" not in it.options:
+            lines[it.line - 1] = lines[it.line - 1].replace("r.stats", "r.stats -l", 1)
     return "\n".join(lines)
 
 
-def labelled_maps(outline):
+def labelled_maps(statements):
     """The maps of the tables with labels."""
-    listed = [name for listing in outline.listings.values() if "l" in listing.flags for name in listing.maps]
-    return set(listed + [name for frame in outline.frames if getattr(frame, "labels", None) is not None for name in frame.names])
+    return {name for it in statements if "l" in it.options for name in it.inputs}
+
+
+def made_by(statements):
+    """The command for each map that a script makes."""
+    return {it.made: it.command for it in statements if it.made}
 
 
 def stopped(end, script, names):
@@ -195,16 +200,21 @@ def end_of(module, raster):
 # What rcell writes
 
 
-def printed(frame, region):
+def printed(frame):
     """The text of a table, a list of cells or a grid, as rcell prints it, piece by piece."""
-    if hasattr(frame, "text"):
-        yield frame.text
+    if hasattr(frame, "rows"):
+        yield from printed_grid(frame)
         return
-    if not hasattr(frame, "rows"):
-        yield frame.printed()
-        return
-    edges = "north: %s\nsouth: %s\neast: %s\nwest: %s\n" % edge_texts(region)
-    yield ("%srows: %d\ncols: %d\n" % (edges, frame.rows, frame.cols)).encode()
+    width = len(frame.names)
+    for first in range(0, frame.entries, ENTRIES_OF_A_PIECE):
+        entries = slice(first, min(first + ENTRIES_OF_A_PIECE, frame.entries))
+        cells = slice(width * entries.start, width * entries.stop)
+        counts, labels = frame.counts and frame.counts[entries], frame.labels and frame.labels[cells]
+        yield replace(frame, entries=entries.stop - first, counts=counts, cells=frame.cells[cells], labels=labels).printed()
+
+
+def printed_grid(frame):
+    yield ("north: %s\nsouth: %s\neast: %s\nwest: %s\nrows: %d\ncols: %d\n" % (*frame.edges, frame.rows, frame.cols)).encode()
     if frame.null_text != b"*":
         yield b"null: %s\n" % frame.null_text
     for first in range(0, len(frame.cells), frame.cols):
@@ -307,17 +317,17 @@ def find_front(path):
             sys.path.insert(0, os.path.join(folder, modules))
             break
     try:
-        import rcell_front.outlines  # noqa: F401
+        import rcell_front.pipe  # noqa: F401
     except ImportError:
         raise Stopped(_("The Python modules of {} are not in ../share/rcell next to it").format(path)) from None
 
 
 def judged(script, names):
-    """The outline of a script, if rcell accepts it."""
-    from rcell_front.outlines import outline_of
+    """The statements of a script, if rcell accepts it."""
+    from rcell_front import pipe
 
     with told(script, names):
-        return outline_of(program(), script, names)
+        return pipe.plan(program(), names, script.encode("utf-8", "surrogateescape"))
 
 
 @contextmanager
@@ -338,7 +348,7 @@ def run(script, inputs, outputs, labels, made, region):
     from rcell_front import pipe
 
     names = [it.name for it in inputs]
-    labelled = [it.name for it in outputs if made.get(it.name) == "reclass" or labels.get(it.name)]
+    labelled = [it.name for it in outputs if made.get(it.name) == "r.reclass" or labels.get(it.name)]
     lines = [*("r.out.ascii input=%s" % it.name for it in outputs), *("r.stats -l -n input=%s" % name for name in labelled)]
     progress = Progress(region["rows"] * (len(inputs) + len(outputs)))
     with told(script, names):
@@ -504,20 +514,21 @@ def done(options, flags):
     inputs, asked = pairs_of(options["maps"], Input), pairs_of(options["output"], Output)
     look_up_inputs(inputs)
     script, names = read_script(options["script"]), [it.name for it in inputs]
-    outline = judged(script, names)
+    statements = judged(script, names)
     if flags["l"]:
-        script = with_labels(script, outline)
-        outline = judged(script, names)
-    outputs = look_up_outputs(asked, outline.made, inputs)
+        script = with_labels(script, statements)
+        statements = judged(script, names)
+    made = made_by(statements)
+    outputs = look_up_outputs(asked, made, inputs)
     region = look_up_region()
-    if not outputs and not outline.frames:
+    if not outputs and all(it.made for it in statements):
         gs.warning(_("The script writes no table, and no map is asked for by output="))
-    wanted = labelled_maps(outline) | {it.name for it in outputs}
+    wanted = labelled_maps(statements) | {it.name for it in outputs}
     labels = {it.name: labels_of(it.map) for it in inputs if it.name in wanted}
     table = Table(options["table"], options["script"])
-    own, cells, texts, progress = run(script, inputs, outputs, labels, outline.made, region)
+    own, cells, texts, progress = run(script, inputs, outputs, labels, made, region)
     for frame in own:
-        table.file.writelines(printed(frame, region))
+        table.file.writelines(printed(frame))
     imports = Imports(region)
     for output, frame in zip(outputs, cells):
         name = imports.add(output, frame, progress)
@@ -527,7 +538,7 @@ def done(options, flags):
     progress.end()
     if table.is_stream:  # which may fail, and then no map gets its name
         table.finish()
-    imports.finish({name for name, command in outline.made.items() if command == "clump"})
+    imports.finish({name for name, command in made.items() if command == "r.clump"})
     if not table.is_stream:
         table.finish()
 

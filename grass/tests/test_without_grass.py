@@ -70,17 +70,17 @@ class Session(unittest.TestCase):
         with open(f"{self.room}/a", "wb") as file:
             array.array("i", [1, 2, NULL, 1, 1, 2]).tofile(file)
 
-    def outline(self, script, names=("a",)):
+    def statements(self, script, names=("a",)):
         return rcell.judged(script, list(names))
 
     def run_(self, script, outputs=(), labels=None):
         inputs, wanted = [rcell.Input("a", f"{self.room}/a")], [rcell.Output(name, name) for name in outputs]
-        own, cells, texts, _ = rcell.run(script, inputs, wanted, {"a": labels or {}}, self.outline(script).made, REGION)
-        return b"".join(bytes(piece) for frame in own for piece in rcell.printed(frame, REGION)).decode(), cells, texts
+        own, cells, texts, _ = rcell.run(script, inputs, wanted, {"a": labels or {}}, rcell.made_by(self.statements(script)), REGION)
+        return b"".join(bytes(piece) for frame in own for piece in rcell.printed(frame)).decode(), cells, texts
 
     def refused(self, script, names=("a",)):
         with self.assertRaises(rcell.Stopped) as caught:
-            self.outline(script, names)
+            self.statements(script, names)
         return str(caught.exception), caught.exception.beneath
 
 
@@ -89,11 +89,11 @@ class Scripts(Session):
         script = "r.stats -c input=a\n  r.stats -nl input=a\nr.stats input=a separator=-\r\n#r.stats\nr.mapcalc x = 1\nr.stats -1 input=a\nr.stats -l1 input=a"
         wanted = ("r.stats -l -c input=a\n  r.stats -nl input=a\nr.stats -l input=a separator=-\r\n#r.stats\nr.mapcalc x = 1\nr.stats -l -1 input=a\n"
                   "r.stats -l1 input=a")
-        self.assertEqual(rcell.with_labels(script, self.outline(script)), wanted)
+        self.assertEqual(rcell.with_labels(script, self.statements(script)), wanted)
 
     def test_maps_of_tables_with_labels(self):
-        outline = self.outline("r.stats -cl input=a,c\nr.stats -c input=b\nr.out.ascii input=e\nr.stats -1l input=d\nr.stats -1 input=b", "abcde")
-        self.assertEqual(rcell.labelled_maps(outline), {"a", "c", "d"})
+        statements = self.statements("r.stats -cl input=a,c\nr.stats -c input=b\nr.out.ascii input=e\nr.stats -1l input=d\nr.stats -1 input=b", "abcde")
+        self.assertEqual(rcell.labelled_maps(statements), {"a", "c", "d"})
 
     def test_errors_have_the_lines_of_the_user(self):
         self.assertEqual(self.refused("r.stats -c input=a\n\tr.mapcalc x = a + ab"),
@@ -120,7 +120,7 @@ class Scripts(Session):
 
     def test_another_program(self):
         with mock.patch.object(rcell, "program", lambda: "/bin/true"), self.assertRaises(rcell.Stopped) as caught:
-            self.outline("r.stats input=a")
+            self.statements("r.stats input=a")
         self.assertEqual(str(caught.exception), "/bin/true failed: the program ended in status 0 and said: nothing")
 
 

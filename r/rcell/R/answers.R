@@ -15,7 +15,7 @@ rcell_table <- function(.script, ..., area = NULL, percent = FALSE, wide = FALSE
   check_unit(area)
   asked <- asked_of(.script, list(...), maps, program)
   sources <- sources_of(asked$maps, crs)
-  outputs <- Filter(function(output) output$kind != "GRID", asked$outputs)
+  outputs <- Filter(Negate(is_grid), asked$outputs)
   if (!length(outputs)) no_table(asked$outputs)
   answer <- answer_of(asked, sources, outputs)
   tables <- lapply(outputs, function(output) finished(output_of(output, answer), answer, output, area, percent, wide))
@@ -40,7 +40,7 @@ rcell_grid <- function(.script, .name, ..., filename = "", overwrite = FALSE, cr
   sources <- sources_of(asked$maps, crs)
   check_inputs(filename, sources)
   answer <- answer_of(asked, sources, wanted = .name)
-  written(raster_of(end_of(answer$frames), answer), filename)
+  written(raster_of(answer$frames[[1]], answer), filename)
 }
 
 # The maps of a call and its script, which the program has accepted before a map is looked for.
@@ -52,10 +52,17 @@ asked_of <- function(script, dots, maps, program) {
 # Runs an accepted script over its maps: the frames of the outputs that are asked for, the maps that are wanted, and what is needed
 # to read them.
 answer_of <- function(script, sources, outputs = list(), wanted = character()) {
-  frames <- run_pipe(script$program, sources, sent_script(script, outputs, wanted), script$lines)
-  labels <- script$labels
-  for (source in sources) labels[[source$name]] <- source$labels
+  labelled <- labelled_maps(script, outputs, wanted)
+  frames <- run_pipe(script$program, sources, sent_script(script, outputs, wanted, labelled), script$lines)
+  labels <- lapply(sources, `[[`, "labels")
+  labels[labelled] <- lapply(frames[length(frames) - length(labelled) + seq_along(labelled)], labels_in)
   list(frames = frames, labels = labels, template = sources[[1]]$template)
+}
+
+# The labels of the table of one map.
+labels_in <- function(frame) {
+  kept <- nzchar(frame$labels)
+  list(codes = frame$codes[[1]][kept], labels = frame$labels[kept])
 }
 
 # Runs a script of this package, and returns its frames.
@@ -63,23 +70,8 @@ run_own <- function(script, sources, program = NULL) run_pipe(rcell_program(prog
 
 # An output as a data frame, or as a raster with the geometry of the first map.
 output_of <- function(output, answer) {
-  if (output$kind == "TEXT") return(printed_of(output, answer))
   frame <- Find(function(frame) frame$line == output$line, answer$frames)
-  if (output$kind == "GRID") return(raster_of(frame, answer))
-  table_of(output, frame$codes, frame$cells, answer$labels)
-}
-
-cells_of <- function(frame) as.integer(values(frame$raster, mat = FALSE))
-
-# The cells of maps side by side, as r.stats -1 prints them: without those that are null in any map, or in all.
-printed_of <- function(output, answer) {
-  cells <- lapply(output$maps, function(name) cells_of(Find(function(frame) frame$kind == "GRID" && frame$maps == name, answer$frames)))
-  if (any(c("n", "N") %in% output$flags)) {
-    is_null <- lapply(cells, is.na)
-    kept <- !Reduce(if ("n" %in% output$flags) `|` else `&`, is_null)
-    cells <- lapply(cells, function(column) column[kept])
-  }
-  table_of(output, cells, NULL, answer$labels)
+  if (is_grid(output)) raster_of(frame, answer) else table_of(output, frame$codes, frame$cells, answer$labels)
 }
 
 # The raster of a frame with the geometry of the first map, its name and its labels. All is set in place: terra copies the cells of a

@@ -1,11 +1,17 @@
 # SPDX-License-Identifier: Apache-2.0 OR GPL-2.0-or-later
-# The bytes of `rcell-pipe`: a request of maps and a script, and the frames of its response. docs/pipe.md defines both.
+# The bytes of `rcell-pipe`: requests, and the frames of a response. docs/pipe.md defines both.
 
 REQUEST_MAGIC <- charToRaw("RCELLQ1\n")
+PLAN_MAGIC <- charToRaw("RCELLP1\n")
 RESPONSE_MAGIC <- charToRaw("RCELLA1\n")
 TYPE_U8 <- 1L
 TYPE_I32 <- 6L
 HAS_NODATA <- 1L
+COMMANDS <- c("r.mapcalc", "r.reclass", "r.clump", "r.stats", "r.out.ascii")
+FLAGS <- c("c", "l", "1", "n", "N")
+BITS_OF_FLAGS <- c(1L, 2L, 4L, 8L, 16L)
+# What a plan says of each map that a statement reads, and that it needs.
+BYTES_OF_MARGINS <- c(32L, 33L)
 # Columns, rows, north, type, null, file, first byte, bytes a cell and bytes a row.
 RAW_RASTER <- "<VRTDataset rasterXSize=\"%.0f\" rasterYSize=\"%.0f\"><GeoTransform>0, 1, 0, %.0f, 0, -1</GeoTransform>
 <VRTRasterBand dataType=\"%s\" band=\"1\" subClass=\"VRTRawRasterBand\"><NoDataValue>%s</NoDataValue>
@@ -26,17 +32,23 @@ map_head <- function(name, region) {
     as.raw(c(TYPE_I32, HAS_NODATA)), bytes_of(c(NA, -1L, 0L)))
 }
 
-# Writes a request to a file. A source has `cells`, or a raster that is read in blocks of rows.
-write_request <- function(path, sources, script) {
-  text <- charToRaw(paste(script, collapse = "\n"))
-  write_file(path, function(write) {
-    write(c(REQUEST_MAGIC, bytes_of(length(sources))))
-    for (source in sources) {
-      write(map_head(source$name, source$region))
-      each_block(source, write)
-    }
-    write(c(bytes_of(length(text)), text))
-  })
+# A request is a function that writes its bytes by calls of another one. A source has `cells`, or a raster that is read in blocks of rows.
+run_request <- function(sources, script) function(write) {
+  write(c(REQUEST_MAGIC, bytes_of(length(sources))))
+  for (source in sources) {
+    write(map_head(source$name, source$region))
+    each_block(source, write)
+  }
+  write(script_bytes(script))
+}
+
+plan_request <- function(names, script) function(write) {
+  write(c(PLAN_MAGIC, bytes_of(length(names)), unlist(lapply(names, short_text)), script_bytes(script)))
+}
+
+script_bytes <- function(lines) {
+  text <- charToRaw(paste(lines, collapse = "\n"))
+  c(bytes_of(length(text)), text)
 }
 
 # Reads the fields of a response one after another. `wrong` is called if the file ends before a field does.
@@ -71,7 +83,8 @@ reader_of <- function(from, path, wrong) {
     seek(from, at)
     raster_at(path, begin, rows, cols, is_small)
   }
-  list(bytes = bytes, integers = function(count) take("integer", count, 4L), numbers = numbers, text = text, raster = raster,
+  texts <- function(count) vapply(seq_len(count), function(place) text(), "")
+  list(bytes = bytes, integers = function(count) take("integer", count, 4L), numbers = numbers, text = text, texts = texts, raster = raster,
     is_at_end = function() at == end)
 }
 
@@ -89,41 +102,52 @@ raster_at <- function(path, begin, rows, cols, is_small) {
   raster
 }
 
+# A table, or the cells of maps one after another.
 table_frame <- function(reader) {
   head <- reader$numbers(3)
   entries <- head[[2]]
   width <- head[[3]]
   has <- as.integer(reader$bytes(3))
   reader$text()
-  maps <- vapply(seq_len(width), function(at) reader$text(), "")
+  maps <- reader$texts(width)
   counts <- if (has[[1]]) as.integer(reader$numbers(entries))
-  cells <- matrix(reader$integers(entries * width), width)
-  if (has[[2]]) for (at in seq_len(entries * width)) reader$text()
-  list(kind = "TABL", line = as.integer(head[[1]]), maps = maps, codes = lapply(seq_len(width), function(at) cells[at, ]),
-    cells = counts)
+  cells <- reader$integers(entries * width)
+  dim(cells) <- c(width, entries)
+  list(line = as.integer(head[[1]]), maps = maps, codes = lapply(seq_len(width), function(at) cells[at, ]), cells = counts,
+    labels = if (has[[2]]) reader$texts(entries * width))
 }
 
 grid_frame <- function(reader) {
   line <- as.integer(reader$numbers())
   reader$text()
   name <- reader$text()
+  reader$texts(length(EDGES))
   size <- reader$numbers(2)
   is_small <- as.integer(reader$bytes(1)) == TYPE_U8
-  list(kind = "GRID", line = line, maps = name, raster = reader$raster(size[[1]], size[[2]], is_small))
+  list(line = line, maps = name, raster = reader$raster(size[[1]], size[[2]], is_small))
 }
 
-text_frame <- function(reader) {
+# A statement: whether it writes a frame, the map that it makes, its flags, its maps and the combination after which a table begins.
+plan_frame <- function(reader) {
   line <- as.integer(reader$numbers())
-  reader$bytes(reader$numbers())
-  list(kind = "TEXT", line = line)
+  head <- as.integer(reader$bytes(2))
+  made <- reader$text()
+  for (bytes in BYTES_OF_MARGINS) for (place in seq_len(reader$numbers())) {
+    reader$text()
+    reader$bytes(bytes)
+  }
+  options <- as.integer(reader$bytes(1))
+  maps <- reader$texts(reader$numbers())
+  list(line = line, command = COMMANDS[[head[[1]]]], is_output = bitwAnd(head[[2]], 1L) > 0L, made = made,
+    flags = FLAGS[bitwAnd(options, BITS_OF_FLAGS) > 0L], maps = maps, after = reader$integers(reader$numbers()))
 }
 
 end_frame <- function(reader) {
   numbers <- reader$numbers(5)
-  list(kind = "DONE", status = numbers[[1]], source = numbers[[2]], maps = numbers[[3]], line = numbers[[4]], column = numbers[[5]], text = reader$text())
+  list(status = numbers[[1]], source = numbers[[2]], maps = numbers[[3]], line = numbers[[4]], column = numbers[[5]], text = reader$text())
 }
 
-FRAMES <- list(TABL = table_frame, GRID = grid_frame, TEXT = text_frame, DONE = end_frame)
+FRAMES <- list(TABL = table_frame, CELL = table_frame, GRID = grid_frame, PLAN = plan_frame, DONE = end_frame)
 
 # The frames of a response, the last of which is DONE. `wrong` is called where it is none, or not whole.
 read_response <- function(path, wrong) {
@@ -133,10 +157,10 @@ read_response <- function(path, wrong) {
   if (!identical(reader$bytes(length(RESPONSE_MAGIC)), RESPONSE_MAGIC)) wrong()
   frames <- list()
   repeat {
-    frame <- FRAMES[[rawToChar(reader$bytes(4L))]]
-    if (is.null(frame)) wrong()
-    frames[[length(frames) + 1L]] <- frame(reader)
-    if (frames[[length(frames)]]$kind == "DONE") break
+    kind <- rawToChar(reader$bytes(4L))
+    if (is.null(FRAMES[[kind]])) wrong()
+    frames[[length(frames) + 1L]] <- c(kind = kind, FRAMES[[kind]](reader))
+    if (kind == "DONE") break
   }
   if (!reader$is_at_end()) wrong()
   frames

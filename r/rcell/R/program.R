@@ -3,7 +3,7 @@
 
 known_programs <- new.env(parent = emptyenv())
 
-PROBE_SCRIPT <- "r.clump -d input=g output=k\nr.stats -c input=g,k after=7,1\nr.out.ascii input=k"
+PROBE_SCRIPT <- "r.clump -d input=g output=k\nr.stats -c input=g,k after=7,1\nr.stats -1 input=k\nr.out.ascii input=k"
 
 rcell_program <- function(program = NULL) {
   path <- if (is.null(program)) find_program() else program
@@ -61,8 +61,8 @@ probe <- function(path) {
   found <- tryCatch(run_pipe(path, list(small_map("g", c(7L, NA, 12L))), PROBE_SCRIPT),
     rcell_wrong_program = wrong, rcell_killed = wrong, rcell_refused = wrong)
   table <- list(list(c(12L, NA), c(2L, NA)), c(1L, 1L))
-  if (!identical(lapply(found, `[[`, "kind"), list("TABL", "GRID")) || !identical(unname(found[[1]][c("codes", "cells")]), table) ||
-      !identical(cells_of(found[[2]]), c(1L, NA, 2L))) wrong()
+  if (!identical(lapply(found, `[[`, "kind"), list("TABL", "CELL", "GRID")) || !identical(unname(found[[1]][c("codes", "cells")]), table) ||
+      !identical(found[[2]]$codes, list(c(1L, NA, 2L))) || !identical(as.integer(values(found[[3]]$raster, mat = FALSE)), c(1L, NA, 2L))) wrong()
 }
 
 # A map of a few cells in one row.
@@ -111,11 +111,11 @@ execute <- function(path, folder, words = character(), input = NULL) {
   list(status = status, stderr = trimws(told))
 }
 
-# Runs a script over maps, and returns its frames, the last of which says how it ended.
-ask_pipe <- function(path, sources, script) {
+# Sends a request, and returns the frames of the response, the last of which says how it ended.
+ask_pipe <- function(path, request) {
   folder <- new_folder()
   on.exit(unlink(folder, recursive = TRUE))
-  write_request(file.path(folder, "request"), sources, script)
+  write_file(file.path(folder, "request"), request)
   ran <- execute(path, folder, input = "request")
   unlink(file.path(folder, "request"))
   out <- file.path(folder, "out")
@@ -131,23 +131,26 @@ ask_pipe <- function(path, sources, script) {
 
 end_of <- function(frames) frames[[length(frames)]]
 
-# The same without the last frame. An error of the script is one of the caller's lines.
+# Runs a script over maps, and returns its frames without the last. An error of the script is one of the caller's lines.
 run_pipe <- function(path, sources, script, lines = script) {
-  frames <- ask_pipe(path, sources, script)
-  if (end_of(frames)$status != 0) fault(end_of(frames), path, sources, lines)
+  frames_of(ask_pipe(path, run_request(sources, script)), path, names_of(sources), lines)
+}
+
+# The frames of a response without the last, which may be an error.
+frames_of <- function(frames, path, names, lines) {
+  if (end_of(frames)$status != 0) fault(end_of(frames), path, names, lines)
   frames[-length(frames)]
 }
 
 # The error that ended a run.
-fault <- function(end, path, sources, lines) {
+fault <- function(end, path, names, lines) {
   status <- as.integer(end$status)
   kind <- if (status == 3L) "rcell_out_of_memory"
   line <- if (end$source == 1) 0L else as.integer(end$line)
-  is_of_map <- end$source == 1 && end$maps < length(sources)
-  if (!(line %in% seq_along(lines))) refuse(end$text, if (is_of_map) sources[[end$maps + 1]]$name else "script", status = status, class = kind)
+  is_of_map <- end$source == 1 && end$maps < length(names)
+  if (!(line %in% seq_along(lines))) refuse(end$text, if (is_of_map) names[[end$maps + 1]] else "script", status = status, class = kind)
   content <- sub("\r$", "", lines[[line]], useBytes = TRUE)
   Encoding(content) <- "UTF-8"
-  names <- names_of(sources)
   # The program names no word of a statement whose options are wrong.
   bad <- if (end$text == "bad option") bad_word(path, lines, line, names)
   refuse(end$text, "script", line, status, content, kind, bad, advice_on(lines, line, end$text, names))
