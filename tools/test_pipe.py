@@ -281,7 +281,8 @@ def wrong_order(programs: Programs) -> str:
 
 def few_bytes() -> bytes:
     land = Raster(b"land", (b"2", b"0", b"3", b"0"), 6, [[1, 1, 2], [2, 700, 255]], 255, [[0, 0, 1], [0, 0, 0]], [(1, b"wood"), (2, b"x")])
-    script = b"r.mapcalc b = land + 1\nr.clump input=b output=k\nr.stats -cl input=land,k\nr.stats -1 input=land\nr.out.ascii input=b\n"
+    script = b"r.mapcalc b = land + 1\nr.clump input=b output=k\nr.stats -cl input=land,k\nr.stats -1 input=land\n"
+    script += b"r.stats -1nl input=land,k\nr.out.ascii input=b\n"
     return request([land, replace(land, name=b"zone", type=4)], script)
 
 
