@@ -290,7 +290,7 @@ def answer_of_grass(asked: Asked) -> Answer:
     inputs = [rcell.Input(name, f"{path}.cells") for name, path in zip(asked.names, asked.paths)]
     with handing_out():
         own = rcell.run(asked.script, inputs, [], {}, {}, region)[0]
-    return parsed(asked, b"".join(bytes(piece) for frame in own for piece in rcell.printed(frame, region))), {}
+    return parsed(asked, b"".join(bytes(piece) for frame in own for piece in rcell.printed(frame))), {}
 
 
 def answer_of_shell(asked: Asked) -> Answer:
