@@ -25,6 +25,12 @@ PENDING = set((pathlib.Path(__file__).parent / "pending.txt").read_text(encoding
 # Folders whose messages are checked, and the table of causes that rcell-explain and the packages print.
 MESSAGES_OF, CAUSES = re.compile(r"(helpers|python/src/rcell_front)/.*\.py"), "python/src/rcell_front/messages.json"
 FENCED = re.compile(r"^```.*?^```$", re.MULTILINE | re.DOTALL)
+# Phrases that neither a document nor a helper or package has, in code and tests of R included.
+IN_SOURCES = re.compile(r"README\.md|docs/[^/]*\.(md|1)|(helpers|python/src|r/rcell|qgis/rcell)/.*")
+PHRASES = re.compile(
+    r"\b(is|are|was) told\b|\btells?\b|\banswers (a|an|the|all|which|one)\b|\bwhat (no|the) [a-z]+ (names|refuses|has|gives|makes)\b"
+    r"|\bthe (least|greatest) of\b|\bof the whole\b|\b(by|behind) (awk|GDAL|it)\b|\bwhere (there is|it is|none|one|no|memory|nothing)\b"
+    r"|\bstands? (in|for|on|beside|behind|alone)\b", re.IGNORECASE)
 COMMENT_OF = {".rt": "//", ".antt": "--", ".sh": "#", ".mk": "#", ".R": "#", ".c": "//", ".cpp": "//", ".h": "//"}
 
 
@@ -107,9 +113,17 @@ def messages():
             yield from ((CAUSES, message["text"], cause[key]) for cause in message["causes"] for key in ("cause", "instead"))
 
 
+def phrases_in_sources():
+    """Yield each retired phrase of the documents, helpers and packages, with its file and line."""
+    for name in filter(IN_SOURCES.fullmatch, tracked()):
+        content = (ROOT / name).read_bytes()
+        for number, line in enumerate([] if b"\0" in content else content.decode("utf-8", "replace").split("\n"), 1):
+            yield from (f"{name}:{number}: '{found[0]}' is retired: say it as english readers do" for found in PHRASES.finditer(line))
+
+
 def faults():
     """What is wrong with the documents for users, one a line."""
-    found = []
+    found = list(phrases_in_sources())
     for name in documents():
         if name in PENDING:
             continue

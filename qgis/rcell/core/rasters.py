@@ -277,7 +277,7 @@ class Raster:
 
 
 def within(cells: Cells, ranges: NullRanges) -> list[Mask]:
-    """Return where cells are in any of some ranges, which may be single values."""
+    """Return for each range where cells are in it; a range may be a single value."""
     found = []
     for least, greatest in ranges:
         if cells.dtype.kind in "iu":

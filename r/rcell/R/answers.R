@@ -1,5 +1,5 @@
 # SPDX-License-Identifier: Apache-2.0 OR GPL-2.0-or-later
-# A script over maps, and what comes back of it.
+# Run a script over maps and return its outputs.
 
 rcell_run <- function(.script, ..., crs = NULL, maps = list(), program = NULL) {
   if (missing(.script)) no_script()
@@ -22,13 +22,13 @@ rcell_table <- function(.script, ..., area = NULL, percent = FALSE, wide = FALSE
   if (length(tables) == 1L) tables[[1]] else tables
 }
 
-# Their names begin with a dot since R completes names of arguments: a map `s` would else be taken for the script.
+# Their names begin with a dot, since R completes names of arguments: otherwise it would take a map `s` for the script.
 no_script <- function() refuse("the script comes first and has no name, and in rcell_grid then the map: rcell_table(\"r.stats -c input=lc\", lc = x)", status = 2L)
 
 no_table <- function(outputs) {
   others <- vapply(outputs, function(output) sprintf("r.out.ascii in line %d", output$line), "")
-  told <- if (length(others)) paste(others, collapse = ", ") else "no r.stats"
-  refuse(sprintf("a table is asked for, and the script has %s: rcell_run answers all outputs", told), "script")
+  found <- if (length(others)) paste(others, collapse = ", ") else "no r.stats"
+  refuse(sprintf("a table is asked for, and the script has %s: rcell_run returns all outputs", found), "script")
 }
 
 rcell_grid <- function(.script, .name, ..., filename = "", overwrite = FALSE, crs = NULL, maps = list(), program = NULL) {
@@ -43,7 +43,7 @@ rcell_grid <- function(.script, .name, ..., filename = "", overwrite = FALSE, cr
   written(raster_of(answer$frames[[1]], answer), filename)
 }
 
-# The maps of a call and its script, which the program has accepted before a map is looked for.
+# Return the maps of a call and its script, which the program accepts before any map is opened.
 asked_of <- function(script, dots, maps, program) {
   maps <- named_maps(dots, maps)
   c(accepted(script, names(maps), program), list(maps = maps))
@@ -65,10 +65,10 @@ labels_in <- function(frame) {
   list(codes = frame$codes[[1]][kept], labels = frame$labels[kept])
 }
 
-# Runs a script of this package, and returns its frames.
+# Run a script of this package and return its frames.
 run_own <- function(script, sources, program = NULL) run_pipe(rcell_program(program)$path, sources, script)
 
-# An output as a data frame, or as a raster with the geometry of the first map.
+# Return an output as a data frame, or as a raster with the geometry of the first map.
 output_of <- function(output, answer) {
   frame <- Find(function(frame) frame$line == output$line, answer$frames)
   if (is_grid(output)) raster_of(frame, answer) else table_of(output, frame$codes, frame$cells, answer$labels)
@@ -90,7 +90,7 @@ raster_of <- function(frame, answer) {
   raster
 }
 
-# Columns of codes, each with its labels after it if they are asked for, and the cells.
+# Return columns of codes, each followed by its labels if they are requested, and the cells.
 table_of <- function(output, codes, cells, labels) {
   columns <- list()
   titles <- character()
@@ -107,7 +107,7 @@ table_of <- function(output, codes, cells, labels) {
   frame_of(columns)
 }
 
-# A title that occurs already has `_2` after it.
+# Repeated titles get `_2`.
 unique_titles <- function(titles) {
   for (at in seq_along(titles)) {
     number <- 2L

@@ -1,9 +1,9 @@
 # SPDX-License-Identifier: Apache-2.0 OR GPL-2.0-or-later
-# Maps that are written: in a folder of their own first, and a file has its name only when all of it is there.
+# Write maps to a private folder first; a file gets its name only when it is complete.
 
 PIECE_BYTES <- 4194304L
 
-# What GDAL reads with a raster, and what of an older raster would change what a new one says.
+# Files that GDAL reads with a raster: those of an old raster would change a new one.
 SIDECARS <- c(".msk", ".aux.xml", ".ovr")
 
 check_filename <- function(filename, overwrite) {
@@ -21,7 +21,7 @@ check_filename <- function(filename, overwrite) {
   if (file.exists(target) && file.access(target, 2L) != 0L) write_failed(filename, "Permission denied")
 }
 
-# Refuses an output that is one of the inputs.
+# Reject an output file that is also an input.
 check_inputs <- function(filename, sources) {
   if (!nzchar(filename)) return(invisible())
   target <- normalizePath(linked_path(native_path(filename)), mustWork = FALSE)
@@ -32,7 +32,7 @@ check_inputs <- function(filename, sources) {
   }
 }
 
-# Writes a file by calls of the function that `fill` is given, each with bytes or with integers of 32 bits.
+# Write a file: `fill` gets a function that writes bytes or 32-bit integers.
 write_file <- function(path, fill) {
   failed <- function(e) write_failed(path, conditionMessage(e))
   size <- 0
@@ -50,7 +50,7 @@ write_file <- function(path, fill) {
   check_size(path, size)
 }
 
-# A disk may be full only when a file is closed, and R tells no one: the size does.
+# R does not report a full disk when it closes a file, so the size is checked.
 check_size <- function(path, size) {
   there <- file.size(path)
   if (!identical(as.numeric(there), as.numeric(size))) {
@@ -58,13 +58,13 @@ check_size <- function(path, size) {
   }
 }
 
-# A path as the system takes it. In the C locale R would not spell letters beyond ASCII, and so they stay the bytes that they are.
+# Return a path for the system as bytes, since in the C locale R cannot write letters beyond ASCII.
 native_path <- function(path) {
   if (is_ascii_locale() && Encoding(path) == "UTF-8") Encoding(path) <- "unknown"
   path.expand(path)
 }
 
-# Where a path leads: links are followed, also one whose file is not there yet.
+# Return the target of a path: links are followed, even if their file does not exist yet.
 linked_path <- function(path) {
   for (step in seq_len(40L)) {
     to <- Sys.readlink(path)
@@ -77,7 +77,7 @@ linked_path <- function(path) {
 # The links of /dev and /proc lead to open files.
 is_of_system <- function(path) grepl("^/(dev|proc)/", path)
 
-# Whether something stands there that is no file and no folder: a device or a pipe, or one of the links of /dev.
+# Return whether a path is a device, a pipe or one of the links of /dev.
 is_stream <- function(path) {
   if (!file.exists(path) || dir.exists(path)) return(FALSE)
   if (is_of_system(path) && nzchar(Sys.readlink(path))) return(TRUE)
@@ -85,7 +85,7 @@ is_stream <- function(path) {
   nzchar(test) && run(test, c("-f", path), error_on_status = FALSE)$status != 0L
 }
 
-# In the C locale terra changes the letters of a path that are not ASCII, so the locale is another for the time of the call.
+# In the C locale, terra changes letters of a path beyond ASCII, so the call runs in another locale.
 with_path <- function(path, call) {
   is_plain <- !any(charToRaw(path) > as.raw(127L)) || !validUTF8(path) || isTRUE(l10n_info()[["UTF-8"]])
   if (!is_plain) {
@@ -96,7 +96,7 @@ with_path <- function(path, call) {
   call
 }
 
-# Writes a raster, and answers it as the file has it.
+# Write a raster and return it as read from the file.
 written <- function(raster, filename) {
   force(raster)
   if (!nzchar(filename)) return(raster)
@@ -105,7 +105,7 @@ written <- function(raster, filename) {
   is_stream <- is_stream(target)
   room <- private_folder(if (is_stream) tempdir() else dirname(target), filename)
   on.exit(room$remove())
-  # A device has no ending from which terra could guess the format.
+  # A device has no ending that would give terra the format.
   path <- file.path(room$path, if (is_stream) "map.tif" else basename(target))
   failed <- function(e) write_failed(filename, told(e))
   tryCatch(withCallingHandlers(with_path(path, writeRaster(raster, path, datatype = "INT4S")), warning = without_colours), error = failed, warning = failed)
@@ -121,7 +121,7 @@ written <- function(raster, filename) {
   found
 }
 
-# A new folder that no one else may look into. Another process removes it if this one ends before it could, however it ends.
+# Create a folder that only this user can open. If this process is killed, another process removes it.
 private_folder <- function(beside, filename) {
   path <- tempfile(".rcell-", tmpdir = beside)
   if (!dir.create(path, showWarnings = FALSE, mode = "0700")) write_failed(filename, "its folder takes no file")
@@ -134,7 +134,7 @@ private_folder <- function(beside, filename) {
   list(path = path, remove = remove)
 }
 
-# Gives the files of a folder their names beside the target, the target last. What stood there with the target goes, and comes back
+# Rename the files of a folder to their names next to the target, the target last. Old files next to it are removed, or restored
 # if the target cannot be replaced.
 replace_files <- function(room, target, filename) {
   made <- list.files(room, all.files = TRUE, no.. = TRUE)
@@ -151,7 +151,7 @@ replace_files <- function(room, target, filename) {
   }
 }
 
-# Writes the bytes of a file to a device or a pipe, after what it has.
+# Append the bytes of a file to a device or a pipe.
 copy_to_stream <- function(path, target, filename) {
   failed <- function(e) write_failed(filename, conditionMessage(e))
   tryCatch({
@@ -163,12 +163,12 @@ copy_to_stream <- function(path, target, filename) {
   }, error = failed, warning = failed)
 }
 
-# terra would give a map with labels colours as well, and says that this type has none.
+# terra would also write colours for a map with labels, and warn that this type has none.
 without_colours <- function(w) {
   if (grepl("color-table", conditionMessage(w), fixed = TRUE)) invokeRestart("muffleWarning")
 }
 
-# A disk may be full only when a file is closed, which no one is told of: it is read again, and compared.
+# A full disk on closing a file is not reported, so the file is read again and compared.
 check_whole <- function(raster, path, filename) {
   failed <- function(e) write_failed(filename, told(e))
   again <- tryCatch(with_path(path, rast(path)), error = failed, warning = failed)

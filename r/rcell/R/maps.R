@@ -1,5 +1,5 @@
 # SPDX-License-Identifier: Apache-2.0 OR GPL-2.0-or-later
-# Maps that go in: rasters of terra, paths and matrices, and grids of the program's own form.
+# Input maps: rasters of terra, paths, matrices and rcell grids.
 
 BLOCK_CELLS <- 131072L
 HEADER_BYTES <- 65536L
@@ -8,10 +8,10 @@ EXACT_FLOAT <- 16777216
 EXACT_TYPES <- c("INT1U", "INT2U", "INT2S")
 HEADER_LINE <- "^[ \t\r\n]*(north|south|east|west|rows|cols|null|type|multiplier):"
 
-# 64-bit cells come from terra as floats: a null value from here on may stand for another number as well.
+# terra returns 64-bit cells as floats, in which a null value beyond this limit equals other numbers.
 INEXACT_FLOAT <- 2^53
 
-# The maps of a call, each by its name: those of `...` and of `maps`.
+# Return the maps of a call by name: those of `...` and of `maps`.
 named_maps <- function(dots, maps) {
   given <- c(maps, dots)
   if (!length(given) || is.null(names(given)) || any(!nzchar(names(given)))) {
@@ -23,10 +23,10 @@ named_maps <- function(dots, maps) {
   given
 }
 
-# Maps by their names as sources; `crs` states the reference system of those that have none.
+# Return maps by name as sources; `crs` states the reference system of maps that have none.
 sources_of <- function(maps, crs = NULL) fitted_sources(Map(source_of, names(maps), maps), crs)
 
-# Sources of one reference system and one region, by their names.
+# Return sources by name, after checking that they have the same reference system and region.
 fitted_sources <- function(sources, crs) {
   stated <- stated_crs(crs)
   sources <- lapply(sources, with_stated, stated)
@@ -49,7 +49,7 @@ check_names <- function(names) {
 source_of <- function(name, given) {
   if (inherits(given, "SpatRaster")) return(raster_source(name, given))
   if (is.character(given) && length(given) == 1L && !is.na(given)) return(c(path_source(name, given), given = given))
-  # R takes the bits of such a number for those of a double.
+  # R reads the bits of such a number as a double.
   if (inherits(given, "integer64")) bad_map(name, "a matrix of integer64: convert it with matrix(as.integer(x), nrow(x))")
   if (is.matrix(given) && (is.numeric(given) || is.logical(given))) return(matrix_source(name, given))
   bad_map(name, sprintf("neither a path nor a SpatRaster nor a matrix of numbers, but a %s", class(given)[[1]]))
@@ -105,7 +105,7 @@ alpha_layer <- function(raster, path, band) {
   alpha
 }
 
-# What GDAL knows of a file and terra does not tell.
+# Return what GDAL knows about a file and terra does not report.
 file_facts <- function(path) {
   told <- tryCatch(suppressWarnings(with_path(path, describe(path))), error = function(e) character())
   starts <- grep("^Band [0-9]+ ", told)
@@ -118,8 +118,8 @@ file_facts <- function(path) {
     has_points_alone = any(grepl("^GCP\\[", told)) && !any(grepl("^Origin = ", told)))
 }
 
-# Refuses what terra would read otherwise than it is: rotated rasters, complex cells, nulls that floats cannot tell from other
-# numbers, a mask beside the cells, and, until GDAL 3.7, signed bytes (-5 is read as 251).
+# Reject rasters that terra would misread: rotated rasters, complex cells, null values that are not exact as floats, masks next to
+# the cells, and, before GDAL 3.7, signed bytes (-5 is read as 251).
 check_file <- function(name, raster, facts, band) {
   if (is.null(facts)) return(invisible())
   if (facts$is_rotated) bad_map(name, "a rotated transform: warp the map to rows from west to east first (terra: rectify)")
@@ -138,19 +138,19 @@ check_file <- function(name, raster, facts, band) {
   }
 }
 
-# The nodata value of a band, as GDAL spells it.
+# Return the nodata value of a band as GDAL writes it.
 null_text <- function(told) sub("^ *NoData Value=", "", grep("^ *NoData Value=", told, value = TRUE))
 
 check_wide_null <- function(name, told) {
   text <- null_text(told)
   value <- suppressWarnings(as.numeric(text))
   if (length(value) == 1L && !is.na(value) && abs(value) >= INEXACT_FLOAT) {
-    bad_map(name, sprintf(paste("its cells have 64 bits and its nodata value is %s, which terra cannot tell from its neighbours:",
+    bad_map(name, sprintf(paste("its cells have 64 bits and its nodata value is %s, which terra cannot distinguish from its neighbours:",
       "write it with 32 bits a cell first"), text))
   }
 }
 
-# The geometry alone: no cells, labels or colours.
+# Return the geometry without cells, labels and colours.
 template_of <- function(raster) rast(nrows = nrow(raster), ncols = ncol(raster), extent = ext(raster), crs = crs(raster))
 
 path_source <- function(name, path) {
@@ -167,7 +167,7 @@ path_source <- function(name, path) {
   raster_source(name, open_raster(name, path), is_opened_here = TRUE)
 }
 
-# terra only warns of a raster that is rotated, and reads it as if it were not.
+# terra reads a rotated raster as if it were not rotated, with a warning.
 open_raster <- function(name, path) {
   withCallingHandlers(
     tryCatch(with_path(path, rast(path)), error = function(e) read_failed(name, sprintf("cannot open: %s: %s", path, told(e)))),
@@ -181,8 +181,8 @@ open_raster <- function(name, path) {
 
 told <- function(e) sub("^\\[[a-zA-Z]+\\] ", "", conditionMessage(e))
 
-# A grid of the program's own form is read by the program `rcell`, which writes its header and its cells again in one form. (GDAL would
-# read it too, and take the null text `*` for 0.)
+# An rcell grid is read by the program `rcell`, which writes its header and cells in a uniform format. (GDAL would also read it, with
+# 0 for the null text `*`.)
 text_source <- function(name, path) {
   folder <- new_folder()
   on.exit(unlink(folder, recursive = TRUE))
@@ -201,7 +201,7 @@ text_source <- function(name, path) {
     template = rast(nrows = region$rows, ncols = region$cols, xmin = edges[[4]], xmax = edges[[3]], ymin = edges[[2]], ymax = edges[[1]], crs = ""))
 }
 
-# The error that the program `rcell` tells of a grid.
+# Raise the error of the program `rcell` about a grid.
 grid_fault <- function(ran) {
   found <- regmatches(ran$stderr, regexec("^rcell: ([^:]*):([0-9]+): ([^\n]*)", ran$stderr))[[1]]
   if (length(found) != 4L) wrong_program(sprintf("the program rcell ended in status %d and said: %s", ran$status, ran$stderr))
@@ -215,7 +215,7 @@ decimals_of <- function(text) {
   paste0(parts[[1]], ".", decimals, strrep("0", DECIMALS - nchar(decimals)))
 }
 
-# Labels by category. They never go through the program.
+# Return labels by category. They are never sent to the program.
 labels_of <- function(raster) {
   if (!is.factor(raster)) return(NULL)
   table <- levels(raster)[[1]]
@@ -226,7 +226,7 @@ labels_of <- function(raster) {
   list(codes = codes[kept], labels = labels[kept])
 }
 
-# Calls a function with the cells of each block of rows, as whole numbers.
+# Call a function with the cells of each block of rows, as whole numbers.
 each_block <- function(source, use) {
   if (!is.null(source$cells)) return(use(source$cells))
   raster <- source$raster
@@ -244,7 +244,7 @@ each_block <- function(source, use) {
   }
 }
 
-# All cells of a map, each row of it in a column.
+# Return all cells of a map, with each row of the map in a column.
 all_cells <- function(source) {
   blocks <- list()
   each_block(source, function(cells) blocks[[length(blocks) + 1L]] <<- cells)
@@ -258,10 +258,10 @@ warn_of_floats <- function(name) {
   FALSE
 }
 
-# A raster of a file whose cells can be nothing but categories.
+# Return whether a raster is in a file whose data type holds only categories.
 is_exact_type <- function(raster) !inMemory(raster) && isTRUE(is.int(raster)) && isTRUE(datatype(raster) %in% EXACT_TYPES)
 
-# The cells of some rows, those that are transparent null. A broken part of a file is an error, and never null.
+# Return the cells of some rows, with null for transparent cells. A broken part of a file is an error, never null.
 read_block <- function(source, row, count) {
   cells <- read_rows(source, source$raster, row, count)
   if (!is.null(source$alpha)) {
@@ -279,7 +279,7 @@ read_rows <- function(source, raster, row, count) {
   tryCatch(readValues(raster, row, count), error = failed, warning = failed)
 }
 
-# The cells of a block as whole numbers, or the first that is none by its row and column.
+# Return the cells of a block as whole numbers, or the row and column of the first cell that is not one.
 whole_cells <- function(source, cells, first_row) {
   whole <- suppressWarnings(as.integer(cells))
   is_equal <- whole == cells

@@ -51,7 +51,7 @@ script_bytes <- function(lines) {
   c(bytes_of(length(text)), text)
 }
 
-# Reads the fields of a response one after another. `wrong` is called if the file ends before a field does.
+# Read the fields of a response one after another. `wrong` is called if the file ends within a field.
 reader_of <- function(from, path, wrong) {
   at <- 0
   end <- file.size(path)
@@ -149,7 +149,7 @@ end_frame <- function(reader) {
 
 FRAMES <- list(TABL = table_frame, CELL = table_frame, GRID = grid_frame, PLAN = plan_frame, DONE = end_frame)
 
-# The frames of a response, the last of which is DONE. `wrong` is called where it is none, or not whole.
+# Return the frames of a response, the last of which is DONE. `wrong` is called if it is invalid or incomplete.
 read_response <- function(path, wrong) {
   from <- file(path, "rb")
   on.exit(close(from))

@@ -1,7 +1,7 @@
 \name{rcell_adjacency}
 \alias{rcell_adjacency}
 \title{Which Classes Lie beside Each Other}
-\description{Counts the pairs of cells that share an edge, by their classes.}
+\description{Count the pairs of cells that share an edge, by their classes.}
 \usage{
 rcell_adjacency(x, program = NULL)
 }

@@ -1,7 +1,7 @@
 \name{rcell_change}
 \alias{rcell_change}
 \title{Change between Years}
-\description{Compare maps of two or more years: what became what, and the gains and losses of each class.}
+\description{Compare maps of two or more years: the changes between classes, and the gains and losses of each class.}
 \usage{
 rcell_change(before, after = NULL, years = NULL, area = "ha", labels = NULL, crs = NULL,
              program = NULL)

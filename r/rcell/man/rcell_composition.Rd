@@ -1,7 +1,7 @@
 \name{rcell_composition}
 \alias{rcell_composition}
 \title{The Composition of a Map}
-\description{Count the cells of each class, in the whole map or in each zone, with areas, percentages and labels.}
+\description{Count the cells of each class, in total or by zone, with areas, percentages and labels.}
 \usage{
 rcell_composition(x, zones = NULL, area = "ha", labels = NULL, zone_labels = NULL,
                   zone_field = NULL, null = FALSE, crs = NULL, program = NULL)
@@ -13,18 +13,18 @@ rcell_composition(x, zones = NULL, area = "ha", labels = NULL, zone_labels = NUL
 \item{labels, zone_labels}{the labels of the classes and of the zones, if the maps have others or none: the path of a CSV file with the
 header \code{value,label} or \code{value,label,colour}, the path of a QGIS style (\code{.qml}), a data frame with the columns
 \code{value} and \code{label}, a vector with the classes as its names, or a \code{SpatRaster} with labels.}
-\item{zone_field}{the field of the polygons that has the zones.}
-\item{null}{whether rows of cells without data are added, as the last of each zone.}
+\item{zone_field}{the field of the polygons with the zones.}
+\item{null}{whether to add a row for cells without data, the last of each zone.}
 \item{crs, program}{as in \code{\link{rcell_run}}.}
 }
 \details{
 Polygons are drawn on the grid of \code{x} with \code{terra::rasterize}: a cell belongs to a polygon if its centre lies in it, and to the
-later one of two. Whole numbers in the field are the zones. Other values get the numbers 1, 2, .. in the order of the file, and are the
-labels; without a field, so do the polygons. Polygons of one value are one zone. You get a warning for polygons that have no centre of a cell, and for cells that lie in
-two polygons.
+last of several. Whole numbers in the field are the zones. Other values become labels of zones that are numbered 1, 2, .. in the order of
+the file; without a field, the polygons are numbered. Polygons with the same value are one zone. You get a warning for polygons that
+contain no centre of a cell, and for cells in two polygons.
 
-In a map in degrees, the cell areas are the exact areas of the ellipsoidal zones between parallels, and the cells of each row are
-counted apart. The ellipsoid is taken from the coordinate reference system.
+In a map in degrees, the area of a cell is its exact area on the ellipsoid of the coordinate reference system, so the cells of each row
+are counted separately.
 }
 \value{
 A data frame with the columns \code{zone} and \code{zone_label} (if there are zones, and if they have labels), \code{class},

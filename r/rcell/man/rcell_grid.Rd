@@ -1,25 +1,25 @@
 \name{rcell_grid}
 \alias{rcell_grid}
 \title{A Map of a Script}
-\description{Runs a script, and answers one of its maps as a raster.}
+\description{Run a script, and return one of its maps as a raster.}
 \usage{
 rcell_grid(.script, .name, ..., filename = "", overwrite = FALSE,
            crs = NULL, maps = list(), program = NULL)
 }
 \arguments{
-\item{.script}{the lines of the script, which need write nothing; what it writes is left out.}
-\item{.name}{a map that it makes, or one that is given.}
+\item{.script}{the lines of the script. Its outputs are ignored; it needs none.}
+\item{.name}{a map that the script makes, or an input map.}
 \item{...}{maps by name, as \code{lc = "landcover.tif"}; see \code{\link{rcell-package}}.}
-\item{filename}{where the raster is written, as terra's \code{writeRaster} does it, of the type INT4S. The file has its name only when all
-of it is there and was read again; else nothing is left of it, and an old file is as it was. A link is followed. A device or a pipe
-is written to and stays what it is. The file cannot be an input.}
+\item{filename}{the file to write, with terra's \code{writeRaster} and the type INT4S. The file gets its name only when it is complete and
+was read again; after an error nothing is left of it, and an old file is unchanged. Links are followed. A device or a pipe is written to,
+not replaced. The file cannot be an input.}
 \item{overwrite}{whether a file of this name may be replaced. The new file has the permissions of the old one; masks, labels and
 overviews next to the old one (\code{.msk}, \code{.aux.xml}, \code{.ovr}) are removed.}
 \item{crs, maps, program}{as in \code{\link{rcell_run}}.}
 }
 \value{
-A \code{SpatRaster} with the extent and the reference system of the first map, and with the labels of the rules that made the map, or
-of the map given, as levels. Geometry is never read back from text.
+A \code{SpatRaster} with the extent and the reference system of the first map. Its levels are the labels of the rules that made the map,
+or of the input map. Geometry is never read back from text.
 }
 \examples{
 lc <- matrix(c(1, 1, 2, 3, 2, 2), 2, byrow = TRUE)

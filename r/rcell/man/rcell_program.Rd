@@ -1,7 +1,7 @@
 \name{rcell_program}
 \alias{rcell_program}
 \title{The Program That Counts}
-\description{Returns the path of the program \command{rcell-pipe}, which runs all scripts.}
+\description{Return the path of the program \command{rcell-pipe}, which runs all scripts.}
 \usage{
 rcell_program(program = NULL)
 }

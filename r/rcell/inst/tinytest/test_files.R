@@ -32,7 +32,7 @@ expect_equivalent(as_rows(rast(file("majority.tif"))), as_rows(rcell_majority(lc
 rcell_grid("", "lc", lc = lc, filename = file("kind.tif"), overwrite = TRUE)
 expect_false(file.exists(file("kind.tif.aux.xml")))
 
-# A refusal leaves no file; a folder that is missing is told before the run.
+# An error leaves no file; a missing folder is reported before the run.
 files <- list.files(room, all.files = TRUE)
 expect_inherits(refusal(rcell_grid("r.mapcalc x = lc + 1.5", "x", lc = lc, filename = file("x.tif"))), "rcell_refused")
 expect_inherits(refusal(rcell_grid("", "lc", lc = lc, filename = file("no/x.tif"))), "rcell_write_failed")

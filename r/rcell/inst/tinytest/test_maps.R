@@ -40,7 +40,7 @@ expect_identical(counts(matrix(c(1, NaN, NA, 2147483647, -2147483647, -0), 2)),
 expect_identical(counts(matrix(c(TRUE, FALSE, NA), 1))$x, c(0L, 1L, NA))
 expect_identical(as_rows(rcell_grid("", "x", x = matrix(1:6, 2))), matrix(c(1, 2, 3, 4, 5, 6), 2))
 
-# What is no whole number is told by its row and column.
+# The error about a cell that is not a whole number names its row and column.
 bad <- function(value) {
   cells <- matrix(1, 3, 4)
   cells[2, 3] <- value

@@ -29,7 +29,7 @@ expect_true(grepl("by/environment", conditionMessage(refusal(rcell_program()))))
 if (is.na(old)) Sys.unsetenv("RCELL_PIPE") else Sys.setenv(RCELL_PIPE = old)
 options(before)
 
-# A program that is killed, that speaks another language, that runs out of memory. Each answers the first run as the program does.
+# Programs that are killed, use another format, or run out of memory. Each passes the first run, the check of the program.
 good <- sprintf("if grep -aq 'after=7,1' /dev/stdin; then exec '%s' < /dev/stdin; fi", mine)
 death <- script("killed", c(good, "kill -9 $$"))
 dead <- refusal(rcell_run("r.stats input=lc", lc = lc, program = death))
