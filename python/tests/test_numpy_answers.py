@@ -349,6 +349,12 @@ class Programs(unittest.TestCase):
         _program._known[path] = (state.st_ino, state.st_size, state.st_mtime_ns)
         return execute(script, {"lc": rcell.Map(given).source("lc")}, program=path)
 
+    def test_what_is_slow_to_import_waits_for_its_use(self) -> None:
+        names = ("pandas", "rasterio", "xarray", "dask", "importlib.metadata", "numpy.typing", "difflib")
+        code = f"import sys, rcell; print([name for name in {names} if name in sys.modules], rcell.__version__ != '')"
+        ran = subprocess.run([sys.executable, "-c", code], capture_output=True, text=True)
+        self.assertEqual((ran.stdout, ran.stderr), ("[] True\n", ""))
+
     def test_missing(self) -> None:
         for find in (rcell.program, find_pipe):
             with self.assertRaises(rcell.MissingProgram):

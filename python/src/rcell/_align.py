@@ -6,8 +6,8 @@ from __future__ import annotations
 from typing import Any
 
 import numpy as np
-from numpy.typing import NDArray
 
+from ._arrays import NDArray
 from ._crs import are_same_crs, common_crs
 from ._errors import BadMap, OtherCrs, OtherRegion, Refused
 from ._libraries import need

@@ -7,8 +7,8 @@ import numbers
 from typing import Any, Iterable, Mapping
 
 import numpy as np
-from numpy.typing import NDArray
 
+from ._arrays import NDArray
 from ._counting import Counts, Maps, label_columns
 from ._errors import Refused
 from ._legends import labels_of

@@ -6,10 +6,10 @@ from __future__ import annotations
 from typing import Any, Mapping
 
 import numpy as np
-from numpy.typing import NDArray
 
 from rcell_front.pipe import NULL
 
+from ._arrays import NDArray
 from ._counting import Counts, Maps, places_of
 from ._errors import Refused
 from ._maps import named_once

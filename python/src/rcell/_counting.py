@@ -8,10 +8,10 @@ from dataclasses import dataclass
 from typing import Any, Mapping, Sequence
 
 import numpy as np
-from numpy.typing import NDArray
 
 from rcell_front.pipe import NULL
 
+from ._arrays import NDArray
 from ._errors import Refused
 from ._legends import labels_of
 from ._maps import Source, source_of, sources_of

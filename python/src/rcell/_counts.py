@@ -9,15 +9,15 @@ from dataclasses import dataclass
 from typing import Any
 
 import numpy as np
-import numpy.typing as npt
 
 from rcell_front.pipe import NULL
 
+from ._arrays import NDArray
 from ._errors import RcellError
 
 __all__ = ["Counts", "TooManyCells", "counts_of", "numbers_of", "refuse_great_counts"]
 
-Integers = npt.NDArray[Any]
+Integers = NDArray[Any]
 
 MOST_CELLS = 2**63 - 1
 GREAT_COUNT = re.compile(rb"[0-9]{19}")

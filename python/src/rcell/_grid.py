@@ -11,10 +11,10 @@ from dataclasses import dataclass, field
 from typing import Any, Mapping
 
 import numpy as np
-from numpy.typing import NDArray
 
 from rcell_front.pipe import NULL
 
+from ._arrays import NDArray
 from ._errors import Refused
 from ._libraries import has, need
 from ._maps import Map

@@ -14,10 +14,10 @@ from dataclasses import dataclass, field
 from typing import Any, Iterable, Iterator, Mapping, NamedTuple, Protocol, Sequence
 
 import numpy as np
-from numpy.typing import ArrayLike, NDArray
 
 from rcell_front.pipe import NULL
 
+from ._arrays import ArrayLike, NDArray
 from ._crs import common_crs
 from ._errors import BadMap, OtherRegion, Refused
 from ._labels import checked_labels

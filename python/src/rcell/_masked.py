@@ -6,7 +6,8 @@ from __future__ import annotations
 from typing import Any
 
 import numpy as np
-from numpy.typing import NDArray
+
+from ._arrays import NDArray
 
 __all__ = ["MaskedCells", "as_bools", "compressed", "data_of", "filled", "is_masked_array", "mask_of", "masked", "unmasked"]
 

@@ -8,8 +8,8 @@ from dataclasses import dataclass
 from typing import Any
 
 import numpy as np
-from numpy.typing import NDArray
 
+from ._arrays import NDArray
 from ._crs import UNITS_OF_AREA, cell_area, is_geographic, metres_of_unit
 from ._errors import Refused
 from ._libraries import need

@@ -8,10 +8,10 @@ import warnings
 from typing import Any, Iterable
 
 import numpy as np
-from numpy.typing import NDArray
 
 from rcell_front.pipe import NULL
 
+from ._arrays import NDArray
 from ._counting import Maps, places_of
 from ._errors import Refused
 from ._measure import Measure, metres

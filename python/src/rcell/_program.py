@@ -16,7 +16,6 @@ from dataclasses import dataclass
 from typing import Any, Callable, Iterable, Iterator, Mapping, Sequence
 
 import numpy as np
-from numpy.typing import NDArray
 
 from rcell_front import pipe as front
 from rcell_front.files import write_all
@@ -24,6 +23,7 @@ from rcell_front.pipe import NULL
 from rcell_front.programs import Started, close, found_on_path, pipe
 from rcell_front.spelling import rows_text
 
+from ._arrays import NDArray
 from ._errors import Killed, MissingProgram, OutOfMemory, RcellError, Refused, WrongProgram
 from ._maps import MAX_CATEGORY, ArrayMap, Source
 from ._region import Region

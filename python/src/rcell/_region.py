@@ -10,8 +10,8 @@ from fractions import Fraction
 from typing import Any, Callable, Sequence
 
 import numpy as np
-from numpy.typing import NDArray
 
+from ._arrays import NDArray
 from ._errors import BadMap
 
 __all__ = ["Region", "Shift", "Transform", "check_upright", "differences_of", "edges_of_transform", "six_numbers", "units_of"]

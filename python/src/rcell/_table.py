@@ -12,10 +12,10 @@ from functools import cached_property, wraps
 from typing import Any, Callable, Iterable, Iterator, Literal, Mapping, NamedTuple, ParamSpec
 
 import numpy as np
-from numpy.typing import NDArray
 
 from rcell_front.pipe import NULL
 
+from ._arrays import NDArray
 from ._crs import cell_area
 from ._errors import Refused
 

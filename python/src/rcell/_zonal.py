@@ -7,8 +7,8 @@ from decimal import Decimal
 from typing import Any, Iterable
 
 import numpy as np
-from numpy.typing import NDArray
 
+from ._arrays import NDArray
 from ._counting import Maps, places_of
 from ._errors import Refused
 from ._table import Column, Table, framed

@@ -9,8 +9,8 @@ import warnings
 from typing import Any, Mapping, Sequence
 
 import numpy as np
-from numpy.typing import NDArray
 
+from ._arrays import NDArray
 from ._crs import common_crs
 from ._errors import BadMap, ReadFailed, Refused
 from ._libraries import need

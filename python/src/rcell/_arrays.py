@@ -1,0 +1,13 @@
+# SPDX-License-Identifier: Apache-2.0 OR GPL-2.0-or-later
+"""Types of arrays, for annotations: importing numpy.typing takes as long as importing the rest of this package."""
+
+from __future__ import annotations
+
+from typing import TYPE_CHECKING
+
+__all__ = ["ArrayLike", "NDArray"]
+
+if TYPE_CHECKING:
+    from numpy.typing import ArrayLike, NDArray
+else:
+    ArrayLike, NDArray = object, list
