@@ -8,7 +8,8 @@ next to `sort -m` and awk, which adds up equal lines; `clumps` of the borders of
 the pairs of clumps that meet over seams; and `sizes`. All are made here, at random and always the same, and the results of the
 contenders are compared before they are timed. They take turns, and the least processor time (user and system, of all processes of a
 pipe) of all rounds counts. Memory is the peak of the process. Each part is doubled some times, so that the cost of an entry, of a
-clump and of a cell can be read down its column. The last rows of `clumps` are 488 tiles of 1,025 x 8,200 cells in 61 rows.
+clump and of a cell can be read down its column. The last rows of `clumps` are 488 tiles of 1,025 x 8,200 cells in 61 rows, and 1,500
+and 5,000 tiles of 256 x 256.
 
 It needs Debian's python3-scipy and time, and is run by Debian's own Python. --short takes inputs of a tenth and one round.
 """
@@ -278,6 +279,7 @@ def measured(given: argparse.Namespace) -> Iterator[str]:
     wide, many = (1000, 1000, 2000, 4000, 1000, 1000, 1000), (10_000, 10_000, 10_000, 10_000, 20_000, 40_000, 100_000)
     borders = [(grid, (1, cols), clumps) for grid, cols, clumps in zip(columns, wide, many)]
     borders += [((61, 8), (1025, 8200), clumps) for clumps in (10_000, 1_000_000)] if part == 1 else [((6, 8), (1025, 8200), 10_000)]
+    borders += [((down // part, right), (256, 256), 4_000) for down, right in ((30, 50), (50, 100))]
     sizes = [(100, clumps // part) for clumps in (50_000, 100_000, 200_000)]
     for kind, run, inputs in ((TABLES, time_tables, tables), (CLUMPS, time_clumps, borders), (SIZES, time_sizes, sizes)):
         if given.only and given.only not in kind[0].lower():

@@ -4,7 +4,7 @@
     answers.py [--cells N] [--rounds N] [--show]
 
 Each figure is seconds of the processor (user and system, all processes), the smallest of the rounds. The maps are the patchy land cover,
-its zones and a second year as GeoTIFF, made by speed.py, and the land cover again in degrees. `program` is rcell-pipe alone, on the
+its zones and a second year as GeoTIFF, made by made_maps.py, and the land cover again in degrees. `program` is rcell-pipe alone, on the
 request that the package sends it (for align, which sends none, a table of the map), its output thrown away; `reading` is rasterio's read of the GeoTIFFs. A call may cost at
 most the reading and twice the program. With --show the table is printed and no file is written.
 """
@@ -13,6 +13,7 @@ from __future__ import annotations
 
 import argparse
 import functools
+import resource
 import subprocess
 import tempfile
 import warnings
@@ -23,15 +24,31 @@ import rasterio
 from scipy import ndimage
 
 import rcell
+from made_maps import geotiff, land_and_zones
 from page import load, put
 from rcell import _program
-from rcell._geotiff import profile_of
 from rcell_front.pipe import request
-from speed import TRANSFORM, Task, by_turns, made_maps
 
 DEGREES = (0.001, 0.0, 5.0, 0.0, -0.001, 50.0)
 SHARE = 2
 Maps = dict[str, str]
+Task = Callable[[], object]
+
+
+def used() -> float:
+    """Seconds of the processor that this process and its children have taken."""
+    return sum(part.ru_utime + part.ru_stime for part in map(resource.getrusage, (resource.RUSAGE_SELF, resource.RUSAGE_CHILDREN)))
+
+
+def by_turns(tasks: dict[str, Task], rounds: int) -> dict[str, float]:
+    """Seconds of each task, the smallest of so many rounds in which each has its turn."""
+    least = dict.fromkeys(tasks, float("inf"))
+    for _ in range(rounds):
+        for name, task in tasks.items():
+            before = used()
+            task()
+            least[name] = min(least[name], used() - before)
+    return least
 
 
 class Recorder:
@@ -67,14 +84,11 @@ class Recorder:
 
 def maps_of(folder: str, side: int) -> Maps:
     """The maps by their names."""
-    made = list(made_maps(folder, side, side).values())
-    with rasterio.open(made[0]) as dataset:
-        land = dataset.read(1)
-    later = np.where(np.random.default_rng(5).random(land.shape) < 0.05, np.roll(land, 40, 1), land)
-    for name, cells, transform, crs in (("later", later, TRANSFORM, "EPSG:32632"), ("degrees", land, DEGREES, "EPSG:4326")):
-        with rasterio.open(f"{folder}/{name}.tif", "w", **profile_of(side, side, transform, crs, "uint8", 0)) as dataset:
-            dataset.write(cells, 1)
-    return {"land": made[0], "zones": made[3], "later": f"{folder}/later.tif", "degrees": f"{folder}/degrees.tif"}
+    land, zones = land_and_zones(folder, side)
+    [cells] = read(land)
+    later = np.where(np.random.default_rng(5).random(cells.shape) < 0.05, np.roll(cells, 40, 1), cells)
+    return {"land": land, "zones": zones, "later": geotiff(f"{folder}/later.tif", later, 0),
+            "degrees": geotiff(f"{folder}/degrees.tif", cells, 0, DEGREES, "EPSG:4326")}
 
 
 def read(*paths: str) -> list[Any]:
@@ -146,7 +160,7 @@ def lines_of(maps: Maps, folder: str, rounds: int) -> list[str]:
         if not recorder.requests:  # alignment does not run the program: what a table of the map takes stands in its place
             recorder.record(lambda: rcell.composition(maps["land"]))
         reading = functools.partial(read, *paths)
-        found = by_turns({"answer": call, "program": recorder.program, "reading": reading, "peer": by_peer}, 10**9, rounds)
+        found = by_turns({"answer": call, "program": recorder.program, "reading": reading, "peer": by_peer}, rounds)
         most = found["reading"] + SHARE * found["program"]
         told = f"{found['peer']:.2f} ({peer})" if peer else ""
         share = found["answer"] / most

@@ -13,17 +13,18 @@ import rasterio
 from rasterio.windows import Window
 
 import rcell.tiles
-from made_maps import STRIP
+from made_maps import STRIP, land_cover_array
 from rcell._maps import source_of
 from rcell._program import execute
 from watching import MILLION, Figures, Watch, measured, processor
 
-__all__ = ["ALL", "NMODE", "SUM", "answers", "grass_maps", "undivided"]
+__all__ = ["ALL", "NMODE", "SUM", "TABLE", "answers", "answers_of_array", "grass_maps", "undivided"]
 
 AROUND = [f"lc[{down},{right}]" for down in (-1, 0, 1) for right in (-1, 0, 1)]
 SUM = " + ".join(AROUND)
 NMODE = f"nmode({', '.join(AROUND)})"
 NULL = -2_147_483_648
+TABLE = "r.stats -c input=lc"
 
 
 class Task(NamedTuple):
@@ -60,11 +61,11 @@ def answers(path: Path, folder: Path, sizes: list[int], workers: int, asked: Col
 
 
 def _table(path: Path, folder: Path, sizes: list[int], workers: int) -> list[str]:
-    expected, seconds, program = _watched(lambda: rcell.table("r.stats -c input=lc", lc=str(path)))
+    expected, seconds, program = _watched(lambda: rcell.table(TABLE, lc=str(path)))
     row = ["table", f"{seconds:.1f} s, {program / MILLION:.0f} MB"]
     for size in sizes:
         with rcell.tiles.open(size=size, scheduler=workers, lc=str(path)) as mosaic:
-            found, figures = measured(mosaic, lambda: mosaic.table("r.stats -c input=lc"))
+            found, figures = measured(mosaic, lambda: mosaic.table(TABLE))
         row.append(_told(found.equals(expected), figures))
     is_there = (folder / "table.txt").exists()
     row.append(_judged(_grass_table(found) == (folder / "table.txt").read_text().splitlines()) if is_there else "")
@@ -127,9 +128,10 @@ def _watched(work: Callable[[], Any]) -> tuple[Any, float, int]:
     return answer, processor() - start, watch.both - watch.alone
 
 
-def undivided(path: Path, script: str, wanted: str = "x") -> tuple[Any, float, int]:
-    """A map of one run of the program, as `_watched` answers it."""
-    return _watched(lambda: execute(script, {"lc": source_of("lc", str(path))}, wanted=(wanted,))[-1].values)
+def undivided(lc: Any, script: str, wanted: str = "x") -> tuple[Any, float, int]:
+    """A map of one run of the program over a file or an array, as `_watched` answers it."""
+    given = str(lc) if isinstance(lc, Path) else lc
+    return _watched(lambda: execute(script, {"lc": source_of("lc", given)}, wanted=(wanted,))[-1].values)
 
 
 def _same(cells: Any, path: Path, null: int) -> bool:
@@ -148,6 +150,50 @@ def _sizes_of(cells: Any, areas: int) -> Any:
     for top in range(0, len(cells), STRIP):
         sizes += np.bincount(np.maximum(cells[top:top + STRIP], 0).reshape(-1), minlength=areas + 1)
     return sizes[1:]
+
+
+# Arrays of Dask
+
+
+def answers_of_array(side: int, chunk: int, folder: Path, workers: int) -> list[str]:
+    """The table, patches, their sizes and a sum that reaches over seams, of a DataArray of Dask, beside one run over its cells."""
+    array = land_cover_array(side, chunk)
+    whole = rcell.Map(array.values, nodata=0)
+    expected, seconds, _ = _watched(lambda: rcell.table(TABLE, lc=whole))
+    with rcell.tiles.open(scheduler=workers, lc=array) as mosaic:
+        found, figures = measured(mosaic, lambda: mosaic.table(TABLE))
+        rows = [_row(["table", f"{seconds:.1f} s", _told(found.equals(expected), figures)])]
+        edges, total = (next(task for task in TASKS if task.grass == name) for name in ("edges", "total"))
+        for task, lazy in ((total, lambda: mosaic.grid(f"x = {SUM}")), (edges, lambda: mosaic.clump("lc"))):
+            rows += [_row(line) for line in _answer_of_array(task, lazy, mosaic, whole, folder)]
+    return rows
+
+
+def _answer_of_array(task: Task, lazy: Callable[[], Any], mosaic: rcell.tiles.Mosaic, whole: rcell.Map, folder: Path) -> Iterator[list[str]]:
+    cells, seconds, _ = undivided(whole, task.script)
+    path = folder / "expected.npy"
+    expected: Any = np.lib.format.open_memmap(path, "w+", np.int32, cells.shape)  # type: ignore[no-untyped-call]
+    for top in range(0, len(cells), STRIP):
+        part = cells[top:top + STRIP]
+        expected[top:top + STRIP] = np.where(part == NULL, task.null, part)
+    differing, figures = measured(mosaic, lambda: _differing(mosaic, lazy().data, path))
+    yield [task.name, f"{seconds:.1f} s", _told(differing == 0, figures)]
+    if task.is_of_areas:
+        patches, figures = measured(mosaic, lambda: mosaic.patches("lc"))
+        is_equal = np.array_equal(patches["cells"].to_numpy(np.int64), _sizes_of(cells, len(patches)))
+        yield [f"sizes of the {len(patches):,} {task.name}", "", _told(is_equal, figures)]
+    path.unlink()
+
+
+def _differing(mosaic: rcell.tiles.Mosaic, cells: Any, path: Path) -> int:
+    """How many cells of an array of Dask are not those of a file of numpy: each worker looks at its tiles."""
+
+    def count(block: Any, block_info: Any = None) -> Any:
+        (top, low), (left, right) = block_info[0]["array-location"]
+        return np.array([[(block != np.load(path, mmap_mode="r")[top:low, left:right]).sum()]])
+
+    counts = cells.map_blocks(count, chunks=(1, 1), dtype=np.int64)
+    return int(mosaic._engine.cluster.client.compute(counts.sum()).result())
 
 
 # GRASS

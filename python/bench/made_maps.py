@@ -1,7 +1,8 @@
-"""Maps that the figures of tiles are measured on, written by strips as GeoTIFF: 8 bits, deflate, blocks of 256 x 256."""
+"""Maps that the figures are measured on: GeoTIFFs, deflate, blocks of 256 x 256, those of tiles written by strips."""
 
 from __future__ import annotations
 
+import sys
 from collections.abc import Iterator
 from contextlib import contextmanager
 from pathlib import Path
@@ -12,30 +13,60 @@ import numpy.typing as npt
 import rasterio
 from rasterio.windows import Window
 
-__all__ = ["STRIP", "checkerboard", "comb", "land_cover", "noise", "runs_of", "spiral", "write"]
+from rcell._geotiff import profile_of
+
+__all__ = ["STRIP", "TRANSFORM", "checkerboard", "comb", "geotiff", "land_and_zones", "land_cover", "land_cover_array", "noise", "runs_of", "spiral", "write"]
 
 CLASSES = 12
 
+FINEST = 4
+"""Rows and columns of the smallest block of equal cells in land cover."""
+
 STRIP = 2000
 """Rows that are made, or looked at, at a time."""
+
+TRANSFORM = (25.0, 0.0, 500_000.0, 0.0, -25.0, 5_500_000.0)
+CODES = np.array([11, 12, 21, 22, 23, 24, 31, 41, 42, 43, 52, 71, 81, 82, 90])
 
 Cells = npt.NDArray[np.uint8]
 
 
 def land_cover(path: Path, side: int) -> None:
     """Patches of many sizes in 12 classes: the sum of random fields at four scales, and null where another one is low."""
-    random = np.random.default_rng(45)
-    fields = {scale: random.random((side // scale + 2, side // scale + 2), dtype=np.float32) for scale in (4, 16, 64, 256)}
-    hole = random.random((side // 32 + 2, side // 32 + 2), dtype=np.float32)
     with _writing(path, side) as dataset:
         for top in range(0, side, STRIP):
             rows = np.arange(top, min(top + STRIP, side))
-            cols = np.arange(side)
-            total = sum(weight * field[np.ix_(rows // scale, cols // scale)]
-                        for weight, (scale, field) in zip((0.5, 1, 1, 1), fields.items()))
-            cells = (np.asarray(total) / 3.5 * CLASSES * 1.6 % CLASSES).astype(np.uint8) + 1
-            cells[hole[np.ix_(rows // 32, cols // 32)] < 0.05] = 0
-            dataset.write(cells, 1, window=Window(0, top, side, len(rows)))
+            dataset.write(_land_cover(rows, np.arange(side)), 1, window=Window(0, top, side, len(rows)))
+
+
+def land_cover_array(side: int, chunk: int) -> Any:
+    """The same map as a DataArray of Dask, of which each chunk is made when it is needed: no file has its cells."""
+    import cloudpickle  # type: ignore[import]
+    import dask.array
+    import xarray
+
+    cloudpickle.register_pickle_by_value(sys.modules[__name__])  # workers do not have this module
+    along = dask.array.arange(side, chunks=chunk)
+    cells = dask.array.map_blocks(lambda *place: _land_cover(*place), along[:, None], along[None, :], dtype=np.uint8, meta=np.empty((0, 0), np.uint8))
+    centres = 25 * (np.arange(side) + 0.5)
+    return xarray.DataArray(cells, {"y": centres[::-1], "x": centres}, ("y", "x"), "lc", {"_FillValue": 0})
+
+
+def _land_cover(rows: npt.NDArray[Any], cols: npt.NDArray[Any]) -> Cells:
+    (down, low), (right, far) = (np.unique(along.reshape(-1) // FINEST, return_inverse=True) for along in (rows, cols))
+    total = sum(weight * _field(down, right, scale) for weight, scale in zip((0.5, 1, 1, 1), (4, 16, 64, 256)))
+    blocks = (np.asarray(total) / 3.5 * CLASSES * 1.6 % CLASSES + 1).astype(np.uint8)
+    blocks[_field(down, right, 32) < 0.05] = 0
+    return blocks[low][:, far]
+
+
+def _field(down: npt.NDArray[Any], right: npt.NDArray[Any], scale: int) -> npt.NDArray[np.float32]:
+    """Numbers from 0 to 1, one for each block of so many cells, mixed from its place: the same wherever the map is cut."""
+    blocks = ((along * FINEST // scale).astype(np.uint64) for along in (down, right))
+    key = (next(blocks)[:, None] << np.uint64(32)) + next(blocks) + np.uint64(scale << 20)
+    for factor in (0xFF51AFD7ED558CCD, 0xC4CEB9FE1A85EC53):
+        key = (key ^ (key >> np.uint64(33))) * np.uint64(factor)
+    return (key >> np.uint64(40)).astype(np.float32) / np.float32(2**24)
 
 
 def noise(path: Path, side: int) -> None:
@@ -76,6 +107,30 @@ def write(path: Path, cells: Cells) -> None:
     """A square map that is in memory."""
     with _writing(path, len(cells)) as dataset:
         dataset.write(cells, 1)
+
+
+def patchy(rows: int, cols: int, kinds: int, side: int, ragged: int, random: np.random.Generator) -> Any:
+    """Patches of about `side` cells with ragged edges."""
+    kind = random.integers(0, kinds, (rows // side + 2, cols // side + 2))
+    row = np.arange(rows)[:, None] + random.integers(0, ragged, (rows, cols))
+    col = np.arange(cols)[None, :] + random.integers(0, ragged, (rows, cols))
+    return kind[row // side, col // side]
+
+
+def land_and_zones(folder: str, side: int) -> tuple[str, str]:
+    """The paths of GeoTIFFs of land cover in 15 classes, with some null, and of 900 zones in 16 bits."""
+    random = np.random.default_rng(1)
+    land = CODES[patchy(side, side, 15, 24, 9, random)].astype("uint8")
+    land[random.random(land.shape) < 0.024] = 0
+    zones = (patchy(side, side, 900, 130, 9, random) + 1).astype("int16")
+    return geotiff(f"{folder}/lc.tif", land, 0), geotiff(f"{folder}/zones.tif", zones, -1)
+
+
+def geotiff(path: str, cells: Any, nodata: int, transform: tuple[float, ...] = TRANSFORM, crs: str = "EPSG:32632") -> str:
+    """The path of a GeoTIFF that is written."""
+    with rasterio.open(path, "w", **profile_of(len(cells), cells.shape[1], transform, crs, cells.dtype.name, nodata)) as dataset:
+        dataset.write(cells, 1)
+    return path
 
 
 @contextmanager

@@ -1,247 +1,200 @@
 #!/usr/bin/python3
-"""Measures the package beside others, by turns in one run, in processor time, and writes its tables into bench/RESULTS.md.
+"""Measures ten tasks by the package, by that of an earlier commit and by peers, by turns in one run, and writes bench/RESULTS.md.
 
-    speed.py [--cells N] [--rounds N] [--show] [MAP..]
+    speed.py [--side N] [--rounds N] [--before COMMIT] [--show]
 
-Each figure is nanoseconds of the processor (user and system, all processes) a cell, the least of the rounds. Maps are made: patchy
-land cover of 15 classes, noise of 12, a mask of 4 classes with long runs, zones of 900 numbers, and numbers of six digits; each
-a GeoTIFF (deflate, tiles of 256 x 256), and land cover as arrays of several types. Real ones stand beside them: the countries of examples/rasters, the GeoTIFFs that are
-named, and the grids that bench/real_maps.py has written under bench/out. With --show the tables are printed and no file is written.
+Each figure is nanoseconds of the processor a cell (user and system, all processes), the least of the rounds, on a GeoTIFF of patchy land
+cover of N x N cells and another of zones. The contenders are started once and get a task after another: ten.py twice, with this
+package and with that of COMMIT over the same program `rcell`; ten.py with numpy, rasterio and scipy; ten.R with terra; ten.sh with GRASS,
+whose maps are there already, and whose modules start anew for each task. Results that can be compared have to be the same. Last come what a
+call takes whatever its map, and the table of a GeoTIFF beside reading it and counting in C++ (bench/yardstick.cpp), whose sum it may
+not pass by more than a fifth of the one and half of the other. With --show the tables are printed and no file is written.
 """
 
 from __future__ import annotations
 
 import argparse
+import io
+import os
 import pathlib
 import resource
+import shutil
 import subprocess
-import sys
+import tarfile
 import tempfile
-from typing import Any, Callable
 
 import numpy as np
-import rasterio
 
-import rcell
+import ten
+from made_maps import TRANSFORM, geotiff, land_and_zones
 from page import load, put
-from rcell._geotiff import profile_of
-from rcell._masked import masked
-from rcell._rasters import open_raster
-from rcell._program import _sent, find_pipe
-from rcell_front.pipe import request
 
 HERE = pathlib.Path(__file__).resolve().parent
-ROOT = HERE.parent.parent
-TRANSFORM = (25.0, 0.0, 500_000.0, 0.0, -25.0, 5_500_000.0)
-CODES = np.array([11, 12, 21, 22, 23, 24, 31, 41, 42, 43, 52, 71, 81, 82, 90])
-# Rows that the two commands of GDAL are given: they take so long that a part of a map says enough.
-GDAL_ROWS = 200
-# What bench/real_maps.py writes, by what it is.
-REAL = {
-    "real-land": "real: land and lakes of South-East Asia",
-    "real-countries": "real: its countries",
-    "real-cover": "real: land cover of Puerto Rico, side by side",
-    "real-heights": "real: heights of the globe",
-}
-Task = Callable[[], object]
+ROOT = HERE.parents[1]
+HEADS = {"before": "before", "rcell": "now", "numpy": "numpy, rasterio, scipy", "terra": "terra", "grass": "GRASS, maps in GRASS"}
+READING, COUNTING = 1.2, 1.5
+"""What a table may take of reading and of counting alone."""
 
 
-def used() -> float:
-    """Seconds of the processor that this process and its children have taken."""
-    return sum(part.ru_utime + part.ru_stime for part in map(resource.getrusage, (resource.RUSAGE_SELF, resource.RUSAGE_CHILDREN)))
+class Contender:
+    """A process that does tasks, and the least seconds of each."""
+
+    def __init__(self, words: list[str], **environment: str) -> None:
+        self._process = subprocess.Popen(words, stdin=subprocess.PIPE, stdout=subprocess.PIPE, text=True, env={**os.environ, **environment})
+        self.seconds: dict[str, float] = {}
+        self.sums: dict[str, str] = {}
+
+    def turn(self, task: str) -> None:
+        """Do a task once."""
+        assert self._process.stdin and self._process.stdout
+        print(task, file=self._process.stdin, flush=True)
+        seconds, self.sums[task] = self._process.stdout.readline().split()
+        self.seconds[task] = min(self.seconds.get(task, float("inf")), float(seconds))
+
+    def close(self) -> None:
+        """Let the process end."""
+        self._process.communicate()
 
 
-def by_turns(tasks: dict[str, Task], cells: int, rounds: int) -> dict[str, float]:
-    """Nanoseconds a cell of each task, the least of so many rounds in which each has its turn."""
-    least = dict.fromkeys(tasks, float("inf"))
+def make_maps(folder: str, side: int) -> None:
+    """Land cover and zones, a map that begins some rows and columns further, the land cover as a text, and rules."""
+    lc, zones = land_and_zones(folder, side)
+    [cells] = [ten.read(lc)]
+    (down, right), (width, _, west, _, height, north) = ten.SHIFT, TRANSFORM
+    moved = (width, 0.0, west + width * right, 0.0, height, north + height * down)
+    geotiff(f"{folder}/other.tif", cells[down:, right:], 0, moved)
+    words = np.array(["*", *map(str, range(1, 256))])
+    with open(f"{folder}/lc.txt", "w", encoding="ascii") as file:
+        file.write(f"north: {side}\nsouth: 0\neast: {side}\nwest: 0\nrows: {side}\ncols: {side}\n")
+        file.writelines(" ".join(row) + "\n" for row in words[cells].tolist())
+    pathlib.Path(folder, "rules").write_text(f"{ten.RULES}end\n", encoding="ascii")
+
+
+def contenders(folder: str, before: str) -> dict[str, Contender]:
+    """All that are installed, by their names."""
+    old = pathlib.Path(folder, "before")
+    packed = subprocess.run(["git", "archive", before, "python/src"], cwd=ROOT, check=True, capture_output=True).stdout
+    tarfile.open(fileobj=io.BytesIO(packed)).extractall(old)
+    by_python = ["/usr/bin/python3", str(HERE / "ten.py")]
+    found = {
+        "before": Contender([*by_python, "rcell", folder], PYTHONPATH=str(old / "python" / "src")),
+        "rcell": Contender([*by_python, "rcell", folder], PYTHONPATH=str(ROOT / "python" / "src")),
+        "numpy": Contender([*by_python, "numpy", folder]),
+    }
+    if shutil.which("Rscript"):
+        found["terra"] = Contender(["Rscript", str(HERE / "ten.R"), folder])
+    if shutil.which("grass"):
+        found["grass"] = Contender(["grass", "--tmp-location", "XY", "--exec", "bash", str(HERE / "ten.sh"), folder])
+    return found
+
+
+def measured(folder: str, rounds: int, before: str) -> dict[str, Contender]:
+    """The contenders after all rounds."""
+    found = contenders(folder, before)
     for _ in range(rounds):
-        for name, task in tasks.items():
-            before = used()
-            task()
-            least[name] = min(least[name], (used() - before) / cells * 1e9)
-    return least
+        for task in ten.NAMES:
+            for contender in found.values():
+                contender.turn(task)
+    for contender in found.values():
+        contender.close()
+    for task in ten.NAMES:
+        others = {"before"} if task in ("patches", "align") else {"before", "numpy"}  # patches by scipy have other numbers; its null is 0
+        sums = {found[name].sums[task] for name in {*others, "rcell"} if found[name].seconds[task] < float("inf")}
+        if len(sums) != 1:
+            raise SystemExit(f"{task}: not the same results")
+    return found
 
 
-# Maps
+# The table of a GeoTIFF, taken apart
 
 
-def patchy(rows: int, cols: int, kinds: int, side: int, ragged: int, random: np.random.Generator) -> Any:
-    """Patches of about `side` cells with ragged edges."""
-    kind = random.integers(0, kinds, (rows // side + 2, cols // side + 2))
-    row = np.arange(rows)[:, None] + random.integers(0, ragged, (rows, cols))
-    col = np.arange(cols)[None, :] + random.integers(0, ragged, (rows, cols))
-    return kind[row // side, col // side]
+def used(words: list[str]) -> float:
+    """Seconds of the processor of a program."""
+    before = resource.getrusage(resource.RUSAGE_CHILDREN)
+    subprocess.run(words, check=True, stdout=subprocess.DEVNULL)
+    after = resource.getrusage(resource.RUSAGE_CHILDREN)
+    return after.ru_utime + after.ru_stime - before.ru_utime - before.ru_stime
 
 
-def made_maps(folder: str, rows: int, cols: int) -> dict[str, str]:
-    """Made maps as GeoTIFF, by what they are."""
-    random = np.random.default_rng(1)
-    land = CODES[patchy(rows, cols, 15, 24, 9, random)].astype("uint8")
-    land[random.random(land.shape) < 0.024] = 0
-    zones = patchy(rows, cols, 900, 130, 9, random)
-    maps = {
-        "patchy land cover, 8 bits": (land, 0),
-        "noise of 12 classes, 8 bits": (random.integers(1, 13, land.shape).astype("uint8"), 0),
-        "a mask of 4 classes, 8 bits": (patchy(rows, cols, 4, 400, 9, random).astype("uint8"), 255),
-        "zones to 900, 16 bits": ((zones + 1).astype("int16"), -1),
-        "six digits, 32 bits": (land.astype("int32") * 13_000 + zones, -9999),
-    }
-    paths = {}
-    for number, (name, (array, nodata)) in enumerate(maps.items()):
-        paths[name] = f"{folder}/map{number}.tif"
-        with rasterio.open(paths[name], "w", **profile_of(rows, cols, TRANSFORM, "EPSG:32632", array.dtype.name, nodata)) as dataset:
-            dataset.write(array, 1)
-    return paths
+def counting(folder: str, rounds: int) -> float:
+    """Seconds of counting in C++: of the text of the map, without reading it."""
+    yardstick = f"{folder}/yardstick"
+    subprocess.run(["g++", "-std=c++20", "-O3", "-march=native", "-o", yardstick, str(ROOT / "bench" / "yardstick.cpp")], check=True)
+    both = [(used([yardstick, "none", "stats", f"{folder}/lc.txt"]), used([yardstick, "none", "nothing", f"{folder}/lc.txt"])) for _ in range(rounds)]
+    return min(whole for whole, _ in both) - min(part for _, part in both)
 
 
-def real_maps(folder: str) -> dict[str, str]:
-    """Real maps as GeoTIFF, by what they are, as far as they are there."""
-    paths = {"real: countries of South-East Asia, 16 km": str(ROOT / "examples" / "rasters" / "country.tif")}
-    for stem, name in REAL.items():
-        grid = ROOT / "bench" / "out" / f"{stem}.txt"
-        if grid.exists():
-            paths[name] = rcell.grid("", "map", map=grid).write(f"{folder}/{stem}.tif")
-    return paths
+def call(folder: str) -> float:
+    """Seconds of a table of a map of one cell."""
+    small = f"{folder}/small"
+    os.mkdir(small)
+    for name in ("lc", "zones", "other"):
+        geotiff(f"{small}/{name}.tif", np.ones((1, 1), np.uint8), 0)
+    contender = Contender(["/usr/bin/python3", str(HERE / "ten.py"), "rcell", small], PYTHONPATH=str(ROOT / "python" / "src"))
+    for _ in range(20):
+        contender.turn("table")
+    contender.close()
+    return contender.seconds["table"]
 
 
-def shape_of(path: str) -> tuple[int, int]:
-    with rasterio.open(path) as dataset:
-        return dataset.height, dataset.width
+def reading(path: str, rounds: int) -> float:
+    """Seconds of reading a GeoTIFF with rasterio."""
+
+    def spent() -> float:
+        own = resource.getrusage(resource.RUSAGE_SELF)
+        return own.ru_utime + own.ru_stime
+
+    def once() -> float:
+        before = spent()
+        ten.read(path)
+        return spent() - before
+
+    return min(once() for _ in range(rounds))
 
 
-# From a GeoTIFF to its table
+def section(folder: str, settings: argparse.Namespace) -> str:
+    cells = settings.side**2
+    found = measured(folder, settings.rounds, settings.before)
 
+    def ns(seconds: float) -> str:
+        return "" if seconds == float("inf") else f"{seconds / cells * 1e9:.1f}"
 
-class Contest:
-    """From a GeoTIFF to the table of its categories, by several ways."""
-
-    def __init__(self, folder: str, path: str) -> None:
-        self.path = path
-        self.rows, self.cols = shape_of(path)
-        self._asc, self._grid, self._request = (f"{folder}/{name}" for name in ("map.asc", "map.txt", "request"))
-        self._script = f"{folder}/counts"
-        pathlib.Path(self._script).write_text("r.stats -c input=lc\n")
-        with open(self._request, "wb") as file:
-            file.writelines(request([_sent("lc", open_raster("lc", path))], b"r.stats -c input=lc\n"))
-
-    def table(self) -> None:
-        rcell.table("r.stats -c input=lc", lc=self.path)
-
-    def program(self) -> None:
-        with open(self._request, "rb") as file:
-            subprocess.run([find_pipe()], stdin=file, check=True, stdout=subprocess.DEVNULL)
-
-    def gdal(self) -> None:
-        window = ["-srcwin", "0", "0", str(self.cols), str(self.gdal_rows)]
-        subprocess.run(["gdal_translate", "-q", "-of", "AAIGrid", "-ot", "Int32", *window, self.path, self._asc], check=True)
-        subprocess.run(["python3", str(ROOT / "helpers" / "rcell-aaigrid"), self._asc, self._grid], check=True, stderr=subprocess.DEVNULL)
-        subprocess.run([rcell.program(), self._script, f"lc={self._grid}"], check=True, stdout=subprocess.DEVNULL)
-
-    @property
-    def gdal_rows(self) -> int:
-        return min(GDAL_ROWS, self.rows)
-
-    def unique(self) -> None:
-        np.unique(self._cells(), return_counts=True)
-
-    def read(self) -> None:
-        self._cells()
-
-    def _cells(self) -> Any:
-        with rasterio.open(self.path) as dataset:
-            return dataset.read(1)
-
-
-def from_geotiff(paths: dict[str, str], folder: str, rounds: int) -> list[str]:
-    """A line for each map."""
-    lines = []
-    for name, path in paths.items():
-        of = Contest(folder, path)
-        cells = of.rows * of.cols
-        tasks: dict[str, Task] = {"table": of.table, "program": of.program, "read": of.read, "unique": of.unique}
-        found = by_turns(tasks, cells, rounds) | by_turns({"gdal": of.gdal}, of.gdal_rows * of.cols, 1)
-        lines.append(
-            f"| {name} | {cells / 1e6:.1f} | {found['table']:.1f} | {found['program']:.1f} | {found['table'] / found['program']:.1f} "
-            f"| {found['read']:.1f} | {found['gdal']:.0f} | {found['unique']:.1f} |"
-        )
-        print(lines[-1], flush=True)
-    return lines
-
-
-def milliseconds_of_a_call(rounds: int) -> float:
-    """What a call takes whatever the size of its map: by that of a map of one cell."""
-    with tempfile.TemporaryDirectory(prefix="rcell-speed-") as folder:
-        path = rcell.grid("", "x", x=rcell.Map([[1]], TRANSFORM, "EPSG:32632")).write(f"{folder}/x.tif")
-        return by_turns({"table": lambda: rcell.table("r.stats -c input=lc", lc=path)}, 1, rounds)["table"] / 1e6
-
-
-# Arrays in and out
-
-
-def from_arrays(cells: int, cols: int, rounds: int) -> list[str]:
-    """From an array to its table, and a map in and out; a line for each type of array."""
-    land = patchy(cells // cols, cols, 12, 24, 9, np.random.default_rng(2)).astype(np.uint8)
-    arrays = {
-        "u8": land, "u8, masked": masked(land, land == 3), "i16": land.astype(np.int16), "i32": land.astype(np.int32),
-        "i64": land.astype(np.int64), "float32": land.astype(np.float32),
-    }
-    lines = []
-    for name, array in arrays.items():
-        found = by_turns(_of_array(array), array.size, rounds)
-        lines.append(f"| {name} | {found['table']:.1f} | {found['grid']:.1f} | {found['copy']:.2f} | {found['bincount']:.1f} | {found['unique']:.1f} |")
-        print(lines[-1], flush=True)
-    return lines
-
-
-def _of_array(array: Any) -> dict[str, Task]:
-    plain = np.asarray(array)
-    return {
-        "table": lambda: rcell.run("r.stats -c input=lc", lc=array),
-        "grid": lambda: rcell.run("r.out.ascii input=lc", lc=array),
-        "copy": plain.copy,
-        "bincount": lambda: np.bincount(plain.reshape(-1) if plain.dtype.kind != "f" else plain.reshape(-1).astype(np.int64)),
-        "unique": lambda: np.unique(plain, return_counts=True),
-    }
-
-
-def section(rounds: int, call: float, geotiff: list[str], arrays: list[str]) -> str:
+    rows = [f"| {task} | {' | '.join(ns(one.seconds[task]) for one in found.values())} |" for task in ten.NAMES]
+    table, read, count = found["rcell"].seconds["table"], reading(f"{folder}/lc.tif", settings.rounds), counting(folder, settings.rounds)
     return f"""Measured on {load()}.
 
-Nanoseconds of the processor a cell (user and system, all processes), the least of {rounds} rounds in which each had its turn.
-From a GeoTIFF to the table of its categories: `rcell.table` returns a DataFrame; "program alone" is rcell-pipe on a file with the
-request that it gets from the package; "reading alone" is `rasterio`'s `read(1)`. The way by
-gdal_translate, rcell-aaigrid and the program was gone once, on the first {GDAL_ROWS} rows. A call takes {call:.1f} ms whatever its map.
+Nanoseconds of the processor a cell (user and system, all processes), the least of {settings.rounds} rounds in which each had its turn, on
+{settings.side:,} x {settings.side:,} cells of patchy land cover in 15 classes. "Before" is the package of {settings.before}, which spelled cells as text.
 
-| Map | million cells | rcell.table | program alone | times | reading alone | gdal_translate, aaigrid, program | rasterio and numpy.unique |
-|---|---|---|---|---|---|---|---|
-{chr(10).join(geotiff)}
+| Task | {' | '.join(HEADS[name] for name in found)} |
+|---{'|---' * len(found)}|
+{chr(10).join(rows)}
 
-From an array of patchy land cover of 12 classes to its table, and to the same map as an array again:
+| Table of a GeoTIFF | ns a cell |
+|---|---|
+| reading it with rasterio | {ns(read)} |
+| counting in C++, without reading | {ns(count)} |
+| {READING} of reading and {COUNTING} of counting | {ns(READING * read + COUNTING * count)} |
+| rcell.table | {ns(table)} |
 
-| Array | table | map in and out | copying it | numpy.bincount | numpy.unique |
-|---|---|---|---|---|---|
-{chr(10).join(arrays)}
+A call takes {call(folder) * 1e3:.1f} ms whatever its map.
 """
 
 
-def main() -> int:
+def main() -> None:
     words = argparse.ArgumentParser(description=__doc__, formatter_class=argparse.RawDescriptionHelpFormatter)
-    words.add_argument("--cells", type=int, default=10_000_000)
-    words.add_argument("--rounds", type=int, default=5)
+    words.add_argument("--side", type=int, default=2000)
+    words.add_argument("--rounds", type=int, default=3)
+    words.add_argument("--before", default="b6318640")
     words.add_argument("--show", action="store_true")
-    words.add_argument("maps", nargs="*", metavar="MAP")
     settings = words.parse_args()
-    cols = 5_000
-    rows = settings.cells // cols
-    call = milliseconds_of_a_call(20)
     with tempfile.TemporaryDirectory(prefix="rcell-speed-") as folder:
-        arrays = from_arrays(settings.cells, cols, settings.rounds)
-        paths = made_maps(folder, rows, cols) | real_maps(folder) | {f"real: {pathlib.Path(path).stem}": path for path in settings.maps}
-        geotiff = from_geotiff(paths, folder, settings.rounds)
+        make_maps(folder, settings.side)
+        text = section(folder, settings)
+    print(text)
     if not settings.show:
-        put("From Python", section(settings.rounds, call, geotiff, arrays))
-    return 0
+        put("From Python", text)
 
 
 if __name__ == "__main__":
-    sys.exit(main())
+    main()

@@ -3,7 +3,7 @@
 
     tiles.py [--side N] [--folder F] [--workers W] [--task T ...] [--write] [PART ...]
 
-PART is one of answers, grass, shapes, workers, memory, joining; without one they are all but grass. Made is a land cover map of
+PART is one of answers, arrays, grass, shapes, workers, memory, joining; without one they are all but grass. Made is a land cover map of
 N x N cells, 4,096 where N is not given; in a folder F that is named, it stays, and so do the maps that the part grass makes, which
 answers then lays beside those of tiles (20,000 x 20,000 cells take some ten minutes of a processor in GRASS, half an hour in tiles,
 and 10 GB). T is one of what these two make: table, edges, corners, total, modes, sizes; all where none is given. With --write each
@@ -35,7 +35,7 @@ from rasterio.windows import Window
 
 import rcell
 import rcell.tiles
-from beside import ALL, NMODE, SUM, answers, grass_maps, undivided
+from beside import ALL, NMODE, SUM, TABLE, answers, answers_of_array, grass_maps, undivided
 from made_maps import STRIP, checkerboard, comb, land_cover, noise, runs_of, spiral, write
 from page import load, put
 from rcell.tiles._graph import cuts_of, places_of
@@ -47,11 +47,9 @@ from watching import MILLION, Figures, measured
 
 MEMORY_SIDE = 4096
 WAIT_SECONDS = 60
+ROUNDS = 2
 KILLED_AFTER = 1 / 3
 """When a worker is killed: so much of the time that the same work took as many workers of which none was."""
-
-TABLE = "r.stats -c input=lc"
-
 
 @dataclass(frozen=True)
 class Settings:
@@ -84,6 +82,13 @@ def of_answers(given: Settings) -> list[str]:
     head = [f"{given.side:,} x {given.side:,} cells, {runs_of(given.path):.2f} runs a cell, {given.workers} workers. {load()}.", "",
             f"| Task | one run | {heads} | GRASS 8.2.1 |", f"|---|---|{'---|' * len(sizes)}---|"]
     return head + answers(given.path, given.folder, sizes, given.workers, given.tasks)
+
+
+def of_arrays(given: Settings) -> list[str]:
+    """The same map as chunks of Dask, which no file has."""
+    head = [f"{given.side:,} x {given.side:,} cells in chunks of {given.tile:,}, {given.workers} workers. {load()}.", "",
+            "| Task | one run | by chunks |", "|---|---|---|"]
+    return head + answers_of_array(given.side, given.tile, given.folder, given.workers)
 
 
 def of_grass(given: Settings) -> list[str]:
@@ -140,27 +145,31 @@ def sum_of(path: Path) -> int:
 
 
 def of_workers(given: Settings) -> list[str]:
-    """1, 2 and 4 workers, and 4 of which one is killed on the way."""
-    head = [f"{given.side:,} x {given.side:,} cells of land cover, tiles of {given.tile:,}. {load()}.", "",
-            f"| Workers | {' | '.join(work.title for work in WORKS)} | Each worker at its peak |", f"|---|{'---|' * len(WORKS)}---|"]
-    clocks: dict[int, list[float]] = {}
+    """1, 2 and 4 workers by turns, the least of their rounds, and 4 of which one is killed on the way."""
+    least: dict[tuple[int, bool], list[Figures]] = {}
     answers: list[list[Any]] = []
-    rows = []
-    for count, is_killed in ((1, False), (2, False), (4, False), (4, True)):
+    for count, is_killed in [*[(count, False) for count in (1, 2, 4)] * ROUNDS, (4, True)]:
+        killed = [KILLED_AFTER * figures.clock for figures in least[count, False]] if is_killed else [0.0] * len(WORKS)
         with rcell.tiles.open(size=given.tile, scheduler=count, lc=str(given.path)) as mosaic:
-            killed = [KILLED_AFTER * clock for clock in clocks[count]] if is_killed else [0.0] * len(WORKS)
             found = [_worked(mosaic, count, work, given.folder / "workers.tif", after) for work, after in zip(WORKS, killed)]
         answers.append([answer for answer, _ in found])
-        clocks.setdefault(count, [figures.clock for _, figures in found])
-        entries = [f"{figures.clock:.1f} s ({alone / figures.clock:.1f}), {figures.processor:.1f} s"
-                   for alone, (_, figures) in zip(clocks[1], found)]
-        peaks = Counter[int]()
-        for _, figures in found:
-            peaks |= Counter(figures.each)
-        each = ", ".join(f"{peak / MILLION:.0f}" for peak in sorted(peaks.values(), reverse=True))
-        rows.append(told(f"| {count}{', one killed in each task' if is_killed else ''} | {' | '.join(entries)} | {each} MB |"))
+        figures = [figures for _, figures in found]
+        least[count, is_killed] = [min(pair, key=lambda one: one.clock) for pair in zip(figures, least.get((count, is_killed), figures))]
+    head = [f"{given.side:,} x {given.side:,} cells of land cover, tiles of {given.tile:,}, the least of {ROUNDS} rounds by the clock. {load()}.", "",
+            f"| Workers | {' | '.join(work.title for work in WORKS)} | Each worker at its peak |", f"|---|{'---|' * len(WORKS)}---|"]
+    rows = [told(_of_count(count, is_killed, figures, least[1, False])) for (count, is_killed), figures in least.items()]
     same = "the same tables and cells each time" if all(line == answers[0] for line in answers) else "**different answers**"
     return [*head, *rows, "", told(f"By the clock (times as fast as one worker), and of the processors; {same}.")]
+
+
+def _of_count(count: int, is_killed: bool, found: list[Figures], alone: list[Figures]) -> str:
+    """The row of so many workers."""
+    entries = [f"{figures.clock:.1f} s ({one.clock / figures.clock:.1f}), {figures.processor:.1f} s" for figures, one in zip(found, alone)]
+    peaks = Counter[int]()
+    for figures in found:
+        peaks |= Counter(figures.each)
+    each = ", ".join(f"{peak / MILLION:.0f}" for peak in sorted(peaks.values(), reverse=True))
+    return f"| {count}{', one killed in each task' if is_killed else ''} | {' | '.join(entries)} | {each} MB |"
 
 
 def _worked(mosaic: rcell.tiles.Mosaic, count: int, work: Work, out: Path, killed_after: float) -> tuple[Any, Figures]:
@@ -232,8 +241,8 @@ def of_joining(given: Settings) -> list[str]:
         rows.append(_joined([tile_border(run, place, []) for place in tiles], size))
     side = min(given.side, 2048)
     border = tile_border(run, Rectangle(0, 0, side, side), [])
-    for count in (8, 16, 32):
-        rows.append(_joined([again(border, Rectangle(down * side, right * side, side, side)) for down in range(count) for right in range(count)], side))
+    for down, right in ((8, 8), (30, 50), (50, 100)):
+        rows.append(_joined([again(border, Rectangle(row * side, col * side, side, side)) for row in range(down) for col in range(right)], side))
     return rows
 
 
@@ -254,7 +263,7 @@ def again(border: bytes, place: Rectangle) -> bytes:
     return edges.encode() + border[border.index(b"rows:"):]
 
 
-PARTS = {"grass": of_grass, "answers": of_answers, "shapes": of_shapes, "workers": of_workers, "memory": of_memory, "joining": of_joining}
+PARTS = {"grass": of_grass, "answers": of_answers, "arrays": of_arrays, "shapes": of_shapes, "workers": of_workers, "memory": of_memory, "joining": of_joining}
 
 
 def main() -> None:
@@ -270,7 +279,7 @@ def main() -> None:
     with tempfile.TemporaryDirectory() as name:
         folder = given.folder or Path(name)
         path = folder / "landcover.tif"
-        if not path.exists():
+        if not path.exists() and given.parts != ["arrays"]:
             land_cover(path, given.side)
         for part in given.parts or [part for part in PARTS if part != "grass"]:
             print(f"\n# {part}", flush=True)

@@ -2,19 +2,22 @@
 
 from __future__ import annotations
 
+import asyncio
+import gc
 import os
 import shutil
-import signal
 import subprocess
 import sys
 import threading
 import time
+from collections.abc import Callable
 from pathlib import Path
 from typing import Any
 
 import numpy as np
 import psutil
 import pytest
+import tornado.util
 
 import rcell
 import rcell.tiles
@@ -29,9 +32,13 @@ distributed: Any = pytest.importorskip("distributed")
 SOURCES = str(Path(rcell.__file__).parents[1])
 
 
+PATIENCE = 600
+"""Seconds until a test gives up: so many that a busy machine changes nothing."""
+
+
 @pytest.fixture
 def slow(tmp_path: Path, monkeypatch: pytest.MonkeyPatch) -> Path:
-    """A program that waits before it works, so that there is time to end a worker."""
+    """A program that waits before it works, so that there is time to end a client."""
     return wrapped(tmp_path, monkeypatch, "sleep 0.5")
 
 
@@ -41,6 +48,22 @@ def wrapped(folder: Path, monkeypatch: pytest.MonkeyPatch, before: str) -> Path:
     wrapper.chmod(0o755)
     monkeypatch.setenv("RCELL_PIPE", str(wrapper))
     return wrapper
+
+
+def counted(folder: Path, monkeypatch: pytest.MonkeyPatch, before: str) -> Path:
+    """A program that knows as n which of its calls this is; returned is the folder that has a folder for each call."""
+    calls = folder / "calls"
+    calls.mkdir()
+    wrapped(folder, monkeypatch, f"n=1\nwhile ! mkdir {calls}/$n 2> /dev/null; do n=$((n + 1)); done\n{before}")
+    return calls
+
+
+def waited_for(condition: Callable[[], bool]) -> bool:
+    """Whether a condition holds before long."""
+    end = time.monotonic() + PATIENCE
+    while not condition() and time.monotonic() < end:
+        time.sleep(0.05)
+    return condition()
 
 
 MARK = "RCELL_TEST_OF_CLUSTERS"
@@ -56,13 +79,14 @@ def temporary(tmp_path_factory: pytest.TempPathFactory, monkeypatch: pytest.Monk
 
 
 def leftovers(temporary: Path) -> list[Any]:
-    """Processes of a test that are still there, and what is left in its folder; a moment is given to those that are ending."""
+    """Processes of a test that are still there, and what is left in its folder, once those that are ending have had time."""
     found: list[Any] = []
-    for _ in range(150):
-        found = [*(process for process in psutil.process_iter() if _is_of(process, temporary)), *os.listdir(temporary)]
-        if not found:
-            break
-        time.sleep(0.2)
+
+    def is_empty() -> bool:
+        found[:] = [*(process for process in psutil.process_iter() if _is_of(process, temporary)), *os.listdir(temporary)]
+        return not found
+
+    waited_for(is_empty)
     return found
 
 
@@ -74,23 +98,18 @@ def _is_of(process: psutil.Process, temporary: Path) -> bool:
 
 
 @pytest.mark.parametrize("kind", ["file", "array"])
-def test_a_worker_that_is_killed_changes_no_number(tif: MakeTif, tmp_path: Path, slow: Path, temporary: Path, kind: str) -> None:
+@pytest.mark.parametrize("call", [4, 14], ids=["in the first pass", "in the second"])
+def test_a_worker_that_is_killed_changes_no_number(tif: MakeTif, tmp_path: Path, monkeypatch: pytest.MonkeyPatch, temporary: Path, kind: str,
+                                                   call: int) -> None:
     cells = whole.spiral(24)
     given = tif("lc", cells, whole.NULL_CELL) if kind == "file" else array_of(cells, (6, 12), nodata=whole.NULL_CELL)
+    counted(tmp_path, monkeypatch, f"[ $n = {call} ] && kill -9 $PPID && exit")
     with rcell.tiles.open(size=(6, 12), scheduler=2, lc=given) as mosaic:
         client = mosaic._engine.cluster.client
-        workers = list(client.run(os.getpid).values())
-
-        def kill() -> None:
-            time.sleep(1.0)
-            os.kill(workers[0], signal.SIGKILL)
-
-        thread = threading.Thread(target=kill)
-        thread.start()
+        workers = set(client.run(os.getpid).values())
         count = mosaic.clump("lc", tmp_path / "p.tif")
         sizes = mosaic.patches("lc")["cells"].tolist()
-        thread.join()
-        assert workers[0] not in client.run(os.getpid).values()
+        assert len(workers - set(client.run(os.getpid).values())) == 1
     expected = whole.clump(cells, False)
     assert count == expected.max()
     assert np.array_equal(read_tif(tmp_path / "p.tif").filled(0), expected)
@@ -141,8 +160,19 @@ def test_a_script_needs_no_guard(tmp_path: Path) -> None:
     script.write_text(f"import sys, warnings\nsys.path.insert(0, {SOURCES!r})\nwarnings.simplefilter('ignore')\nimport rcell.tiles\n"
                       f"with rcell.tiles.open(size=2, scheduler=1, lc={path!r}) as mosaic:\n"
                       "    print(mosaic.table('r.stats -c input=lc').to_csv(index=False))\n")
-    done = subprocess.run([sys.executable, str(script)], capture_output=True, text=True, timeout=120)
+    done = subprocess.run([sys.executable, str(script)], capture_output=True, text=True, timeout=PATIENCE)
     assert (done.returncode, done.stdout, done.stderr) == (0, "lc,cells\n1,16\n\n", "")
+
+
+@pytest.mark.parametrize("fault, is_told", [(tornado.util.TimeoutError("Timeout"), False), (ValueError("bad"), True)])
+def test_a_wait_that_dask_forgets_is_not_reported(tif: MakeTif, caplog: pytest.LogCaptureFixture, fault: Exception, is_told: bool) -> None:
+    async def forget() -> None:
+        asyncio.get_running_loop().create_future().set_exception(fault)
+
+    with rcell.tiles.open(size=4, scheduler=1, lc=tif("lc", np.ones((4, 4), np.uint8))) as mosaic:
+        mosaic._engine.cluster.client.sync(forget)
+        gc.collect()
+    assert ("never retrieved" in caplog.text) == is_told
 
 
 def test_a_mosaic_that_is_forgotten_ends_its_processes(tif: MakeTif, temporary: Path) -> None:
@@ -175,20 +205,27 @@ def test_workers_without_room_for_a_tile_are_told(tif: MakeTif) -> None:
                 mosaic.table("r.stats -c input=lc")
 
 
-def test_a_cluster_whose_workers_are_gone_is_told(tif: MakeTif, tmp_path: Path, slow: Path, monkeypatch: pytest.MonkeyPatch) -> None:
+@pytest.mark.parametrize("call", [3, 20], ids=["the joining", "the writing"])
+def test_a_cluster_whose_workers_are_gone_is_told(tif: MakeTif, tmp_path: Path, monkeypatch: pytest.MonkeyPatch, call: int) -> None:
+    """The program is tried once, then called for the border of each of 16 tiles, and then for its cells; the worker leaves during a call."""
     monkeypatch.setattr(_engine, "LONE_SECONDS", 1.0)
-    path = tif("lc", np.ones((40, 40), np.uint8))
+    path, hold = tif("lc", np.ones((40, 40), np.uint8)), tmp_path / "hold"
+    hold.touch()
+    calls = counted(tmp_path, monkeypatch, f"[ $n -lt {call} ] || while [ -e {hold} ]; do sleep 0.1; done")
     with distributed.LocalCluster(n_workers=1, threads_per_worker=1, processes=False, dashboard_address=None) as cluster:
+
+        def leave() -> None:
+            waited_for((calls / str(call)).exists)
+            cluster.scale(0)
+            waited_for(lambda: not cluster.scheduler.running)
+            hold.unlink()
+
+        thread = threading.Thread(target=leave)
+        thread.start()
         with rcell.tiles.open(size=10, scheduler=cluster.scheduler_address, lc=path) as mosaic:
-            works = [lambda: mosaic.grid("x = lc", tmp_path / "out.tif"), lambda: mosaic.clump("lc", tmp_path / "out.tif")]
-            for work in works:
-                cluster.scale(1)
-                mosaic._engine.cluster.client.wait_for_workers(1)
-                timer = threading.Timer(2.5, cluster.scale, (0,))
-                timer.start()
-                with pytest.raises(rcell.tiles.WorkerLost, match="no worker for 1 seconds"):
-                    work()
-                timer.join()
+            with pytest.raises(rcell.tiles.WorkerLost, match="no worker for 1 seconds"):
+                mosaic.clump("lc", tmp_path / "out.tif")
+        thread.join()
     assert not (tmp_path / "out.tif").exists()
 
 
@@ -219,7 +256,7 @@ def test_no_other_user_reaches_the_processes(tif: MakeTif) -> None:
         for given in ("None", "distributed.Security.temporary()"):
             for stranger in (address, address.replace("tls:", "tcp:")):
                 words = [sys.executable, "-c", STRANGER, stranger, given]
-                assert subprocess.run(words, capture_output=True, text=True, timeout=120).stdout == "refused\n"
+                assert subprocess.run(words, capture_output=True, text=True, timeout=PATIENCE).stdout == "refused\n"
         assert cluster._parent is not None
         family = [psutil.Process(cluster._parent.pid), *psutil.Process(cluster._parent.pid).children(recursive=True)]
         listening = {at.laddr.ip for process in family for at in process.connections() if at.status == psutil.CONN_LISTEN}

@@ -12,6 +12,7 @@ are made for each cluster and go through a pipe alone: no other user has them. N
 
 from __future__ import annotations
 
+import asyncio
 import contextlib
 import json
 import logging
@@ -29,6 +30,7 @@ from rcell_front.programs import close, pipe
 
 import distributed
 import psutil
+import tornado.util
 from distributed.system import MEMORY_LIMIT
 
 from .._errors import RcellError
@@ -41,7 +43,8 @@ RESOURCE = "memory"
 
 CONNECT_SECONDS = 30
 CLOSE_SECONDS = 10
-STOP_SECONDS = 60
+OWN_SECONDS = 300
+"""So long the processes of this machine may take to answer and to end: if it is overworked, they need much of it."""
 SHARE = 0.8
 """How much of the memory that is free is given to tasks."""
 
@@ -114,7 +117,9 @@ class Cluster:
             return
         try:
             address, security = (scheduler, None) if isinstance(scheduler, str) else self._start(scheduler or os.cpu_count() or 1, memory)
-            self.client = distributed.Client(address, security=security, set_as_default=False, timeout=CONNECT_SECONDS)
+            patience = CONNECT_SECONDS if self._parent is None else OWN_SECONDS
+            self.client = distributed.Client(address, security=security, set_as_default=False, timeout=patience)
+            self.client.loop.asyncio_loop.set_exception_handler(_forgotten)
         except OSError as fault:
             self.close()
             raise ClusterFailed(f"no scheduler at {scheduler}: {fault}") from fault
@@ -165,19 +170,26 @@ class Cluster:
     def close(self) -> None:
         """End the processes of this machine; a cluster that was there stays."""
         if self.client is not None and self._is_own:
-            self.client.close()
+            with contextlib.suppress(distributed.TimeoutError):
+                self.client.close()
         self.client = None
         if self._ends:
             close(self._ends.pop(0))
         if self._parent is not None:
             try:
-                self._parent.wait(STOP_SECONDS)
+                self._parent.wait(OWN_SECONDS)
             except subprocess.TimeoutExpired:
                 self._parent.kill()
                 self._parent.wait()
             self._parent = None
         while self._ends:
             close(self._ends.pop())
+
+
+def _forgotten(loop: asyncio.AbstractEventLoop, context: dict[str, Any]) -> None:
+    """Pass over a wait with a deadline that Dask forgets when it closes a client: it would be reported on standard error."""
+    if not isinstance(context.get("exception"), tornado.util.TimeoutError):
+        loop.default_exception_handler(context)
 
 
 def _line(output: int) -> str:
