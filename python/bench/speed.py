@@ -22,6 +22,7 @@ import shutil
 import subprocess
 import tarfile
 import tempfile
+import time
 
 import numpy as np
 
@@ -32,6 +33,7 @@ from page import load, put
 HERE = pathlib.Path(__file__).resolve().parent
 ROOT = HERE.parents[1]
 HEADS = {"before": "before", "rcell": "now", "numpy": "numpy, rasterio, scipy", "terra": "terra", "grass": "GRASS, maps in GRASS"}
+TURNS = 20
 READING, COUNTING = 1.2, 1.5
 """What a table may take of reading and of counting alone."""
 
@@ -78,7 +80,7 @@ def contenders(folder: str, before: str) -> dict[str, Contender]:
     by_python = ["/usr/bin/python3", str(HERE / "ten.py")]
     found = {
         "before": Contender([*by_python, "rcell", folder], PYTHONPATH=str(old / "python" / "src")),
-        "rcell": Contender([*by_python, "rcell", folder], PYTHONPATH=str(ROOT / "python" / "src")),
+        "rcell": of_package(folder),
         "numpy": Contender([*by_python, "numpy", folder]),
     }
     if shutil.which("Rscript"):
@@ -86,6 +88,11 @@ def contenders(folder: str, before: str) -> dict[str, Contender]:
     if shutil.which("grass"):
         found["grass"] = Contender(["grass", "--tmp-location", "XY", "--exec", "bash", str(HERE / "ten.sh"), folder])
     return found
+
+
+def of_package(folder: str) -> Contender:
+    """The package of this commit."""
+    return Contender(["/usr/bin/python3", str(HERE / "ten.py"), "rcell", folder], PYTHONPATH=str(ROOT / "python" / "src"))
 
 
 def measured(folder: str, rounds: int, before: str) -> dict[str, Contender]:
@@ -116,12 +123,21 @@ def used(words: list[str]) -> float:
     return after.ru_utime + after.ru_stime - before.ru_utime - before.ru_stime
 
 
-def counting(folder: str, rounds: int) -> float:
-    """Seconds of counting in C++: of the text of the map, without reading it."""
-    yardstick = f"{folder}/yardstick"
+def taken_apart(folder: str) -> tuple[float, float, float]:
+    """Seconds of reading a GeoTIFF with rasterio, of counting its cells in C++ (of a text, less the reading of that) and of its table, by turns."""
+    yardstick, text = f"{folder}/yardstick", f"{folder}/lc.txt"
     subprocess.run(["g++", "-std=c++20", "-O3", "-march=native", "-o", yardstick, str(ROOT / "bench" / "yardstick.cpp")], check=True)
-    both = [(used([yardstick, "none", "stats", f"{folder}/lc.txt"]), used([yardstick, "none", "nothing", f"{folder}/lc.txt"])) for _ in range(rounds)]
-    return min(whole for whole, _ in both) - min(part for _, part in both)
+    package = of_package(folder)
+    reads, wholes, parts = [], [], []
+    for _ in range(TURNS):
+        package.turn("table")
+        before = time.process_time()
+        ten.read(f"{folder}/lc.tif")
+        reads.append(time.process_time() - before)
+        wholes.append(used([yardstick, "none", "stats", text]))
+        parts.append(used([yardstick, "none", "nothing", text]))
+    package.close()
+    return min(reads), min(wholes) - min(parts), package.seconds["table"]
 
 
 def call(folder: str) -> float:
@@ -130,26 +146,11 @@ def call(folder: str) -> float:
     os.mkdir(small)
     for name in ("lc", "zones", "other"):
         geotiff(f"{small}/{name}.tif", np.ones((1, 1), np.uint8), 0)
-    contender = Contender(["/usr/bin/python3", str(HERE / "ten.py"), "rcell", small], PYTHONPATH=str(ROOT / "python" / "src"))
-    for _ in range(20):
-        contender.turn("table")
-    contender.close()
-    return contender.seconds["table"]
-
-
-def reading(path: str, rounds: int) -> float:
-    """Seconds of reading a GeoTIFF with rasterio."""
-
-    def spent() -> float:
-        own = resource.getrusage(resource.RUSAGE_SELF)
-        return own.ru_utime + own.ru_stime
-
-    def once() -> float:
-        before = spent()
-        ten.read(path)
-        return spent() - before
-
-    return min(once() for _ in range(rounds))
+    package = of_package(small)
+    for _ in range(TURNS):
+        package.turn("table")
+    package.close()
+    return package.seconds["table"]
 
 
 def section(folder: str, settings: argparse.Namespace) -> str:
@@ -160,7 +161,7 @@ def section(folder: str, settings: argparse.Namespace) -> str:
         return "" if seconds == float("inf") else f"{seconds / cells * 1e9:.1f}"
 
     rows = [f"| {task} | {' | '.join(ns(one.seconds[task]) for one in found.values())} |" for task in ten.NAMES]
-    table, read, count = found["rcell"].seconds["table"], reading(f"{folder}/lc.tif", settings.rounds), counting(folder, settings.rounds)
+    read, count, table = taken_apart(folder)
     return f"""Measured on {load()}.
 
 Nanoseconds of the processor a cell (user and system, all processes), the least of {settings.rounds} rounds in which each had its turn, on
@@ -170,7 +171,7 @@ Nanoseconds of the processor a cell (user and system, all processes), the least 
 |---{'|---' * len(found)}|
 {chr(10).join(rows)}
 
-| Table of a GeoTIFF | ns a cell |
+| Table of the same GeoTIFF, the least of {TURNS} turns | ns a cell |
 |---|---|
 | reading it with rasterio | {ns(read)} |
 | counting in C++, without reading | {ns(count)} |
