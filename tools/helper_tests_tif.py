@@ -28,6 +28,8 @@ for path, kind, nodata, rows, more in json.load(sys.stdin):
         made.GetRasterBand(at).WriteArray(band)
     if more.get("scale"):
         made.GetRasterBand(1).SetScale(more["scale"])
+    if more.get("points"):
+        made.SetGCPs([gdal.GCP(x, y, 0, x, y) for x, y in more["points"]], "")
     if more.get("mask"):
         made.CreateMaskBand(gdal.GMF_PER_DATASET)
         made.GetRasterBand(1).GetMaskBand().WriteArray(np.array(more["mask"], "uint8"))
@@ -60,6 +62,8 @@ NAN, INFINITE = "float('nan')", "float('inf')"
 # Type, nodata, rows, what else, the grid's rows or what is said.
 MAPS = [
     ("uint8", None, "[[1, 2, 255], [10, 0, 1]]", {}, "1 2 255\n10 0 1\n"),
+    ("uint8", None, "[[1, 2, 3], [4, 5, 6]]", {"points": [[0, 0], [3, 0], [0, 2]]},
+     "it has ground control points and no transform: warp it first (gdalwarp -r near)"),
     ("uint8", 255, "[[1, 2, 255], [10, 0, 1]]", {}, "1 2 *\n10 0 1\n"),
     ("uint8", 0, "[[1, 2, 3], [3, 0, 1]]", {}, "1 2 3\n3 * 1\n"),
     ("uint8", 255, "[[255, 255, 255], [255, 255, 255]]", {}, "* * *\n* * *\n"),

@@ -54,6 +54,7 @@ def of_tables() -> Iterator[Case]:
     yield "an empty table", join, {b"a": b"", b"b": two}, (0, two, b"")
     yield "nothing but an empty table", [b"tables", b"a"], {b"a": b""}, (0, b"", b"")
     yield "options behind a path", [b"tables", b"a", b"null_value=x", b"separator=comma"], {b"a": b"1,2,3\nx,2,4\n"}, (0, b"1,2,3\nx,2,4\n", b"")
+    yield "a path that a terminal would obey", [b"tables", b"g\x1b[31m\nfake: \xc2\x85"], {}, told(b"g\\u{1b}[31m\\nfake: \\u{85}", 0, b"cannot open", 4)
     yield "a path with an equals sign", [b"tables", b"a=b"], {b"a=b": one}, (0, one, b"")
     yield "a command's word as a path", [b"tables", b"tables", b"border"], {b"tables": one, b"border": b""}, (0, one, b"")
     yield "other widths", join, {b"a": one, b"b": b"1 2 3\n"}, told(b"b", 1, b"other number of cells")
@@ -93,6 +94,8 @@ def of_labels() -> Iterator[Case]:
     yield "two labels behind null", join, {b"a": b"*;no data;5;clay;2\n", b"b": b"*;no data;5;loam;2\n"}, told(b"b", 1, b"two labels for 5: clay and loam")
     yield "two labels that are not UTF-8", join, {b"a": b"1;\xffx;1\n", b"b": b"1;\xc3\xa9\xe2\x82;1\n"}, told(
         b"b", 1, b"two labels for 1: \xef\xbf\xbdx and \xc3\xa9\xef\xbf\xbd")
+    yield "two labels that a terminal would obey", join, {b"a": b"1;a\x1b\r\x7f;1\n", b"b": b"1;b\tc;1\n"}, told(
+        b"b", 1, b"two labels for 1: a\\u{1b}\\r\\u{7f} and b\\tc")
     yield "the first text with another label", [*join, b"c", b"d"], {b"a": b"2;x;1\n", b"b": b"1;x;1\n", b"c": b"1;y;1\n", b"d": b"1;z;1\n"}, told(
         b"c", 1, b"two labels for 1: x and y")
     yield "a category of two combinations", join, {b"a": b"1;x;1;x;2\n", b"b": b"1;y;2;x;3\n"}, (0, b"1;x;1;x;2\n1;y;2;x;3\n", b"")

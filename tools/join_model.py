@@ -5,6 +5,7 @@ the model of rcell, tools/model_grids.py.
 """
 from __future__ import annotations
 
+import unicodedata
 from dataclasses import dataclass
 from typing import Mapping, Optional
 
@@ -15,6 +16,7 @@ Reply = tuple[int, bytes, bytes]  # the status, the output and the message
 
 MOST_BYTES, GREATEST_COUNT, GREATEST_CATEGORY = 4096, 2**64 - 1, 2**31 - 1
 NULL_LABEL = b"no data"
+ESCAPES = {"\t": "\\t", "\r": "\\r", "\n": "\\n"}
 
 
 class Fault(Exception):
@@ -25,7 +27,7 @@ class Fault(Exception):
         self.source, self.line, self.text, self.status, self.output = source, line, text, status, output
 
     def reply(self) -> Reply:
-        return self.status, self.output, b"rcell-join: %s:%d: %s\n" % (self.source, self.line, self.text)
+        return self.status, self.output, b"rcell-join: %s:%d: %s\n" % (shown(self.source), self.line, self.text)
 
 
 # Tables
@@ -149,12 +151,13 @@ def labels_of(texts: list[TableText]) -> Labels:
     for it in texts[1:]:
         for (_, category), label, other in zip(it.head[0], labels, it.labels):
             if label != other:
-                raise it.fault(b"two labels for %d: %s and %s" % (category, as_utf8(label), as_utf8(other)))
+                raise it.fault(b"two labels for %d: %s and %s" % (category, shown(label), shown(other)))
     return labels
 
 
-def as_utf8(label: bytes) -> bytes:
-    return label.decode(errors="replace").encode()
+def shown(text: bytes) -> bytes:
+    """A path or a label as messages print it: control characters are escaped."""
+    return "".join(ESCAPES.get(c, f"\\u{{{ord(c):x}}}") if unicodedata.category(c) == "Cc" else c for c in text.decode(errors="replace")).encode()
 
 
 def added(total: int, count: int, name: bytes) -> int:

@@ -3,6 +3,7 @@
 from __future__ import annotations
 
 import io
+import os
 from pathlib import Path
 
 import numpy as np
@@ -57,3 +58,16 @@ def test_statuses(lc: str, tmp_path: Path, scheduler: str, capfd: pytest.Capture
     assert main(["patches", f"lc={tmp_path}/nowhere.tif", *where]) == 4
     assert main(["grid", "x = lc", lc, "--out", str(tmp_path / "nowhere" / "x.tif"), *where]) == 4
     assert main(["table", str(tmp_path / "nowhere"), lc, *where]) == 4
+
+
+def test_a_full_standard_output_is_told(lc: str, scheduler: str, capfd: pytest.CaptureFixture[str]) -> None:
+    kept, full = os.dup(1), os.open("/dev/full", os.O_WRONLY)
+    os.dup2(full, 1)
+    try:
+        status = main(["patches", lc, "--scheduler", scheduler])
+    finally:
+        os.dup2(kept, 1)
+        os.close(kept)
+        os.close(full)
+    assert status == 4
+    assert capfd.readouterr().err.splitlines()[-1] == "rcell: standard output cannot be written: No space left on device"
