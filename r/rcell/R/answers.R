@@ -52,17 +52,9 @@ asked_of <- function(script, dots, maps, program) {
 # Runs an accepted script over its maps: the frames of the outputs that are asked for, the maps that are wanted, and what is needed
 # to read them.
 answer_of <- function(script, sources, outputs = list(), wanted = character()) {
-  labelled <- labelled_maps(script, outputs, wanted)
-  frames <- run_pipe(script$program, sources, sent_script(script, outputs, wanted, labelled), script$lines)
-  labels <- lapply(sources, `[[`, "labels")
-  labels[labelled] <- lapply(frames[length(frames) - length(labelled) + seq_along(labelled)], labels_in)
+  labels <- c(lapply(sources, `[[`, "labels"), labels_of_rules(script, outputs, wanted))
+  frames <- run_pipe(script$program, sources, sent_script(script, outputs, wanted), script$lines)
   list(frames = frames, labels = labels, template = sources[[1]]$template)
-}
-
-# The labels of the table of one map.
-labels_in <- function(frame) {
-  kept <- nzchar(frame$labels)
-  list(codes = frame$codes[[1]][kept], labels = frame$labels[kept])
 }
 
 # Run a script of this package and return its frames.

@@ -58,3 +58,11 @@ expect_true(grepl("in degrees", refusal(rcell_table("r.stats -c input=x", x = de
 feet <- rast(nrows = 1, ncols = 1, xmin = 0, xmax = 100, ymin = 0, ymax = 100, crs = "EPSG:2263", vals = 1)
 expect_equal(rcell_table("r.stats -c input=x", x = feet, area = "m2")$area_m2, (100 * 1200 / 3937)^2, tolerance = 1e-9)
 expect_identical(leftovers(), character())
+
+# Rules give labels to all categories, whether a map has them or not.
+rules <- c(" r.reclass input=lc output=k", "# 5 = 77 a note", "1 = 1 early", "1 3 thru 5 = 1 low = \u00fc | 5", "-7 thru -2 = 3", "2147483647 = 4 last", "* = 2 high",
+  "end")
+expect_identical(levels(rcell_grid(rules, "k", lc = lc))[[1]], data.frame(value = c(1L, 2L, 4L), k = c("low = \u00fc | 5", "high", "last")))
+many <- c("r.reclass input=lc output=k", sprintf("%d = %d class %d", 1:2500, 1:2500, 1:2500), "end", "r.mapcalc m = k", "r.stats -cl input=k,m")
+expect_identical(levels(rcell_grid(many, "k", lc = lc))[[1]]$k, sprintf("class %d", 1:2500))
+expect_true(all(is.na(rcell_table(many, lc = lc)$m_label)))
