@@ -195,8 +195,9 @@ def run(program: str, script: str, maps: Mapping[str, Raster], wanted: Sequence[
     frames = frames_of(program, maps, script, "\n".join([script, *more]), watch)
     labels = {**{name: raster.labels for name, raster in maps.items()},
               **{name: _labels_of(frame)[0] for name, frame in zip(labelled, frames[len(frames) - len(labelled) :])}}
-    outputs = [Grid(frame.name, _cells_of(frame), labels=labels.get(frame.name, {})) if isinstance(frame, pipe.GridFrame) else _table(frame, maps)
-               for frame in frames[: len(frames) - len(labelled)]]
+    outputs: list[Table | Grid] = [
+        Grid(frame.name, _cells_of(frame), labels=labels.get(frame.name, {})) if isinstance(frame, pipe.GridFrame) else _table(frame, maps)
+        for frame in frames[: len(frames) - len(labelled)]]
     tables = [output for output in outputs if isinstance(output, Table)]
     return Answers(tables, [output for output in outputs if isinstance(output, Grid)], outputs)
 
