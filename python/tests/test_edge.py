@@ -70,7 +70,8 @@ def test_nodata_of_a_data_array() -> None:
 
 def test_nodata_of_what_was_scaled_is_no_longer_nodata() -> None:
     decoded = data_array(values=np.array([[100.0, 2.0, np.nan]]))
-    for scaled in ({"add_offset": 200.0}, {"scale_factor": 2}):
+    scalings: list[dict[str, Any]] = [{"add_offset": 200.0}, {"scale_factor": 2}]
+    for scaled in scalings:
         decoded.encoding = {"_FillValue": 100, **scaled}
         assert cells(decoded) == [[100, 2, None]]
     decoded.encoding = {"_FillValue": 100, "scale_factor": 1.0, "add_offset": 0.0}
@@ -106,7 +107,8 @@ def test_arrays_of_other_kinds() -> None:
 def test_types_and_nodata_at_their_ends() -> None:
     assert cells(np.array([[1, 2**31 - 1]], ">u8")) == [[1, 2**31 - 1]]
     assert cells(rcell.Map(np.array([[1, 2**64 - 1]], ">u8"), nodata=2**64 - 1)) == [[1, None]]
-    assert cells(rcell.Map(np.array([[1, 2]], np.int64), nodata=np.float64(2.0**63))) == [[1, 2]]
+    beyond: Any = np.float64(2.0**63)
+    assert cells(rcell.Map(np.array([[1, 2]], np.int64), nodata=beyond)) == [[1, 2]]
     assert "row 1, column 2 is inf" in str(refusal(rcell.Map(np.array([[1, np.inf]], np.float32), nodata=1e300)))
 
 
@@ -120,7 +122,8 @@ def test_any_byte_of_a_mask_but_0_is_true(dtype: str) -> None:
 
 
 def test_a_nodata_beyond_all_numbers_is_no_cell() -> None:
-    for nodata in (10**400, -(10**400), np.longdouble("1e400")):
+    values: list[Any] = [10**400, -(10**400), np.longdouble("1e400")]
+    for nodata in values:
         for array in (np.array([[1, 2]]), np.array([[1, 2]], np.uint8), np.array([[1.0, 2.0]], np.float32)):
             assert cells(rcell.Map(array, nodata=nodata)) == [[1, 2]]
         assert "row 1, column 2 is inf" in str(refusal(rcell.Map(np.array([[1, np.inf]]), nodata=nodata)))
@@ -142,7 +145,8 @@ def test_labels_that_no_file_can_hold_are_not_written(tmp_path: pathlib.Path) ->
     with pytest.raises(rcell.BadMap) as refused:
         made.write(tmp_path / "k.tif")
     assert str(refused.value) == "k: the label of 1 has a character that no file can hold: '\\udcff'" and not list(tmp_path.iterdir())
-    kept = rcell.grid("", "m", m=rcell.Map(LAND, labels={np.int64(1): np.str_("\u00fc"), -5: "", 2**31 - 1: "x"}))
+    labels: Any = {np.int64(1): np.str_("\u00fc"), -5: "", 2**31 - 1: "x"}
+    kept = rcell.grid("", "m", m=rcell.Map(LAND, labels=labels))
     assert rcell.grid("", "m", m=kept.write(tmp_path / "m.tif")).labels == {1: "\u00fc", 2**31 - 1: "x"}
 
 
