@@ -141,7 +141,7 @@ def plan_of(program, text, words):
     """Return the plan of a script, or None if rcell is to say what is wrong."""
     try:
         return pipe.plan(program, [word.partition("=")[0] for word in words], text)
-    except pipe.Rejected:
+    except (pipe.Rejected, ValueError):  # a name of other letters, or of more than 255, fits no request
         return None
     except (pipe.Killed, pipe.NoAnswer) as fault:
         raise Refused("%s failed: %s" % (program, fault)) from None

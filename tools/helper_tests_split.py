@@ -87,6 +87,8 @@ def test_refused(room, tally):
                                   (["nothere", "x", "lc=land.txt"], 4, "rcell: script:0: cannot open\n"),
                                   (["folder", "x", "lc=land.txt"], 4, "rcell: script:0: read failed\n"),
                                   (["none", "x", "lc"], 2, "rcell: arguments:3: bad grid argument\n"),
+                                  (["none", "x", "l\u00e4=land.txt"], 2, "rcell: arguments:3: bad grid argument\n"),
+                                  (["none", "x", "n" * 300 + "=land.txt"], 2, "rcell: arguments:3: bad grid argument\n"),
                                   (["none", "x", "lc=land.txt", "a-b=land.txt"], 2, "rcell: arguments:4: bad grid argument\n")):
         ran = room.run("rcell-split", *words)
         tally.same(f"words {words}", (ran.returncode, ran.stderr.decode(), os.path.exists(f"{room.path}/x")), (status, wanted, False))
