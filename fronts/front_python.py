@@ -16,7 +16,7 @@ from cases import Case, cases, copied
 KINDS = [("other crs", rcell.OtherCrs), ("other region", rcell.OtherRegion), ("read failed", rcell.ReadFailed), ("bad map", rcell.BadMap), ("refused", rcell.Refused)]
 
 
-# The type of each parameter of the seven functions that is no name of a map.
+# The type of each parameter of the seven functions that is not a map.
 OPTIONS: dict[str, Callable[[str], Any]] = {
     "area": lambda text: None if text == "none" else text,
     **dict.fromkeys(("null", "fill"), lambda text: text == "yes"),

@@ -223,7 +223,7 @@ def test_what_is_no_map_is_refused(tmp_path: pathlib.Path, raster: Write) -> Non
         rcell.Region(1, 0, 1, 0, rows=1.5, cols=1)  # type: ignore[arg-type]
     assert "NUL" in str(refusal("a\0b"))
     for name, better in (("a=b", "a_b"), ("a-b", "a_b"), ("1", "m_1"), ("a\0", "a_")):
-        with pytest.raises(rcell.Refused, match=f"is no name of a map: .* write {better}$"):
+        with pytest.raises(rcell.Refused, match=f"is not a name for a map: .* write {better}$"):
             rcell.run("", {name: [[1]]})
     stale = data_array()
     stale = stale.assign_coords(spatial_ref=0)

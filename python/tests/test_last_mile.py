@@ -321,10 +321,10 @@ def test_polygons_that_are_refused(tmp_path: pathlib.Path) -> None:
     with pytest.raises(rcell.ReadFailed, match="No such file"):
         rcell.composition(land(), "nowhere.gpkg")
     far = write_polygons(tmp_path / "far.gpkg", [(box(10, 0, 12, 3), {"name": "a"})])
-    with pytest.raises(rcell.BadMap, match="zones: no polygon has the centre of a cell"):
+    with pytest.raises(rcell.BadMap, match="zones: no polygon contains the centre of a cell"):
         rcell.composition(land(), far)
     some = write_polygons(tmp_path / "some.gpkg", [(box(0, 0, 4, 3), {"name": "a"}), (box(0.6, 0.6, 0.9, 0.9), {"name": "tiny"})])
-    with pytest.warns(UserWarning, match="1 of 2 polygons have no centre of a cell: tiny"):
+    with pytest.warns(UserWarning, match="1 of 2 polygons contain no centre of a cell: tiny"):
         rcell.composition(land(), some, zone_field="name")
     degrees = write_polygons(tmp_path / "degrees.geojson", [(box(0, 0, 4, 3), {"name": "a"})], "EPSG:4326")
     with pytest.raises(rcell.OtherCrs, match="ogr2ogr -t_srs EPSG:32632"):

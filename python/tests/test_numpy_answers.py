@@ -423,7 +423,7 @@ class Programs(unittest.TestCase):
         with self.assertRaises(rcell.Refused) as caught:
             rcell.run("", {"no-name": np.ones((3_000, 2_000), np.uint8)})
         self.assertEqual(caught.exception.status, 2)
-        self.assertIn("'no-name' is no name of a map", caught.exception.text)
+        self.assertIn("'no-name' is not a name for a map", caught.exception.text)
 
 
 class Texts(unittest.TestCase):

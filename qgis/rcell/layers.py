@@ -121,7 +121,7 @@ def names_of(layers: Sequence[QgsRasterLayer], given: str) -> list[str]:
     for at, name in enumerate(names):
         if not _NAME.fullmatch(name):
             better = _made_names([name])[0]
-            raise Refused(f"'{name}' is no name of a map: 1 to 64 letters, digits, _ and ., a letter or _ first; write {better}", status=2)
+            raise Refused(f"'{name}' is not a name for a map: 1 to 64 letters, digits, _ and ., a letter or _ first; write {better}", status=2)
         if name in names[:at]:
             raise Refused(f"the name `{name}` is given twice", status=2)
     return names

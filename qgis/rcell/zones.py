@@ -73,7 +73,7 @@ def _drawn(name: str, geometries: Sequence[bytes], raster: Raster, watch: Watch)
     order = list(range(len(geometries)))
     found = _burnt(geometries, order, raster)
     if (found < 0).all():
-        raise BadMap(name, "no polygon has the centre of a cell")
+        raise BadMap(name, "no polygon contains the centre of a cell")
     other = _burnt(geometries, order[::-1], raster)
     twice = np.argwhere(found != other)
     if len(twice):
@@ -83,7 +83,7 @@ def _drawn(name: str, geometries: Sequence[bytes], raster: Raster, watch: Watch)
     if without:
         rest = f" and {len(without) - _SHOWN} more" if len(without) > _SHOWN else ""
         shown_ones = ", ".join(str(place + 1) for place in without[:_SHOWN])
-        watch.warn(f"{name}: {len(without)} of {len(order)} polygons have no centre of a cell: {shown_ones}{rest}")
+        watch.warn(f"{name}: {len(without)} of {len(order)} polygons contain no centre of a cell: {shown_ones}{rest}")
     return found
 
 

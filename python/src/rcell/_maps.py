@@ -463,12 +463,12 @@ _NAME = re.compile(r"[A-Za-z_][A-Za-z0-9_.]{0,63}")
 
 
 def check_names(names: Iterable[str]) -> None:
-    """Raise Refused for the first that is no name of a map."""
+    """Raise Refused for the first text that cannot be the name of a map."""
     for name in names:
         if not (isinstance(name, str) and _NAME.fullmatch(name)):
             better = re.sub(r"[^A-Za-z0-9_.]", "_", str(name))[:64]
             better = better if _NAME.fullmatch(better) else f"m_{better[:60]}"
-            told = f"{name!r} is no name of a map: 1 to 64 letters, digits, _ and ., a letter or _ first; write {better}"
+            told = f"{name!r} is not a name for a map: 1 to 64 letters, digits, _ and ., a letter or _ first; write {better}"
             raise Refused(told, status=2)
 
 

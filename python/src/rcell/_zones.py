@@ -86,7 +86,7 @@ def zones_of(given: Any, field: str | None, like: Source, crs: Any = None) -> An
         return given
     common_crs({"map": like.crs, "zones": polygons.crs}, crs, "ogr2ogr")
     if not polygons.shapes:
-        raise BadMap("zones", "no polygon has the centre of a cell")
+        raise BadMap("zones", "no polygon contains the centre of a cell")
     ids, labels = polygons.ids()
     burnt = _burnt(polygons.shapes, like)
     _tell_of_lost(burnt, [labels.get(number, str(number)) for number in ids])
@@ -113,10 +113,10 @@ def _tell_of_lost(burnt: NDArray[np.int32], names: list[str]) -> None:
     cells = np.bincount(burnt.reshape(-1), minlength=len(names) + 1)[1:]
     lost = [name for name, count in zip(names, cells.tolist()) if count == 0]
     if len(lost) == len(names):
-        raise BadMap("zones", "no polygon has the centre of a cell")
+        raise BadMap("zones", "no polygon contains the centre of a cell")
     if lost:
         told = ", ".join(lost[:_SHOWN]) + (", .." if len(lost) > _SHOWN else "")
-        warnings.warn(f"zones: {len(lost)} of {len(names)} polygons have no centre of a cell: {told}", stacklevel=6)
+        warnings.warn(f"zones: {len(lost)} of {len(names)} polygons contain no centre of a cell: {told}", stacklevel=6)
 
 
 def _polygons(given: Any, field: str | None) -> _Polygons | None:

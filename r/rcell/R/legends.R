@@ -89,7 +89,7 @@ burnt_polygons <- function(polygons, kept, template) {
     values(rasterize(shapes, template, field = "rcell_polygon", touches = FALSE), mat = FALSE)
   }
   burnt <- if (length(kept)) burn(kept) else NA
-  if (all(is.na(burnt))) bad_map("zones", "no polygon has the centre of a cell")
+  if (all(is.na(burnt))) bad_map("zones", "no polygon contains the centre of a cell")
   other <- burn(rev(kept))
   twice <- which(burnt != other)
   if (length(twice)) {
@@ -98,7 +98,7 @@ burnt_polygons <- function(polygons, kept, template) {
   }
   without <- setdiff(kept, c(burnt, other))
   if (length(without)) {
-    warning(sprintf("zones: %d of %d polygons have no centre of a cell: %s", length(without), length(kept), shortened(without)), call. = FALSE)
+    warning(sprintf("zones: %d of %d polygons contain no centre of a cell: %s", length(without), length(kept), shortened(without)), call. = FALSE)
   }
   burnt
 }

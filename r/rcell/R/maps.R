@@ -43,7 +43,7 @@ check_names <- function(names) {
   if (!length(bad)) return(invisible())
   plain <- substr(gsub("[^A-Za-z0-9_.]", "_", bad[[1]], useBytes = TRUE), 1L, 63L)
   better <- if (is_name(plain)) plain else paste0("m", plain)
-  refuse(sprintf("'%s' is no name of a map: 1 to 64 letters, digits, _ and ., a letter or _ first; write %s", bad[[1]], better), status = 2L)
+  refuse(sprintf("'%s' is not a name for a map: 1 to 64 letters, digits, _ and ., a letter or _ first; write %s", bad[[1]], better), status = 2L)
 }
 
 source_of <- function(name, given) {

@@ -136,7 +136,7 @@ for (case in list(c("r.stats -cn lc", "lc", 13), c("r.stats in=lc", "in=lc", 9),
 for (name in c("a=b", "a-b", "1a", strrep("x", 65))) {
   found <- refusal(rcell_run("r.stats input=a", maps = structure(list(plain), names = name)))
   expect_identical(found[c("source", "line", "status")], list(source = "arguments", line = 0L, status = 2L), info = name)
-  expect_true(grepl("is no name of a map: 1 to 64 letters", found$text, fixed = TRUE), info = name)
+  expect_true(grepl("is not a name for a map: 1 to 64 letters", found$text, fixed = TRUE), info = name)
 }
 
 # A label that begins with a blank of Unicode keeps it.
