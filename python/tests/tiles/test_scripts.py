@@ -35,6 +35,13 @@ def test_reaches_add_up_through_maps() -> None:
     assert tile_script(script + "\nr.stats -c input=lc", "lc").reach == Reach()
 
 
+def test_reach_into_maps_that_depend_on_no_file() -> None:
+    assert tile_script("r.mapcalc one = 1\nr.mapcalc x = one[0,1] + lc", "lc").reach == Reach(right=1)
+    script = "r.mapcalc above = row()\nr.reclass input=above output=b\n1 = 2\nend\nr.mapcalc c = b[-2,0]\nr.mapcalc x = c[1,0] + lc[0,-1]"
+    assert tile_script(script, "lc").reach == Reach(up=2, down=1, left=1)
+    assert tile_script(script + "\nr.stats -c input=x,lc", "lc").reach == Reach(up=2, down=1, left=1)
+
+
 def test_lines_are_the_callers_own() -> None:
     script = ("# note\n r.reclass  output=b input=a\n# note\n\n 1 thru 3 = 7 low # class\n end \r\nr.clump -d input=a output=c\n"
               "r.out.ascii input=a\nr.mapcalc x\t=  a==b\nr.stats -cl -n input=b,x after=1,* separator=tab\n# end")

@@ -75,9 +75,12 @@ class TileScript:
 
     @property
     def reach(self) -> Reach:
-        """The halo that a tile needs."""
-        margins = filter(None, self.statements[-1].needs.values())
-        return Reach(*[max(lengths) for lengths in zip(NO_REACH, *margins)])
+        """The halo that a tile needs: by all reads, since beyond a tile even a map that depends on no file is null."""
+        found = {"": NO_REACH}
+        for each in self.statements:
+            margins = [map(sum, zip(found.get(name, NO_REACH), margin)) for name, margin in each.reads.items()]
+            found[each.made] = Reach(*[max(lengths) for lengths in zip(NO_REACH, *margins)])
+        return found[self.statements[-1].made]
 
     @property
     def made(self) -> int:
