@@ -148,7 +148,7 @@ def joiner(path: str | os.PathLike[str] | None = None) -> str:
 
 
 def __getattr__(name: str) -> Any:
-    """Import when first used: `rcell.tiles` needs Dask, and looking up the version takes as long as half of the package."""
+    """Import when first used: `rcell.tiles` needs Dask, and the version is looked up among the installed packages."""
     if name == "tiles":
         return importlib.import_module(".tiles", __name__)
     if name == "__version__":
