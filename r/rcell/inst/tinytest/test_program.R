@@ -47,16 +47,19 @@ expect_inherits(refusal(rcell_grid("", "lc", lc = lc, program = short)), "rcell_
 cut <- script("cut", c(good, sprintf("'%s' < /dev/stdin | head -c 157", mine)))
 expect_inherits(refusal(rcell_table("r.stats -c input=lc", lc = lc, program = cut)), "rcell_wrong_program")
 own <- asNamespace("rcell")
-own$write_request(file.path(room, "request"), list(own$small_map("lc", c(1L, NA))), "r.stats -cl input=lc\nr.stats -1 input=lc\nr.out.ascii input=lc")
-processx::run(mine, stdin = file.path(room, "request"), stdout = file.path(room, "response"))
-bytes <- readBin(file.path(room, "response"), "raw", 1e4)
 is_read <- function(bytes) {
   writeBin(bytes, file.path(room, "response"))
   tryCatch(length(own$read_response(file.path(room, "response"), function() stop("wrong"))) == 4L, error = function(e) FALSE)
 }
-expect_true(is_read(bytes))
-expect_false(any(vapply(seq_along(bytes) - 1L, function(size) is_read(bytes[seq_len(size)]), NA)))
-expect_false(is_read(c(bytes, as.raw(0))))
+outputs <- "r.stats -cl input=lc\nr.stats -1 input=lc\nr.out.ascii input=lc"
+for (request in list(own$run_request(list(own$small_map("lc", c(1L, NA))), outputs), own$plan_request("lc", outputs))) {
+  own$write_file(file.path(room, "request"), request)
+  processx::run(mine, stdin = file.path(room, "request"), stdout = file.path(room, "response"))
+  bytes <- readBin(file.path(room, "response"), "raw", 1e4)
+  expect_true(is_read(bytes))
+  expect_false(any(vapply(seq_along(bytes) - 1L, function(size) is_read(bytes[seq_len(size)]), NA)))
+  expect_false(is_read(c(bytes, as.raw(0))))
+}
 more <- script("more", c(good, sprintf("'%s' < /dev/stdin; echo", mine)))
 expect_inherits(refusal(rcell_table("r.stats -c input=lc", lc = lc, program = more)), "rcell_wrong_program")
 other <- script("other", c(good, sprintf("'%s' < /dev/stdin; exit 1", mine)))
