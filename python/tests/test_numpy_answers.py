@@ -17,6 +17,7 @@ import rcell
 from rcell._grid import Grid
 from rcell._libraries import has
 from rcell._program import execute, find_pipe, labels_of, planned
+from rcell_front import pipe
 
 
 def by_files(script: str, **grids: bytes) -> tuple[int, bytes, str]:
@@ -271,6 +272,22 @@ class Scripts(unittest.TestCase):
             told = {int(line.split("\t")[0]): line.split("\t")[1] for line in output.decode().splitlines()}
             labels = labels_of(planned(script, ["lc"])[0])
             self.assertEqual({category: label for category, label in told.items() if label}, {c: labels[c] for c in told if c in labels}, rules)
+
+    def test_labels_of_any_rules(self) -> None:
+        random = np.random.default_rng(5)
+        cells = np.arange(-60, 61, dtype=np.int32).reshape(1, -1)
+        for _ in range(20):
+            rules = []
+            for at in range(int(random.integers(1, 8))):
+                first, last, output = random.integers(-50, 51, 3).tolist()
+                left = str(random.choice([f"{first}", f"{first} thru {last}", f"{first} {last}", "*"]))
+                rules.append(f"{left} = {random.choice([output, 1, 2])}{random.choice(['', f' label {at}'])}")
+            script = "\n".join(["r.reclass input=lc output=k", *rules, "end"])
+            given = pipe.Map("lc", ("1", "0", "121", "0"), 1, 121, "i32", [pipe.Block(cells.data)])
+            [table] = pipe.run(find_pipe(), [given], f"{script}\nr.stats -l -n input=k".encode())
+            assert isinstance(table, pipe.TableFrame) and table.labels is not None
+            told = {category: label.decode() for category, label in zip(table.cells.tolist(), table.labels) if label}
+            self.assertEqual(labels_of(planned(script, ["lc"])[0]), told, script)
 
     def test_texts_of_the_printed_table_change_no_value(self) -> None:
         script = "\n".join(f"r.stats -c input=lc,lc null_value={text}" for text in ("end", "1", "-9", "*")) + "\nr.stats -l input=lc,lc separator=e null_value=d"

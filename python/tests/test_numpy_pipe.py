@@ -18,6 +18,7 @@ import numpy as np
 import rcell
 from rcell._program import find_pipe
 from rcell_front import pipe
+from rcell_front.spelling import rows_text
 
 EDGES = ("2", "0", "3.5", "-.5")
 LAND = bytes([1, 1, 2, 255, 2, 2])
@@ -187,6 +188,16 @@ class Answers(Asked):
             resource.setrlimit(resource.RLIMIT_NOFILE, limits)
         assert isinstance(table, pipe.TableFrame) and table.counts is not None
         self.assertEqual(table.counts.tolist(), [9_000_000])
+
+
+class Spelling(unittest.TestCase):
+    def test_rows_are_those_of_a_grid(self) -> None:
+        chance = np.random.default_rng(2)
+        for shape in ((1, 1), (3, 5), (2, 200_000)):
+            for dtype, null, low, high in (("u1", 255, 0, 256), ("i4", pipe.NULL, -3, 12), ("i4", pipe.NULL, -(2**31) + 1, 2**31), ("i4", -9, -9, -8)):
+                cells = np.where(chance.random(shape) < 0.1, null, chance.integers(low, high, shape)).astype(dtype)
+                wanted = "".join(" ".join("*" if cell == null else str(cell) for cell in row) + "\n" for row in cells.tolist())
+                self.assertEqual(rows_text(cells, null), wanted.encode())
 
 
 class Runs(unittest.TestCase):
