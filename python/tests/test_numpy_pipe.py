@@ -98,7 +98,7 @@ class Requests(Asked):
             cells = np.arange(6).astype(dtype).reshape(2, 3)
             self.assertTrue(self.asked(a_map(type=name, blocks=[pipe.Block(cells.data)])).endswith(cells.tobytes() + bytes(4)))
             frames = pipe.run(find_pipe(), [a_map(type=name, blocks=[pipe.Block(cells.data)])], b"r.out.ascii input=lc\n")
-            self.assertEqual(np.asarray(frames[0].cells).tolist(), list(range(6)))  # type: ignore[union-attr]
+            self.assertEqual(np.asarray(frames[0].cells).tolist(), list(range(6)))
 
     def test_other_numbers_of_rows(self) -> None:
         for blocks in ([], [pipe.Block(LAND[:3])], [pipe.Block(LAND + LAND[:3])], [pipe.Block(LAND[:4]), pipe.Block(LAND[4:])]):

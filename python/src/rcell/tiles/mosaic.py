@@ -63,10 +63,9 @@ class TooLittleMemory(RcellError, MemoryError):
     """
 
 
-def refused(script: str, statement: Statement | None, text: str) -> Refused:
+def refused(script: str, statement: Statement, text: str) -> Refused:
     """A refusal of ours, at the line of a statement."""
-    line = statement.line if statement else 0
-    return Refused(text, "script", line, 1, script.split("\n")[line - 1].rstrip("\r") if line else None)
+    return Refused(text, "script", statement.line, 1, script.split("\n")[statement.line - 1].rstrip("\r"))
 
 
 def open_mosaic(maps: Any = None, /, size: None | int | tuple[int, int] = None, scheduler: Any = None, crs: Any = None,
@@ -472,20 +471,21 @@ class Mosaic:
 
     def _grid_run(self, script: str) -> _tasks.TileRun:
         text, plan = self._planned(script)
-        last = plan[-1] if plan else None
-        if last is None or not last.made or last.command == "r.clump":
+        last = plan[-1]
+        if not last.made or last.command == "r.clump":
             raise refused(text, last, "the last line does not make a map by r.mapcalc or r.reclass")
         return self._run(text, plan, last)
 
     def _planned(self, script: str) -> tuple[str, list[Statement]]:
         """Return statements as they are, and an assignment alone as an r.mapcalc, with their plan."""
         try:
-            return script, planned(script, self._files)
-        except Refused as fault:
-            if fault.text != "unknown command" or (fault.content or "").strip() != script.strip():
+            plan = planned(script, self._files)
+        except Refused as error:
+            if error.text != "unknown command" or (error.content or "").strip() != script.strip():
                 raise
-        text = f"r.mapcalc {script.strip()}"
-        return text, planned(text, self._files)
+            plan = []
+        text = script if plan else f"r.mapcalc {script.strip()}"
+        return text, plan or planned(text, self._files)
 
     def _run(self, script: str, plan: list[Statement], last: Statement) -> _tasks.TileRun:
         run = TileScript.of(plan, last, self._files)
