@@ -1,5 +1,5 @@
 # SPDX-License-Identifier: Apache-2.0 OR GPL-2.0-or-later
-"""A map on the grid of another one: moved by whole cells, or by its nearest cells if that is asked for."""
+"""Align a map with the grid of another one: by whole cells, or on request with the nearest cells."""
 
 from __future__ import annotations
 
@@ -17,7 +17,7 @@ from .front.pipe import NULL
 from .program import Watch
 from .rasters import Raster, check_crs
 
-# A shift is one of whole cells within so much of a cell; a centre on a border is in the southern or eastern cell within so much.
+# The tolerances, in cells, of a shift by whole cells and of a centre on a border, which is in the southern or eastern cell.
 _SHIFT_TOLERANCE = 1e-3
 _BORDER_TOLERANCE = 1e-6
 _BLOCK_CELLS = 1 << 18
@@ -27,14 +27,14 @@ Places = NDArray[np.int64]
 
 @dataclass(frozen=True)
 class Aligned:
-    """What alignment did.
+    """The facts about an alignment.
 
     Attributes
     ----------
     shift_rows, shift_columns : float or None
-        The row and the column of the map's grid at which the other grid begins; None in another reference system.
+        The row and column of the map's grid at which the other grid begins; None in another reference system.
     cells_used, cells_repeated, cells_lost : int
-        How many cells of the map that have data are in the result, are in it more than once, and are not in it.
+        The numbers of cells with data that are in the result, in it more than once, and not in it.
     """
 
     shift_rows: float | None
@@ -45,12 +45,12 @@ class Aligned:
 
 
 def align(program: str, raster: Raster, to: Raster, resample: str = "", watch: Watch | None = None) -> tuple[Grid, Aligned]:
-    """A map on the grid of another one.
+    """Return a map on the grid of another one, and the facts about it.
 
     Raises
     ------
     OtherCrs, OtherRegion
-        More than whole cells would have to be moved, and nothing is to be resampled.
+        The grids differ by part of a cell, and resampling is not requested.
     """
     is_same = not (raster.crs or to.crs) or bool(raster.crs and to.crs and are_same(raster.crs, to.crs))
     if not resample or not (raster.crs and to.crs):
@@ -68,7 +68,7 @@ def align(program: str, raster: Raster, to: Raster, resample: str = "", watch: W
 
 
 def shift_of(raster: Raster, to: Raster) -> tuple[float, float]:
-    """The row and the column of the map's grid at which the other grid begins; whole if they nearly are."""
+    """Return the row and column of the map's grid at which the other grid begins; nearly whole numbers are rounded."""
     west, width, _, north, _, height = raster.geotransform
     shifts = ((to.geotransform[3] - north) / height, (to.geotransform[0] - west) / width)
     rows, columns = (float(round(shift)) if abs(shift - round(shift)) <= _SHIFT_TOLERANCE else shift for shift in shifts)
@@ -76,7 +76,7 @@ def shift_of(raster: Raster, to: Raster) -> tuple[float, float]:
 
 
 def is_of_whole_cells(raster: Raster, to: Raster) -> bool:
-    """Whether a map has the cells of another one, and needs only to be moved by whole cells."""
+    """Return whether a map has the cells of another one, shifted by whole cells."""
     return _has_cells_of(raster, to) and all(shift.is_integer() for shift in shift_of(raster, to))
 
 
@@ -87,7 +87,7 @@ def _has_cells_of(raster: Raster, to: Raster) -> bool:
 
 
 def check_alignment(raster: Raster, to: Raster) -> None:
-    """That a map needs only to be moved by whole cells.
+    """Raise OtherRegion unless a map needs only to be shifted by whole cells.
 
     Raises
     ------
@@ -103,7 +103,7 @@ def check_alignment(raster: Raster, to: Raster) -> None:
 
 
 def _by_side(raster: Raster, to: Raster) -> Places:
-    """For each cell of a grid the cell of the map in which its centre lies, -1 for none."""
+    """Return for each cell of a grid the cell of the map that contains its centre, or -1."""
     shifts = shift_of(raster, to)
     steps = (to.geotransform[5] / raster.geotransform[5], to.geotransform[1] / raster.geotransform[1])
     along = [np.floor(shift + (np.arange(number) + 0.5) * step + _BORDER_TOLERANCE).astype(np.int64)
@@ -112,7 +112,7 @@ def _by_side(raster: Raster, to: Raster) -> Places:
 
 
 def _by_centre(raster: Raster, to: Raster) -> Places:
-    """The same in another reference system: the centres are transformed one by one."""
+    """Return the same for another reference system: each centre is transformed."""
     systems = []
     for wkt in (to.crs, raster.crs):
         system = osr.SpatialReference()

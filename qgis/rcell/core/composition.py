@@ -1,5 +1,5 @@
 # SPDX-License-Identifier: Apache-2.0 OR GPL-2.0-or-later
-"""What a map is made of, how maps combine, what changed between years, and statistics by zone."""
+"""The classes of a map, combinations of maps, changes between years, and statistics by zone."""
 
 from __future__ import annotations
 
@@ -15,12 +15,12 @@ from .program import Watch
 from .rasters import Raster
 from .sizes import UNITS
 
-# The maps of a table.
+# The most maps of a table.
 MOST_MAPS = 16
 
 
 def composition(program: str, raster: Raster, zones: Raster | None, unit: str, nulls: bool = False, watch: Watch | None = None) -> Answer:
-    """The classes of a map, in all of it or by zone: `[zone, zone_label,] class, label, cells, area, percent`."""
+    """Return the classes of a map, in total or by zone: `[zone, zone_label,] class, label, cells, area, percent`."""
     maps = {"map": raster} if zones is None else {"map": raster, "zones": zones}
     found = count(program, maps, [list(reversed(maps))], unit, nulls=nulls, watch=watch)[0][0]
     if zones is None:
@@ -31,7 +31,7 @@ def composition(program: str, raster: Raster, zones: Raster | None, unit: str, n
 
 
 def cross(program: str, rasters: Sequence[Raster], unit: str, nulls: bool = False, watch: Watch | None = None) -> Answer:
-    """The combinations of maps: a column of each, of its labels, then `cells, area, percent`.
+    """Return the combinations of maps: columns for each map and its labels, then `cells, area, percent`.
 
     Raises
     ------
@@ -51,12 +51,12 @@ def cross(program: str, rasters: Sequence[Raster], unit: str, nulls: bool = Fals
 
 
 def change(program: str, rasters: Sequence[Raster], years: Sequence[int], unit: str, watch: Watch | None = None) -> tuple[Answer, Answer, Answer]:
-    """The table, the matrix and the summary of each pair of years, one below the other.
+    """Return the table, the matrix and the summary of each pair of years, one below the other.
 
     Raises
     ------
     Refused
-        There are less than two maps, or other years than maps.
+        There are fewer than two maps, or not one year for each map.
     """
     if len(rasters) < 2:
         raise Refused("change needs two rasters or more, in the order of time", status=2)
@@ -77,7 +77,7 @@ def change(program: str, rasters: Sequence[Raster], years: Sequence[int], unit: 
 
 
 def _joined(blocks: Sequence[Sequence[Column]], spans: Sequence[tuple[int, int]] | None) -> Answer:
-    """Tables of pairs of years one below the other, the years first; a column that one lacks is null in it."""
+    """Return tables of pairs of years one below the other, with columns of years first and null in missing columns."""
     titles = {column.title: column.kind for block in blocks for column in block}
     columns = []
     for place, title in enumerate(("year_from", "year_to") if spans else ()):
@@ -98,7 +98,7 @@ def _rows(found: Counts, labels: Sequence[Mapping[int, str]], unit: str) -> list
 
 
 def _matrix(found: Counts, labels: Sequence[Mapping[int, str]], to_classes: Integers) -> list[Column]:
-    """A row for each class of the earlier map and a column for each of the later, with labels or else classes as names."""
+    """Return a row for each class of the earlier map and a column for each of the later, named by label or class."""
     from_classes = np.unique(found.classes[:, 0])
     measured = found.cells if found.area is None else found.area
     matrix = np.zeros((len(from_classes), len(to_classes)), measured.dtype)
@@ -109,7 +109,7 @@ def _matrix(found: Counts, labels: Sequence[Mapping[int, str]], to_classes: Inte
 
 
 def _summary(found: Counts, labels: Sequence[Mapping[int, str]], unit: str, raster: Raster) -> list[Column]:
-    """Gains and losses are the sums of what changed, counted in cells if each has one area."""
+    """Return gains, losses and the other measures of each class, counted in cells if all cells have one area."""
     by_row = raster.is_geographic and found.area is not None
     classes = np.unique(found.classes)
     changes = np.zeros((len(classes), len(classes)))
@@ -125,7 +125,7 @@ def _summary(found: Counts, labels: Sequence[Mapping[int, str]], unit: str, rast
         columns.append(text("label", classes, {**labels[0], **labels[1]}))
     if not unit:
         return [*columns, *(whole(f"{title}_cells", cells.astype(np.int64)) for title, cells in sums.items())]
-    # Cells become areas at the end, so that these print as short as they are.
+    # Cells become areas at the end, so that areas print without rounding errors.
     return [*columns, *(real(f"{title}_{unit}", value if by_row else value * raster.cell_area / UNITS[unit]) for title, value in sums.items())]
 
 
@@ -133,7 +133,7 @@ def _summary(found: Counts, labels: Sequence[Mapping[int, str]], unit: str, rast
 
 
 def zonal(program: str, values: Raster, zones: Raster, quantiles: Sequence[float], watch: Watch | None = None) -> Answer:
-    """Statistics of whole numbers by zone: `zone, zone_label, cells, sum, mean, minimum, maximum, variance`, and quantiles.
+    """Return statistics by zone: `zone, zone_label, cells, sum, mean, minimum, maximum, variance`, and quantiles.
 
     Raises
     ------
@@ -156,7 +156,7 @@ def zonal(program: str, values: Raster, zones: Raster, quantiles: Sequence[float
 
 
 def _statistics(values: Integers, cells: Integers, quantiles: Sequence[float]) -> list[int | float]:
-    """Of values in ascending order, and how many cells have each."""
+    """Return the statistics of values in ascending order and the number of cells of each."""
     number, total = int(cells.sum()), sum(value * many for value, many in zip(values.tolist(), cells.tolist()))
     mean = total / number
     variance = float((cells * (values - mean) ** 2).sum() / number)

@@ -1,5 +1,5 @@
 # SPDX-License-Identifier: Apache-2.0 OR GPL-2.0-or-later
-"""Counts of combinations of maps, with their areas: what the tables of the algorithms are made of."""
+"""Counts and areas of combinations of maps, from which the tables of the algorithms are made."""
 
 from __future__ import annotations
 
@@ -17,20 +17,20 @@ from .sizes import UNITS, cell_sizes
 
 Integers = NDArray[np.int64]
 Floats = NDArray[np.float64]
-# Of classes without a label, a warning names so many.
+# The most classes without a label that a warning lists.
 _SHOWN = 5
 
 
 @dataclass(frozen=True)
 class Counts:
-    """The combinations of some maps, in ascending order.
+    """The combinations of maps, in ascending order.
 
     Attributes
     ----------
     classes : array of int64, entries x maps
     cells : array of int64
     area : array of float64 or None
-        In the unit that was asked for.
+        In the requested unit.
     """
 
     classes: Integers
@@ -38,7 +38,7 @@ class Counts:
     area: Floats | None = None
 
     def where(self, is_kept: NDArray[np.bool_]) -> Counts:
-        """Some of the entries."""
+        """Return some of the entries."""
         return Counts(self.classes[is_kept], self.cells[is_kept], None if self.area is None else self.area[is_kept])
 
     def has_null(self) -> NDArray[np.bool_]:
@@ -48,25 +48,25 @@ class Counts:
 
 def count(program: str, maps: Mapping[str, Raster], combinations: Sequence[Sequence[str]], unit: str = "", before: Sequence[str] = (),
           by_row: Sequence[bool] | None = None, nulls: bool = False, wanted: Sequence[str] = (), watch: Watch | None = None) -> tuple[list[Counts], Answers]:
-    """Counts combinations of maps, and of those that a script makes before.
+    """Count combinations of maps, and of maps that a script makes first.
 
     Parameters
     ----------
     program : str
     maps : mapping of str to Raster
-        By their names in the script.
+        By name in the script.
     combinations : sequence of sequences of str
         The maps of each table.
     unit : str
-        The unit of areas, or nothing.
+        The unit of areas, or an empty text.
     before : sequence of str
         The lines of the script before the tables.
     by_row : sequence of bool, optional
-        For which tables areas are needed in a map in degrees, where cells have one size a row; all by default.
+        The tables that need areas by row in a map in degrees; by default all.
     nulls : bool
-        Whether combinations with null are counted as well.
+        Whether combinations with null are also counted.
     wanted : sequence of str
-        Maps that are returned besides.
+        Further maps to return.
     watch : Watch, optional
     """
     first = next(iter(maps.values()))
@@ -80,10 +80,10 @@ def count(program: str, maps: Mapping[str, Raster], combinations: Sequence[Seque
 
 
 def _measured(table: Table, sizes: Any, unit: str, is_by_row: bool) -> Counts:
-    """A table with its areas; where its last map is the row, the rows of each combination are added up."""
+    """Return a table with areas; if its last map is the row, the rows of each combination are added up."""
     assert table.cells is not None
     if not is_by_row:
-        # Divided last, so that areas print as short as they are.
+        # The division comes last, so that areas print without rounding errors.
         area = table.cells * sizes / UNITS[unit] if unit and np.ndim(sizes) == 0 else None
         return Counts(table.categories, table.cells, area)
     classes, row = table.categories[:, :-1], table.categories[:, -1]
@@ -95,7 +95,7 @@ def _measured(table: Table, sizes: Any, unit: str, is_by_row: bool) -> Counts:
 
 
 def starts_of(ordered: Integers) -> NDArray[np.intp]:
-    """Where rows begin that differ from the row before."""
+    """Return the indices of rows that differ from the row before."""
     is_new = np.ones(len(ordered), bool)
     if len(ordered) > 1:
         is_new[1:] = (ordered[1:] != ordered[:-1]).reshape(len(ordered) - 1, -1).any(axis=1)
@@ -107,12 +107,12 @@ def starts_of(ordered: Integers) -> NDArray[np.intp]:
 
 @dataclass(frozen=True)
 class Answer:
-    """A table as its columns, whose titles are unique."""
+    """A table as columns with unique titles."""
 
     found: Sequence[Column]
 
     def columns(self) -> list[Column]:
-        """Its columns."""
+        """Return the columns."""
         titles = unique([column.title for column in self.found])
         return [Column(title, column.kind, column.values) for title, column in zip(titles, self.found)]
 
@@ -121,28 +121,28 @@ class Answer:
 
 
 def whole(title: str, values: Any) -> Column:
-    """A column of whole numbers, in which NULL is null."""
+    """Return a column of integers, in which NULL is null."""
     return Column(title, "whole", [None if value == NULL else value for value in np.asarray(values).tolist()])
 
 
 def real(title: str, values: Any) -> Column:
-    """A column of numbers, in which NaN is null."""
+    """Return a column of numbers, in which NaN is null."""
     return Column(title, "real", [None if value != value else value for value in np.asarray(values, float).tolist()])
 
 
 def coded(title: str, codes: Integers, labels: Mapping[int, str], label_title: str = "") -> list[Column]:
-    """A column of classes, and one of labels if there are any."""
+    """Return a column of classes, and a column of labels if there are labels."""
     columns = [whole(title, codes)]
     return [*columns, text(label_title or f"{title}_label", codes, labels)] if labels else columns
 
 
 def text(title: str, codes: Integers, labels: Mapping[int, str]) -> Column:
-    """A column of the labels of classes."""
+    """Return a column of the labels of classes."""
     return Column(title, "text", [labels.get(code) for code in codes.tolist()])
 
 
 def sized(counts: Counts, unit: str, group: Integers | None = None) -> list[Column]:
-    """Columns of cells, areas, and percentages of the cells of a group that have no null; rows with null have none."""
+    """Return columns of cells, areas, and percentages of the group's cells that have no null; rows with null have none."""
     columns = [whole("cells", counts.cells)]
     if counts.area is not None:
         columns.append(real(f"area_{unit}", counts.area))
@@ -154,7 +154,7 @@ def sized(counts: Counts, unit: str, group: Integers | None = None) -> list[Colu
 
 
 def warn_of_lacking(labels: Mapping[int, str], codes: Iterable[int], name: str, of: str, watch: Watch | None) -> None:
-    """Warns of classes for which a legend has no label."""
+    """Warn of classes that have no label in a legend."""
     lacking = sorted({int(code) for code in codes} - set(labels) - {NULL})
     if lacking and watch is not None:
         rest = f" and {len(lacking) - _SHOWN} more" if len(lacking) > _SHOWN else ""

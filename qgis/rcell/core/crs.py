@@ -1,5 +1,5 @@
 # SPDX-License-Identifier: Apache-2.0 OR GPL-2.0-or-later
-"""Coordinate reference systems, as well-known text: maps of one run have one."""
+"""Coordinate reference systems, as well-known text; all maps of a run have the same one."""
 
 from __future__ import annotations
 
@@ -11,7 +11,7 @@ from osgeo import osr
 
 @dataclass(frozen=True)
 class Crs:
-    """What of a reference system matters for maps; made by `of`.
+    """The properties of a reference system that matter for maps; made by `of`.
 
     Attributes
     ----------
@@ -28,7 +28,7 @@ class Crs:
 
     @classmethod
     def of(cls, reference: Any) -> Crs:
-        """A reference system of GDAL, or none."""
+        """Return a reference system of GDAL, or None, as a Crs."""
         if reference is None:
             return cls()
         metres = 1.0 if reference.IsLocal() else float(reference.GetLinearUnits())
@@ -36,7 +36,7 @@ class Crs:
 
     @classmethod
     def of_wkt(cls, wkt: str) -> Crs:
-        """A well-known text, or an empty one."""
+        """Return a well-known text, or an empty text, as a Crs."""
         return cls.of(_reference(wkt) if wkt else None)
 
 
@@ -47,19 +47,19 @@ def _reference(wkt: str) -> Any:
 
 
 def are_same(one: str, other: str) -> bool:
-    """Whether two well-known texts are of one reference system."""
+    """Return whether two well-known texts mean the same reference system."""
     return one == other or bool(_reference(one).IsSame(_reference(other)))
 
 
 def code_of(wkt: str) -> str:
-    """The code of a reference system, as EPSG:3035; empty if it has none."""
+    """Return the code of a reference system, such as EPSG:3035; empty if it has none."""
     reference = _reference(wkt)
     authority, code = reference.GetAuthorityName(None), reference.GetAuthorityCode(None)
     return f"{authority}:{code}" if authority and code else ""
 
 
 def shown(wkt: str) -> str:
-    """A reference system as people name it: its code and its name."""
+    """Return the code and name of a reference system, for people."""
     name = _reference(wkt).GetName() or "a system without a name"
     code = code_of(wkt)
     return f"{code} ({name})" if code else name

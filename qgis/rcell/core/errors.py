@@ -1,5 +1,5 @@
 # SPDX-License-Identifier: Apache-2.0 OR GPL-2.0-or-later
-"""What goes wrong, each with a name of its own: the words are those of the packages for Python and R."""
+"""Errors, each with a class of its own; the messages are those of the Python and R packages."""
 
 from __future__ import annotations
 
@@ -13,20 +13,20 @@ _COLUMN = re.compile(r" at column (\d+)$")
 
 
 class RcellError(Exception):
-    """The parent of all errors."""
+    """The base class of all errors."""
 
 
 class Refused(RcellError):
-    """A map, a script or a request was refused, and nothing was answered.
+    """A map, a script or a request is invalid, and there is no result.
 
     Attributes
     ----------
     text : str
-        What is wrong, in the words of the program where it refused.
+        What is wrong; errors of the program have its own text.
     source : str
         The name of the map, or `script`, `output` or `arguments`.
     line : int
-        The line of the source, from 1; 0 where the fault belongs to none.
+        The line of the source, from 1; 0 if the error belongs to no line.
     status : int
         The exit status of the program.
     content : str or None
@@ -60,11 +60,11 @@ class Refused(RcellError):
 
 
 class OutOfMemory(Refused, MemoryError):
-    """The program ran out of memory; `source` and `line` tell where."""
+    """The program ran out of memory; `source` and `line` say where."""
 
 
 class BadMap(Refused, ValueError):
-    """A map that is no map of whole numbers, or has no grid of its own; `row` and `col` count from 1 at the top left."""
+    """A map is not a map of whole numbers, or has no grid; `row` and `col` count from 1 at the top left."""
 
     def __init__(self, name: str, text: str, row: int | None = None, col: int | None = None, value: Any = None) -> None:
         super().__init__(text, name)
@@ -75,15 +75,15 @@ class BadMap(Refused, ValueError):
 
 
 class OtherCrs(BadMap):
-    """A map of another coordinate reference system than the first, or of none next to maps that have one."""
+    """A map has another coordinate reference system than the first, or has none while others do."""
 
 
 class OtherRegion(BadMap):
-    """A map whose edges, rows or columns are not those of the first; nothing is resampled."""
+    """A map's edges, rows or columns differ from the first map's; nothing is resampled."""
 
 
 class ReadFailed(BadMap):
-    """A file that cannot be opened, or a part of it that cannot be read."""
+    """A file cannot be opened, or part of it cannot be read."""
 
     def __init__(self, name: str, text: str) -> None:
         super().__init__(name, text)
@@ -95,11 +95,11 @@ class MissingProgram(RcellError, FileNotFoundError):
 
 
 class WrongProgram(RcellError):
-    """What was found is not `rcell`, or a version that is not known here."""
+    """The program that was found is not `rcell-pipe`, or is a version that this plugin does not know."""
 
 
 class Killed(RcellError):
-    """The program was ended by a signal that was not sent from here."""
+    """The program was ended by a signal that the plugin did not send."""
 
     def __init__(self, number: int) -> None:
         super().__init__(number)
@@ -113,7 +113,7 @@ class Killed(RcellError):
 
 
 class WriteFailed(RcellError, OSError):
-    """A file could not be written whole: a full disk, a folder that is missing. Nothing is left of it."""
+    """A file could not be written completely: the disk is full or the folder is missing. No part of it is left."""
 
     def __init__(self, path: str, text: str) -> None:
         super().__init__(path, text)
@@ -125,7 +125,7 @@ class WriteFailed(RcellError, OSError):
 
 
 class Cancelled(RcellError):
-    """The user cancelled; the program has been ended."""
+    """The user cancelled, and the program was ended."""
 
     def __str__(self) -> str:
         return "cancelled"

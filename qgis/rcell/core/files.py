@@ -1,5 +1,5 @@
 # SPDX-License-Identifier: Apache-2.0 OR GPL-2.0-or-later
-"""Rasters that are written: a file has its name only when all of it is there."""
+"""Write rasters and tables; a file gets its name only when it is complete."""
 
 from __future__ import annotations
 
@@ -22,11 +22,11 @@ from .front.files import Output, is_same_file
 from .labels import put_labels
 from .rasters import BLOCK_CELLS, Raster, quiet
 
-# The first level of compression with differences of neighbours takes an eighth of the time of the sixth without, and as much room.
+# Level 1 with differences of neighbours takes an eighth of the time of level 6 without, for files of the same size.
 _OPTIONS = ["COMPRESS=DEFLATE", "ZLEVEL=1", "PREDICTOR=2", "TILED=YES", "BIGTIFF=IF_SAFER"]
 _COPIED_BYTES = 1 << 22
 _CHECKED_ROWS = 1 << 14
-# What GDAL leaves beside a raster.
+# GDAL's file next to a raster.
 _BESIDE = ".aux.xml"
 _ENDING = (signal.SIGHUP, signal.SIGQUIT, signal.SIGTERM)
 
@@ -39,7 +39,7 @@ def _no_check() -> None:
 
 
 def check_target(path: str, inputs: Sequence[str] = ()) -> None:
-    """That a file can be made there, before any work is done.
+    """Check that a file can be written, before any work is done.
 
     Raises
     ------
@@ -64,7 +64,7 @@ def check_target(path: str, inputs: Sequence[str] = ()) -> None:
 
 def write_raster(path: str, driver: str, cells: NDArray[np.int32], null: int, like: Raster, labels: Mapping[int, str],
                  check: Check = _no_check) -> None:
-    """Writes a map as a raster of whole numbers of 32 bits.
+    """Write a map as a raster of 32-bit integers.
 
     Parameters
     ----------
@@ -75,15 +75,15 @@ def write_raster(path: str, driver: str, cells: NDArray[np.int32], null: int, li
     null : int
         The value of cells that is null, which becomes nodata.
     like : Raster
-        Whose place and reference system the raster gets.
+        The raster whose position and reference system are used.
     labels : mapping of int to str
     check : callable
-        Called now and then; what it raises ends the writing.
+        Called from time to time; an exception ends the writing.
 
     Raises
     ------
     WriteFailed
-        Nothing stands under the path then but what stood there before.
+        An old file under the path is unchanged.
     """
     with partly(path) as part, quiet():
         gdal.ErrorReset()
@@ -101,19 +101,19 @@ _TYPES = {"whole": ("Integer64", ogr.OFTInteger64), "real": ("Real", ogr.OFTReal
 
 
 def is_file_of_table(path: str) -> bool:
-    """Whether `write_table` knows the format of a path."""
+    """Return whether `write_table` knows the format of a path."""
     return os.path.splitext(path)[1].lower() in (".csv", ".gpkg")
 
 
 def write_table(path: str, table: Table | Answer, check: Check = _no_check) -> None:
-    """Writes a table as comma-separated values or as a GeoPackage, by the ending of the path.
+    """Write a table as comma-separated values or a GeoPackage, depending on the ending of the path.
 
-    Now and then `check` is called; what it raises ends the writing.
+    `check` is called from time to time; an exception ends the writing.
 
     Raises
     ------
     WriteFailed
-        Nothing stands under the path then but what stood there before.
+        An old file under the path is unchanged.
     """
     stem, ending = os.path.splitext(path)
     is_csv = ending.lower() == ".csv"
@@ -131,7 +131,7 @@ def write_table(path: str, table: Table | Answer, check: Check = _no_check) -> N
 
 
 def _checked(rows: Iterable[Any], check: Check) -> Iterator[Any]:
-    """The same rows, with a check before each some thousand."""
+    """Yield the same rows, with a check before every few thousand."""
     for number, row in enumerate(rows):
         if number % _CHECKED_ROWS == 0:
             check()
@@ -139,7 +139,7 @@ def _checked(rows: Iterable[Any], check: Check) -> Iterator[Any]:
 
 
 def _write_csv(part: str, types: str, columns: list[Column], check: Check) -> None:
-    """With the types of the columns beside it, without which QGIS reads numbers as text."""
+    """Write a CSV, and a .csvt file with the types of its columns, without which QGIS reads numbers as text."""
     with open(part, "w", encoding="utf-8", newline="") as file:
         writer = csv.writer(file, lineterminator="\n")
         writer.writerow(column.title for column in columns)
@@ -149,7 +149,7 @@ def _write_csv(part: str, types: str, columns: list[Column], check: Check) -> No
 
 
 def _write_geopackage(part: str, name: str, columns: list[Column], check: Check) -> None:
-    """GDAL makes the table, and its rows are put in by SQLite, which takes them ten times as fast as GDAL's Python does."""
+    """Make a table with GDAL and insert its rows with SQLite, which is ten times as fast as GDAL's Python."""
     count = len(columns[0].values)
     with quiet():
         gdal.ErrorReset()
@@ -164,7 +164,7 @@ def _write_geopackage(part: str, name: str, columns: list[Column], check: Check)
                 places = ",".join("?" * (1 + len(columns)))
                 rows = _checked(zip(range(1, count + 1), *(column.values for column in columns)), check)
                 connection.executemany(f"INSERT INTO {_quoted(name)} ({identifier}) VALUES ({places})", rows)
-                # What the triggers would have counted row by row.
+                # The triggers would have counted row by row.
                 connection.execute("UPDATE gpkg_ogr_contents SET feature_count = ? WHERE table_name = ?", [count, name])
                 for _, text in triggers:
                     connection.execute(text)
@@ -176,7 +176,7 @@ def _write_geopackage(part: str, name: str, columns: list[Column], check: Check)
 
 
 def _make_geopackage(part: str, name: str, columns: list[Column]) -> str:
-    """Makes an empty table, and answers the names of its columns, that of the numbers of rows first; nothing where it could not."""
+    """Make an empty table and return the names of its columns, the row number first; empty if that failed."""
     source = ogr.GetDriverByName("GPKG").CreateDataSource(part)
     options = ["FID=rcell_fid"] if any(column.title.lower() == "fid" for column in columns) else []
     layer = None if source is None else source.CreateLayer(name, None, ogr.wkbNone, options)
@@ -195,7 +195,7 @@ def _quoted(name: str) -> str:
 
 @contextlib.contextmanager
 def partly(path: str) -> Iterator[str]:
-    """A name to write to, in a private folder; the file gets the right one at the end, and nothing is left if something goes wrong.
+    """Yield a path in a private folder for a file, which gets its name at the end; nothing is left after an error.
 
     Raises
     ------
@@ -214,7 +214,7 @@ def partly(path: str) -> Iterator[str]:
 
 @contextlib.contextmanager
 def _removed_on_signals() -> Iterator[None]:
-    """Lets a signal that ends the process do so once what is half done is removed; only the main thread hears of signals."""
+    """Remove unfinished files before a signal ends the process; Python handles signals in the main thread only."""
     caught: list[int] = []
 
     def end(number: int, _: Any) -> None:
@@ -235,7 +235,7 @@ def _removed_on_signals() -> Iterator[None]:
 
 
 def _write(part: str, driver: str, write_tiff: Callable[[str], bool]) -> bool:
-    """Whether all of it could be made. GDAL makes it in memory, since it does not tell of a full disk in each case; Python writes it."""
+    """Return whether everything was written. GDAL does not report every full disk, so it writes to memory and Python to disk."""
     folder = f"/vsimem/rcell_{os.getpid()}_{id(write_tiff)}"
     tiff, copied = f"{folder}/map.tif", f"{folder}/copy{os.path.splitext(part)[1]}"
     try:
@@ -257,7 +257,7 @@ def _write(part: str, driver: str, write_tiff: Callable[[str], bool]) -> bool:
 
 
 def _copy_out(source: str, target: str) -> None:
-    """Copies a file that GDAL has in memory to the disk."""
+    """Copy a file from GDAL's memory to the disk."""
     memory = gdal.VSIFOpenL(source, "rb")
     try:
         with open(target, "wb") as file:
@@ -288,7 +288,7 @@ def _write_tiff(path: str, cells: NDArray[np.int32], null: int, like: Raster, la
 
 
 def _flushed(dataset: Any) -> bool:
-    """Whether what was still in memory could be written too."""
+    """Return whether the rest of a dataset was also written."""
     gdal.ErrorReset()
     dataset.FlushCache()
     return bool(gdal.GetLastErrorType() < gdal.CE_Failure)

@@ -7,15 +7,15 @@ from typing import Any, Mapping
 
 from osgeo import gdal
 
-# Category names are a list from 0 on: beyond so many, or with negative categories, a table of attributes says the same in less.
+# Category names are a list from 0 on. For larger or negative categories, an attribute table is smaller.
 _NAMES_LIMIT = 1 << 16
 _USUAL_VALUES = ("value",)
 _USUAL_NAMES = ("class_name", "class_names", "name", "label", "category")
 
 
 def labels_of_band(band: Any) -> dict[int, str]:
-    """Category names, else the names of a table of attributes; empty where there are neither."""
-    # Straight after opening, some versions have category names only once something else was asked for.
+    """Return the category names of a band, or else the names of its attribute table; empty if there are neither."""
+    # Right after opening, some versions of GDAL return category names only after another call.
     band.GetNoDataValue()
     names = band.GetRasterCategoryNames()
     if names and any(names):
@@ -34,7 +34,7 @@ def _labels_of_table(table: Any) -> dict[int, str]:
 
 
 def _column(table: Any, usages: tuple[int, ...], titles: tuple[str, ...]) -> int | None:
-    """A column of a table of attributes: by its use, else by a usual title."""
+    """Return a column of an attribute table: by its usage, or else by a common title."""
     columns = range(table.GetColumnCount())
     by_use = (at for at in columns if table.GetUsageOfCol(at) in usages)
     by_title = (at for at in columns if table.GetNameOfCol(at).lower() in titles)
@@ -42,7 +42,7 @@ def _column(table: Any, usages: tuple[int, ...], titles: tuple[str, ...]) -> int
 
 
 def put_labels(band: Any, labels: Mapping[int, str]) -> None:
-    """Gives a band of a dataset that is being written its labels."""
+    """Write the labels of a band to its dataset."""
     if not labels:
         return
     if min(labels) >= 0 and max(labels) < _NAMES_LIMIT:

@@ -17,7 +17,7 @@ from .rasters import Raster
 
 DEPTHS = range(1, 21)
 SIZES = (3, 5, 7, 9, 11, 13, 15)
-# The largest window whose cells fit into one expression, and how many classes fit into one expression of their counts.
+# The largest window that fits into one expression, and the most classes whose counts do.
 _SIZE_OF_AN_EXPRESSION = 9
 _CLASSES_OF_AN_EXPRESSION = 100
 _STEPS = ("-1,0", "1,0", "0,-1", "0,1")
@@ -25,22 +25,22 @@ _STEPS = ("-1,0", "1,0", "0,-1", "0,1")
 
 def patches(program: str, raster: Raster, connectivity: int, unit: str, zones: Raster | None = None, classes: Iterable[int] | None = None,
             least: int = 1, core_depth: int = 1, has_map: bool = False, watch: Watch | None = None) -> tuple[Answer, Grid | None]:
-    """The patches of a map, as a table and, if it is wanted, a map of their numbers.
+    """Return the patches of a map as a table and, if requested, as a map of their numbers.
 
     Parameters
     ----------
     program, raster
     connectivity : int
-        4, or 8: cells that touch at a corner are connected as well.
+        4, or 8: cells that touch at a corner are also connected.
     unit : str
-        The unit of areas, or nothing.
+        The unit of areas, or an empty text.
     zones : Raster, optional
     classes : iterable of int, optional
         Only patches of these classes are kept; numbers do not change.
     least : int
         Only patches of at least so many cells are kept.
     core_depth : int
-        How many steps a core cell is away from all other patches.
+        The number of steps from a core cell to the border of its patch.
     has_map : bool
     watch : Watch, optional
     """
@@ -67,8 +67,10 @@ def patches(program: str, raster: Raster, connectivity: int, unit: str, zones: R
 
 
 def _lines(connectivity: int, core_depth: int) -> list[str]:
-    """The patches; for each cell how many of its sides above and below, and three times how many at its left and right, end its patch;
-    whether it is core; its row and its column."""
+    """Return the script lines for maps of patches, sides, core, rows and columns.
+
+    `side` counts the sides of a cell on the border of its patch: those above and below, plus three times those on the left and right.
+    """
     ends = [f"(isnull(patch[{step}]) ||| patch != patch[{step}])" for step in _STEPS]
     cores = [f"core_{depth}" for depth in range(1, core_depth)] + ["core"]
     same = " && ".join(f"patch == patch[{step}]" for step in _STEPS)
@@ -109,14 +111,14 @@ def _columns(tables: list[Counts], raster: Raster, zones: Raster | None, unit: s
 
 
 def _ends(counts: Counts) -> tuple[Integers, Integers]:
-    """The first and the last row or column of each patch."""
+    """Return the first and last row or column of each patch."""
     starts = starts_of(counts.classes[:, 0])
     ends = np.append(starts[1:], len(counts.classes))[: len(starts)] - 1
     return counts.classes[starts, 1], counts.classes[ends, 1]
 
 
 def _most_frequent(counts: Counts, patches: int) -> Integers:
-    """The zone of most cells of each patch, the smaller one of several; NULL if there is none."""
+    """Return the zone of most cells of each patch: of several the smallest, NULL for none."""
     order = np.lexsort((counts.classes[:, 1], -counts.cells, counts.classes[:, 0]))
     ordered = counts.classes[order]
     first = ordered[starts_of(ordered[:, 0])]
@@ -129,14 +131,14 @@ def _most_frequent(counts: Counts, patches: int) -> Integers:
 
 
 def majority(program: str, raster: Raster, size: int, is_filled: bool = False, watch: Watch | None = None) -> Grid:
-    """The most frequent class of the square around each cell: nulls and cells off the map do not count, ties go to the smallest.
+    """Return the most frequent class of the square around each cell; nulls do not count, ties go to the smallest.
 
     A cell that is null stays null, unless `is_filled`.
 
     Raises
     ------
     Refused
-        The size is none.
+        The size is invalid.
     """
     if size not in SIZES:
         raise Refused(f"size= is odd, 3 to 15, not {size}", status=2)
@@ -154,8 +156,10 @@ def _window_lines(size: int) -> list[str]:
 
 
 def _class_lines(size: int, classes: list[int]) -> list[str]:
-    """The cells of each class are counted along rows, then along columns, and of the counts the largest is taken, the first class of
-    several. Classes are known by their places, from the last."""
+    """Return script lines that count the cells of each class along rows, then along columns, and take the class with most cells.
+
+    Of several classes the first is taken: each count is combined with the position of its class from the end.
+    """
     if not classes:
         return ["r.mapcalc commonest = map"]
     steps, number = range(-(size // 2), size // 2 + 1), len(classes)

@@ -14,12 +14,12 @@ _HEADERS = (["value", "label"], ["value", "label", "colour"], ["value", "label",
 
 
 def legend_of(path: str, name: str = "labels") -> dict[int, str]:
-    """The labels of a file.
+    """Return the labels of a file.
 
     Raises
     ------
     Refused
-        The file cannot be read, or a value is no whole number or occurs twice; the source is `name`.
+        The file cannot be read, or a value is not a whole number or occurs twice; the source is `name`.
     """
     try:
         if path.lower().endswith(".qml"):
@@ -38,7 +38,7 @@ def legend_of(path: str, name: str = "labels") -> dict[int, str]:
 
 
 def _of_style(path: str) -> list[tuple[str, str, str]]:
-    """The classes of a paletted style, or of one of exact colours."""
+    """Return the classes of a paletted style, or of a style with exact colours."""
     entries = [entry for kind in ("paletteEntry", "item") for entry in ElementTree.parse(path).iter(kind) if "value" in entry.attrib]
     return [(f"{path}: ", entry.attrib["value"], entry.attrib.get("label", "")) for entry in entries]
 

@@ -1,5 +1,5 @@
 # SPDX-License-Identifier: Apache-2.0 OR GPL-2.0-or-later
-"""The region of a map: its edges, as the program sees them, and its rows and columns."""
+"""The region of a map: its edges, as the program sees them, and its numbers of rows and columns."""
 
 from __future__ import annotations
 
@@ -21,7 +21,7 @@ GeoTransform = tuple[float, float, float, float, float, float]
 
 
 def _units(edge: float | Fraction) -> int:
-    """An edge in units of 10^-8, which is all that the program keeps of it."""
+    """Return an edge in units of 10^-8, the precision of the program."""
     return int(round(Fraction(edge) * UNITS))
 
 
@@ -37,7 +37,7 @@ def _size_text(size: int) -> str:
 
 @dataclass(frozen=True)
 class Region:
-    """Edges in units of 10^-8, and a number of rows and columns. Made by `of_geotransform`."""
+    """Edges in units of 10^-8, and the numbers of rows and columns. Made by `of_geotransform`."""
 
     north: int
     south: int
@@ -48,12 +48,12 @@ class Region:
 
     @classmethod
     def of_geotransform(cls, name: str, transform: Sequence[float], rows: int, cols: int) -> Region:
-        """The region of a geotransform whose rows go from north to south.
+        """Return the region of a geotransform with rows from north to south.
 
         Raises
         ------
         BadMap
-            Where it is rotated or turned over, or where the program has no such region.
+            The geotransform is rotated or upside down, or the region is not allowed.
         """
         west, width, b, north, d, height = (float(number) for number in transform)
         if not all(map(math.isfinite, (west, width, b, north, d, height))):
@@ -81,18 +81,18 @@ class Region:
             raise BadMap(name, f"{high} is not above {low} once they are rounded to {DECIMALS} decimals: {self}")
 
     def edge_texts(self) -> tuple[str, str, str, str]:
-        """North, south, east and west as the program takes them."""
+        """Return north, south, east and west for the program."""
         return _edge_text(self.north), _edge_text(self.south), _edge_text(self.east), _edge_text(self.west)
 
     def differences(self, other: Region) -> list[str]:
-        """In which edges and sizes another region differs from this one, and by how much; empty where they are equal."""
-        told = []
+        """Return the edges and sizes in which another region differs, with the difference; empty if they are equal."""
+        found = []
         for edge in ("north", "south", "east", "west", "rows", "cols"):
             mine, its = getattr(self, edge), getattr(other, edge)
             text = _size_text if edge in ("rows", "cols") else _edge_text
             if mine != its:
-                told.append(f"{edge} is {text(its)}, not {text(mine)} ({text(abs(its - mine))} {'more' if its > mine else 'less'})")
-        return told
+                found.append(f"{edge} is {text(its)}, not {text(mine)} ({text(abs(its - mine))} {'more' if its > mine else 'less'})")
+        return found
 
     def __str__(self) -> str:
         edges = ", ".join(f"{edge} {_edge_text(getattr(self, edge))}" for edge in ("north", "south", "east", "west"))

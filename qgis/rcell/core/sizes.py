@@ -1,5 +1,5 @@
 # SPDX-License-Identifier: Apache-2.0 OR GPL-2.0-or-later
-"""The areas of cells: one size in metres or feet, and in degrees one for each row, on the ellipsoid of the reference system."""
+"""The areas of cells: one area for all cells of a projected map, and one for each row of a map in degrees, on the ellipsoid."""
 
 from __future__ import annotations
 
@@ -13,14 +13,14 @@ from .errors import Refused
 from .rasters import Raster
 
 UNITS = {"m2": 1.0, "ha": 1e4, "km2": 1e6}
-# Edges may lie so far beyond a pole, in radians, by the rounding of their numbers.
+# Rounding may put edges so far beyond a pole, in radians.
 _POLE_TOLERANCE = 1e-9
 
 Sizes = Union[float, NDArray[np.float64]]
 
 
 def cell_sizes(raster: Raster) -> Sizes:
-    """The size of a cell in square metres: of each row from the north if the map is in degrees, else one number.
+    """Return the area of a cell in square metres: one number, or one for each row from the north if the map is in degrees.
 
     Raises
     ------
@@ -46,9 +46,9 @@ def cell_sizes(raster: Raster) -> Sizes:
 
 
 def zone_areas(north: NDArray[np.float64], south: NDArray[np.float64], e: float) -> Any:
-    """The closed form of the area between two parallels, but for the factor of the ellipsoid and its longitudes.
+    """Return the area between two parallels, without the factor of the ellipsoid and its longitudes.
 
-    It loses no digits if the parallels are close.
+    The closed form loses no digits if the parallels are close.
     """
     sines = np.sin(north) * np.sin(south)
     difference = 2 * np.cos((north + south) / 2) * np.sin((north - south) / 2)
