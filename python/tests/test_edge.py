@@ -81,7 +81,7 @@ def test_nodata_of_what_was_scaled_is_no_longer_nodata() -> None:
 def test_cells_of_another_type_than_dask_was_told_are_refused(told: str, found: str) -> None:
     dask = pytest.importorskip("dask.array")
     given = dask.zeros((4, 3), chunks=(2, 3), dtype="uint8").map_blocks(lambda part: part.astype(found), dtype=told)
-    text = f"m: its cells are of the type {found}, and Dask was told {told}: state it, as in map_blocks(.., dtype='{found}')"
+    text = f"m: its cells are of the type {found}, but Dask expected {told}: state it, as in map_blocks(.., dtype='{found}')"
     assert str(refusal(data_array(values=given, attrs={"_FillValue": 0}))) == text
     turned = dask.zeros((2, 3), chunks=(2, 3), dtype="uint8").map_blocks(lambda part: part.reshape(3, 2), dtype="uint8")
     assert "a part of 2 x 3 cells has the shape (3, 2)" in str(refusal(data_array(values=turned)))

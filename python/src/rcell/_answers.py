@@ -104,7 +104,7 @@ class _Run:
         return [self._answer(output) for output in ran]
 
     def labels(self, name: str) -> Mapping[int, str]:
-        """The labels of a map: from the rules that made it, or from the map that was given."""
+        """Return the labels of a map: from the rules that made it, or from the input map."""
         return self.sources[name].labels if name in self.sources else labels_of(self.made[name])
 
     def _answer(self, output: Output) -> StatsTable | Grid:
@@ -243,7 +243,7 @@ def run_of(script: str, maps: Mapping[str, Any], crs: Any = None) -> _Run:
 
 
 def table_of(of: _Run, area: str | None, percent: bool, pivot: bool) -> StatsTable:
-    """The only table of a run, with the columns asked for."""
+    """Return the only table of a run, with the requested columns."""
     outputs = of.outputs()
     if len(outputs) != 1 or not isinstance(outputs[0], StatsTable):
         told = ", ".join(f"{output.command} in line {output.line}" for output in outputs) or "no r.stats"

@@ -1,5 +1,5 @@
 # SPDX-License-Identifier: Apache-2.0 OR GPL-2.0-or-later
-"""The joiner: where it is, and runs of it over texts that are held in memory.
+"""The program rcell-join: finding it, and running it on texts in memory.
 
 `rcell-join` is proved from bytes to bytes: the tables that `r.stats -c` prints of the tiles of a map are merged to the table that it
 prints of the map, the borders of tiles give the numbering of their clumps, and the tables of these add up to the sizes of the clumps
@@ -102,7 +102,7 @@ def border_of(tile: Source, diagonal: bool = False, program: str | os.PathLike[s
     Parameters
     ----------
     tile : Source
-        Its region says where it is in the map.
+        Its region gives its position in the map.
     diagonal : bool
         Whether cells that touch at a corner are connected.
     program : path, optional

@@ -63,7 +63,7 @@ def checked_labels(name: str, labels: Any) -> dict[int, str]:
 
 
 def read_labels(path: str, band: int) -> dict[int, str]:
-    """The labels of a band of a raster; empty where it has none.
+    """Return the labels of a band of a raster; empty if it has none.
 
     Examples
     --------
@@ -103,7 +103,7 @@ def flags_of(values: Any, meanings: Any) -> dict[int, str]:
 
 
 def _category(number: Any) -> int | None:
-    """The category that a number is, or that a text spells; None if it is no category."""
+    """Return the category that a number is or a text spells, or None."""
     with contextlib.suppress(TypeError, ValueError, OverflowError):
         if float(number).is_integer() and abs(float(number)) < -NULL:
             return int(float(number))
@@ -111,7 +111,7 @@ def _category(number: Any) -> int | None:
 
 
 def _color_table(dataset: Any, band: int, labels: Mapping[int, str]) -> dict[int, str]:
-    """The colours of a colour table; black is what a table has for categories that nobody gave a colour."""
+    """Return the colours of a colour table; black means that a category has no colour."""
     try:
         table = dataset.colormap(band)
     except ValueError:
@@ -120,7 +120,7 @@ def _color_table(dataset: Any, band: int, labels: Mapping[int, str]) -> dict[int
 
 
 def _attribute_colors(path: str, band: int) -> dict[int, str]:
-    """The colours of an attribute table that GDAL's Python can read."""
+    """Return the colours of an attribute table, read with GDAL's Python."""
     if not has("osgeo"):
         return {}
     gdal = need("osgeo.gdal", "gis", "to read colours")
@@ -142,7 +142,7 @@ def _attribute_colors(path: str, band: int) -> dict[int, str]:
 
 
 def write_labels(path: str, labels: Mapping[int, str]) -> str | None:
-    """Gives the first band of a raster its labels.
+    """Write the labels of the first band of a raster.
 
     Parameters
     ----------
@@ -184,7 +184,7 @@ def _names(labels: Mapping[int, str]) -> list[str]:
     return [labels.get(category, "") for category in range(max(labels) + 1)]
 
 
-# By GDAL
+# With GDAL
 
 
 def _quiet_gdal() -> Any:
@@ -232,7 +232,7 @@ def _labels_of_table(table: Any) -> dict[int, str]:
 
 
 def _columns(usages: list[int], titles: list[str]) -> tuple[int | None, int | None]:
-    """Which columns of an attribute table have the values and the labels: by their use, else by usual titles."""
+    """Return the columns of an attribute table with the values and labels: by their usage, or else by common titles."""
 
     def first(wanted: tuple[int, ...], usual: tuple[str, ...]) -> int | None:
         by_use = (at for at, usage in enumerate(usages) if usage in wanted)
@@ -261,7 +261,7 @@ def _write_by_gdal(path: str, labels: Mapping[int, str]) -> None:
         dataset.FlushCache()
 
 
-# Beside the raster
+# In a file next to the raster
 
 
 def _bands_beside(path: str) -> ElementTree.Element | None:

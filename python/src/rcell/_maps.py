@@ -90,7 +90,7 @@ class Source(Protocol):
         """Its coordinate reference system, or None."""
 
     def blocks(self) -> Iterator[Block]:
-        """Its rows from north to south."""
+        """Yield the rows from north to south."""
 
 
 # Cells
@@ -136,10 +136,10 @@ def check_computed(name: str, cells: Cells, dtype: np.dtype[Any], shape: tuple[i
     >>> check_computed("m", np.array([[-1]], np.int16), np.dtype(np.uint16), (1, 1))
     Traceback (most recent call last):
       ...
-    rcell.BadMap: m: its cells are of the type int16, and Dask was told uint16: state it, as in map_blocks(.., dtype='int16')
+    rcell.BadMap: m: its cells are of the type int16, but Dask expected uint16: state it, as in map_blocks(.., dtype='int16')
     """
     if (is_converted(cells.dtype), type_of(cells.dtype)) != (is_converted(dtype), type_of(dtype)):
-        told = f"its cells are of the type {cells.dtype}, and Dask was told {dtype}: state it, as in map_blocks(.., dtype='{cells.dtype}')"
+        told = f"its cells are of the type {cells.dtype}, but Dask expected {dtype}: state it, as in map_blocks(.., dtype='{cells.dtype}')"
         raise BadMap(name, told)
     if cells.shape != shape:
         raise BadMap(name, f"a part of {' x '.join(map(str, shape))} cells has the shape {cells.shape}: state the chunks, as in map_blocks(.., chunks=..)")
@@ -199,7 +199,7 @@ def _with_nodata(cells: Cells, null: Mask | None, nodata: float | None) -> Mask:
 
 
 def _good(cells: Cells) -> Mask:
-    """Where cells are whole numbers in range."""
+    """Return where cells are whole numbers in range."""
     if cells.dtype.kind == "f":
         with np.errstate(invalid="ignore"):
             return np.asarray((np.rint(cells) == cells) & (np.abs(cells) < MAX_CATEGORY + 1.0))
@@ -281,7 +281,7 @@ class ArrayMap:
         return self.null is not None and not is_converted(self.array.dtype)
 
     def blocks(self) -> Iterator[Block]:
-        """Its rows from north to south."""
+        """Yield the rows from north to south."""
         rows, cols = self.region.shape
         step = max(1, BLOCK_CELLS // cols)
         for row in range(0, rows, step):
@@ -394,7 +394,7 @@ class Map:
 
 
 def _placed(name: str, array: Cells, null: Mask | None, place: Any) -> tuple[Cells, Mask | None, Region, Transform]:
-    """An array with its rows from north to south, its region and its transform."""
+    """Return an array with its rows from north to south, its region and its transform."""
     rows, cols = array.shape
     if isinstance(place, Region):
         return array, null, place, place.transform
@@ -521,5 +521,5 @@ def sources_of(maps: Mapping[str, Any], crs: Any = None, given: Mapping[str, Any
 
 
 def _written(name: str, given: Any) -> str:
-    """A map as a caller would write it: the path, or its name."""
+    """Return a map as a caller would write it: its path, or its name."""
     return json.dumps(os.fspath(given), ensure_ascii=False) if isinstance(given, (str, os.PathLike)) else name

@@ -15,7 +15,7 @@ _ma: Any = np.ma
 
 
 def masked(cells: NDArray[Any], mask: NDArray[np.bool_]) -> MaskedCells:
-    """Cells that are masked where the mask is True.
+    """Return cells that are masked where the mask is True.
 
     Examples
     --------
@@ -27,7 +27,7 @@ def masked(cells: NDArray[Any], mask: NDArray[np.bool_]) -> MaskedCells:
 
 
 def filled(array: MaskedCells, value: int) -> NDArray[Any]:
-    """The cells, with a value in place of those that are masked.
+    """Return the cells, with a value in place of masked ones.
 
     Examples
     --------
@@ -39,7 +39,7 @@ def filled(array: MaskedCells, value: int) -> NDArray[Any]:
 
 
 def compressed(array: MaskedCells) -> NDArray[Any]:
-    """The cells that are not masked, in one dimension.
+    """Return the cells that are not masked, in one dimension.
 
     Examples
     --------
@@ -51,7 +51,7 @@ def compressed(array: MaskedCells) -> NDArray[Any]:
 
 
 def is_masked_array(given: Any) -> bool:
-    """Whether something is a masked array.
+    """Return whether something is a masked array.
 
     Examples
     --------
@@ -62,7 +62,7 @@ def is_masked_array(given: Any) -> bool:
 
 
 def data_of(array: MaskedCells) -> NDArray[Any]:
-    """The cells under the mask.
+    """Return the cells under the mask.
 
     Examples
     --------
@@ -74,7 +74,7 @@ def data_of(array: MaskedCells) -> NDArray[Any]:
 
 
 def mask_of(array: MaskedCells) -> NDArray[np.bool_]:
-    """The mask, an element for each cell.
+    """Return the mask, with an element for each cell.
 
     Examples
     --------

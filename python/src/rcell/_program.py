@@ -52,7 +52,7 @@ class Output:
         The maps that it read.
     values : array
         Of a table int64, entries x columns: the categories of each map, and the number of cells if it was asked for.
-        Of a map int32, rows x cols. `NULL` stands for null in both.
+        Of a map int32, rows x cols. `NULL` is null in both.
     has_counts, has_labels : bool
         Whether the statement has the flags `-c` and `-l`.
     """
@@ -261,7 +261,7 @@ def grid_text(source: Source) -> bytes:
 def _frames(
     script: str, maps: Mapping[str, Source], wanted: Sequence[str] = (), program: str | os.PathLike[str] | None = None
 ) -> list[front.Frame]:
-    """The frames of a script, and after them those of some of its maps."""
+    """Return the frames of a script, and then those of some of its maps."""
     lines = [script, *(f"r.out.ascii input={name}" for name in wanted)]
     with _told(script, list(maps), path := find_pipe(program)):
         return front.run(path, [_sent(name, source) for name, source in maps.items()], front.script_bytes("\n".join(lines)))
@@ -283,7 +283,7 @@ def _told(script: str, names: list[str], path: str) -> Iterator[None]:
 
 
 def _sent(name: str, source: Source) -> front.Map:
-    """A map as the program gets it: its blocks as they are, one after another."""
+    """Return a map for the program; its blocks are sent unchanged, one after another."""
     kind = source.dtype.kind + str(8 * source.dtype.itemsize)
     blocks = (front.Block(block.cells.data, None if block.null is None else block.null.view(np.uint8).data) for block in source.blocks())
     return front.Map(name, source.region.edges, *source.region.shape, kind, blocks, source.nodata, source.is_masked)
@@ -297,14 +297,14 @@ def _output(frame: front.Frame, is_own: bool) -> Output:
 
 
 def _entries(frame: front.TableFrame) -> NDArray[np.int64]:
-    """The entries of a table, with their counts if it has them."""
+    """Return the entries of a table, with their counts if it has them."""
     cells = np.asarray(frame.cells).reshape(frame.entries, len(frame.names))
     counts = [] if frame.counts is None else [np.asarray(frame.counts).astype(np.int64)]
     return np.column_stack([cells.astype(np.int64), *counts])
 
 
 def _cells(frame: front.GridFrame) -> NDArray[np.int32]:
-    """The cells of a map as int32, `NULL` for null."""
+    """Return the cells of a map as int32, with `NULL` for null."""
     cells = np.asarray(frame.cells).reshape(frame.rows, frame.cols)
     if frame.null == NULL:
         return cells
@@ -314,7 +314,7 @@ def _cells(frame: front.GridFrame) -> NDArray[np.int32]:
 
 
 def _fault(end: front.Rejected, script: str, names: list[str]) -> RcellError:
-    """The error of a run that was rejected."""
+    """Return the error of a run that was rejected."""
     kind = OutOfMemory if end.status == 3 else Refused
     if end.source == "request" and end.map < len(names):
         return kind(end.text, names[end.map], end.line, end.status)
@@ -350,7 +350,7 @@ def start_on_text(path: str, script: bytes, name: str, grid: int, seconds: float
 
 
 def _filled(path: str, data: bytes) -> int:
-    """The end of a new pipe from which a program reads some bytes, fewer than it holds."""
+    """Return the reading end of a new pipe that already contains some bytes, fewer than it holds."""
     try:
         reader, writer = pipe()
     except OSError as error:

@@ -58,7 +58,7 @@ class DataArrayMap:
         return not is_converted(self.array.dtype) and (is_lazy(self.array) or is_masked_array(self.array.data))
 
     def blocks(self) -> Iterator[Block]:
-        """Its rows from north to south."""
+        """Yield the rows from north to south."""
         rows, cols = self.region.shape
         chunks = self.array.chunks
         step = max(1, BLOCK_CELLS // cols, chunks[0][0] if chunks else 1)
@@ -147,7 +147,7 @@ def layers_of(array: Any) -> list[Any]:
 
 
 def is_lazy(array: Any) -> bool:
-    """Whether Dask holds the cells of a DataArray."""
+    """Return whether Dask holds the cells of a DataArray."""
     return getattr(array, "chunks", None) is not None
 
 
@@ -180,14 +180,14 @@ def _by_place(array: Any, named: list[Any]) -> list[Any]:
 
 
 def _check_scale(name: str, array: Any) -> None:
-    """Refuse an array whose cells stand for other values; what xarray has decoded has the attributes in its encoding."""
+    """Raise BadMap if the values of an array are scaled; decoded arrays have these attributes in their encoding."""
     scale, offset = array.attrs.get("scale_factor", 1), array.attrs.get("add_offset", 0)
     if (scale, offset) != (1, 0):
         raise BadMap(name, f"its values are scaled: each cell times {scale}, plus {offset}; write them out as whole numbers first")
 
 
 def _transform_of(name: str, array: Any) -> Transform | None:
-    """The transform of the coordinates; None without coordinates."""
+    """Return the transform of the coordinates, or None without coordinates."""
     y, x = array.dims
     if y not in array.coords or x not in array.coords:
         return None
@@ -200,7 +200,7 @@ def _transform_of(name: str, array: Any) -> Transform | None:
 
 
 def _told_transform(name: str, array: Any) -> Transform | None:
-    """What rioxarray has kept of the transform, in GDAL's order; it is stale where the array was cut since."""
+    """Return the transform that rioxarray stored, in GDAL's order; it is outdated if the array was cut later."""
     reference = array.coords.get("spatial_ref")
     text = None if reference is None else reference.attrs.get("GeoTransform")
     if not text:
@@ -210,7 +210,7 @@ def _told_transform(name: str, array: Any) -> Transform | None:
 
 
 def _spacing(name: str, coordinate: Any, told: tuple[float, float] | None) -> tuple[float, float]:
-    """The outer edge and the step of the centres along a dimension."""
+    """Return the outer edge and the step of the centres along a dimension."""
     try:
         centres = np.asarray(coordinate.values, dtype=np.float64)
     except (TypeError, ValueError):

@@ -109,7 +109,7 @@ class Accessor:
         return self._returned(self._mosaic(crs, more).grid(script))
 
     def clump(self, connectivity: int = 4) -> Any:
-        """Return the map of patches, the connected cells of one class, with the numbers of r.clump; 0 where it is null.
+        """Return the map of patches, the connected cells of one class, with the numbers of r.clump; null is 0.
 
         Parameters
         ----------
@@ -156,7 +156,7 @@ class Accessor:
     def _only(self) -> str:
         names = list(self._maps)
         if len(names) != 1:
-            raise BadMap("dataset", f"{len(names)} maps ({', '.join(names)}), where one is needed: select it, as dataset[{names[0] if names else 'name'!r}]")
+            raise BadMap("dataset", f"{len(names)} maps ({', '.join(names)}), but one is needed: select it, as dataset[{names[0] if names else 'name'!r}]")
         return names[0]
 
     def _mosaic(self, crs: Any = None, more: Any = None) -> Mosaic:

@@ -6,7 +6,7 @@ import re
 
 ROOM = 100  # characters of a line that are shown
 LONGEST_SHOWN = 300  # bytes of a line that an error repeats whole
-NO_BYTES = re.compile("[\ud800-\udc7f\udd00-\udfff]")  # lone surrogates that stand for no byte
+NO_BYTES = re.compile("[\ud800-\udc7f\udd00-\udfff]")  # lone surrogates that are not escapes of bytes
 FILLED = re.compile(r"\{([a-z_]+)\}")
 INDENT = "    "
 MOST_NAMES = 400  # map names that are compared to find the nearest

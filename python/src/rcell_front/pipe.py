@@ -145,7 +145,7 @@ def script_bytes(script: str) -> bytes:
     Raises
     ------
     Rejected
-        A lone surrogate stands for no byte.
+        A lone surrogate is not the escape of a byte.
     """
     try:
         return script.encode("utf-8", "surrogateescape")

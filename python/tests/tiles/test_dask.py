@@ -161,7 +161,7 @@ def test_masked_cells_of_dask_are_null() -> None:
 def test_cells_of_another_type_than_dask_was_told_are_refused(told: str, found: str) -> None:
     array = array_of(CELLS, (16, 10))
     array.data = array.data.map_blocks(lambda part: part.astype(found), dtype=told)
-    with pytest.raises(rcell.BadMap, match=f"of the type {found}, and Dask was told {told}"):
+    with pytest.raises(rcell.BadMap, match=f"of the type {found}, but Dask expected {told}"):
         rcell.tiles.open(lc=array).table("r.mapcalc x = lc[0,1]\nr.stats -c input=x,lc", compute=False).compute(scheduler="sync")
 
 

@@ -35,8 +35,8 @@ def mosaic_of(scheduler: str, size: int = 16, **maps: Any) -> rcell.tiles.Mosaic
 @pytest.mark.parametrize("script, text, line", [
     ("r.stats -c input=nowhere", "unknown map", 1),
     ("# x\nr.mapcalc x = lc +", "unexpected token at column 19", 2),
-    ("r.mapcalc x = lc", "0 lines of r.stats, where one is needed", 0),
-    ("r.stats -c input=lc\nr.stats -c input=lc", "2 lines of r.stats, where one is needed", 0),
+    ("r.mapcalc x = lc", "0 lines of r.stats, but exactly one is needed", 0),
+    ("r.stats -c input=lc\nr.stats -c input=lc", "2 lines of r.stats, but exactly one is needed", 0),
     ("r.stats -1 input=lc", "-1 lists cells, of which there is no table to merge", 1),
     ("r.clump input=lc output=p\nr.stats -c input=p",
      "patches continue outside a tile: Mosaic.clump writes them, Mosaic.patches counts them", 1),

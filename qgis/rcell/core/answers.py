@@ -32,7 +32,7 @@ class Column:
 
 @dataclass(frozen=True)
 class Table:
-    """What an r.stats wrote.
+    """The table of an r.stats.
 
     Attributes
     ----------
@@ -40,12 +40,12 @@ class Table:
         The names of its maps.
     categories : array of int64, entries x maps
     cells : array of int64 or None
-        None where the script did not ask for it (`-c`).
+        None if the script has no `-c`.
     labels : tuple of mapping or None
-        For each map its labels, None where it has no column of them.
+        The labels of each map; None if it has no column of labels.
     line : int
     unit : str
-        The unit of areas, empty where there are none.
+        The unit of areas; empty without areas.
     cell_area : float
         In square metres.
     has_percent : bool
@@ -61,7 +61,7 @@ class Table:
     has_percent: bool = False
 
     def columns(self) -> list[Column]:
-        """Each map, its labels, `cells`, areas, `percent`; a title that occurs already has `_2` after it, whatever its case."""
+        """Return each map, its labels, `cells`, areas and `percent`; repeated titles get `_2`, ignoring case."""
         found: list[Column] = []
         for place, title in enumerate(self.titles):
             codes = self.categories[:, place].tolist()
@@ -79,12 +79,12 @@ class Table:
         return [replace(column, title=title) for column, title in zip(found, titles)]
 
     def measured(self, unit: str, percent: bool, first: Raster) -> Table:
-        """The table with areas in a unit, where one is named, and with percentages.
+        """Return the table with areas in a unit, if one is given, and with percentages.
 
         Raises
         ------
         Refused
-            Where the table has no cells, or the map is in degrees.
+            The table has no cells, or the map is in degrees.
         """
         for is_asked, asked in ((unit, "area="), (percent, "percent=")):
             if is_asked and self.cells is None:
@@ -96,7 +96,7 @@ class Table:
 
 @dataclass(frozen=True)
 class Grid:
-    """A map that was made.
+    """A map that a script made.
 
     Attributes
     ----------
@@ -113,7 +113,7 @@ class Grid:
     labels: Mapping[int, str] = field(default_factory=dict)
 
     def counts(self) -> dict[int, int]:
-        """How many cells each category has, null aside."""
+        """Return the number of cells of each category, without null."""
         kept = self.cells[self.cells != self.null]
         if not kept.size:
             return {}
@@ -126,7 +126,7 @@ class Grid:
 
 
 def unique(titles: Sequence[str]) -> list[str]:
-    """The titles, each once, whatever the case of their letters."""
+    """Return titles without repetitions, ignoring case."""
     taken: set[str] = set()
     found = []
     for title in titles:
@@ -139,12 +139,12 @@ def unique(titles: Sequence[str]) -> list[str]:
 
 
 def check_area(first: Raster) -> None:
-    """That a cell has an area.
+    """Raise Refused if cells have no common area.
 
     Raises
     ------
     Refused
-        Where the map is in degrees.
+        The map is in degrees.
     """
     if first.is_geographic:
         raise Refused("area= needs a map in metres or feet: in degrees the area of a cell differs from row to row; "
@@ -156,7 +156,7 @@ def check_area(first: Raster) -> None:
 
 @dataclass
 class Answers:
-    """The outputs of a script: tables and maps in their order, then the maps that were wanted besides."""
+    """The outputs of a script in their order, then the requested maps."""
 
     tables: list[Table]
     grids: list[Grid]
@@ -164,16 +164,16 @@ class Answers:
 
 
 def run(program: str, script: str, maps: Mapping[str, Raster], wanted: Sequence[str] = (), watch: Watch | None = None) -> Answers:
-    """Runs a script over maps of one region.
+    """Run a script over maps of one region.
 
     Parameters
     ----------
     program : str
     script : str
     maps : mapping of str to Raster
-        By the names that the script has for them.
+        By name in the script.
     wanted : sequence of str
-        Maps that are answered after the outputs of the script.
+        Maps that are returned after the outputs of the script.
     watch : Watch, optional
 
     Raises
@@ -202,13 +202,13 @@ def run(program: str, script: str, maps: Mapping[str, Raster], wanted: Sequence[
 
 
 def _cells_of(frame: pipe.GridFrame) -> NDArray[np.int32]:
-    """The cells of a map, NULL for null."""
+    """Return the cells of a map, with NULL for null."""
     cells = np.asarray(frame.cells).reshape(frame.rows, frame.cols)
     return cells if frame.null == NULL else np.where(cells == frame.null, np.int32(NULL), cells)
 
 
 def _labels_of(frame: pipe.Frame) -> list[dict[int, str]]:
-    """The labels of each map of a table."""
+    """Return the labels of each map of a table."""
     assert isinstance(frame, pipe.TableFrame) and frame.labels is not None
     width = len(frame.names)
     codes, texts = frame.cells.tolist(), frame.labels
@@ -217,7 +217,7 @@ def _labels_of(frame: pipe.Frame) -> list[dict[int, str]]:
 
 
 def _table(frame: pipe.TableFrame, maps: Mapping[str, Raster]) -> Table:
-    """A table; a map that was given has its own name and labels."""
+    """Return a table; input maps have their own names and labels."""
     labels = None if frame.labels is None else _labels_of(frame)
     return Table(
         titles=tuple(maps[name].name if name in maps else name for name in frame.names),
@@ -229,12 +229,12 @@ def _table(frame: pipe.TableFrame, maps: Mapping[str, Raster]) -> Table:
 
 
 def grid(program: str, script: str, name: str, raster: Raster, watch: Watch | None = None) -> Grid:
-    """A map that a script makes of one map, which it calls `map`."""
+    """Return a map that a script makes from one map, which it calls `map`."""
     return run(program, script, {"map": raster}, [name], watch).grids[-1]
 
 
 def reclass(program: str, raster: Raster, rules: str, watch: Watch | None = None) -> Grid:
-    """A map by the rules of r.reclass.
+    """Return a map made with the rules of r.reclass.
 
     Raises
     ------
@@ -245,7 +245,7 @@ def reclass(program: str, raster: Raster, rules: str, watch: Watch | None = None
     script = "\n".join(["r.reclass input=map output=classes", *lines])
     try:
         plan_of(program, script, ["map"], watch)
-    except Refused:  # it has no end of its own, or another fault, which the run tells
+    except Refused:  # the rules have no line `end`, or an error that the run reports
         script += "\nend"
     try:
         return grid(program, script, "classes", raster, watch)

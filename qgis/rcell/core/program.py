@@ -30,7 +30,7 @@ BUNDLED = os.path.join(_FOLDER, "rcell-pipe")
 
 @dataclass
 class Watch:
-    """How a run is watched.
+    """The functions that watch a run.
 
     Attributes
     ----------
@@ -59,7 +59,7 @@ class Watch:
 def find_program(setting: str = "") -> str:
     """Return the path of rcell-pipe: of the setting, of the variable RCELL_PIPE, next to RCELL, of the plugin, or on the path.
 
-    A setting that names rcell stands for the rcell-pipe next to it.
+    If the setting names rcell, the rcell-pipe next to it is used.
 
     Raises
     ------
@@ -93,7 +93,7 @@ _known: dict[str, tuple[int, int, int]] = {}
 
 
 def _beside(path: str) -> str:
-    """The rcell-pipe next to a program."""
+    """Return the rcell-pipe next to a program."""
     return os.path.join(os.path.dirname(path), "rcell-pipe")
 
 
@@ -197,7 +197,7 @@ class _Sender:
         self._sent = 0
 
     def map_of(self, name: str, raster: Raster) -> pipe.Map:
-        """A map whose blocks are read while the program takes them."""
+        """Return a map whose blocks are read while the program takes them."""
         region = raster.region
         if raster.is_text:
             return pipe.Map(name, region.edge_texts(), region.rows, region.cols, "i32", self._blocks(_text_blocks(self._program, name, raster)), NULL)
@@ -217,7 +217,7 @@ class _Sender:
 
 
 def _text_blocks(program: str, name: str, raster: Raster) -> Iterator[tuple[Cells, Mask | None]]:
-    """The rows of a grid of the program's own form, as rcell reads them."""
+    """Yield the rows of a text grid, as rcell reads them."""
     beside = os.path.join(os.path.dirname(program), "rcell")
     path = os.environ.get("RCELL") or (beside if os.path.isfile(beside) else found_on_path("rcell"))
     if path and os.path.dirname(path) == _FOLDER:
@@ -257,7 +257,7 @@ def _fault_of_text(status: int, message: str) -> RcellError:
 
 
 def _fault(end: pipe.Rejected, script: str, names: Sequence[str]) -> RcellError:
-    """The error of a run that was rejected."""
+    """Return the error of a run that was rejected."""
     kind = OutOfMemory if end.status == 3 else Refused
     if end.source == "request" and end.map < len(names):
         return kind(end.text, names[end.map], end.line, end.status)
@@ -269,7 +269,7 @@ def _fault(end: pipe.Rejected, script: str, names: Sequence[str]) -> RcellError:
 
 
 def _advice(script: str, names: Sequence[str], line: int, text: str) -> tuple[int | None, str | None]:
-    """The column of a word that is no option, and what to write instead, as rcell-explain has it."""
+    """Return the column of an invalid option and what to write instead, from rcell-explain."""
     with contextlib.suppress(Exception):  # a fault of the advice must not hide the message
         mending: Any = importlib.import_module(".front.mending", __package__)
         column, advice = mending.advice(script.encode("utf-8", "surrogateescape"), list(names), line, _AT_COLUMN.sub("", text))

@@ -1,5 +1,5 @@
 # SPDX-License-Identifier: Apache-2.0 OR GPL-2.0-or-later
-"""Rasters that GDAL opens, as maps: read by blocks of rows, never whole."""
+"""Rasters that GDAL opens, as maps: they are read in blocks of rows, never as a whole."""
 
 from __future__ import annotations
 
@@ -39,7 +39,7 @@ NullRanges = Sequence[tuple[float, float]]
 
 @contextlib.contextmanager
 def quiet() -> Iterator[None]:
-    """GDAL without its messages on standard error, in this thread; its exceptions are left as other plugins have set them."""
+    """Silence GDAL's messages on standard error in this thread; its exceptions stay as other plugins have set them."""
     gdal.PushErrorHandler("CPLQuietErrorHandler")
     try:
         yield
@@ -48,12 +48,12 @@ def quiet() -> Iterator[None]:
 
 
 def opened(name: str, path: str) -> Any:
-    """An open dataset.
+    """Return an open dataset.
 
     Raises
     ------
     ReadFailed
-        Where it cannot be opened.
+        The dataset cannot be opened.
     """
     gdal.ErrorReset()
     try:
@@ -74,14 +74,14 @@ class Raster:
     Attributes
     ----------
     name : str
-        As messages and columns call it.
+        The name in messages and columns.
     path : str
     band : int
     region : Region
     geotransform : tuple of six float
-        Of GDAL, with its rows from north to south; answers get it.
+        GDAL's, with rows from north to south; results get it.
     crs : str
-        Well-known text, empty where there is none.
+        Well-known text; empty if there is none.
     is_geographic : bool
     metres : float
         The length of a unit of the reference system.
@@ -89,7 +89,7 @@ class Raster:
     null_ranges : tuple of pairs of float
         Values that are null.
     has_mask : bool
-        Whether null is told by a mask of its own, as well.
+        Whether the raster also has a mask of its own.
     alpha : int or None
         The band in which a cell is 0 if it is transparent, and null.
     is_upside_down : bool
@@ -120,13 +120,13 @@ class Raster:
     @classmethod
     def open(cls, name: str, path: str, band: int | None = None, labels: Mapping[int, str] | None = None,
              null_ranges: NullRanges = (), use_nodata: bool = True, crs: str = "") -> Raster:
-        """A band of a raster, the only one where none is named.
+        """Return a band of a raster as a map; without a band, the raster must have only one.
 
         Parameters
         ----------
         name, path, band
         labels : mapping, optional
-            Those that the user sees; the labels of the file where they are None or none.
+            The labels that the user sees; by default, or if there are none, the labels of the file.
         null_ranges : sequence of pairs, optional
             Further values that the user has declared null.
         use_nodata : bool
@@ -176,7 +176,7 @@ class Raster:
         return abs(self.geotransform[1] * self.geotransform[5]) * self.metres**2
 
     def stated(self, crs: str) -> Raster:
-        """The map with a stated reference system, if it has none."""
+        """Return the map with a stated reference system, if it has none."""
         system = Crs.of_wkt(crs)
         return self if self.crs or not crs else replace(self, crs=system.wkt, is_geographic=system.is_geographic, metres=system.metres)
 
@@ -204,7 +204,7 @@ class Raster:
         return self.has_mask or self.alpha is not None or len(numbers) > 1 or any(least < greatest for least, greatest in numbers)
 
     def _null_numbers(self) -> list[tuple[int, int]]:
-        """The ranges of whole numbers of its type that are null."""
+        """Return the ranges of integers of its type that are null."""
         ends = {_whole_bounds(least, greatest, self.dtype) for least, greatest in self.null_ranges}
         return sorted((least, greatest) for least, greatest in ends if least <= greatest)
 
@@ -243,12 +243,12 @@ class Raster:
         return (self._plain if cells.dtype.name in _TYPES else self._converted)(np.ascontiguousarray(cells), nulls, row, warn)
 
     def _mask_bands(self, dataset: Any, band: Any) -> list[Any]:
-        """The bands in which 0 is null. (GDAL's own mask tells of an alpha band only if the file declares no nodata.)"""
+        """Return the bands in which 0 is null. (GDAL's own mask uses an alpha band only if the file declares no nodata.)"""
         masks = [band.GetMaskBand()] if self.has_mask else []
         return masks if self.alpha is None else [*masks, dataset.GetRasterBand(self.alpha)]
 
     def _plain(self, cells: Cells, nulls: list[Mask], row: int, _: Warn | None) -> tuple[Cells, Mask | None]:
-        """Cells as they are, and their mask if there is more to it than a nodata value."""
+        """Return cells unchanged, and their mask if a nodata value does not describe it."""
         nulls = [*nulls, *within(cells, self.null_ranges)] if self.is_masked else []
         null = np.ascontiguousarray(np.logical_or.reduce(nulls)) if self.is_masked else None
         if self.cell_type == "i32" and self.nodata != NULL:
@@ -256,7 +256,7 @@ class Raster:
         return cells, null
 
     def _converted(self, cells: Cells, nulls: list[Mask], row: int, warn: Warn | None) -> tuple[Cells, Mask | None]:
-        """Floats and wider whole numbers as cells of 32 bits."""
+        """Return floats and wider integers as 32-bit integers."""
         nulls = [*nulls, *within(cells, self.null_ranges), *([np.isnan(cells)] if cells.dtype.kind == "f" else [])]
         null = np.logical_or.reduce(nulls) if nulls else None
         self._check(cells, _bad(cells), null, row)
@@ -277,7 +277,7 @@ class Raster:
 
 
 def within(cells: Cells, ranges: NullRanges) -> list[Mask]:
-    """Where cells are in each of some ranges, which may be single values."""
+    """Return where cells are in any of some ranges, which may be single values."""
     found = []
     for least, greatest in ranges:
         if cells.dtype.kind in "iu":
@@ -287,7 +287,7 @@ def within(cells: Cells, ranges: NullRanges) -> list[Mask]:
 
 
 def _whole_bounds(least: float, greatest: float, dtype: np.dtype[Any]) -> tuple[int, int]:
-    """A range in whole numbers of a type; floats could not be compared with all numbers of 64 bits exactly."""
+    """Return a range in integers of a type, since comparing floats with 64-bit integers is not exact."""
     limits = np.iinfo(dtype)
     # A range without numbers of the type is spelled by two that are.
     if not (least <= limits.max and greatest >= limits.min):
@@ -298,7 +298,7 @@ def _whole_bounds(least: float, greatest: float, dtype: np.dtype[Any]) -> tuple[
 
 
 def is_grid(path: str) -> bool:
-    """Whether a path is that of a file that is a grid of the program's own form."""
+    """Return whether a path leads to a text grid."""
     if not os.path.isfile(path):
         return False
     with open(path, "rb") as file:
@@ -306,7 +306,7 @@ def is_grid(path: str) -> bool:
 
 
 def fitted(rasters: Sequence[Raster], stated: str = "") -> list[Raster]:
-    """Maps of one run, which have one reference system and one region.
+    """Return the maps of a run after checking that they have the same reference system and region.
 
     Parameters
     ----------
@@ -325,12 +325,12 @@ def fitted(rasters: Sequence[Raster], stated: str = "") -> list[Raster]:
 
 
 def check_crs(rasters: Sequence[Raster], stated: str = "") -> None:
-    """All maps of a run have one reference system.
+    """Raise OtherCrs unless all maps of a run have the same reference system.
 
     Raises
     ------
     OtherCrs
-        Where two have different ones, or one has none.
+        Two rasters have different systems, or one has none.
     """
     first = next((raster for raster in rasters if raster.crs), None)
     if first is None:
@@ -348,12 +348,12 @@ def check_crs(rasters: Sequence[Raster], stated: str = "") -> None:
 
 
 def check_regions(rasters: Sequence[Raster]) -> None:
-    """All maps of a run have the region of the first.
+    """Raise OtherRegion unless all maps of a run have the region of the first.
 
     Raises
     ------
     OtherRegion
-        Where one has not: which edges differ, and by how much, and both regions.
+        The regions differ; the message has the edges that differ, by how much, and both regions.
     """
     first = rasters[0]
     for raster in rasters[1:]:
@@ -364,7 +364,7 @@ def check_regions(rasters: Sequence[Raster]) -> None:
 
 
 def _align_call(first: Raster, raster: Raster) -> str:
-    """The call that puts a map onto the grid of the first of a run."""
+    """Return the call that aligns a map with the first one of a run."""
     from .align import is_of_whole_cells
 
     resample = "" if is_of_whole_cells(raster, first) else " and RESAMPLE nearest"
@@ -372,7 +372,7 @@ def _align_call(first: Raster, raster: Raster) -> str:
 
 
 def _bad(cells: Cells) -> Mask:
-    """Where cells are no whole number in range."""
+    """Return where cells are not whole numbers in range."""
     if cells.dtype.kind == "f":
         with np.errstate(invalid="ignore"):
             return np.asarray(~((np.rint(cells) == cells) & (np.abs(cells) <= MAX_CATEGORY)))
@@ -422,7 +422,7 @@ def _nodata_of(band: Any, is_used: bool) -> list[tuple[float, float]]:
 
 
 def _place(name: str, dataset: Any) -> tuple[GeoTransform, bool]:
-    """The geotransform with rows from north to south, and whether the file has them the other way."""
+    """Return the geotransform with rows from north to south, and whether the file has them the other way."""
     transform: Any = tuple(dataset.GetGeoTransform())
     if transform == _IDENTITY:
         if dataset.GetGCPCount():

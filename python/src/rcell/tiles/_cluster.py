@@ -81,7 +81,7 @@ class Room:
         return cls(tasks, memory // tasks, memory)
 
     def annotations(self, memory: int) -> dict[str, Any]:
-        """Return what Dask is told of tasks that take so much memory while they run."""
+        """Return Dask's annotations for tasks that need so much memory."""
         return {"resources": {RESOURCE: memory}} if self.told else {}
 
 
@@ -99,7 +99,7 @@ class Cluster:
         Nothing for the current client, or else as many processes as this machine has processors; a number for so many; the address of a
         scheduler; or a client of one, which stays open.
     memory : int, optional
-        The bytes that the tasks of this machine take together; 8/10 of what is free where it is not given.
+        The bytes that the tasks of this machine may use together; by default 8/10 of the free memory.
     """
 
     def __init__(self, scheduler: Any = None, memory: int | None = None) -> None:
@@ -145,7 +145,7 @@ class Cluster:
         return address.strip(), security
 
     def room(self) -> Room:
-        """What the workers that are there now have."""
+        """Return what the current workers have."""
         workers = self.client.scheduler_info()["workers"].values()
         if not workers:
             raise ClusterFailed("the scheduler has no workers")
@@ -156,7 +156,7 @@ class Cluster:
         return Room(threads, int(share), int(min(whole)), told)
 
     def has_workers(self) -> bool:
-        """Whether there is a worker now; of a scheduler that does not answer nothing is known, and the client tells of it."""
+        """Return whether there is a worker, or the scheduler does not respond, which the client then reports."""
         try:
             return bool(self.client.scheduler_info()["workers"])
         except Exception:

@@ -20,21 +20,21 @@ from ._cluster import Cluster, Room
 __all__ = ["Engine", "Progress", "WorkerLost"]
 
 Progress = None | bool | Callable[[str, int, int], object]
-"""Who is told of progress: a bar where standard error is a terminal (None), a bar (True), nobody, or a call with the name of the work,
-how many tiles are done, and of how many."""
+"""How progress is shown: with a bar if standard error is a terminal (None), with a bar (True), not at all (False), or with a function
+of the name of the work, the number of tiles that are done, and the number of all."""
 
 AHEAD = 2
-"""Tiles under way, or done and not yet taken, for each that a cluster works on: so many results wait in memory at most."""
+"""The most tiles in progress or waiting to be taken, for each tile that the cluster works on; their results are in memory."""
 
 LONE_SECONDS = 90.0
-"""So long a cluster may have no worker at all; one that dies is started anew within seconds, unless its machine is overworked."""
+"""A cluster may be without workers for so long: Dask restarts a worker within seconds, on a busy machine later."""
 
 LOOK_SECONDS = 1.0
-"""How often that is looked at."""
+"""The time between two checks for workers."""
 
 
 class WorkerLost(RcellError):
-    """Workers died again and again over one tile, or none is left, or the cluster is gone. Nothing was written.
+    """Workers died repeatedly on one tile, or no worker is left, or the cluster is gone. Nothing was written.
 
     Examples
     --------
@@ -45,11 +45,11 @@ class WorkerLost(RcellError):
 
 
 class _NoWorker(Exception):
-    """There has long been no worker."""
+    """There has been no worker for too long."""
 
 
 class Engine:
-    """A cluster that is started when it is first needed, and the work of one mosaic."""
+    """The cluster of a mosaic, which is started when it is first needed, and the work on it."""
 
     def __init__(self, scheduler: Any, progress: Progress = None) -> None:
         self._scheduler = scheduler
@@ -59,7 +59,7 @@ class Engine:
 
     @property
     def cluster(self) -> Cluster:
-        """The cluster, which is started when it is first asked for."""
+        """The cluster, which is started on first use."""
         if self._cluster is None:
             self._cluster = Cluster(self._scheduler)
         return self._cluster
@@ -71,11 +71,11 @@ class Engine:
             self._cluster = None
 
     def room(self) -> Room:
-        """Return what the workers have that are there now; there must be one."""
+        """Return what the current workers have; there must be one."""
         return self.cluster.room()
 
     def stream(self, title: str, work: Sequence[Any], room: Room) -> Iterator[tuple[int, Any]]:
-        """Yield the results of delayed work as they come, with their places; few are under way at a time."""
+        """Yield the results of delayed work as they arrive, with their indices; only a few tiles are in progress at a time."""
         ahead = AHEAD * room.tasks
         waiting = iter(enumerate(work))
         with self._under_way(title, len(work)) as (running, step):
@@ -91,14 +91,14 @@ class Engine:
                     step(1)
 
     def finish(self, title: str, root: Any, leaves: Sequence[Any]) -> Any:
-        """Return the result of delayed work, of which the leaves are most."""
+        """Return the result of delayed work that consists mostly of its leaves."""
         with self._under_way(title, len(leaves)) as (running, step):
             last, *open_leaves = self._asked([root, *leaves])
             running[last] = 0
             while not self._ended([last]):
                 still = [leaf for leaf in open_leaves if not leaf.done()]
                 step(len(open_leaves) - len(still))
-                open_leaves = still  # and their results are let go, which only the root's other parts need
+                open_leaves = still  # drop the other results, which only other parts of the root need
             step(len(open_leaves))
             return last.result()
 
@@ -135,17 +135,17 @@ class Engine:
 
 @contextmanager
 def _reported(progress: Progress, title: str, total: int) -> Iterator[Callable[[int], None]]:
-    """Yield a call for tiles that are done, which tells whoever wants to know."""
+    """Yield a function to call for each finished tile, which shows the progress."""
     if progress is None or isinstance(progress, bool):
         with tqdm(total=total, desc=title, unit="tile", disable=None if progress is None else not progress, file=sys.stderr) as bar:
             yield bar.update
         return
-    tell, done = progress, 0
+    report, done = progress, 0
 
     def step(count: int) -> None:
         nonlocal done
         done += count
         if count:
-            tell(title, done, total)
+            report(title, done, total)
 
     yield step

@@ -60,7 +60,7 @@ def over_tiles(function: Callable[..., Any], run: Run, cuts: Cuts, arrays: Seque
     Parameters
     ----------
     function : callable
-        Of the run, the place of the tile, the cells of arrays, each with its halo, and what the tile has of `each`.
+        Gets the run, the rectangle of the tile, the cells of the arrays with their halos, and the tile's element of `each`.
     run : Run
         Sent to a worker once.
     cuts : Cuts

@@ -1,5 +1,5 @@
 # SPDX-License-Identifier: Apache-2.0 OR GPL-2.0-or-later
-"""What a task takes of memory, known before it starts."""
+"""The memory that a task needs, estimated before it starts."""
 
 from __future__ import annotations
 
@@ -31,7 +31,7 @@ TILES_EACH = 4
 
 @dataclass(frozen=True)
 class Demand:
-    """What a task needs for each cell of its tile, halo included: first beside the program, then with its answer.
+    """The memory that a task needs per cell of its tile, halo included: first next to the program, then with its result.
 
     Attributes
     ----------
@@ -68,16 +68,16 @@ class Demand:
         return max(self.reach.up + self.reach.down, self.reach.left + self.reach.right)
 
     def bytes(self, rows: int, cols: int, runs: float = 1.0, share: float | None = None) -> int:
-        """Bytes that a worker and the program take together, at their peak, for a tile of so many rows and columns.
+        """Return the peak memory, in bytes, of a worker and the program for a tile of so many rows and columns.
 
         Parameters
         ----------
         rows, cols : int
             Of the tile, without its halo.
         runs : float
-            Runs of equal cells side by side, as a part of the cells; 1 is the most that there can be.
+            Runs of equal cells, as a fraction of the cells; 1 is the maximum.
         share : float, optional
-            Clumps, as a part of the cells; as many as runs where it is not given.
+            Clumps, as a fraction of the cells; by default as many as runs.
         """
         cells = (rows + self.reach.up + self.reach.down) * (cols + self.reach.left + self.reach.right)
         program = self.maps * min(CELL, RUN * runs)
@@ -88,27 +88,27 @@ class Demand:
 
 
 def table_demand(read: int, maps: int, reach: Reach) -> Demand:
-    """A table: what comes back is small."""
+    """Return the demand of a table, whose result is small."""
     return Demand(read, maps, reach=reach)
 
 
 def grid_demand(read: int, maps: int, reach: Reach) -> Demand:
-    """A map of int32, of which the halo is cut off before it is sent."""
+    """Return the demand of a map of int32, whose halo is cut off before it is sent."""
     return Demand(read, maps, answer=4, after=4 if reach == NO_REACH else 8, reach=reach)
 
 
 def clump_demand(read: int, number: int = 4) -> Demand:
-    """The numbers of clumps in int32; then, by a table of them, those of the full map, of 4 bytes in place or of 8."""
+    """Return the demand of clump numbers: int32, then the numbers of the full map with 4 bytes (in place) or 8."""
     return Demand(read, maps=2, clumps=1, answer=4, after=read + (4 if number == 4 else 12), per_clump=number)
 
 
 def patches_demand(read: int) -> Demand:
-    """A table of the clumps and their categories, of 75 bytes an entry, and its text; then the text twice, and its numbers."""
+    """Return the demand of a table of clumps and categories: 75 bytes an entry and its text; then the text twice and numbers."""
     return Demand(read, maps=2, clumps=1, after=read, per_clump=60, entry=91)
 
 
 def size_for(demand: Demand, sheet: Sheet, memory: int, tasks: int) -> tuple[int, int]:
-    """Rows and columns of tiles that take at most so many bytes each.
+    """Return the rows and columns of tiles that need at most so many bytes each.
 
     Squares whose side is a multiple of the blocks that are written; bands of all columns where the file keeps whole rows
     together, since each tile would have to read them whole.

@@ -1,5 +1,5 @@
 # SPDX-License-Identifier: Apache-2.0 OR GPL-2.0-or-later
-"""GeoTIFFs written by windows: beside their name, read back, and renamed at the end."""
+"""Write GeoTIFFs by windows: next to the target, read back, and renamed at the end."""
 
 from __future__ import annotations
 
@@ -34,10 +34,10 @@ CACHE = 64 * 2**20
 
 
 class TileWriter:
-    """Takes the tiles of a map in any order; holds none of them.
+    """A writer that takes the tiles of a map in any order and holds none of them.
 
-    GDAL reports what it cannot write when a file is closed on its own standard error alone, so that a full disk would leave
-    a broken file without a word. Each tile's checksum is kept therefore, and the file is read back.
+    If GDAL cannot write everything when it closes a file, it only prints a message, so a full disk would silently leave a broken
+    file. So the checksum of each tile is kept, and the file is read back.
     """
 
     def __init__(self, dataset: Any, path: str) -> None:
@@ -46,14 +46,14 @@ class TileWriter:
         self._sums: dict[Rectangle, int] = {}
 
     def write(self, place: Rectangle, cells: npt.NDArray[Any]) -> None:
-        """Takes the cells of a tile."""
+        """Write the cells of a tile."""
         cells = np.ascontiguousarray(cells, dtype=self._dataset.dtypes[0])
         self._sums[place] = zlib.crc32(cells.data)
         with _told(self._path):
             self._dataset.write(cells, 1, window=_window(place))
 
     def check(self, path: str) -> None:
-        """Raises OSError where the file does not have the tiles that were written."""
+        """Raise OSError if the file does not contain the tiles that were written."""
         with need("rasterio", "gis", PURPOSE).open(path) as dataset:
             for place, expected in self._sums.items():
                 if zlib.crc32(np.ascontiguousarray(dataset.read(1, window=_window(place))).data) != expected:
@@ -65,16 +65,16 @@ def _window(place: Rectangle) -> Any:
 
 
 def _told(path: str) -> AbstractContextManager[None]:
-    """Faults of rasterio and of the system as `WriteFailed`."""
+    """Raise errors of rasterio and the system as `WriteFailed`."""
     return told_of(path, need("rasterio.errors", "gis", PURPOSE).RasterioError)
 
 
 @contextmanager
 def tile_writer(path: str | os.PathLike[str], sheet: Sheet, dtype: str, nodata: int,
                 labels: Mapping[int, str] | None = None) -> Iterator[TileWriter]:
-    """A tiled, compressed GeoTIFF of a sheet under `path`, or nothing at all there.
+    """Yield a writer for a tiled, compressed GeoTIFF of a sheet under `path`.
 
-    The file is written beside `path` and takes its name once it has been read back whole. On any exception it is removed.
+    The file is written next to `path` and gets its name after it was read back. After an exception it is removed.
 
     Raises
     ------
@@ -101,7 +101,7 @@ def tile_writer(path: str | os.PathLike[str], sheet: Sheet, dtype: str, nodata: 
 
 @contextmanager
 def _warnings_off() -> Iterator[None]:
-    """Maps without georeference are maps of cells of side 1: no warning."""
+    """Suppress rasterio's warning: maps without georeference have cells of side 1."""
     with warnings.catch_warnings():
         warnings.simplefilter("ignore", need("rasterio.errors", "gis", PURPOSE).NotGeoreferencedWarning)
         yield

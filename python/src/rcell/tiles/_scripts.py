@@ -1,5 +1,5 @@
 # SPDX-License-Identifier: Apache-2.0 OR GPL-2.0-or-later
-"""Scripts as tiles run them, written by what the program plans of them: its statements with their lines, and what they need."""
+"""Scripts for tiles, written from the program's plan of a script: its statements, their lines, and what they need."""
 
 from __future__ import annotations
 
@@ -18,11 +18,11 @@ NO_REACH = Reach()
 
 CALL = re.compile(r"(?<![A-Za-z0-9_.])(row|col|nrows|ncols) ?\( ?\)")
 BLANKS = re.compile("[ \t\r]+")
-"""Single ones make a line short: at most 1000 tokens of 64 bytes, so what tiles add stays within the 65,535 bytes of a line."""
+"""Replaced by single blanks: then 1000 tokens of 64 bytes, and what tiles add, fit into the 65,535 bytes of a line."""
 
 
 def counting(stats: Statement, inside: str | None = None) -> Statement:
-    """Return an r.stats that prints plain categories and counts; where a map more is 1, if one is given, which comes first."""
+    """Return an r.stats that prints plain categories and counts, with `inside` as an additional first map that must be 1."""
     flags = "".join(sorted({*stats.options, "c"} - {"l"}))
     after = ["*" if category == NULL else str(category) for category in stats.after]
     more = [] if inside is None else [inside]
@@ -32,21 +32,19 @@ def counting(stats: Statement, inside: str | None = None) -> Statement:
 
 
 def spare_name(base: str, taken: Iterable[str]) -> str:
-    """A name that no map has."""
+    """Return a name that no map has."""
     known = set(taken)
     return next(name for name in (base + "_" * count for count in range(len(known) + 1)) if name not in known)
 
 
 @dataclass(frozen=True)
 class TileScript:
-    """Statements that give over each tile, with its halo, what they give over the whole.
+    """Statements that give the same for each tile with its halo as for the full map.
 
-    `row()` and `nrows()` of a tile are right only where it has all rows, `col()` and `ncols()` where it has all columns. Tiles
-    need not have that shape: the calls are told of the place in the whole. `nrows()` and `ncols()` become the numbers of the
-    whole; `row()` and `col()` become maps that are made first, `row() + above` and `col() + left` with the numbers of rows
-    and columns of the whole before the tile. That is right by the law `reach_is_enough`: an expression whose `row()`
-    and its like are told of the spot in the whole has over a part the value over the whole, wherever what it reads lies
-    in the part or the map ends.
+    In a tile, `row()` and `col()` count from its corner, and `nrows()` and `ncols()` are its size. So `nrows()` and `ncols()`
+    are replaced by the size of the full map, and `row()` and `col()` by maps that are made first: `row() + above` and
+    `col() + left`, with the numbers of rows above and columns to the left of the tile. By the law `reach_is_enough`, such an
+    expression has the value of the full map wherever all cells that it reads are in the tile or outside the full map.
 
     Attributes
     ----------
@@ -62,7 +60,7 @@ class TileScript:
 
     @classmethod
     def of(cls, plan: Sequence[Statement], last: Statement, names: Iterable[str]) -> TileScript:
-        """A statement of a script with those that it depends on, over maps of these names."""
+        """Return a statement of a script and the statements that it depends on, over maps of these names."""
         used, wanted = [last], set(last.reads)
         for each in reversed(plan[:plan.index(last)]):
             if each.made in wanted:
@@ -72,7 +70,7 @@ class TileScript:
         return cls(tuple(used), spare_name("tile_row", taken), spare_name("tile_col", taken))
 
     def with_last(self, statement: Statement) -> TileScript:
-        """This script with another statement at its end."""
+        """Return this script with another last statement."""
         return replace(self, statements=(*self.statements[:-1], statement))
 
     @property
@@ -83,16 +81,16 @@ class TileScript:
 
     @property
     def made(self) -> int:
-        """How many maps it makes over a tile."""
+        """The number of maps that it makes for a tile."""
         return sum(self._calls(function) for function in ("row", "col")) + sum(each.made != "" for each in self.statements)
 
     def _calls(self, function: str) -> bool:
         return any(each.is_placed and function in CALL.findall(BLANKS.sub(" ", each.text)) for each in self.statements)
 
     def text(self, place: Rectangle, rows: int, cols: int) -> str:
-        """The script for a tile at a place, its halo included, of a whole of so many rows and columns."""
+        """Return the script for a tile (with its halo) of a full map of so many rows and columns."""
         lines = [f"r.mapcalc {name} = {call}() + {before}"
                  for name, call, before in ((self.row, "row", place.top), (self.col, "col", place.left)) if self._calls(call)]
-        told = {"row": self.row, "col": self.col, "nrows": str(rows), "ncols": str(cols)}
-        lines += [CALL.sub(lambda call: told[call[1]], BLANKS.sub(" ", each.text)) if each.is_placed else each.text for each in self.statements]
+        written = {"row": self.row, "col": self.col, "nrows": str(rows), "ncols": str(cols)}
+        lines += [CALL.sub(lambda call: written[call[1]], BLANKS.sub(" ", each.text)) if each.is_placed else each.text for each in self.statements]
         return "\n".join(lines) + "\n"

@@ -61,7 +61,7 @@ class Sheet:
         return -self.transform[4], self.transform[0]
 
     def differences(self, other: Sheet) -> list[str]:
-        """In which edges and sizes another sheet differs, and by how much, as the program would see them."""
+        """Return the edges and sizes in which another sheet differs, with the difference."""
         return differences_of((self._units, (self.rows, self.cols)), (other._units, (other.rows, other.cols)))
 
     @property
@@ -72,7 +72,7 @@ class Sheet:
 
 @dataclass(frozen=True)
 class MapFile:
-    """A map of a mosaic: where it is, and how its null is told.
+    """A map of a mosaic in a file: its path, its band and its null.
 
     Attributes
     ----------
@@ -97,7 +97,7 @@ class MapFile:
         return size + masks if size <= 2 else size + 4 + 3 + masks
 
     def read(self, place: Rectangle, sheet: Sheet) -> ArrayMap:
-        """A rectangle of its cells as a map of its own, whose cells have side 1.
+        """Return a rectangle of its cells as a map with cells of side 1.
 
         Edges and labels of a part are of no account (laws of tiles speak of cells alone).
 

@@ -1,5 +1,5 @@
 # SPDX-License-Identifier: Apache-2.0 OR GPL-2.0-or-later
-"""What a worker does with a tile. Each function stands alone: a task that is run again gives the same."""
+"""The tasks of a worker for a tile. The functions have no side effects: a task that is run again gives the same result."""
 
 from __future__ import annotations
 
@@ -29,16 +29,16 @@ __all__ = ["ClumpRun", "TableForm", "TileRun", "clumps_table", "grid_cells", "jo
 Integers = npt.NDArray[Any]
 
 ALL_NULL = re.compile(rb"(?:\* )+[0-9]+\n")
-"""The line of a table, as r.stats -c prints it, of the cells that are null in all maps."""
+"""The line of a table of r.stats -c for the cells that are null in all maps."""
 
 CATEGORY_OF_CLUMP = re.compile(rb"^([0-9]+) \S+", re.MULTILINE)
-"""What a line of a table of clumps and categories begins with."""
+"""The start of a line in a table of clumps and categories."""
 
 
 def with_halo(place: Rectangle, reach: Reach, sheet: Sheet) -> Rectangle:
-    """A rectangle and what is read around it, as far as the map goes.
+    """Return a rectangle with its halo, within the map.
 
-    Where the reach would go beyond, the rectangle ends where the map does: the premise of the law `halo_is_enough`.
+    A halo that would reach beyond the map ends at its edge, as the law `halo_is_enough` assumes.
     """
     top, left = max(place.top - reach.up, 0), max(place.left - reach.left, 0)
     low = min(place.top + place.rows + reach.down, sheet.rows)
@@ -47,7 +47,7 @@ def with_halo(place: Rectangle, reach: Reach, sheet: Sheet) -> Rectangle:
 
 
 def read(file: MapFile | MapCells, place: Rectangle, sheet: Sheet, given: Iterator[Any]) -> ArrayMap:
-    """Return the cells of a map in a rectangle: read from its file, or the next of those that Dask has handed on."""
+    """Return the cells of a map in a rectangle: read from its file, or the next cells that Dask has passed on."""
     return file.read(place, sheet) if isinstance(file, MapFile) else file.of(next(given), place)
 
 
@@ -59,7 +59,7 @@ class TileRun:
     files: tuple[MapFile | MapCells, ...]
     script: TileScript
     inside: str
-    """A name that no map has: of the map that is 1 in a tile and null in its halo."""
+    """The name of a map that is 1 in a tile and null in its halo; no other map has it."""
 
     @property
     def reach(self) -> Reach:
@@ -68,7 +68,7 @@ class TileRun:
 
     @property
     def made(self) -> int:
-        """How many maps the program has of a tile in all, those that it makes and the mask of a halo among them."""
+        """The number of maps that the program holds for a tile: those that it reads or makes, and the mask of the halo."""
         has_halo = self.script.statements[-1].command == "r.stats" and self.script.reach != NO_REACH
         return len(self.files) + self.script.made + has_halo
 
@@ -76,20 +76,20 @@ class TileRun:
         """Return the maps in a rectangle."""
         given = iter(cells)
         found: dict[str, Source] = {file.name: read(file, outer, self.sheet, given) for file in self.files}
-        if not found:  # a script of row() and the like reads no map, but its region has to come from one
+        if not found:  # a script of row() and similar calls reads no map, but its region has to come from one
             found[self.inside] = ArrayMap(self.inside, np.broadcast_to(np.uint8(0), outer[2:]), Region.of_cells(*outer[2:]))
         return found
 
 
 @dataclass(frozen=True)
 class ClumpRun:
-    """A map whose clumps are wanted, for each tile of a sheet."""
+    """A map to clump, for each tile of a sheet."""
 
     sheet: Sheet
     file: MapFile | MapCells
     diagonal: bool
     dtype: str = "int32"
-    """Of numbers of the full map."""
+    """The type of numbers of the full map."""
     reach: Reach = NO_REACH
 
     @property
@@ -104,7 +104,7 @@ class ClumpRun:
 
 @contextmanager
 def told_of_size(maps: dict[str, Source]) -> Iterator[None]:
-    """Being out of memory is told with the size of the tile."""
+    """Add the size of the tile to the error if memory runs out."""
     try:
         yield
     except OutOfMemory as fault:
@@ -113,20 +113,20 @@ def told_of_size(maps: dict[str, Source]) -> Iterator[None]:
 
 
 def made_cells(text: str, maps: dict[str, Source], name: str) -> Integers:
-    """The cells of a map that a script makes of a tile."""
+    """Return the cells of a map that a script makes from a tile."""
     with told_of_size(maps):
         cells: Integers = execute(text, maps, wanted=[name])[-1].values
     return cells
 
 
 def tile_table(task: TileRun, place: Rectangle, cells: Sequence[Any]) -> bytes:
-    """The table of a tile without its halo, as the program prints it."""
+    """Return the table of a tile without its halo, as the program prints it."""
     stats = task.script.statements[-1]
     outer = with_halo(place, task.script.reach, task.sheet)
     maps = task.maps(outer, cells)
     script = task.script
     if outer != place:
-        # The cells of the halo are other tiles' to count: a map more, and of the table the entries where it is 1, which come first.
+        # Other tiles count the cells of the halo: a mask is added as the first map, and only the entries with mask 1 are kept.
         script = script.with_last(counting(stats, task.inside))
         maps[task.inside] = ArrayMap(task.inside, mask_of(place, outer), Region.of_cells(*outer[2:]), nodata_value=0)
     with told_of_size(maps):
@@ -135,7 +135,7 @@ def tile_table(task: TileRun, place: Rectangle, cells: Sequence[Any]) -> bytes:
 
 
 def without_halo(text: bytes, leaves_out_null: bool) -> bytes:
-    """The lines of a table that begin with 1, without it; those of null in all other maps may be left out."""
+    """Return the lines of a table that begin with 1, without the 1; the line of null in all other maps may be left out."""
     lines = re.findall(rb"^1 (.*\n)", text, re.MULTILINE)
     if leaves_out_null and lines and ALL_NULL.fullmatch(lines[-1]):
         lines.pop()
@@ -143,27 +143,29 @@ def without_halo(text: bytes, leaves_out_null: bool) -> bytes:
 
 
 def mask_of(place: Rectangle, outer: Rectangle) -> npt.NDArray[np.uint8]:
-    """1 in a tile and 0 in its halo."""
+    """Return an array that is 1 in a tile and 0 in its halo."""
     mask = np.zeros(outer[2:], dtype=np.uint8)
     inner(mask, place, outer)[:] = 1
     return mask
 
 
 def inner(cells: Integers, place: Rectangle, outer: Rectangle) -> Integers:
-    """The cells of a tile among those of the tile with its halo."""
+    """Return the cells of a tile from the cells of the tile and its halo."""
     top, left = place.top - outer.top, place.left - outer.left
     return cells[top:top + place.rows, left:left + place.cols]
 
 
 def join_tables(texts: list[bytes]) -> bytes:
-    """A node of the tree of joins: rcell-join is proved to print the table of the whole (law `printed_parts_join`), and what it
-    joined may be joined again (law `merges_merge`)."""
+    """Join tables of tiles; joined tables can be joined again.
+
+    rcell-join is proved to print the table of the full map (laws `printed_parts_join` and `merges_merge`).
+    """
     return joined(texts)
 
 
 @dataclass(frozen=True)
 class TableForm:
-    """What the table of the full map is made of, besides its text."""
+    """What the table of the full map needs in addition to its text."""
 
     stats: Statement
     labels: Mapping[str, Mapping[int, str]] | None
@@ -172,7 +174,7 @@ class TableForm:
     percent: bool
 
     def frame(self, text: bytes) -> Any:
-        """Return the table as `rcell.table` returns it."""
+        """Return the table, like `rcell.table`."""
         counts = counts_of(text, len(self.stats.inputs))
         cells = counts.cells if "c" in self.stats.options else None
         table = StatsTable("r.stats", self.stats.line, self.stats.inputs, counts.combinations, cells, self.labels, cell=self.sheet.cell, crs=self.sheet.crs)
@@ -181,19 +183,19 @@ class TableForm:
 
 
 def grid_cells(task: TileRun, place: Rectangle, cells: Sequence[Any]) -> Integers:
-    """The map that a script makes last, over a tile: int32, `NULL` where it is null."""
+    """Return the map that a script makes last, for a tile: int32, with `NULL` for null."""
     outer = with_halo(place, task.script.reach, task.sheet)
     text = task.script.text(outer, task.sheet.rows, task.sheet.cols)
-    # Law `halo_is_enough`, or `reach_is_enough` where the script asks for rows and columns: inside of the halo the values
-    # are those over the whole.
+    # By the law `halo_is_enough`, or `reach_is_enough` if the script uses rows and columns, the values inside the halo are
+    # those of the full map.
     made = made_cells(text, task.maps(outer, cells), task.script.statements[-1].made)
     return np.ascontiguousarray(inner(made, place, outer))
 
 
 def clumps_table(task: ClumpRun, place: Rectangle, cells: Sequence[Any]) -> tuple[bytes, Integers]:
-    """The table of a tile's clump numbers, as the program prints it, and the category of each clump.
+    """Return the table of a tile's clump numbers, as the program prints it, and the category of each clump.
 
-    The program prints a table of numbers and categories, since a clump has one category: it is left out of each line.
+    The program prints numbers and categories. A clump has one category, so the categories can be left out of the table.
     """
     maps: dict[str, Source] = {"cells": task.tile(place, cells)}
     with told_of_size(maps):
@@ -202,7 +204,7 @@ def clumps_table(task: ClumpRun, place: Rectangle, cells: Sequence[Any]) -> tupl
 
 
 def tile_border(task: ClumpRun, place: Rectangle, cells: Sequence[Any]) -> bytes:
-    """The border of a tile, by which rcell-join joins its clumps to those of other tiles."""
+    """Return the border of a tile, with which rcell-join joins its clumps to those of other tiles."""
     tile = replace(task.tile(place, cells), region=place.region)
     with told_of_size({"cells": tile}):
         return border_of(tile, task.diagonal)
@@ -214,19 +216,19 @@ def join_borders(borders: list[bytes], diagonal: bool) -> Joined:
 
 
 def numbers_of_tile(whole: Joined, tile: int) -> TileNumbers:
-    """Return what was joined of a tile."""
+    """Return the numbers of a tile."""
     return whole.tiles[tile]
 
 
 def numbered_cells(task: ClumpRun, place: Rectangle, cells: Sequence[Any], tile: TileNumbers) -> Integers:
-    """The cells of a tile with the numbers of the clumps of the full map, 0 where it is null."""
+    """Return the cells of a tile with clump numbers of the full map, 0 for null."""
     numbers = made_cells(task.line, {"cells": task.tile(place, cells)}, "clumps")
     np.maximum(numbers, 0, out=numbers)
     return renumber(numbers, tile, out=numbers if numbers.dtype == task.dtype else np.empty(numbers.shape, task.dtype))
 
 
 def patches_frame(whole: Joined, parts: Sequence[tuple[bytes, Integers]], sheet: Sheet) -> Any:
-    """Return the patches of the full map with their classes and their cells."""
+    """Return the patches of the full map with their classes and numbers of cells."""
     categories, cells = sizes(whole, [table for table, _ in parts], [own for _, own in parts])
     numbers = np.column_stack([np.arange(1, whole.clumps + 1), categories])
     return StatsTable("r.clump", 0, ("patch", "class"), numbers, cells, cell=sheet.cell, crs=sheet.crs).frame()

@@ -39,7 +39,7 @@ __all__ = ["Mosaic", "NeedlessTiles", "TooLittleMemory", "open_mosaic"]
 _log = logging.getLogger(__name__)
 
 NO_CLUMP = 0
-"""What stands for null in a map of clumps, whose numbers begin at 1."""
+"""Null in a map of clumps, whose numbers begin at 1."""
 
 
 class NeedlessTiles(UserWarning):
@@ -64,7 +64,7 @@ class TooLittleMemory(RcellError, MemoryError):
 
 
 def refused(script: str, statement: Statement, text: str) -> Refused:
-    """A refusal of ours, at the line of a statement."""
+    """Return an error of this package at the line of a statement."""
     return Refused(text, "script", statement.line, 1, script.split("\n")[statement.line - 1].rstrip("\r"))
 
 
@@ -157,7 +157,7 @@ class Mosaic:
     Attributes
     ----------
     sheet : Sheet
-        Rows, columns, transform and coordinate reference system of the whole.
+        Rows, columns, transform and coordinate reference system of the full map.
 
     Examples
     --------
@@ -197,7 +197,7 @@ class Mosaic:
 
     @property
     def shape(self) -> tuple[int, int]:
-        """Rows and columns of the whole.
+        """Rows and columns of the full map.
 
         Examples
         --------
@@ -288,8 +288,8 @@ class Mosaic:
         Each tile is read with a halo of the rows and columns that the expression reaches, taken from its offsets. `row()`, `col()`,
         `nrows()` and `ncols()` are those of the full map, whatever shape the tiles have (law `reach_is_enough`).
 
-        A file is tiled, compressed, int32, -2147483648 where it is null. It is written by windows, beside its name, read back, and renamed
-        at the end: no process holds the whole.
+        A file is tiled, compressed, of int32, with -2147483648 for null. It is written by windows next to its target, read back, and
+        renamed at the end: no process holds the full map.
 
         Parameters
         ----------
@@ -334,7 +334,7 @@ class Mosaic:
                 writer.write(tiles.places[place], cells)
 
     def clump(self, name: str, path: str | os.PathLike[str] | None = None, connectivity: int = 4) -> Any:
-        """Return the map of the patches of a map, its connected cells, as a DataArray of Dask, or write it as a GeoTIFF; 0 where it is null.
+        """Return the map of the patches of a map, its connected cells, as a DataArray of Dask, or write it as a GeoTIFF; null is 0.
 
         The numbers are those of `r.clump` over the full map: from 1, in the order of first cells. A file is of int32, or of int64 if there
         are more than 2,147,483,647 patches. Each tile is clumped twice, first for the joining and then for its cells: nothing of the size
@@ -454,7 +454,7 @@ class Mosaic:
         plan = planned(script, self._files)
         tables = [statement for statement in plan if statement.command == "r.stats"]
         if len(tables) != 1:
-            raise Refused(f"{len(tables)} lines of r.stats, where one is needed", "script")
+            raise Refused(f"{len(tables)} lines of r.stats, but exactly one is needed", "script")
         stats = tables[0]
         if "1" in stats.options:
             raise refused(script, stats, "-1 lists cells, of which there is no table to merge")
