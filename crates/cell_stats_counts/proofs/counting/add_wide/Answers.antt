@@ -4,7 +4,7 @@ use Rattle.std.proofs.lemmas.List.Sums.{get_or-le-sum_by}
 use Rattle.cell_stats_counts.specs.parts.HeldPlaces.{gathered_of}
 use Rattle.cell_stats_counts.specs.parts.HeldPlaces.{held_by}
 use Rattle.cell_stats_counts.proofs.HeldLemmas.{going_at, held_by-own, total-held}
-use Rattle.cell_stats_counts.proofs.counting.add_count.Goals as goal
+use Rattle.cell_stats_counts.proofs.counting.add_wide.Goals as goal
 
 fit : (mapped count : ℕ) {have held most : ℕ} → held ≡ have → held ≤ most → most + mapped + count < 2 ^ 64
     → Fits w64 (have + count)
