@@ -26,15 +26,15 @@ module _ (null : List ℕ) where
   times_cells zero cell = refl
   times_cells (suc n) cell = ap (λ (t : List ℕ). (32 ∷ cell_text null cell) ++ t) (times_cells n cell)
 
-  both : (xs ys : List CellValue) → spaced_cells null (xs ++ ys) ≡ spaced_cells null xs ++ spaced_cells null ys
-  both xs ys = flat_map-append (λ cell. 32 ∷ cell_text null cell) xs ys
+  pub spaced-append : (xs ys : List CellValue) → spaced_cells null (xs ++ ys) ≡ spaced_cells null xs ++ spaced_cells null ys
+  spaced-append xs ys = flat_map-append (λ cell. 32 ∷ cell_text null cell) xs ys
 
   -- one run more
   pub cells_text-more : (runs : List RunValue) (cell : CellValue) (n : ℕ) → spaced_cells null (written_out (runs ++ (cell, n) ∷ [])) ≡ spaced_cells null (written_out runs) ++ spaced_cells null (replicate n cell)
-  cells_text-more runs cell n = ap (spaced_cells null) (written_out-push runs cell n) ∙ both (written_out runs) (replicate n cell)
+  cells_text-more runs cell n = ap (spaced_cells null) (written_out-push runs cell n) ∙ spaced-append (written_out runs) (replicate n cell)
 
   -- the first cell has no space before it
-  joined-first : (cell : CellValue) (cells : List CellValue) → joined_cells null (cell ∷ cells) ≡ cell_text null cell ++ spaced_cells null cells
+  pub joined-first : (cell : CellValue) (cells : List CellValue) → joined_cells null (cell ∷ cells) ≡ cell_text null cell ++ spaced_cells null cells
   joined-first cell [] = sym (append-nil (cell_text null cell))
   joined-first cell (next ∷ cells) = ap (λ (t : List ℕ). cell_text null cell ++ (32 ∷ t)) (joined-first next cells)
 
@@ -45,5 +45,5 @@ module _ (null : List ℕ) where
       let count : suc n - 1 ≡ n = omega arith in
       rw count
       (joined-first cell (replicate n cell ++ written_out rest)
-      ∙ ap (λ (t : List ℕ). cell_text null cell ++ t) (both (replicate n cell) (written_out rest))
+      ∙ ap (λ (t : List ℕ). cell_text null cell ++ t) (spaced-append (replicate n cell) (written_out rest))
       ∙ sym (append_assoc (cell_text null cell) (spaced_cells null (replicate n cell)) (spaced_cells null (written_out rest))))

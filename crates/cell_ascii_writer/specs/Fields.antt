@@ -1,5 +1,5 @@
 -- Texts of cells that were made before; and text that is appended but for its last bytes.
-use Rattle.std.specs.Prelude.{ℕ, ◌≡◌, ◌<◌, ◌≤◌, List, ◌∷◌, ◌++◌, Option, codes}
+use Rattle.std.specs.Prelude.{ℕ, ◌≡◌, ◌+◌, ◌/◌, ◌%◌, ◌<◌, ◌≤◌, List, [], ◌∷◌, ◌++◌, Option, codes}
 use Rattle.std.specs.Simd.Lanes.{digits_l}
 use Rattle.cell_core_values.specs.Letters.{byte}
 use Rattle.cell_core_devices.specs.Device.{Faults}
@@ -11,6 +11,10 @@ use Rattle.cell_ascii_writer.specs.declared.fields.Field.{Field}
 -- the lowest bytes of a number, so many of them
 abbrev pub low_bytes : ℕ → ℕ → List ℕ
 low_bytes bytes size = digits_l 256 size bytes
+
+-- the two digits of a number below 100
+abbrev pub pair_digits : ℕ → List ℕ
+pair_digits number = (48 + number / 10) ∷ (48 + number % 10) ∷ []
 
 -- so many bytes of a number are a space and the text of a cell
 pub record IsFieldOf (null_text : List ℕ) (cell : CellValue) (bytes size : ℕ) : Type 0 where

@@ -5,6 +5,7 @@ ghost use Rattle.std.specs.List.{All};
 ghost use Rattle.cell_core.specs.Text.{cell_text};
 ghost use Rattle.cell_ascii_writer.specs.Fields.{IsField, IsFieldOf, low_bytes};
 
+use crate::digits::digit_bytes;
 use crate::writer::field_of_text;
 use cell_core::cell::Cell;
 use itoa::Buffer;
@@ -17,7 +18,7 @@ pub(crate) const FIELDS: usize = 1024;
 const PLACE_BITS: u32 = 10;
 
 // The most bytes of a text whose field is kept.
-const MOST_KEPT: usize = 7;
+pub(crate) const MOST_KEPT: usize = 7;
 
 // The least and the greatest category with so many bytes.
 const LEAST_KEPT: i32 = -999_999;
@@ -63,26 +64,8 @@ fn field_with(text: &[u8]) -> (u64, u32)
     (bytes, text.len() as u32 + 1)
 }
 
-// The digits of a number, as the lowest bytes of another, and how many they are.
-fn digit_bytes(number: u32) -> (u64, u32)
-    requires { number < 10000000 }
-    ensures few { result.1 ≤ 7 }
-    ensures small { result.0 < 256 ^ 7 }
-    ensures text { low_bytes result.0 result.1 ≡ decimal number }
-{
-    let mut rest = number;
-    let mut bytes: u64 = 0;
-    let mut size: u32 = 0;
-    while rest >= 10 {
-        bytes = bytes * 256 + (48 + rest % 10) as u64;
-        rest /= 10;
-        size += 1;
-    }
-    (bytes * 256 + (48 + rest) as u64, size + 1)
-}
-
 // A space and the text of a cell, or None where that is long.
-fn made_field(cell: Cell, null_text: &[u8]) -> Option<(u64, u32)>
+pub(crate) fn made_field(cell: Cell, null_text: &[u8]) -> Option<(u64, u32)>
     ensures { IfSome result (λ field. IsFieldOf null_text.now cell field.0 field.1) }
 {
     let Some(category) = cell.get() else {

@@ -1,6 +1,6 @@
 //! Writing a map as a grid text.
 
-ghost use Rattle.std.specs.Prelude.{◌≡◌, ◌+◌, ◌<◌, ◌≤◌, ◌==◌, ◌++◌, codes, decimal, drop, flat_map, All, length, replicate, reverse, take, OnOk, IfOk, IfErr, is_err};
+ghost use Rattle.std.specs.Prelude.{◌≡◌, ◌+◌, ◌<◌, ◌≤◌, ◌==◌, ◌++◌, codes, decimal, drop, flat_map, All, length, replicate, reverse, take, true, OnOk, IfOk, IfErr, is_err};
 ghost use Rattle.std.specs.List.{prefix_len};
 ghost use Rattle.cell_core_values.specs.Letters.{byte};
 ghost use Rattle.cell_core_devices.specs.Blocks.{Appends};
@@ -10,8 +10,9 @@ ghost use Rattle.cell_core.specs.Runs.{written_out};
 ghost use Rattle.cell_ascii_meaning.specs.Writing.{IsNullText, coordinate_text, fraction_text, grid_text, line_of_key, null_line, region_text, row_text, units_text, without_zeros};
 ghost use Rattle.cell_ascii_writer.specs.Fields.{AppendsBut, low_bytes};
 ghost use Rattle.cell_ascii_writer.specs.WrittenRuns.{spaced_cells, joined_cells, times};
-ghost use Rattle.cell_ascii_writer.specs.parts.KeptFields.{AreKept};
+ghost use Rattle.cell_ascii_writer.specs.parts.KeptFields.{AreFieldsOfBytes, AreKept};
 
+use crate::byte_rows::{BYTES, make_byte_fields, write_byte_row};
 use crate::fields::{FIELDS, Field, field_at, free_field, new_field, put_field};
 use cell_core::block::OutputBlock;
 use cell_core::cell::Cell;
@@ -30,6 +31,9 @@ const UNIT: u64 = 100000000;
 
 // How many bytes of a row are gathered before they are pushed.
 const LINE: usize = 1024;
+
+// The least number of cells of a map for which the fields of bytes are made.
+const LEAST_PREPARED: u64 = 1024;
 
 // The most bytes of a field that is kept.
 const MOST_FIELD: usize = 8;
@@ -200,7 +204,7 @@ fn write_long_run<W: Sink>(
 
 // Pushes the bytes of a line up to a place. It is not inlined, as it would take registers from the loops over cells.
 #[inline(never)]
-fn push_line<W: Sink>(out: &mut W, block: &mut OutputBlock, line: &[u8], end: usize)
+pub(crate) fn push_line<W: Sink>(out: &mut W, block: &mut OutputBlock, line: &[u8], end: usize)
     requires { end ≤ length line.now }
     ensures { Appends W.taken W.faults out.old block.old (take end line.now) out.new block.new }
 {
@@ -348,11 +352,38 @@ fn write_row_cells<W: Sink>(
     write_runs(out, block, fields, line, end, others, null_text);
 }
 
-// Writes the line of a row.
-fn write_grid_row<W: Sink>(
+// Makes the fields of bytes before the first row that is kept as bytes, if the map has so many cells that this is worth it.
+// Answers whether they are made.
+fn prepare_bytes(
+    fields: &mut [Field],
+    map: &CellMap,
+    row: u32,
+    null_text: &[u8],
+    is_ready: bool,
+) -> bool
+    requires row { row < map.now.region.rows }
+    requires room { length fields.old ≡ 256 }
+    requires ready { is_ready ≡ true → AreFieldsOfBytes null_text.now fields.old }
+    ensures { result ≡ true → AreFieldsOfBytes null_text.now fields.new }
+{
+    if is_ready {
+        return true;
+    }
+    let region = map.region();
+    let cells = region.rows() as u64 * region.cols() as u64;
+    if cells < LEAST_PREPARED || map.bytes(row).is_none() {
+        return false;
+    }
+    make_byte_fields(null_text, fields)
+}
+
+// Writes the cells of a row, with a space between each two.
+fn write_cells<W: Sink>(
     out: &mut W,
     block: &mut OutputBlock,
     fields: &mut [Field],
+    byte_fields: &[Field],
+    is_ready: bool,
     line: &mut [u8],
     map: &CellMap,
     row: u32,
@@ -360,11 +391,50 @@ fn write_grid_row<W: Sink>(
 )
     requires row { row < map.now.region.rows }
     requires kept { AreKept null_text.now fields.old line.old 0 }
+    requires ready { is_ready ≡ true → AreFieldsOfBytes null_text.now byte_fields.now }
+    ensures text { Appends W.taken W.faults out.old block.old
+        (joined_cells null_text.now (row_at map.now row)) out.new block.new }
+    ensures kept { AreKept null_text.now fields.new line.new 0 }
+{
+    if is_ready {
+        if let Some(bytes) = map.bytes(row) {
+            write_byte_row(out, block, byte_fields, line, bytes, null_text);
+            return;
+        }
+    }
+    write_row_cells(out, block, fields, line, map.stretches(row), null_text);
+}
+
+// Writes the line of a row.
+fn write_grid_row<W: Sink>(
+    out: &mut W,
+    block: &mut OutputBlock,
+    fields: &mut [Field],
+    byte_fields: &[Field],
+    is_ready: bool,
+    line: &mut [u8],
+    map: &CellMap,
+    row: u32,
+    null_text: &[u8],
+)
+    requires row { row < map.now.region.rows }
+    requires kept { AreKept null_text.now fields.old line.old 0 }
+    requires ready { is_ready ≡ true → AreFieldsOfBytes null_text.now byte_fields.now }
     ensures text { Appends W.taken W.faults out.old block.old
         (row_text null_text.now (row_at map.now row)) out.new block.new }
     ensures kept { AreKept null_text.now fields.new line.new 0 }
 {
-    write_row_cells(out, block, fields, line, map.stretches(row), null_text);
+    write_cells(
+        out,
+        block,
+        fields,
+        byte_fields,
+        is_ready,
+        line,
+        map,
+        row,
+        null_text,
+    );
     block.push(out, b"\n");
 }
 
@@ -375,12 +445,25 @@ fn write_rows<W: Sink>(out: &mut W, block: &mut OutputBlock, map: &CellMap, null
         (flat_map (row_text null_text.now) map.now.rows) out.new block.new }
 {
     let mut fields = [free_field(); FIELDS];
+    let mut byte_fields = [free_field(); BYTES];
+    let mut is_ready = false;
     let mut line = [0u8; LINE];
     for row in 0..map.region().rows() {
         if block.has_failed() {
             return;
         }
-        write_grid_row(out, block, &mut fields, &mut line, map, row, null_text);
+        is_ready = prepare_bytes(&mut byte_fields, map, row, null_text, is_ready);
+        write_grid_row(
+            out,
+            block,
+            &mut fields,
+            &byte_fields,
+            is_ready,
+            &mut line,
+            map,
+            row,
+            null_text,
+        );
     }
 }
 

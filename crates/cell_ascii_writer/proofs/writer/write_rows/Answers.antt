@@ -32,6 +32,8 @@ loop-row-preserved g c =
     record {
       text = rw (flat_map-take (row_text c.args.null_text.now) rows row [] (row_at c.args.map.now row) within refl) (appends_then c.loop-row.invariant.text c.write_grid_row.ensures.text);
       kept = c.write_grid_row.ensures.kept;
+      room = c.prepare_bytes-is_ready.auto.fields ∙ c.loop-row.invariant.room;
+      ready = c.prepare_bytes-is_ready.ensures;
     }
 
 pub returns : goal.returns
@@ -54,4 +56,6 @@ loop-row-init g c = record {
     room = search rules;
     within = omega arith;
   };
+  room = search rules;
+  ready = λ no. absurd (cc);
 }

@@ -1,0 +1,10 @@
+use Rattle.std.proofs.Common.{◌≡◌, ◌*◌, ◌≤◌, length, take}
+use Rattle.cell_core_values.specs.SmallCells.{cells_of_bytes}
+use Rattle.cell_ascii_writer.specs.WrittenRuns.{spaced_cells}
+use Rattle.cell_ascii_writer.proofs.byte_rows.put_byte_cells.Given as goal
+
+abbrev pub invariant-loop-byte : goal.invariant-loop-byte
+invariant-loop-byte l = record {
+  text : take l.end l.line ≡ spaced_cells l.null_text (cells_of_bytes (take l.byte-index l.bytes));
+  within : l.end ≤ 8 * l.byte-index;
+}
