@@ -78,7 +78,7 @@ class TileScript:
         """The halo that a tile needs: by all reads, since beyond a tile even a map that depends on no file is null."""
         found = {"": NO_REACH}
         for each in self.statements:
-            margins = [map(sum, zip(found.get(name, NO_REACH), margin)) for name, margin in each.reads.items()]
+            margins = [[a + b for a, b in zip(found.get(name, NO_REACH), margin)] for name, margin in each.reads.items()]
             found[each.made] = Reach(*[max(lengths) for lengths in zip(NO_REACH, *margins)])
         return found[self.statements[-1].made]
 
