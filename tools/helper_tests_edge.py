@@ -161,7 +161,8 @@ def test_signals(room, tally):
         for name in ("SIGHUP", "SIGINT", "SIGTERM", "SIGQUIT", "SIGXCPU"):
             number = getattr(signal, name)
             room.shell("rm -rf parts fifo; mkfifo fifo; echo old > out")
-            program = subprocess.Popen([f"{room.programs}/{words[0]}", *words[1:]], cwd=room.path, env={**room.environment, "MARK": room.path},
+            # Under nohup, a test inherits signals that are ignored.
+            program = subprocess.Popen(["env", "--default-signal", f"{room.programs}/{words[0]}", *words[1:]], cwd=room.path, env={**room.environment, "MARK": room.path},
                                        stdin=subprocess.DEVNULL, stdout=subprocess.PIPE, stderr=subprocess.PIPE, start_new_session=True)
             with open(f"{room.path}/fifo", "wb") as fifo:
                 fifo.write(ASC[:-8].encode() if words[0] == "rcell-aaigrid" else GRID[:-8].encode())

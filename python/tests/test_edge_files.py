@@ -139,7 +139,8 @@ def test_a_library_with_closed_streams(room: pathlib.Path) -> None:
 @pytest.mark.parametrize("name", ["SIGHUP", "SIGINT", "SIGTERM", "SIGQUIT", "SIGXCPU"])
 def test_signals_leave_nothing(room: pathlib.Path, name: str) -> None:
     os.mkfifo(room / "fifo")
-    command = [sys.executable, "-m", "rcell", "composition", "fifo", "--out", "out"]
+    # Under nohup, a test inherits signals that are ignored.
+    command = ["env", "--default-signal", sys.executable, "-m", "rcell", "composition", "fifo", "--out", "out"]
     (room / "out").write_text("old")
     with subprocess.Popen(command, cwd=room, env=environment(RCELL_TEST=str(room)), stderr=subprocess.PIPE, text=True) as program:
         with open(room / "fifo", "w") as fifo:

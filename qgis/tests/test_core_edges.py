@@ -232,7 +232,8 @@ class FilesTest(Room):
         text = ("import sys, time; sys.path[:0] = sys.argv[2:]; from rcell.core.files import partly\n"
                 "with partly(sys.argv[1]) as part:\n open(part, 'w').write('half'); print(flush=True); time.sleep(600)")
         for number in (signal.SIGTERM, signal.SIGHUP, signal.SIGINT):
-            words = [sys.executable, "-c", text, self.path("old.tif"), *sys.path]
+            # Under nohup, a test inherits signals that are ignored.
+            words = ["env", "--default-signal", sys.executable, "-c", text, self.path("old.tif"), *sys.path]
             with subprocess.Popen(words, stdout=subprocess.PIPE, stderr=subprocess.DEVNULL) as ran:
                 assert ran.stdout is not None
                 ran.stdout.readline()

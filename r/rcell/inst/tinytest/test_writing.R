@@ -73,7 +73,8 @@ slow <- c("trace <- get('check_whole', asNamespace('rcell'))", sprintf("stop_her
   sprintf("rcell_grid('', 'x', x = matrix(1:4, 2), filename = '%s', overwrite = TRUE)", file("in.tif")))
 for (signal in c(1L, 2L, 9L, 15L)) {
   unlink(file("begun"))
-  asked <- run_apart(room, slow)
+  # Under nohup, a test inherits signals that are ignored.
+  asked <- run_apart(room, slow, command = c("env", "--default-signal"))
   begun <- Sys.time()
   while (!file.exists(file("begun")) && asked$is_alive() && Sys.time() < begun + 600) Sys.sleep(0.05)
   expect_true(any(grepl("^[.]rcell-", files())), info = signal)
