@@ -20,8 +20,8 @@ use Rattle.rcell_pipe_response.specs.declared.end.PipeError.TheVariants as error
 use Rattle.rcell_pipe_response.specs.declared.running.PipeOutcome.{PipeOutcome}
 use Rattle.rcell_pipe_response.specs.Frames.{OutputFrame, GivesFrames}
 use Rattle.rcell_pipe_response.specs.FrameBytes.{EndValue, frames_bytes, end_bytes, response_magic, response_bytes}
-use Rattle.rcell_pipe_response.specs.RunEnds.{status_after, done_end, memory_end, script_end, IsPipeAccepted, IsResponse, IsCut, IsPipeCut, IsPipeEnd}
-use Rattle.rcell_pipe_response.specs.Endings.{error_after, Finished, IsRejection, IsEndOfRun}
+use Rattle.rcell_pipe_response.specs.RunEnds.{status_after, done_end, memory_end, script_end, IsPipeAccepted, IsResponse, IsCut, WasCut, WasWritten, HasResponded}
+use Rattle.rcell_pipe_response.specs.Endings.{error_after, Finished, IsRejection, EndsAs}
 use Rattle.rcell_pipe_response.specs.parts.LastFrames.{EndsResponse}
 
 or-true : (b : Bool) → (b || true) ≡ true
@@ -68,36 +68,44 @@ finished_frames {before} {now} {start} {after} {error} {outcome} frames one end 
     (ap (λ (e : EndValue). (response_magic ++ frames_bytes frames) ++ end_bytes e) same ∙ append_assoc response_magic (frames_bytes frames) (end_bytes end)) finished
 
 -- a whole response was taken
-written : (read : Result RunRequestValue RequestError) (before now : Option (List ℕ)) (text : List ℕ) (error : Option PipeError) → IsResponse read text error → now ≡ append_known before text → IsPipeEnd read before now error
-written read before now text None is taken = record { response = text; is = is; taken = taken }
-written read before now text (Some (errors.Request error)) is taken = record { response = text; is = is; taken = taken }
-written read before now text (Some (errors.Script error)) is taken = record { response = text; is = is; taken = taken }
-written read before now text (Some errors.Memory) is taken = record { response = text; is = is; taken = taken }
-written read before now text (Some (errors.MemoryAt line)) is taken = record { response = text; is = is; taken = taken }
-written read before now text (Some errors.Write) is taken = absurd is
+module _ (says : List ℕ → Option PipeError → Type 0) (before now : Option (List ℕ)) where
+  written_whole : (error : Option PipeError) → (error ≡ Some errors.Write → ⊥) → WasWritten says before now error
+      → HasResponded says before now error
+  written_whole None fine w = w
+  written_whole (Some (errors.Request error)) fine w = w
+  written_whole (Some (errors.Script error)) fine w = w
+  written_whole (Some errors.Memory) fine w = w
+  written_whole (Some (errors.MemoryAt line)) fine w = w
+  written_whole (Some errors.Write) fine w = absurd (fine refl)
 
-end_by : (read : Result RunRequestValue RequestError) (before now : Option (List ℕ)) (start after : Faults) (error : Option PipeError) (text : List ℕ) (outcome : PipeOutcome)
-    → IsResponse read text error → (error ≡ Some errors.Write → ⊥)
-    → (wrote : Bool) → outcome.error ≡ error_after error wrote → outcome.status ≡ status_after outcome.error → (wrote ≡ true → (now ≡ append_known before text) × (after ≡ after_flush start false)) → (wrote ≡ false → (has_failed after ≡ true) × IsCut before now text)
-    → IsEndOfRun read before start now after outcome
-end_by read before now start after error text outcome response fine true is status whole fails = record {
-  end = subst (λ (f : Option PipeError). IsPipeEnd read before now f) (sym is) (written read before now text error response (whole refl).0);
-  status = status;
-  write = λ write. absurd (fine (sym is ∙ write));
-  flushed = λ other. (whole refl).1;
-}
-end_by read before now start after error text outcome response fine false is status whole fails = record {
-  end = subst (λ (f : Option PipeError). IsPipeEnd read before now f) (sym is) (record { error = error; response = text; would = response; cut = (fails refl).1 });
-  status = status;
-  write = λ write. (fails refl).0;
-  flushed = λ other. absurd (other is);
-}
-
--- what was written is how the run ended
-pub end_of : (read : Result RunRequestValue RequestError) {before now : Option (List ℕ)} {start after : Faults} (error : Option PipeError) {text : List ℕ} {outcome : PipeOutcome}
-    → IsResponse read text error → (error ≡ Some errors.Write → ⊥) → Finished before start now after error text outcome → IsEndOfRun read before start now after outcome
-end_of read {before} {now} {start} {after} error {text} {outcome} response fine finished =
-    end_by read before now start after error text outcome response fine finished.wrote finished.error_is finished.status finished.whole finished.fails
+-- what was finished is how the response ended
+pub ends_as : (says : List ℕ → Option PipeError → Type 0) {before now : Option (List ℕ)} {start after : Faults}
+    (error : Option PipeError) {text : List ℕ} {outcome : PipeOutcome} → says text error
+    → (error ≡ Some errors.Write → ⊥) → Finished before start now after error text outcome
+    → EndsAs says before start now after outcome
+ends_as says {before} {now} {start} {after} error {text} {outcome} is fine finished = by finished.wrote refl
+  where
+    by : (wrote : Bool) → finished.wrote ≡ wrote → EndsAs says before start now after outcome
+    by true e =
+        let same : outcome.error ≡ error = finished.error_is ∙ ap (error_after error) e in
+        let whole = finished.whole e in
+        record {
+          end = subst (HasResponded says before now) (sym same)
+              (written_whole says before now error fine (record { response = text; is = is; taken = whole.0 }));
+          status = finished.status;
+          write = λ write. absurd (fine (sym same ∙ write));
+          flushed = λ _. whole.1;
+        }
+    by false e =
+        let same : outcome.error ≡ Some errors.Write = finished.error_is ∙ ap (error_after error) e in
+        let fails = finished.fails e in
+        record {
+          end = subst (HasResponded says before now) (sym same)
+              (record { error = error; response = text; would = is; cut = fails.1 });
+          status = finished.status;
+          write = λ write. fails.0;
+          flushed = λ none. absurd (none same);
+        }
 
 -- the sink failed among the frames of the first statements
 cut_of : {before now : Option (List ℕ)} {start after : Faults} {block : BlockValue} (frames : List OutputFrame) (end : EndValue) → Appended before start (response_magic ++ frames_bytes frames) now after block → IsCut before now (response_bytes frames end)
@@ -109,7 +117,7 @@ cut_of frames end a = record {
 }
 
 within : {read : Result RunRequestValue RequestError} {before now : Option (List ℕ)} {start after : Faults} {block : BlockValue} (shelf next : ShelfValue) (first others : List Statement) (frames : List OutputFrame)
-    → IsPipeAccepted read shelf (first ++ others) → GivesFrames shelf first frames next → Appended before start (response_magic ++ frames_bytes frames) now after block → IsPipeCut read before now
+    → IsPipeAccepted read shelf (first ++ others) → GivesFrames shelf first frames next → Appended before start (response_magic ++ frames_bytes frames) now after block → WasCut (IsResponse read) before now
 within {read} shelf next first [] frames accepted given appended = record {
   error = None;
   response = response_bytes frames done_end;
@@ -126,9 +134,9 @@ within {read} shelf next first (statement ∷ others) frames accepted given appe
 -- a run whose sink failed in an execution
 pub end_failed : (read : Result RunRequestValue RequestError) {before now : Option (List ℕ)} {start after : Faults} {block : BlockValue} {outcome : PipeOutcome} (shelf next : ShelfValue) (first others : List Statement) (frames : List OutputFrame)
     → outcome.error ≡ Some errors.Write → outcome.status ≡ status_after outcome.error → IsPipeAccepted read shelf (first ++ others) → GivesFrames shelf first frames next
-    → Appended before start (response_magic ++ frames_bytes frames) now after block → block.failed ≡ true → IsEndOfRun read before start now after outcome
+    → Appended before start (response_magic ++ frames_bytes frames) now after block → block.failed ≡ true → EndsAs (IsResponse read) before start now after outcome
 end_failed read {before} {now} {start} {after} {block} {outcome} shelf next first others frames is status accepted given appended failed = record {
-  end = subst (λ (f : Option PipeError). IsPipeEnd read before now f) (sym is) (within shelf next first others frames accepted given appended);
+  end = subst (HasResponded (IsResponse read) before now) (sym is) (within shelf next first others frames accepted given appended);
   status = status;
   write = λ write. ap has_failed (rw failed at appended.fails);
   flushed = λ other. absurd (other is);

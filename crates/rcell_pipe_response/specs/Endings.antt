@@ -1,14 +1,12 @@
 -- How a response ends: the last frame, and what became of the sink.
-use Rattle.std.specs.Prelude.{ℕ, ◌≡◌, ◌≢◌, Bool, true, false, List, [], Option, Some, Result}
+use Rattle.std.specs.Prelude.{ℕ, ◌≡◌, ◌≢◌, Bool, true, false, List, [], Option, Some}
 use Rattle.cell_core_devices.specs.Device.{Faults, append_known, after_flush, has_failed}
 use Rattle.rcell_script_commands.specs.declared.script_fault.ScriptFault.{ScriptFault}
-use Rattle.rcell_pipe_request.specs.declared.error.RequestError.{RequestError}
-use Rattle.rcell_pipe_request.specs.Requests.{RunRequestValue}
 use Rattle.rcell_pipe_response.specs.declared.end.PipeError.{PipeError}
 use Rattle.rcell_pipe_response.specs.declared.end.PipeError.TheVariants as errors
 use Rattle.rcell_pipe_response.specs.declared.running.PipeOutcome.{PipeOutcome}
 use Rattle.rcell_pipe_response.specs.FrameBytes.{EndValue, response_bytes}
-use Rattle.rcell_pipe_response.specs.RunEnds.{status_after, script_end, memory_end, IsCut, IsPipeEnd}
+use Rattle.rcell_pipe_response.specs.RunEnds.{status_after, script_end, memory_end, IsCut, HasResponded}
 
 -- the error of a run whose last frame was written or not
 abbrev pub error_after : Option PipeError → Bool → Option PipeError
@@ -36,9 +34,10 @@ pub record Rejected (before : Option (List ℕ)) (start : Faults) (now : Option 
   pub rejects : IsRejection fault error end
   pub finished : Finished before start now after (Some error) (response_bytes [] end) outcome
 
--- how a run ended, by what was read
-pub record IsEndOfRun (read : Result RunRequestValue RequestError) (before : Option (List ℕ)) (start : Faults) (now : Option (List ℕ)) (after : Faults) (outcome : PipeOutcome) : Type 0 where
-  pub end : IsPipeEnd read before now outcome.error
+-- how a response ended; a write failed only if the sink did, and otherwise it was flushed once
+pub record EndsAs (says : List ℕ → Option PipeError → Type 0) (before : Option (List ℕ)) (start : Faults)
+    (now : Option (List ℕ)) (after : Faults) (outcome : PipeOutcome) : Type 0 where
+  pub end : HasResponded says before now outcome.error
   pub status : outcome.status ≡ status_after outcome.error
   pub write : outcome.error ≡ Some errors.Write → has_failed after ≡ true
   pub flushed : outcome.error ≢ Some errors.Write → after ≡ after_flush start false

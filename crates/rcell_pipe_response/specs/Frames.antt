@@ -83,7 +83,7 @@ combination_labels maps places pair = map (λ p. label_of_cell maps p.0 p.1) (zi
 abbrev pub listed_pairs : ShelfValue → List ℕ → StatsOptions → Pairs
 listed_pairs shelf places options = printed_pairs options.after (table_of options.skip (combinations_of shelf places))
 
--- the cells that r.stats -1 prints: each a combination that occurs once
+-- the cells that r.stats -1 prints: an entry for each, with count 1
 abbrev pub each_once : List Combination → Pairs
 each_once cells = map (λ k. (k, 1)) cells
 

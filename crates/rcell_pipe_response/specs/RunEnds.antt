@@ -135,19 +135,21 @@ pub record IsCut (before now : Option (List ℕ)) (text : List ℕ) : Type 0 whe
   pub taken : now ≡ append_known before front
 
 -- the sink took the first bytes of a response
-pub record IsPipeCut (read : Result RunRequestValue RequestError) (before now : Option (List ℕ)) : Type 0 where
+pub record WasCut (says : List ℕ → Option PipeError → Type 0) (before now : Option (List ℕ)) : Type 0 where
   pub error : Option PipeError
   pub response : List ℕ
-  pub would : IsResponse read response error
+  pub would : says response error
   pub cut : IsCut before now response
 
 -- the sink took a whole response
-pub record IsPipeWritten (read : Result RunRequestValue RequestError) (before now : Option (List ℕ)) (error : Option PipeError) : Type 0 where
+pub record WasWritten (says : List ℕ → Option PipeError → Type 0) (before now : Option (List ℕ))
+    (error : Option PipeError) : Type 0 where
   pub response : List ℕ
-  pub is : IsResponse read response error
+  pub is : says response error
   pub taken : now ≡ append_known before response
 
--- what has been written, by the error of the run: a whole response, or the first bytes of one if a write failed
-abbrev pub IsPipeEnd : Result RunRequestValue RequestError → Option (List ℕ) → Option (List ℕ) → Option PipeError → Type 0
-IsPipeEnd read before now (Some errors.Write) = IsPipeCut read before now
-IsPipeEnd read before now error = IsPipeWritten read before now error
+-- what has been written, by the error: a whole response, or the first bytes of one if a write failed
+abbrev pub HasResponded : (List ℕ → Option PipeError → Type 0) → Option (List ℕ) → Option (List ℕ)
+    → Option PipeError → Type 0
+HasResponded says before now (Some errors.Write) = WasCut says before now
+HasResponded says before now error = WasWritten says before now error

@@ -1,9 +1,9 @@
 //! Numbers, texts and cells as bytes.
 
-ghost use Rattle.std.specs.Prelude.{◌≡◌, flat_map};
+ghost use Rattle.std.specs.Prelude.{◌≡◌, ◌≤◌, flat_map};
 ghost use Rattle.cell_core_devices.specs.Blocks.{Appends};
 ghost use Rattle.cell_core_values.specs.Cell.{pattern_of_cell};
-ghost use Rattle.rcell_pipe_response.specs.FrameBytes.{number_bytes, text_bytes, wide_bytes};
+ghost use Rattle.rcell_pipe_response.specs.FrameBytes.{flag, number_bytes, text_bytes, wide_bytes};
 
 use cell_core::block::OutputBlock;
 use cell_core::cell::Cell;
@@ -18,6 +18,14 @@ fn pattern_of(cell: Cell) -> i32
         Some(category) => category,
         None => i32::MIN,
     }
+}
+
+/// 1 for true, 0 for false.
+pub fn flag(is_so: bool) -> u8
+    ensures value { result ≡ flag is_so }
+    ensures most { result ≤ 1 }
+{
+    if is_so { 1 } else { 0 }
 }
 
 /// A number in eight bytes.

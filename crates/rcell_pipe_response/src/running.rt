@@ -7,8 +7,8 @@ ghost use Rattle.rcell_script.specs.FittingScripts.{Fits};
 ghost use Rattle.rcell_pipe_request.specs.declared.error.RequestError.{RequestError};
 ghost use Rattle.rcell_pipe_request.specs.Requests.{RunRequestValue, run_request_value};
 ghost use Rattle.rcell_pipe_response.specs.FrameBytes.{response_magic, response_bytes, end_bytes};
-ghost use Rattle.rcell_pipe_response.specs.RunEnds.{status_after, IsPipeAccepted, end_value};
-ghost use Rattle.rcell_pipe_response.specs.Endings.{error_after, Finished, Rejected, IsEndOfRun};
+ghost use Rattle.rcell_pipe_response.specs.RunEnds.{status_after, IsPipeAccepted, IsResponse, end_value};
+ghost use Rattle.rcell_pipe_response.specs.Endings.{error_after, Finished, Rejected, EndsAs};
 ghost use Rattle.rcell_pipe_response.specs.parts.LastFrames.{EndsResponse};
 
 use crate::end::{End, PipeError, done_end, is_memory, memory_end, script_end, status_after};
@@ -120,7 +120,8 @@ fn run_statements<W: Sink>(
 ) -> PipeOutcome
     requires { Fits shelf.names script.now }
     ensures { (read : Result RunRequestValue RequestError) → IsPipeAccepted read shelf script.now
-        → IsEndOfRun read (W.taken out.old) (W.faults out.old) (W.taken out.new) (W.faults out.new) result }
+        → EndsAs (IsResponse read) (W.taken out.old) (W.faults out.old) (W.taken out.new)
+        (W.faults out.new) result }
 {
     let mut block = begin(out);
     match execute(alloc, &mut shelf, script.statements(), &mut block, out) {
@@ -139,8 +140,8 @@ fn run_statements<W: Sink>(
 
 /// Runs the script of a request over its maps.
 pub fn run_request<W: Sink>(alloc: Global, request: Request, out: &mut W) -> PipeOutcome
-    ensures { IsEndOfRun (Ok (run_request_value request)) (W.taken out.old) (W.faults out.old)
-        (W.taken out.new) (W.faults out.new) result }
+    ensures { EndsAs (IsResponse (Ok (run_request_value request))) (W.taken out.old)
+        (W.faults out.old) (W.taken out.new) (W.faults out.new) result }
 {
     let Request { shelf, script } = request;
     let Ok(names) = shelf_names(alloc, &shelf) else {

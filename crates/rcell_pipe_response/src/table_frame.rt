@@ -6,10 +6,10 @@ ghost use Rattle.cell_core_devices.specs.Blocks.{Appends};
 ghost use Rattle.cell_stats.specs.TableText.{label_of_cell, printed_pairs};
 ghost use Rattle.rcell.specs.Output.{format_of};
 ghost use Rattle.rcell_pipe_response.specs.Frames.{name_in, table_frame};
-ghost use Rattle.rcell_pipe_response.specs.FrameBytes.{number_bytes, text_bytes, flag, head_bytes, counts_bytes, combinations_bytes, table_bytes};
+ghost use Rattle.rcell_pipe_response.specs.FrameBytes.{number_bytes, text_bytes, head_bytes, counts_bytes, combinations_bytes, table_bytes};
 ghost use Rattle.rcell_pipe_response.specs.parts.CellLabels.{cell_labels_bytes};
 
-use crate::bytes::{push_cells, push_number, push_text};
+use crate::bytes::{flag, push_cells, push_number, push_text};
 use cell_core::block::OutputBlock;
 use cell_core::cell::Cell;
 use cell_core::shelf::Shelf;
@@ -26,13 +26,6 @@ fn listed<'a>(table: &'a Table, options: &StatsOptions) -> Listing<'a>
         Some(combo) => table.after(combo),
         None => table.all(),
     }
-}
-
-// 1 if it is so.
-fn flag(is_so: bool) -> u8
-    ensures { result ≡ flag is_so }
-{
-    if is_so { 1 } else { 0 }
 }
 
 // How many entries there are.

@@ -22,8 +22,8 @@ use Rattle.rcell_pipe_response.specs.declared.end.PipeError.{PipeError}
 use Rattle.rcell_pipe_response.specs.declared.end.PipeError.TheVariants as errors
 use Rattle.rcell_pipe_response.specs.declared.running.PipeOutcome.{PipeOutcome}
 use Rattle.rcell_pipe_response.specs.FrameBytes.{EndValue, response_magic, response_bytes, end_bytes}
-use Rattle.rcell_pipe_response.specs.RunEnds.{status_after, done_end, script_end, memory_end, IsResponse, IsPipeEnd}
-use Rattle.rcell_pipe_response.specs.Endings.{error_after, Finished, IsRejection, IsEndOfRun}
+use Rattle.rcell_pipe_response.specs.RunEnds.{status_after, done_end, script_end, memory_end, IsResponse, HasResponded}
+use Rattle.rcell_pipe_response.specs.Endings.{Finished, IsRejection, EndsAs}
 use Rattle.rcell_plan_response.specs.declared.responding.RequestForm.{RequestForm}
 use Rattle.rcell_plan_response.specs.declared.responding.RequestForm.TheVariants as form
 use Rattle.rcell_plan.specs.declared.planning.Plan.{Plan}
@@ -32,50 +32,10 @@ use Rattle.rcell_plan.specs.declared.needs.Need.{Need}
 use Rattle.rcell_plan_response.specs.PlanRequests.{PlanRequestValue}
 use Rattle.rcell_plan_response.specs.PlanFrames.{plans_bytes, all_names, plan_response}
 use Rattle.rcell_plan_response.specs.PlanEnds.{IsPlanResponse}
-use Rattle.rcell_plan_response.specs.Written.{WasWritten, HasResponded, EndsAs}
 use Rattle.rcell_plan_response.specs.Responses.{IsResponseTo, IsRequestAccepted}
 use Rattle.rcell_plan_response.specs.parts.RequestStops.{error_of_stop, end_of_stop}
 
 -- ---- what was written
-
-module _ (says : List ℕ → Option PipeError → Type 0) (before now : Option (List ℕ)) where
-  written_whole : (error : Option PipeError) → (error ≡ Some errors.Write → ⊥) → WasWritten says before now error
-      → HasResponded says before now error
-  written_whole None fine w = w
-  written_whole (Some (errors.Request error)) fine w = w
-  written_whole (Some (errors.Script error)) fine w = w
-  written_whole (Some errors.Memory) fine w = w
-  written_whole (Some (errors.MemoryAt line)) fine w = w
-  written_whole (Some errors.Write) fine w = absurd (fine refl)
-
--- what was finished is how the response ended
-pub ends_as : (says : List ℕ → Option PipeError → Type 0) {before now : Option (List ℕ)} {start after : Faults}
-    (error : Option PipeError) {text : List ℕ} {outcome : PipeOutcome} → says text error
-    → (error ≡ Some errors.Write → ⊥) → Finished before start now after error text outcome
-    → EndsAs says before start now after outcome
-ends_as says {before} {now} {start} {after} error {text} {outcome} is fine finished = by finished.wrote refl
-  where
-    by : (wrote : Bool) → finished.wrote ≡ wrote → EndsAs says before start now after outcome
-    by true e =
-        let same : outcome.error ≡ error = finished.error_is ∙ ap (error_after error) e in
-        let whole = finished.whole e in
-        record {
-          end = subst (HasResponded says before now) (sym same)
-              (written_whole says before now error fine (record { response = text; is = is; taken = whole.0 }));
-          status = finished.status;
-          write = λ write. absurd (fine (sym same ∙ write));
-          flushed = λ _. whole.1;
-        }
-    by false e =
-        let same : outcome.error ≡ Some errors.Write = finished.error_is ∙ ap (error_after error) e in
-        let fails = finished.fails e in
-        record {
-          end = subst (HasResponded says before now) (sym same)
-              (record { error = error; response = text; would = is; cut = fails.1 });
-          status = finished.status;
-          write = λ write. fails.0;
-          flushed = λ none. absurd (none same);
-        }
 
 -- a response that ends says more
 module _ (says more : List ℕ → Option PipeError → Type 0)
@@ -98,27 +58,6 @@ module _ (says more : List ℕ → Option PipeError → Type 0)
       → EndsAs more before start now after outcome
   ends_more start after outcome h = record {
     end = says_more outcome.error h.end;
-    status = h.status;
-    write = h.write;
-    flushed = h.flushed;
-  }
-
--- the end of a run
-module _ (read : Result RunRequestValue RequestError) (before now : Option (List ℕ)) where
-  of_pipe_end : (error : Option PipeError) → IsPipeEnd read before now error
-      → HasResponded (IsResponse read) before now error
-  of_pipe_end None w = record { response = w.response; is = w.is; taken = w.taken }
-  of_pipe_end (Some (errors.Request e)) w = record { response = w.response; is = w.is; taken = w.taken }
-  of_pipe_end (Some (errors.Script e)) w = record { response = w.response; is = w.is; taken = w.taken }
-  of_pipe_end (Some errors.Memory) w = record { response = w.response; is = w.is; taken = w.taken }
-  of_pipe_end (Some (errors.MemoryAt line)) w = record { response = w.response; is = w.is; taken = w.taken }
-  of_pipe_end (Some errors.Write) w =
-      record { error = w.error; response = w.response; would = w.would; cut = w.cut }
-
-  pub of_run_end : (start after : Faults) (outcome : PipeOutcome) → IsEndOfRun read before start now after outcome
-      → EndsAs (IsResponse read) before start now after outcome
-  of_run_end start after outcome h = record {
-    end = of_pipe_end outcome.error h.end;
     status = h.status;
     write = h.write;
     flushed = h.flushed;

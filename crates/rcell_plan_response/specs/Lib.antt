@@ -4,6 +4,5 @@ pub mod MapNames
 pub mod PlanOptions
 pub mod PlanFrames
 pub mod PlanEnds
-pub mod Written
 pub mod Responses
 pub mod parts

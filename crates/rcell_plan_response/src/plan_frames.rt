@@ -4,11 +4,11 @@ ghost use Rattle.std.specs.Prelude.{◌≡◌, length, flat_map};
 ghost use Rattle.cell_core_devices.specs.Blocks.{Appends};
 ghost use Rattle.rcell_plan_response.specs.PlanFrames.{made_name, margin_bytes, read_bytes, need_bytes, reads_bytes, needs_bytes, plan_head, plan_bytes, plans_bytes};
 
-use crate::plan_options::{flag, name_of_place, push_options};
+use crate::plan_options::{name_of_place, push_options};
 use cell_core::block::OutputBlock;
 use cell_core::name::Names;
 use cell_core::sink::Sink;
-use rcell_pipe_response::bytes::{push_number, push_text};
+use rcell_pipe_response::bytes::{flag, push_number, push_text};
 use rcell_plan::needs::{Margin, Need};
 use rcell_plan::planning::Plan;
 use rcell_script::statement::Statement;

@@ -1,8 +1,8 @@
-//! What a plan tells of the options of a statement, as bytes.
+//! What a plan says of the options of a statement, as bytes.
 
 ghost use Rattle.std.specs.Prelude.{◌≡◌, ◌≤◌, [], ◌∷◌, flat_map};
 ghost use Rattle.cell_core_devices.specs.Blocks.{Appends};
-ghost use Rattle.rcell_pipe_response.specs.FrameBytes.{flag, text_bytes};
+ghost use Rattle.rcell_pipe_response.specs.FrameBytes.{text_bytes};
 ghost use Rattle.rcell_plan_response.specs.MapNames.{name_of_place};
 ghost use Rattle.rcell_plan_response.specs.PlanOptions.{skip_flag, options_flags, command_options, command_inputs, command_after, after_combination, inputs_bytes, after_list_bytes, options_bytes};
 
@@ -12,7 +12,7 @@ use cell_core::name::Names;
 use cell_core::sink::Sink;
 use cell_stats_combinations::combination::Combo;
 use cell_stats_combinations::skip::Skip;
-use rcell_pipe_response::bytes::{push_cells, push_number, push_text};
+use rcell_pipe_response::bytes::{flag, push_cells, push_number, push_text};
 use rcell_script::statement::{Command, StatsOptions};
 
 /// The name of the map at a place, or nothing.
@@ -24,14 +24,6 @@ pub(crate) fn name_of_place<'a>(names: &'a Names, place: usize) -> &'a [u8]
     } else {
         b""
     }
-}
-
-/// 1 for true, 0 for false.
-pub(crate) fn flag(is: bool) -> u8
-    ensures value { result ≡ flag is }
-    ensures most { result ≤ 1 }
-{
-    if is { 1 } else { 0 }
 }
 
 fn skip_flag(skip: Skip) -> u8

@@ -4,12 +4,11 @@ ghost use Rattle.std.specs.Prelude.{◌≡◌, ◌++◌, length, None, Ok, Resul
 ghost use Rattle.rcell_script.specs.FittingScripts.{Fits};
 ghost use Rattle.rcell_pipe_response.specs.FrameBytes.{response_magic, end_bytes};
 ghost use Rattle.rcell_pipe_response.specs.RunEnds.{done_end};
-ghost use Rattle.rcell_pipe_response.specs.Endings.{Finished};
+ghost use Rattle.rcell_pipe_response.specs.Endings.{Finished, EndsAs};
 ghost use Rattle.rcell_pipe_request.specs.declared.error.RequestError.{RequestError};
 ghost use Rattle.rcell_plan_response.specs.PlanRequests.{PlanRequestValue, plan_request_value};
 ghost use Rattle.rcell_plan_response.specs.PlanFrames.{plans_bytes};
 ghost use Rattle.rcell_plan_response.specs.PlanEnds.{IsPlanAccepted, IsPlanResponse};
-ghost use Rattle.rcell_plan_response.specs.Written.{EndsAs};
 
 use crate::made_names::all_names;
 use crate::plan_frames::push_plans;

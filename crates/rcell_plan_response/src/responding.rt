@@ -5,10 +5,9 @@ ghost use Rattle.std.specs.Option.{IsNone};
 ghost use Rattle.cell_core_devices.specs.Device.{has_failed, after_flush};
 ghost use Rattle.rcell_pipe_request.specs.Feeds.{left, ReadsField};
 ghost use Rattle.rcell_pipe_response.specs.FrameBytes.{response_bytes};
-ghost use Rattle.rcell_pipe_response.specs.RunEnds.{status_after, IsResponse};
-ghost use Rattle.rcell_pipe_response.specs.Endings.{Finished};
+ghost use Rattle.rcell_pipe_response.specs.RunEnds.{status_after, IsResponse, HasResponded};
+ghost use Rattle.rcell_pipe_response.specs.Endings.{Finished, EndsAs};
 ghost use Rattle.rcell_plan_response.specs.PlanEnds.{IsPlanResponse};
-ghost use Rattle.rcell_plan_response.specs.Written.{HasResponded, EndsAs};
 ghost use Rattle.rcell_plan_response.specs.Responses.{form_of, form_at, run_request_of, plan_request_of, IsResponseTo, IsRequestAccepted};
 ghost use Rattle.rcell_plan_response.specs.parts.RequestStops.{error_of_stop, end_of_stop};
 

@@ -16,5 +16,5 @@ returns g c =
     ≡ flat_map text_bytes (map (name_in shelf) places) = sym (flat_map-map text_bytes (name_in shelf) places) in
     appends_then (appends_then (appends_then (appends_then (appends_then
     (appends_then c.push.ensures c.push_number.ensures) c.push_number-2.ensures)
-    (rw width at c.push_number-3.ensures)) (rw (c.flag-counts.ensures, c.flag-labels.ensures) at c.push-2.ensures))
+    (rw width at c.push_number-3.ensures)) (rw (c.flag-counts.ensures.value, c.flag-labels.ensures.value) at c.push-2.ensures))
     (rw c.bytes.ensures.value at c.push_text.ensures)) (rw names at c.push_names.ensures)

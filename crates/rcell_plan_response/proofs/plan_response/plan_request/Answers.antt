@@ -2,10 +2,10 @@ use Rattle.std.proofs.Common.{[], Ok, Some, refl}
 use Rattle.rcell_script.specs.ReadScripts.{IsScriptFault}
 use Rattle.rcell_pipe_response.specs.declared.end.PipeError.TheVariants as errors
 use Rattle.rcell_pipe_response.specs.RunEnds.{memory_end, end_value}
-use Rattle.rcell_pipe_response.proofs.EndLemmas.{finished_frames, not_write}
+use Rattle.rcell_pipe_response.proofs.EndLemmas.{ends_as, finished_frames, not_write}
 use Rattle.rcell_plan_response.specs.PlanRequests.{plan_request_value}
 use Rattle.rcell_plan_response.specs.PlanEnds.{IsPlanResponse}
-use Rattle.rcell_plan_response.proofs.PlanEndLemmas.{ends_as, plan_rejection}
+use Rattle.rcell_plan_response.proofs.PlanEndLemmas.{plan_rejection}
 use Rattle.rcell_plan_response.proofs.plan_response.plan_request.Goals as goal
 
 pub returns-in-Ok : goal.returns-in-Ok

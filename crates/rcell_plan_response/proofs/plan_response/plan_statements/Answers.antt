@@ -3,9 +3,9 @@ use Rattle.rcell_plan.specs.Plans.{plans_of, given_needs}
 use Rattle.rcell_plan.specs.declared.planning.Plan.{Plan}
 use Rattle.rcell_pipe_response.specs.declared.end.PipeError.TheVariants as errors
 use Rattle.rcell_pipe_response.specs.RunEnds.{memory_end, end_value}
-use Rattle.rcell_pipe_response.proofs.EndLemmas.{finished_frames}
+use Rattle.rcell_pipe_response.proofs.EndLemmas.{ends_as, finished_frames}
 use Rattle.rcell_plan_response.specs.PlanEnds.{IsPlanResponse}
-use Rattle.rcell_plan_response.proofs.PlanEndLemmas.{ends_as, finished_plan, length-plans}
+use Rattle.rcell_plan_response.proofs.PlanEndLemmas.{finished_plan, length-plans}
 use Rattle.rcell_plan_response.proofs.plan_response.plan_statements.Goals as goal
 
 pub returns-in_default : goal.returns-in_default

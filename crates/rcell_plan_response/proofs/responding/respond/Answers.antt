@@ -1,11 +1,10 @@
 use Rattle.std.proofs.Common.{Some, []}
 use Rattle.rcell_pipe_request.specs.Feeds.{left}
 use Rattle.rcell_pipe_response.specs.declared.end.PipeError.TheVariants as errors
-use Rattle.rcell_pipe_response.specs.RunEnds.{memory_end, end_value}
-use Rattle.rcell_pipe_response.proofs.EndLemmas.{finished_frames}
-use Rattle.rcell_plan_response.specs.Written.{HasResponded}
+use Rattle.rcell_pipe_response.specs.RunEnds.{memory_end, end_value, HasResponded}
+use Rattle.rcell_pipe_response.proofs.EndLemmas.{ends_as, finished_frames}
 use Rattle.rcell_plan_response.specs.Responses.{form_at, IsResponseTo}
-use Rattle.rcell_plan_response.proofs.PlanEndLemmas.{ends_as, says_more, memory_form, of_source, if_any, all_is_done}
+use Rattle.rcell_plan_response.proofs.PlanEndLemmas.{says_more, memory_form, of_source, if_any, all_is_done}
 use Rattle.rcell_plan_response.proofs.responding.respond.Goals as goal
 
 pub returns-in-Ok-clause-end : goal.returns-in-Ok-clause-end

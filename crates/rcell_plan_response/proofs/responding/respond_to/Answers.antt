@@ -1,10 +1,11 @@
 use Rattle.std.proofs.Common.{◌≡◌, ◌∙◌, Some, true}
 use Rattle.rcell_pipe_request.specs.Feeds.{left}
 use Rattle.rcell_pipe_response.specs.RunEnds.{IsResponse}
+use Rattle.rcell_pipe_response.proofs.EndLemmas.{ends_as}
 use Rattle.rcell_plan_response.specs.PlanEnds.{IsPlanResponse}
 use Rattle.rcell_plan_response.specs.Responses.{form_at, run_request_of, plan_request_of, IsResponseTo}
 use Rattle.rcell_plan_response.specs.parts.RequestStops.{error_of_stop}
-use Rattle.rcell_plan_response.proofs.PlanEndLemmas.{ends_as, ends_more, stop_fine, stopped_form}
+use Rattle.rcell_plan_response.proofs.PlanEndLemmas.{ends_more, stop_fine, stopped_form}
 use Rattle.rcell_plan_response.proofs.responding.respond_to.Goals as goal
 
 pub returns-in-Run : goal.returns-in-Run

@@ -1,11 +1,12 @@
 use Rattle.std.proofs.Common.{◌≡◌, Ok, Some, ap, true}
 use Rattle.cell_core_text.specs.Answers.{◌>>=◌}
 use Rattle.rcell_pipe_request.specs.Feeds.{left}
+use Rattle.rcell_pipe_response.proofs.EndLemmas.{ends_as}
 use Rattle.rcell_plan_response.specs.PlanRequests.{plan_at, plan_request_value}
 use Rattle.rcell_plan_response.specs.PlanEnds.{IsPlanResponse}
 use Rattle.rcell_plan_response.specs.Responses.{plan_request_of}
 use Rattle.rcell_plan_response.specs.parts.RequestStops.{error_of_stop}
-use Rattle.rcell_plan_response.proofs.PlanEndLemmas.{ends_as, ends_more, stop_fine, stopped_plan}
+use Rattle.rcell_plan_response.proofs.PlanEndLemmas.{ends_more, stop_fine, stopped_plan}
 use Rattle.rcell_plan_response.proofs.responding.respond_to_plan.Goals as goal
 
 pub returns-in-Ok : goal.returns-in-Ok

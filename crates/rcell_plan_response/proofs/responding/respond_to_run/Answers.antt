@@ -3,9 +3,10 @@ use Rattle.cell_core_text.specs.Answers.{◌>>=◌}
 use Rattle.rcell_pipe_request.specs.Feeds.{left}
 use Rattle.rcell_pipe_request.specs.Requests.{run_at, run_request_value}
 use Rattle.rcell_pipe_response.specs.RunEnds.{IsResponse}
+use Rattle.rcell_pipe_response.proofs.EndLemmas.{ends_as}
 use Rattle.rcell_plan_response.specs.Responses.{run_request_of}
 use Rattle.rcell_plan_response.specs.parts.RequestStops.{error_of_stop}
-use Rattle.rcell_plan_response.proofs.PlanEndLemmas.{ends_as, ends_more, of_run_end, stop_fine, stopped_run}
+use Rattle.rcell_plan_response.proofs.PlanEndLemmas.{ends_more, stop_fine, stopped_run}
 use Rattle.rcell_plan_response.proofs.responding.respond_to_run.Goals as goal
 
 pub returns-in-Ok : goal.returns-in-Ok
@@ -14,7 +15,7 @@ returns-in-Ok g c =
     ends_more (IsResponse read) (λ response error. c.args.feed.now.known ≡ true
     → IsResponse (run_request_of (left c.args.feed.now)) response error)
     (λ response error is known. rw (c.in-Ok.ensures.1 known) is) _ _ _ _ _
-    (of_run_end read _ _ _ _ _ c.run_request.ensures)
+    c.run_request.ensures
 
 pub returns-in-Err : goal.returns-in-Err
 returns-in-Err g c =
