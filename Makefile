@@ -31,7 +31,7 @@ JOBS ?=
 PARTS ?=
 OBJECTS ?=
 # Of Debian: python3-matplotlib, which is not seen by a Python of one's own.
-PICTURES = /usr/bin/python3 tools/pictures.py
+PICTURES = /usr/bin/python3 tools/documents/pictures.py
 
 # What the programs are built from: neither tests nor the edits that must fail.
 CRATES = $(filter-out %_tests %/cell_core_test_maps,$(wildcard crates/*))
@@ -46,11 +46,11 @@ bin/rcell-join: bin/rcell
 bin/rcell-pipe: bin/rcell-join
 bin/rcell bin/rcell-join bin/rcell-pipe: $(SOURCES)
 	@sh tools/needs.sh
-	@$(if $(OBJECTS),python3 tools/objects.py --from $(OBJECTS) $(@F) ||) python3 tools/build.py $(if $(JOBS),--jobs $(JOBS)) $(@F)
+	@$(if $(OBJECTS),python3 tools/build/objects.py --from $(OBJECTS) $(@F) ||) python3 tools/build/build.py $(if $(JOBS),--jobs $(JOBS)) $(@F)
 
 try:
 	@sh tools/needs.sh
-	@python3 tools/try.py
+	@python3 tools/build/try.py
 
 # It stands on no source, so that it needs no kit: what is built is installed, also where a source is newer.
 install:
@@ -63,7 +63,7 @@ example: bin/rcell
 	cd examples/land-cover && ../../bin/rcell script landuse=landuse.txt
 
 documents: all
-	python3 tools/documents.py
+	python3 tools/documents/documents.py
 
 check:
 	@sh tools/needs.sh git || { echo '0 passed, 1 failed, 0 skipped'; exit 1; }
@@ -71,26 +71,26 @@ check:
 
 # Of what was built last: whoever packs the program (the wheel of Python, the package of R) takes bin/rcell-static.
 static:
-	@python3 tools/objects.py
-	@sh tools/static.sh bin
+	@python3 tools/build/objects.py
+	@sh tools/build/static.sh bin
 
 dist: all static
 	@sh tools/needs.sh git
 	@sh tools/debian.sh python3-hatchling r-base-core
-	@sh tools/dist.sh dist
+	@sh tools/build/dist.sh dist
 
 debian11: dist
-	sh tools/debian11.sh dist
+	sh tools/build/debian11.sh dist
 
 edits:
-	python3 tools/edits.py --all
+	python3 tools/build/edits.py --all
 
 hostile: bin/rcell
-	python3 tools/hostile.py --clang "$$(dirname "$$(rt doc)")/toolchain/bin/clang"
+	python3 tools/hostile --clang "$$(dirname "$$(rt doc)")/toolchain/bin/clang"
 
 SECONDS = 60
 fuzz: bin/rcell
-	python3 tools/fuzz.py --seconds $(SECONDS) $(if $(SEED),--seed $(SEED))
+	python3 tools/model/fuzz.py --seconds $(SECONDS) $(if $(SEED),--seed $(SEED))
 
 bench: bin/rcell
 	python3 bench/run.py $(BENCH)
@@ -103,7 +103,7 @@ figures: bin/rcell
 	python3 bench/instructions.py --write
 	python3 bench/dimensions.py --write
 	$(PICTURES) speed docs/speed.png
-	-python3 tools/documents.py --texts --write
+	-python3 tools/documents/documents.py --texts --write
 
 pictures: bin/rcell
 	@sh tools/debian.sh python3-matplotlib graphviz
@@ -111,10 +111,10 @@ pictures: bin/rcell
 	$(PICTURES) examples examples
 	$(PICTURES) islands examples/islands/islands.png
 	$(PICTURES) speed docs/speed.png
-	python3 tools/crate_graph.py docs/crates.svg
+	python3 tools/documents/crate_graph.py docs/crates.svg
 
 exchange: bin/rcell
-	python3 tools/exchange.py
+	python3 tools/grass/exchange.py
 
 clean:
 	rm -rf bin dist bench/out crates/*/out

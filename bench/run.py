@@ -397,7 +397,7 @@ def commit():
 
 
 def mark():
-    """What says in the document at which commit the table below it was measured (tools/figures.py)."""
+    """What says in the document at which commit the table below it was measured (tools/documents/figures.py)."""
     return f"<!-- figures: {commit()} -->\n\n"
 
 

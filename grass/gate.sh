@@ -19,7 +19,7 @@ session() {
 }
 
 add 'r.rcell without GRASS' env RCELL="$program" PYTHONDONTWRITEBYTECODE=1 "$python" grass/tests/test_without_grass.py
-add 'pairs of scripts' "$python" tools/pairs.py "$program"
+add 'pairs of scripts' "$python" tools/grass/pairs.py "$program"
 if command -v grass > /dev/null; then
     check 'a session of r.rcell' session
 else

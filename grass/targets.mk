@@ -7,4 +7,4 @@ grass-check: bin/rcell
 	sh grass/gate.sh
 
 grass-tasks: bin/rcell
-	python3 tools/exchange.py tasks
+	python3 tools/grass/exchange.py tasks

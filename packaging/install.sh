@@ -43,7 +43,7 @@ helpers() {
         name=${file#helpers/}
         case $name in
             *.1) echo "644 $file $pages/$name" ;;
-            *.md) ;;
+            *.md | *.mk | tests/*) ;;
             rcell-*) echo "755 $file bin/$name" ;;
             *) echo "644 $file $shared/$name" ;;
         esac

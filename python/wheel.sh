@@ -12,7 +12,7 @@ for file in python/README.md python/pyproject.toml python/hatch_build.py; do ins
 copy_tracked python/src "$package/src"
 install -m 644 VERSION "$package/VERSION"
 install -D -m 755 -t "$package/bin" bin/rcell-static bin/rcell-join-static bin/rcell-pipe-static
-python3 tools/linked.py "$room/licenses"
+python3 tools/build/linked.py "$room/licenses"
 cp -r "$room"/licenses/* LICENSE.md "$package"
 (cd "$package" && /usr/bin/python3 -m hatchling build -t sdist -d "$room/made" > /dev/null)
 tar -C "$room" -xzf "$room/made/rcell-$version.tar.gz"

@@ -34,7 +34,7 @@ def licences() -> dict[str, bytes]:
     """The licences and notices, by their names in the zip."""
     with tempfile.TemporaryDirectory() as room:
         folder = pathlib.Path(room) / "licenses"
-        said_by(sys.executable, "tools/linked.py", str(folder))
+        said_by(sys.executable, "tools/build/linked.py", str(folder))
         found = {f"rcell/licenses/{path.relative_to(folder).as_posix()}": path.read_bytes() for path in folder.rglob("*") if path.is_file()}
     return {**found, "rcell/LICENSE": (REPOSITORY / "LICENSE.md").read_bytes()}
 

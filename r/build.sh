@@ -9,7 +9,7 @@ inst=$room/source/rcell/inst
 for name in rcell rcell-pipe; do install -D -m 755 "bin/$name-static" "$inst/bin/$name"; done
 # The maps that docs/r.md works with, and that the tests hold against terra.
 copy_tracked examples/rasters "$inst/extdata"
-python3 tools/linked.py --with-islands "$inst/licenses"
+python3 tools/build/linked.py --with-islands "$inst/licenses"
 install -m 644 LICENSE.md "$inst/COPYRIGHTS"
 sed -i "s/^Version: .*/Version: $version/" "$room/source/rcell/DESCRIPTION"
 # R warns of a program in a package unless it is declared.

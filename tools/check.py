@@ -19,6 +19,8 @@ import sys
 import time
 from dataclasses import dataclass
 
+sys.path.insert(1, f"{os.path.dirname(os.path.abspath(__file__))}/build")
+
 import build
 
 ROOT = build.ROOT
@@ -62,25 +64,25 @@ def tool(name, *words):
 
 # Those before the proofs take seconds: if one fails, the gate ends there.
 EARLY = [
-    Part("tools", "how the gate counts, and how it tries edits", [tool("test_check.py"), tool("test_edits.py")], needs_programs=False),
-    Part("stale_edits", "the edits outside the gate still fit their files", [tool("stale_edits.py")], has_counts=False, needs_programs=False),
-    Part("texts", "messages, figures and pages that need no program", [tool("documents.py", "--texts")], needs_programs=False),
+    Part("tools", "how the gate counts, and how it tries edits", [tool("build/test_gate.py")], needs_programs=False),
+    Part("stale_edits", "the edits outside the gate still fit their files", [tool("build/stale_edits.py")], has_counts=False, needs_programs=False),
+    Part("texts", "messages, figures and pages that need no program", [tool("documents/documents.py", "--texts")], needs_programs=False),
     Part("lint", "widths, names, limits, licences", [tool("lint")], needs_programs=False),
 ]
 PROOFS = Part("proofs", "each proof, each edit that must fail, each test", [["rt", "ci"]], needs_programs=False)
 LATE = [
-    Part("edits", "wrong bodies that the proof must refuse, many in one check", [tool("edits.py")], needs_programs=False),
-    Part("cases", "rcell on each case, with each growth refused in turn", [tool("cases.py", CLANG)]),
-    Part("joined", "rcell-join beside a plain model and full maps", [tool("test_join.py", CLANG)]),
-    Part("pipe", "rcell-pipe on random requests beside rcell, and on damaged ones", [tool("test_pipe.py", CLANG), tool("test_plan.py")]),
-    Part("documents", "each example of the documents", [tool("documents.py")]),
-    Part("hostile", "broken devices, bytes, sizes and memory, in short", [tool("hostile.py", "--short", "--clang", CLANG)]),
+    Part("edits", "wrong bodies that the proof must refuse, many in one check", [tool("build/edits.py")], needs_programs=False),
+    Part("cases", "rcell on each case, with each growth refused in turn", [tool("model/cases.py", CLANG)]),
+    Part("joined", "rcell-join beside a plain model and full maps", [tool("join", CLANG)]),
+    Part("pipe", "rcell-pipe on random requests beside rcell, and on damaged ones", [tool("model/test_pipe.py", CLANG), tool("model/test_plan.py")]),
+    Part("documents", "each example of the documents", [tool("documents/documents.py")]),
+    Part("hostile", "broken devices, bytes, sizes and memory, in short", [tool("hostile", "--short", "--clang", CLANG)]),
     Part("models", "rcell beside the plain model of the definitions",
-         [tool("compare.py", "--cases"), tool("compare.py", "--runs", "3000", "--seed", "1"),
-          tool("compare.py", "--runs", "500", "--seed", "1", "--maps", "stretches", "--pieces", CLANG)], has_counts=False),
-    Part("laws", "laws of a report, on outputs", [tool("laws")]),
-    Part("objects", "the objects that the programs were linked from", [tool("objects.py")], has_counts=False),
-    Part("release", "the release, without the kit and the sources", [tool("check_release.py")]),
+         [tool("model/compare.py", "--cases"), tool("model/compare.py", "--runs", "3000", "--seed", "1"),
+          tool("model/compare.py", "--runs", "500", "--seed", "1", "--maps", "stretches", "--pieces", CLANG)], has_counts=False),
+    Part("laws", "laws of a report, on outputs", [tool("model/laws")]),
+    Part("objects", "the objects that the programs were linked from", [tool("build/objects.py")], has_counts=False),
+    Part("release", "the release, without the kit and the sources", [tool("build/check_release.py")]),
     *[Part(front, f"what {front}/ has of its own", [["sh", f"{front}/gate.sh"]]) for front in ("python", "r", "qgis", "grass", "fronts")],
 ]
 PARTS = [*EARLY, PROOFS, *LATE]

@@ -7,14 +7,14 @@
 
 site:
 	@sh tools/debian.sh mkdocs groff r-base-core python3-numpy
-	/usr/bin/python3 tools/site
+	/usr/bin/python3 tools/documents/site
 
 site-check: site
 	@sh tools/debian.sh chromium
-	/usr/bin/python3 tools/site --check
+	/usr/bin/python3 tools/documents/site --check
 
 lint:
 	python3 tools/lint $(if $(WRITE),--write)
 
 reading:
-	@python3 tools/reading.py $(COMMAND)
+	@python3 tools/lint/reading.py $(COMMAND)

@@ -16,11 +16,9 @@ import shutil
 import subprocess
 import sys
 
-sys.path[:0] = [str(pathlib.Path(__file__).resolve().parent), str(pathlib.Path(__file__).resolve().parent.parent)]
-
-import pages  # noqa: E402
-import prose  # noqa: E402
-import rules  # noqa: E402  (the path above has to be set first)
+import pages
+import prose
+import rules
 
 HERE = pathlib.Path(__file__).resolve().parent
 ROOT = HERE.parent.parent
@@ -67,11 +65,11 @@ def write_exceptions(rule, comments, findings, allowed):
 
 
 def python_faults():
-    """Errors of flake8 in all Python and of mypy in two tools, and how many of the two programs are not installed."""
+    """Errors of flake8 in all Python and of mypy in this folder, and how many of the two programs are not installed."""
     tracked = subprocess.run(["git", "ls-files", "*.py", "helpers/rcell-*"], cwd=ROOT, capture_output=True, text=True, check=True)
     sources = [path for path in tracked.stdout.splitlines() if not path.endswith(MANUAL)]
     faults, skipped = [], 0
-    for words in (["flake8", *sources], ["mypy", "--no-error-summary", "tools/lint", "tools/reading.py"]):
+    for words in (["flake8", *sources], ["mypy", "--no-error-summary", "tools/lint"]):
         if not shutil.which(words[0]):
             skipped += 1
             print(f"skipped  lint: {words[0]} is not installed; install: apt-get install {words[0]}")

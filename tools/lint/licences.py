@@ -18,7 +18,7 @@ NAMED = {
     "packaging/copyright.in": "License: Apache-2.0 or GPL-2+",
 }
 # Of the folders that users copy files from, those that carry the line themselves.
-COPIED = re.compile(r"helpers/(?!.*\.(1|json|md)$)|(python/src|qgis/rcell)/.*\.py$|r/rcell/R/.*\.R$|grass/r\.rcell/r\.rcell\.py$|Makefile$")
+COPIED = re.compile(r"helpers/(?!tests/|.*\.(1|json|md|mk)$)|(python/src|qgis/rcell)/.*\.py$|r/rcell/R/.*\.R$|grass/r\.rcell/r\.rcell\.py$|Makefile$")
 EXCEPTION = {"LICENSE.md": "LGPL-3.0-or-later", "packaging/copyright.in": "License: LGPL-3+"}
 
 

@@ -1,0 +1,252 @@
+#!/usr/bin/env python3
+"""Compares the flags, keys and functions that the documents name with those that the program takes.
+
+    command_options.py [--program PATH] [--joiner PATH]
+
+Of each command docs/commands.md has a synopsis and a table of its flags and options, and docs/rcell.1 a synopsis; the three must
+name the same. Then the program is run with each letter and digit as a flag, and with each key that any command or GRASS has: it
+must take those that are named and no other, and must miss a key exactly where the table says that it is required. Of r.mapcalc
+the functions are compared and tried in this way. Of each command of rcell-join the synopses of docs/rcell-join.md and
+docs/rcell-join.1 must be its usage, the page must have all messages of the document, and it is tried with the same flags and keys,
+where an unknown key is a file. The last line is 'N passed, M failed'.
+"""
+import argparse
+import os
+import re
+import string
+import subprocess
+import sys
+import tempfile
+
+ROOT = os.path.abspath(f"{__file__}/../../..")
+DOCUMENT, PAGE = "docs/commands.md", "docs/rcell.1"
+DOCUMENT_OF_JOINER, PAGE_OF_JOINER = "docs/rcell-join.md", "docs/rcell-join.1"
+COMMANDS = ("r.reclass", "r.clump", "r.stats", "r.out.ascii")
+JOINER = "rcell-join"
+GRID = "north: 1\nsouth: 0\neast: 2\nwest: 0\nrows: 1\ncols: 2\n1 2\n"
+EMPTY = "empty.table"
+# A value of each key that any command has, and keys of GRASS that none has here.
+VALUES = {"input": "land", "output": "made", "separator": "comma", "null_value": "NA", "after": "1"}
+KEYS_OF_GRASS = ("rules", "title", "minsize", "threshold", "sort", "nsteps", "precision", "width", "region", "expression", "map")
+FLAGS = string.ascii_letters + string.digits
+# Functions that GRASS has and we do not, each with the number of arguments that it takes there.
+FUNCTIONS_OF_GRASS = {"round": 1, "int": 1, "float": 1, "double": 1, "sqrt": 1, "exp": 1, "log": 1, "median": 3, "nmedian": 3,
+                      "xor": 2, "not": 1, "rand": 2, "x": 0, "y": 0, "z": 0, "ewres": 0, "nsres": 0, "area": 0, "graph": 5, "pow": 2}
+FONT = re.compile(r"\\f.|^\.[A-Z]+ |\"", re.MULTILINE)
+
+
+class Named:
+    """What a text names of a command: the letters of its flags, and its keys."""
+
+    def __init__(self, flags, keys):
+        self.flags, self.keys = set(flags), set(keys)
+
+    @classmethod
+    def of_synopsis(cls, text):
+        return cls("".join(re.findall(r"\[-(\w+)\]", text)), re.findall(r"(\w+)=", text))
+
+    def __eq__(self, other):
+        return (self.flags, self.keys) == (other.flags, other.keys)
+
+    def __str__(self):
+        return f"flags {''.join(sorted(self.flags)) or 'none'}, keys {' '.join(sorted(self.keys))}"
+
+
+def read(name):
+    with open(f"{ROOT}/{name}", encoding="utf-8") as file:
+        return file.read()
+
+
+def section(command):
+    """The part of the document about a command; a document of its own has headings one level higher."""
+    if command == JOINER:
+        return re.sub(r"^## ", "### ", read(DOCUMENT_OF_JOINER), flags=re.MULTILINE) + "### \n"
+    return re.search(rf"^## {re.escape(command)}\n(.*?)^## ", read(DOCUMENT), re.MULTILINE | re.DOTALL)[1]
+
+
+def synopsis(command):
+    return re.search(r"^### Synopsis\n+```text\n(.*?)```", section(command), re.MULTILINE | re.DOTALL)[1]
+
+
+def rows(command):
+    """The rows of a command's table of flags and options: a name, and what is said of it."""
+    table = re.search(r"^### (?:Flags and options|Options)\n(.*?)^### ", section(command), re.MULTILINE | re.DOTALL)[1]
+    return re.findall(r"^\| `([^`]+)` \| (.*) \|$", table, re.MULTILINE)
+
+
+def in_table(command):
+    names = [name.removesuffix("=") for name, _ in rows(command)]
+    return Named([name[1:] for name in names if name.startswith("-")], [name for name in names if not name.startswith("-")])
+
+
+def required(command):
+    return {name for name, says in rows(command) if says.endswith("(required)")}
+
+
+def of_page(command):
+    """The synopsis of a command in the manual page, without its fonts."""
+    plain = FONT.sub("", read(PAGE).replace("\\-", "-"))
+    return next(line for line in plain.split("\n") if re.match(rf"{re.escape(command)} .*=", line)).replace("= ", "=")
+
+
+def synopses_of_joiner():
+    """The synopsis of each command of rcell-join in docs/rcell-join.md."""
+    return synopsis(JOINER).strip().splitlines()
+
+
+def synopses_of_joiner_page():
+    """The same in its manual page, without its fonts."""
+    for part in re.search(r"^\.SH SYNOPSIS\n(.*?)^\.SH ", read(PAGE_OF_JOINER), re.MULTILINE | re.DOTALL)[1].split(".br\n"):
+        command, behind = re.sub(r"\\f.|^\.B ", "", part.replace("\\-", "-"), flags=re.MULTILINE).splitlines()
+        font, _, words = behind.partition(" ")
+        # .RI sets the pieces that blanks part in turns, and none of these blanks.
+        yield f"{command} " + (re.sub(r'"([^"]*)"|\s', lambda found: found[1] or "", words) if font == ".RI" else words)
+
+
+def messages_of_joiner():
+    """The texts that docs/rcell-join.md has in its table of the messages of rcell-join."""
+    table = re.search(r"^### Messages\n(.*)", section(JOINER), re.MULTILINE | re.DOTALL)[1]
+    return [text for row in re.findall(r"^\| (`[^|]*`) \|", table, re.MULTILINE) for text in re.findall(r"`([^`]+)`", row)]
+
+
+def text_of_joiner_page():
+    """The lines under DIAGNOSTICS in the manual page of rcell-join, without their fonts."""
+    return FONT.sub("", re.search(r"^\.SH DIAGNOSTICS\n(.*?)^\.SH ", read(PAGE_OF_JOINER), re.MULTILINE | re.DOTALL)[1])
+
+
+def functions_of_document():
+    """The functions of r.mapcalc, each with the number of arguments of an example; two where more may follow."""
+    table = re.search(r"^\| Function \|.*?\n\n", section("r.mapcalc"), re.MULTILINE | re.DOTALL)[0]
+    examples = [example for row in table.splitlines() for example in re.findall(r"`(\w+)\(([^)]*)\)`", row.split(" | ")[0])]
+    return {name: len([word for word in words.split(",") if word.strip(".")]) for name, words in examples}
+
+
+def functions_of_page():
+    listed = re.search(r"^Functions:\n(.*)$", read(PAGE), re.MULTILINE)[1]
+    return set(re.findall(r"\w+", FONT.sub("", listed)))
+
+
+class Tried:
+    """The program over scripts of one command, in a folder of its own."""
+
+    def __init__(self, program, folder):
+        self.program, self.folder = program, folder
+        with open(f"{folder}/land.txt", "w", encoding="ascii") as file:
+            file.write(GRID)
+
+    def refusal(self, line):
+        """What the program says of a script of one line (and a rule, if it is r.reclass), without `rcell: script:`."""
+        script = f"{line}\n1 = 1\nend\n" if line.startswith("r.reclass ") else f"{line}\n"
+        with open(f"{self.folder}/script", "w", encoding="ascii") as file:
+            file.write(script)
+        ran = subprocess.run([self.program, "script", "land=land.txt"], cwd=self.folder, capture_output=True, text=True)
+        return ran.stderr.strip().removeprefix("rcell: script:") if ran.returncode else ""
+
+    def options(self, command, flags, keys):
+        options = [f"-{flag}" for flag in flags] + [f"{key}={VALUES.get(key, '1')}" for key in keys]
+        return self.refusal(" ".join([command, *options]))
+
+
+def faults_of_flags(tried, command, named, needs):
+    """Each flag by itself: what is wrong, or ''."""
+    for flag in FLAGS:
+        wanted = "" if flag in named.flags else "1: bad option"
+        said = tried.options(command, flag, needs)
+        yield "" if said == wanted else f"{command} -{flag}: {said or 'taken'}, and not {wanted or 'taken'}"
+
+
+def faults_of_keys(tried, command, named, needs):
+    """Each key beside those that are required, and each of these left out: what is wrong, or ''."""
+    for key in (*VALUES, *KEYS_OF_GRASS):
+        wanted = "" if key in named.keys else "1: bad option"
+        said = tried.options(command, "", [*needs, *({key} - set(needs))])
+        yield "" if said == wanted else f"{command} {key}=: {said or 'taken'}, and not {wanted or 'taken'}"
+    for key in needs:
+        said = tried.options(command, "", [other for other in needs if other != key])
+        yield "" if said == "1: missing option" else f"{command} without {key}=: {said or 'taken'}"
+
+
+def faults_of_functions(tried):
+    named, listed = functions_of_document(), functions_of_page()
+    yield "" if set(named) == listed else f"{PAGE}: functions {sorted(listed)}, and not {sorted(named)} as {DOCUMENT}"
+    for name, count in {**FUNCTIONS_OF_GRASS, **named}.items():
+        said = tried.refusal(f"r.mapcalc made = {name}({', '.join(['land'] * count)})")
+        wanted = "" if name in named else "1: unknown function at column 18"
+        yield "" if said == wanted else f"r.mapcalc {name}(..): {said or 'taken'}, and not {wanted or 'taken'}"
+
+
+class TriedJoiner:
+    """The joiner over empty files, in a folder of its own."""
+
+    def __init__(self, joiner, folder):
+        self.joiner, self.folder = joiner, folder
+        with open(f"{folder}/{EMPTY}", "w", encoding="ascii"):
+            pass
+
+    def refusal(self, command, word):
+        is_only_file = command == "border" and not word.startswith("-")
+        files = [] if is_only_file else [EMPTY] * (2 if command == "sizes" else 1)
+        ran = subprocess.run([self.joiner, command, word, *files], cwd=self.folder, capture_output=True, text=True)
+        return ran.stderr.strip().removeprefix(f"{JOINER}: ") if ran.returncode else ""
+
+
+def faults_of_joiner_command(tried, line):
+    """What is wrong with the synopsis, each flag and each key of a command of rcell-join, or ''."""
+    command, named, usage = line.split()[1], Named.of_synopsis(line), f"arguments:0: usage: {line}"
+    said = tried.refusal(command, "-")
+    yield "" if said == usage else f"{DOCUMENT_OF_JOINER}, synopsis: {usage!r}, and the program says {said!r}"
+    for flag in FLAGS:
+        said = tried.refusal(command, f"-{flag}")
+        yield "" if (said == usage) != (flag in named.flags) else f"{JOINER} {command} -{flag}: {said or 'taken'}"
+    for key in (*VALUES, *KEYS_OF_GRASS):
+        option = f"{key}={VALUES.get(key, '1')}"
+        wanted, said = "" if key in named.keys else f"{option}:0: cannot open", tried.refusal(command, option)
+        yield "" if said == wanted else f"{JOINER} {command} {option}: {said or 'taken'}, and not {wanted or 'taken'}"
+
+
+def faults_of_joiner(tried):
+    """What is wrong with what the documents say of rcell-join, or ''."""
+    lines, others, named = synopses_of_joiner(), list(synopses_of_joiner_page()), in_table(JOINER)
+    yield "" if others == lines else f"{PAGE_OF_JOINER}: {others!r}, and not {lines!r}"
+    other = Named.of_synopsis(synopsis(JOINER))
+    yield "" if other == named else f"{DOCUMENT_OF_JOINER}, synopsis: {JOINER} has {other}, but {named} in its table"
+    page = text_of_joiner_page()
+    for text in messages_of_joiner():
+        yield "" if text in page else f"{PAGE_OF_JOINER}: it says nothing of {text!r}"
+    for line in lines:
+        yield from faults_of_joiner_command(tried, line)
+
+
+def faults(program, joiner):
+    """What is wrong with each thing that is compared, or ''."""
+    with tempfile.TemporaryDirectory(prefix="rcell-options-") as folder:
+        tried = Tried(os.path.abspath(program), folder)
+        for command in COMMANDS:
+            named, needs = in_table(command), sorted(required(command))
+            for where, other in ((f"{DOCUMENT}, synopsis", Named.of_synopsis(synopsis(command))),
+                                 (PAGE, Named.of_synopsis(of_page(command)))):
+                yield "" if other == named else f"{where}: {command} has {other}, but {named} in its table"
+            yield from faults_of_flags(tried, command, named, needs)
+            yield from faults_of_keys(tried, command, named, needs)
+        yield from faults_of_functions(tried)
+        yield from faults_of_joiner(TriedJoiner(os.path.abspath(joiner), folder))
+
+
+def check(program, joiner):
+    """How many comparisons agree, and what is wrong with the others."""
+    found = list(faults(program, joiner))
+    return found.count(""), [fault for fault in found if fault]
+
+
+def main():
+    words = argparse.ArgumentParser(description="Compares the flags and keys of the documents with those of the programs.")
+    words.add_argument("--program", default=f"{ROOT}/bin/rcell")
+    words.add_argument("--joiner", default=f"{ROOT}/bin/rcell-join")
+    given = words.parse_args()
+    passed, wrong = check(given.program, given.joiner)
+    print("".join(f"{fault}\n" for fault in wrong) + f"{passed} passed, {len(wrong)} failed")
+    return 1 if wrong else 0
+
+
+if __name__ == "__main__":
+    sys.exit(main())

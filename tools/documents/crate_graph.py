@@ -1,0 +1,96 @@
+#!/usr/bin/env python3
+"""Draws which crate stands on which, from crates.txt: `make pictures`, or by itself.
+
+    crate_graph.py OUT.svg          the picture, by dot (of Debian: graphviz)
+
+An arrow goes from a crate to one that it stands on; what others imply is left out, and so are tests and the libraries of the kit.
+"""
+import html
+import os
+import re
+import subprocess
+import sys
+
+ROOT = os.path.abspath(f"{__file__}/../../..")
+PICTURE = f"{ROOT}/docs/crates.svg"
+ROOMS = {"core": "#dcecf7", "ascii": "#e4f3df", "raw": "#e7f0e4", "calc": "#fdf1d3", "cats": "#f9e2e2", "stats": "#ece3f5", "tiles": "#eeeeee",
+         "rcell": "#dff2f0"}
+PROGRAMS = ("rcell_program", "rcell_join", "rcell_pipe")
+TITLE = re.compile(r"<title>([^<]+)</title>")
+HEAD = """digraph crates {
+    rankdir=BT; ranksep=0.45; nodesep=0.18; newrank=true; bgcolor=white;
+    style=filled; labeljust=l; fontname="Helvetica"; fontsize=13;
+    node [shape=box, style="filled,rounded", fillcolor=white, fontname="Helvetica", fontsize=11, height=0.3, margin="0.08,0.04"];
+    edge [arrowsize=0.5, color="#777777"];
+"""
+
+
+def crates():
+    """What each crate of the product stands on, of the product alone."""
+    with open(f"{ROOT}/crates.txt", encoding="ascii") as file:
+        found = {name: words.split() for name, _, words in (line.partition(":") for line in file) if name.strip()}
+    is_of_tests = re.compile(r"_tests$|_test_maps$")
+    product = {name: words for name, words in found.items() if not is_of_tests.search(name)}
+    return {name: [word for word in words if word in product] for name, words in product.items()}
+
+
+def all_below(name, uses):
+    """Every crate that one stands on, also by others."""
+    return set(uses[name]).union(*(all_below(below, uses) for below in uses[name])) if uses[name] else set()
+
+
+def edges(uses):
+    """Each crate with those it stands on, but for those that another of them stands on, too."""
+    for name, direct in uses.items():
+        implied = set().union(*(all_below(below, uses) for below in direct)) if direct else set()
+        for below in direct:
+            if below not in implied:
+                yield name, below
+
+
+def room(name):
+    return "rcell" if name.startswith("rcell") else name.split("_")[1]
+
+
+def dot():
+    """The graph in the language of dot, with a frame around each room; what the program does not stand on has a dashed line."""
+    uses, lines = crates(), []
+    of_the_program = {it for program in PROGRAMS for it in (program, *all_below(program, uses))}
+    for place, colour in ROOMS.items():
+        lines.append(f'    subgraph cluster_{place} {{ label="{place}"; color="{colour}";')
+        for name in (name for name in uses if room(name) == place):
+            style = "" if name in of_the_program else ' [style="filled,rounded,dashed"]'
+            lines.append(f"        {name}{' [penwidth=2]' if name in PROGRAMS else style};")
+        lines.append("    }")
+    lines += [f"    {name} -> {below};" for name, below in edges(uses)]
+    return HEAD + "\n".join(lines) + "\n}\n"
+
+
+def draw(path):
+    made = subprocess.run(["dot", "-Tsvg"], input=dot(), check=True, capture_output=True, text=True).stdout
+    # Comments name the version of dot; without them the picture changes only where the crates do.
+    with open(path, "w", encoding="utf-8") as file:
+        file.write(re.sub(r"<!--.*?-->\n?", "", made, flags=re.DOTALL))
+
+
+def check():
+    """How many crates and edges the picture has as crates.txt says, and what is wrong with the others."""
+    uses = crates()
+    wanted = {*uses, *(f"{name}->{below}" for name, below in edges(uses))}
+    with open(PICTURE, encoding="utf-8") as file:
+        shown = {html.unescape(title) for title in TITLE.findall(file.read())}
+    shown = {title for title in shown if title != "crates" and not title.startswith("cluster_")}
+    name = os.path.relpath(PICTURE, ROOT)
+    faults = [f"{name}: {title} is missing (make pictures draws it)" for title in sorted(wanted - shown)]
+    faults += [f"{name}: {title} is not in crates.txt (make pictures leaves it out)" for title in sorted(shown - wanted)]
+    return len(wanted & shown), faults
+
+
+def main():
+    if len(sys.argv) != 2 or sys.argv[1].startswith("-"):
+        sys.exit(__doc__)
+    draw(sys.argv[1])
+
+
+if __name__ == "__main__":
+    main()

@@ -1,0 +1,315 @@
+#!/usr/bin/env python3
+"""Runs the examples of the documents on the built programs, and compares what they show byte for byte.
+
+    documents.py [--program PATH] [--joiner PATH] [--pipe PATH] [--write] [--texts [WORD..] | DOCUMENT..]
+
+A document is run in a folder of its own that has the programs in bin/, the helpers beside them, and examples/.
+Its fenced blocks are taken from the top:
+    console          lines that begin with `$ ` are given to sh, those with `> ` go on with the command above; the lines
+                     after a command are what it must print, standard output and standard error together
+    pycon            a session of Python, which must print what it shows
+    console needs=A,B  the same where A and B are installed, programs, files by their paths or packages such as python3-rasterio;
+                     else it is skipped
+    text file=PATH   a file (also python file=PATH); the commands of later blocks find it
+    text, sh         shown and not run: such a block has no command with its output
+The folder that a block goes to by `cd` is that of the next. With --write what is printed takes the place of what is shown.
+Of docs/grass.md the program's side of each table is run, too (differences.py), and the flags and keys that docs/commands.md,
+docs/rcell-join.md and the manual pages name are tried (command_options.py). What needs no program is tried first, and with --texts
+alone, or what ends in a WORD, as in `--texts links`: docs/errors.md has the table of python/src/rcell_front/messages.json (messages.py), docs/crates.svg the crates of crates.txt
+(crate_graph.py), docs/proofs.md and README.md the numbers of lines that have to be believed (reading.py), README.md and docs/speed.md
+the figures of bench/RESULTS.md (figures.py), each link and anchor leads somewhere (links.py), the edits, clauses and laws that the
+documents cite exist (citations.py), and the manual pages pass the warnings of man if it is installed.
+The last line is 'N passed, M failed'.
+"""
+import argparse
+import difflib
+import glob
+import os
+import re
+import shutil
+import subprocess
+import sys
+import tempfile
+from dataclasses import dataclass, field
+
+ROOT = os.path.abspath(f"{__file__}/../../..")
+sys.path.insert(1, f"{ROOT}/tools/grass")
+
+import citations
+import command_options
+import crate_graph
+import differences
+import figures
+import links
+import messages
+
+DOCUMENTS = ["README.md", "docs/tutorial.md", "docs/howto.md", "docs/large-maps.md", "docs/commands.md", "docs/rcell-join.md",
+             "docs/pipe.md", "docs/errors.md", "docs/grass.md", "examples/islands/README.md", "docs/proofs.md",
+             *(f"examples/{name}/README.md" for name in ("change", "woodland", "stream", "majority", "protected", "large-map"))]
+FENCE = re.compile(r"```(\S*)(?: file=(\S+))?(?: needs=(\S+))?\n(.*?)^```$", re.MULTILINE | re.DOTALL)
+# What is said of the lines that have to be believed: numbers, and what stands around them.
+READING_ROW = re.compile(r"(`make reading(?: COMMAND=(?P<command>\S+))?` \| )(\d+)( \| )(\d+)( \| )(\d+)( \|)")
+READING_SENTENCE = re.compile(r"(for a table of (?P<command>r\.\w+) )(\d+)( lines, )(\d+)( with comments)")
+LANGUAGES = {"console", "pycon", "text", "python", "sh"}
+PACKAGES = {"gdal_retile.py": "python3-gdal", "gdalinfo": "gdal-bin", "Rscript": "r-base-core",
+            "/usr/share/gmt-gshhg/binned_GSHHS_f.nc": "gmt-gshhg-full", "/usr/share/qgis/resources/data/world_map.gpkg": "qgis-common"}
+PYTHON_PACKAGES = "/usr/lib/python3/dist-packages"
+SESSION = "import sys; sys.path.insert(0, sys.argv[1]); import documents; print(documents.by_session(sys.stdin.read(), {}), end='')"
+SECONDS = 600  # only what hangs takes longer, also on a machine with much other work
+END_OF_COMMAND = "==== a command of a document has ended ===="
+
+
+@dataclass
+class Block:
+    """A fenced block: the line of its document that it begins at, and from where to where its text goes."""
+
+    line: int
+    span: tuple[int, int]
+    language: str
+    file: str
+    needs: list[str]
+    text: str
+
+
+@dataclass
+class Command:
+    """A command with the lines that it must print."""
+
+    text: str
+    output: list[str] = field(default_factory=list)
+
+
+def blocks_of(document):
+    for found in FENCE.finditer(document):
+        needs = found[3].split(",") if found[3] else []
+        yield Block(document.count("\n", 0, found.start()) + 1, found.span(4), found[1], found[2] or "", needs, found[4])
+
+
+def commands_of(block):
+    """The commands of a console block; a ValueError where it does not begin with one."""
+    commands = []
+    for line in block.text.splitlines():
+        if line.startswith("$ "):
+            commands.append(Command(line[2:]))
+        elif not commands:
+            raise ValueError("no command at the top of the block")
+        elif line.startswith("> ") and not commands[-1].output:
+            commands[-1].text += "\n" + line[2:]
+        else:
+            commands[-1].output.append(line)
+    return commands
+
+
+def script_of(commands):
+    """The commands as one script of sh that prints a line after each, and keeps its status for the next."""
+    return "".join(f"{command.text}\nended=$?; echo '{END_OF_COMMAND}'; (exit $ended)\n" for command in commands)
+
+
+class Room:
+    """The folder that the blocks of a document are run in, and where in it they are."""
+
+    def __init__(self, path, programs):
+        self.top = self.here = os.path.realpath(path)
+        os.mkdir(f"{path}/bin")
+        for name, program in programs.items():
+            shutil.copy(program, f"{path}/bin/{name}")
+        for helper in glob.glob(f"{ROOT}/helpers/rcell-*[a-z]"):
+            shutil.copy(helper, f"{path}/bin")
+        shutil.copytree(f"{ROOT}/helpers", f"{path}/share/rcell", ignore=shutil.ignore_patterns("__pycache__", "rcell-*", "tests"))
+        shutil.copytree(f"{ROOT}/python/src", f"{path}/share/rcell", ignore=shutil.ignore_patterns("__pycache__"), dirs_exist_ok=True)
+        shutil.copytree(f"{ROOT}/examples", f"{path}/examples", ignore=shutil.ignore_patterns("__pycache__"))
+
+    def put(self, block):
+        path = f"{self.here}/{block.file}"
+        os.makedirs(os.path.dirname(path), exist_ok=True)
+        with open(path, "w", encoding="utf-8") as file:
+            file.write(block.text)
+
+    def environment(self):
+        """Of the commands: the programs and helpers are on the path, and the Python package can be imported."""
+        return {"PATH": f"{self.top}/bin:/usr/bin:/bin", "HOME": self.top, "LC_ALL": "C.UTF-8", "PYTHONPATH": f"{ROOT}/python/src",
+                "PYTHONDONTWRITEBYTECODE": "1"}
+
+    def session(self, text):
+        """A session of Python with what it prints."""
+        words = ["/usr/bin/python3", "-c", SESSION, f"{ROOT}/python/tools"]
+        ran = subprocess.run(words, cwd=self.here, env=self.environment(), input=text, capture_output=True, text=True, timeout=SECONDS)
+        return ran.stdout + ran.stderr
+
+    def printed(self, commands):
+        """What the commands print, one text a command; a ValueError where they do not all end."""
+        script = f"exec 2>&1\n{script_of(commands)}pwd\n"
+        ran = subprocess.run(["sh", "-c", script], cwd=self.here, env=self.environment(), timeout=SECONDS,
+                             stdin=subprocess.DEVNULL, stdout=subprocess.PIPE)
+        *texts, here = ran.stdout.decode(errors="replace").split(f"{END_OF_COMMAND}\n")
+        if len(texts) != len(commands):
+            raise ValueError(f"only {len(texts)} of {len(commands)} commands ended")
+        self.here = here.rstrip("\n")
+        return texts
+
+
+def shown_text(commands, texts):
+    """A console block of the commands, each with its text."""
+    spelled = ["$ " + command.text.replace("\n", "\n> ") + "\n" for command in commands]
+    return "".join(command + text for command, text in zip(spelled, texts))
+
+
+def is_installed(name):
+    """Whether a program, a file by its path, or a Python package by its Debian name, such as python3-rasterio, is there."""
+    module = {"python3-gdal": "osgeo"}.get(name, name.removeprefix("python3-"))
+    return bool(shutil.which(name) or os.path.isfile(name) or os.path.exists(f"{PYTHON_PACKAGES}/{module}"))
+
+
+def judge(block, room):
+    """What is wrong with a block, or '', and its text as it must be; None in place of a fault where nothing is run."""
+    if block.language not in LANGUAGES:
+        return f"a block of an unknown kind: {block.language!r}", block.text
+    if block.file:
+        room.put(block)
+        return None, block.text
+    missing = [name for name in block.needs if not is_installed(name)]
+    if missing:
+        packages = " ".join(PACKAGES.get(name, name) for name in missing)
+        print(f"skipped  documents: {', '.join(missing)} is not installed, for the block at line {block.line}; install: apt-get install {packages}")
+        return None, block.text
+    if block.language == "pycon":
+        right = room.session(block.text)
+        return unlike(block.text, right), right
+    if block.language != "console":
+        has_command = re.search(r"^\$ ", block.text, re.MULTILINE)
+        return "a command with its output in a block that is not run" if has_command else None, block.text
+    try:
+        commands = commands_of(block)
+        right = shown_text(commands, room.printed(commands))
+    except (ValueError, subprocess.TimeoutExpired) as fault:
+        return str(fault), block.text
+    return unlike(block.text, right), right
+
+
+def unlike(shown, printed):
+    """How what a block shows differs from what is printed, or ''."""
+    if shown == printed:
+        return ""
+    differs = difflib.unified_diff(shown.splitlines(), printed.splitlines(), "shown", "printed", lineterm="", n=1)
+    return "\n    ".join(differs) or "the last line has no end"
+
+
+def run_document(name, programs, write):
+    """How many blocks of a document are as they say, and what is wrong with the others."""
+    with open(f"{ROOT}/{name}", encoding="utf-8") as file:
+        document = file.read()
+    passed, faults, right, at = 0, [], "", 0
+    with tempfile.TemporaryDirectory(prefix="rcell-documents-") as path:
+        room = Room(path, programs)
+        for block in blocks_of(document):
+            fault, text = judge(block, room)
+            right, at = right + document[at : block.span[0]] + text, block.span[1]
+            passed += fault == ""
+            if fault:
+                faults.append(f"{name}:{block.line}: {fault}")
+    if write:
+        with open(f"{ROOT}/{name}", "w", encoding="utf-8") as file:
+            file.write(right + document[at:])
+    return passed, faults
+
+
+def check_differences(program):
+    """The program's side of the tables of docs/grass.md."""
+    passed, faults = 0, []
+    with tempfile.TemporaryDirectory(prefix="rcell-differences-") as room:
+        for row in differences.rows():
+            answer = differences.by_rcell(row, program, room)
+            passed += answer == row.rcell
+            if answer != row.rcell:
+                faults.append(f"{differences.DOCUMENT}:{row.line}: rcell answers {answer!r}, and not {row.rcell!r}")
+    return passed, faults
+
+
+def counts_of_reading(command):
+    """The numbers of lines that have to be believed: of definitions, with comments, and of Rust types."""
+    words = [sys.executable, f"{ROOT}/tools/lint/reading.py", "--count", *([command] if command else [])]
+    return re.findall(r"\d+", subprocess.check_output(words, text=True))
+
+
+def check_reading(write):
+    """Whether docs/proofs.md and README.md have the numbers of lines that have to be believed; `write` mends them."""
+    counted, faults = 0, []
+    for name, pattern in (("docs/proofs.md", READING_ROW), ("README.md", READING_SENTENCE)):
+        with open(f"{ROOT}/{name}", encoding="utf-8") as file:
+            document = file.read()
+
+        def with_counts(found):
+            nonlocal counted
+            around, command, *parts = found.groups()
+            told, between = parts[0::2], [around, *parts[1::2]]
+            wanted = counts_of_reading(command)[:len(told)]
+            counted += told == wanted
+            if told != wanted:
+                faults.append(f"{name}: {command or 'all'} has {', '.join(wanted)} lines, and not {', '.join(told)}")
+            return "".join(text for pair in zip(between, [*wanted, ""]) for text in pair)
+
+        right = pattern.sub(with_counts, document)
+        if write:
+            with open(f"{ROOT}/{name}", "w", encoding="utf-8") as file:
+                file.write(right)
+    return counted + (not (missing := names_not_read())), faults + missing
+
+
+def names_not_read():
+    """The names that tools/lint/reading.py leaves out although a definition that it prints uses them."""
+    words = [sys.executable, f"{ROOT}/tools/lint/reading.py", "--check"]
+    return subprocess.run(words, stdout=subprocess.PIPE, text=True).stdout.splitlines()[:-1]
+
+
+def warnings_of_man(page):
+    """What man warns of on a manual page of the sources, or on that of a path."""
+    environment = {**os.environ, "LC_ALL": "C.UTF-8", "MANROFFSEQ": "", "MANWIDTH": "80"}
+    ran = subprocess.run(["man", "--warnings", "-E", "UTF-8", "-l", "-Tutf8", "-Z", os.path.join(ROOT, page)], env=environment,
+                         stdout=subprocess.DEVNULL, stderr=subprocess.PIPE, text=True)
+    return [f"{page}: {warning}" for warning in ran.stderr.splitlines() or ["man fails"] * bool(ran.returncode)]
+
+
+def has_man():
+    return bool(shutil.which("man") and shutil.which("groff"))
+
+
+def check_pages():
+    """Whether man has nothing to warn of on the manual pages, also those of the helpers, where it is installed."""
+    if not has_man():
+        print("skipped  documents: man or groff is not installed, for the manual pages; install: apt-get install man-db groff")
+        return 0, []
+    pages = sorted(os.path.relpath(path, ROOT) for folder in ("docs", "helpers") for path in glob.glob(f"{ROOT}/{folder}/*.1"))
+    faults = [warnings_of_man(page) for page in pages]
+    return faults.count([]), [fault for found in faults for fault in found]
+
+
+def main():
+    words = argparse.ArgumentParser(description=__doc__, formatter_class=argparse.RawDescriptionHelpFormatter)
+    words.add_argument("--program", default=f"{ROOT}/bin/rcell")
+    words.add_argument("--joiner", default=f"{ROOT}/bin/rcell-join")
+    words.add_argument("--pipe", default=f"{ROOT}/bin/rcell-pipe")
+    words.add_argument("--write", action="store_true")
+    words.add_argument("--texts", action="store_true")
+    words.add_argument("documents", nargs="*")
+    settings = words.parse_args()
+    program, joiner = os.path.abspath(settings.program), os.path.abspath(settings.joiner)
+    programs = {"rcell": program, "rcell-join": joiner, "rcell-pipe": os.path.abspath(settings.pipe)}
+    texts = [("the messages", lambda: messages.check(settings.write)), ("the links", links.check), ("the citations", citations.check),
+             ("the picture of the crates", crate_graph.check), ("the manual pages", check_pages),
+             ("the numbers of lines", lambda: check_reading(settings.write)), ("the figures", lambda: figures.check(settings.write))]
+    runs = [(name, lambda name=name: run_document(name, programs, settings.write)) for name in settings.documents or DOCUMENTS]
+    if not settings.documents:
+        runs += [("the tables of differences", lambda: check_differences(program)),
+                 ("the flags, keys and functions", lambda: command_options.check(program, joiner))]
+    checks = [it for it in texts if not settings.documents or it[0].split()[-1] in settings.documents] if settings.texts else runs if settings.documents else texts + runs
+    passed = failed = 0
+    for name, check in checks:
+        good, faults = check()
+        print(f"{name}: {good} as shown" + "".join(f"\n  {fault}" for fault in faults), flush=True)
+        passed, failed = passed + good, failed + len(faults)
+    print(f"{passed} passed, {failed} failed")
+    return 1 if failed else 0
+
+
+if __name__ == "__main__":
+    sys.exit(main())

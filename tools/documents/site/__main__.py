@@ -1,0 +1,48 @@
+"""Make the site of the documents, or try it in a browser.
+
+    python3 tools/documents/site [--check] [--out FOLDER]
+
+The pages are made from the Markdown of the repository with mkdocs, the reference of Python from docstrings, that of R from its Rd
+files, and the manual pages with groff. The site works from the file system and loads nothing from elsewhere. --check opens each page
+of it in headless Chromium. The last line is then 'N passed, M failed'.
+"""
+import argparse
+import pathlib
+import shutil
+import subprocess
+import sys
+import tempfile
+
+import checked
+import pages
+
+ROOT = pathlib.Path(__file__).resolve().parents[3]
+
+
+def build(out):
+    """Build the site into a folder, which is made anew."""
+    with tempfile.TemporaryDirectory(prefix="rcell-site-") as room:
+        source = pathlib.Path(room)
+        (source / "docs").mkdir()
+        pages.lay_out(ROOT, source / "docs")
+        (source / "mkdocs.yml").write_text(pages.configuration(ROOT, source / "docs"), encoding="utf-8")
+        shutil.rmtree(out, ignore_errors=True)
+        subprocess.run(["mkdocs", "build", "--quiet", "--strict", "--config-file", str(source / "mkdocs.yml"), "--site-dir", str(out)], check=True)
+    pages.add_index(out)
+
+
+def main():
+    words = argparse.ArgumentParser(prog="site", description=__doc__.splitlines()[0])
+    words.add_argument("--check", action="store_true", help="try the site in headless Chromium")
+    words.add_argument("--out", default=str(ROOT / "dist" / "site"))
+    settings = words.parse_args()
+    out = pathlib.Path(settings.out).resolve()
+    if settings.check:
+        return checked.check(out)
+    build(out)
+    print(f"The site is {out}/index.html")
+    return 0
+
+
+if __name__ == "__main__":
+    sys.exit(main())

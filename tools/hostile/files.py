@@ -1,0 +1,249 @@
+#!/usr/bin/env python3
+"""Hostile files, through the helpers and the Python package: no traceback, and no wrong number.
+
+    files.py [--count N] [--tiffs N] [--seed N]
+
+AAIGrids go through rcell-aaigrid, grids through rcell-tif --from, TIFFs with changed or missing bytes through rcell-tif and the package. What is
+written is compared with a plain reading of the same text, or for TIFFs with what GDAL's own arrays say; what is refused is refused by the
+exceptions that end in one line. TIFFs of which GDAL alone reads other cells each time are left out, and counted. Each kind gets N files. Needs
+numpy and, for TIFFs, GDAL's Python. The last line is 'N passed, M failed'.
+"""
+import argparse
+import importlib.machinery
+import importlib.util
+import os
+import random
+import re
+import resource
+import shutil
+import subprocess
+import sys
+import tempfile
+import traceback
+from fractions import Fraction
+
+ROOT = os.path.abspath(f"{__file__}/../../..")
+sys.path[:0] = [f"{ROOT}/tools/model", f"{ROOT}/helpers", f"{ROOT}/python/src"]
+sys.dont_write_bytecode = True
+GREATEST = 2**31 - 1
+PROGRESS = 5000
+MEMORY = 3 << 30  # bytes that a broken file may make a reader ask for
+LEFT_OUT = "left out"
+READ = "import sys; from osgeo import gdal; sys.stdout.buffer.write(gdal.Open(sys.argv[1]).ReadRaster())"
+NUMBER = re.compile(r"[+-]?([0-9]+\.?[0-9]*|\.[0-9]+)([eE][+-]?[0-9]+)?")
+WORDS = ["0", "00", "+0", "-0", "1", "7", "007", "+7", "255", "-9999", "-09999", "-9999.0", "2147483647", "-2147483647", "2147483648", "-2147483648", "1.0",
+         "1.5", "1e2", "1e-2", "-", "+", "nan", "NaN", "-nan", "inf", "*", "1e309", "-3.4028235e38", "-3.4028234663852886e+38", "1234567", "1234567.5", "x",
+         "1_0", "\u0661", "1,5", "9" * 30, "1e400", "-2147481600"]
+NODATA = ["0", "-9999", "-9999.0", "255", "7", "nan", "-2147483648", "2147483648", "1234567.5", "1e309", "-1e400", "1e4000", "-3.4028234663852886e+38", "x", "*", "+7", "00"]
+
+
+def loaded(name):
+    """A helper program as a module."""
+    loader = importlib.machinery.SourceFileLoader(name.replace("-", "_"), f"{ROOT}/helpers/{name}")
+    module = importlib.util.module_from_spec(importlib.util.spec_from_loader(loader.name, loader))
+    loader.exec_module(module)
+    return module
+
+
+def value_of(word):
+    """The number that a word spells, or None."""
+    found = NUMBER.fullmatch(word)
+    if not found or len(word) > 64 or abs(int((found[2] or "e0")[1:])) > 400:
+        return None
+    return Fraction(word)
+
+
+def is_null(word, nodata):
+    """Whether a cell of an AAIGrid is null: by its value, by its text, or as a float of 32 bits that is written otherwise."""
+    if nodata is None:
+        return False
+    if word == nodata or (nodata.lstrip("+-").lower() == "nan" == word.lstrip("+-").lower()):
+        return True
+    cell, null = value_of(word), value_of(nodata)
+    if cell is None or null is None:
+        return False
+    return cell == null or (abs(null) > 10**10 and abs(cell - null) * 10**6 <= abs(null))
+
+
+def cells_of(text):
+    """The cells of a grid of rcell, in the plainest way; None where rcell would refuse one."""
+    lines, fields = text.decode("latin-1").split("\n"), {}
+    while lines and ":" in lines[0]:
+        key, _, value = lines.pop(0).partition(":")
+        fields[key] = value.strip()
+    words = re.findall(r"[^ \t\r\n]+", "\n".join(lines))
+    null = fields.get("null", "*")
+    good = all(word == null or (re.fullmatch(r"[+-]?[0-9]+", word) and len(word) <= 64 and abs(int(word)) <= GREATEST) for word in words)
+    return [None if word == null else int(word) for word in words] if good and len(words) == int(fields["rows"]) * int(fields["cols"]) else None
+
+
+def hostile_aaigrid(chance):
+    """The text of an AAIGrid, its nodata value, and its cells as words."""
+    rows, cols = chance.randint(1, 4), chance.randint(1, 5)
+    nodata = chance.choice(NODATA) if chance.random() < 0.8 else None
+    some = chance.sample(WORDS, 3) + ["1", "7", "0", nodata or "3"]
+    words = [chance.choice(some) if chance.random() < 0.3 else chance.choice(["1", "2", "300", nodata or "3"]) for _ in range(rows * cols)]
+    header = [f"ncols {cols}", f"nrows {rows}", "xllcorner 0", "yllcorner 0", "cellsize 1"] + ([f"NODATA_value {nodata}"] if nodata else [])
+    text = "\n".join(header) + "\n" + chance.choice([" ", "\n", "\t", " \r\n"]).join(words) + chance.choice(["\n", "", " "])
+    if chance.random() < 0.2:
+        at = chance.randrange(len(text))
+        text = text[:at] + chance.choice(["", "\0", "\x1b", "9" * 80, "-", "e", ":", "\n\n"]) + text[at + chance.randint(0, 3):]
+        words = None
+    return text.encode("utf-8"), nodata, words
+
+
+def fault_of_aaigrid(helper, chance, folder):
+    text, nodata, words = hostile_aaigrid(chance)
+    with open(f"{folder}/in.asc", "wb") as file:
+        file.write(text)
+    source, written = os.open(f"{folder}/in.asc", os.O_RDONLY), []
+    try:
+        helper.convert(helper.Settings(["in.asc", "out"]), source, written.append)
+    except helper.Refused:
+        return None
+    finally:
+        os.close(source)
+    found = cells_of(b"".join(written))
+    if found is None or words is None:  # rcell refuses it, or the header was spoiled
+        return None
+    wanted = [None if is_null(word, nodata) else value_of(word) for word in words]
+    return None if found == wanted else f"{text!r}: {found}, not {wanted}"
+
+
+def hostile_grid(chance):
+    rows, cols = chance.randint(1, 3), chance.randint(1, 4)
+    some = chance.sample(WORDS, 2) + ["1", "7", "*"]
+    words = [chance.choice(some) if chance.random() < 0.2 else chance.choice(["1", "2", "300", "*"]) for _ in range(rows * cols)]
+    header = [f"north: {rows}", "south: 0", f"east: {cols}", "west: 0", f"rows: {rows}", f"cols: {cols}"]
+    header += [chance.choice(["null: 7", "null: -", "null: a b", "null: " + "n" * 65, "multiplier: 2", "multiplier: 0", "multiplier: 9999999999", "type: int",
+                              "type: float", "null: 00"])] if chance.random() < 0.4 else []
+    text = "\n".join(header) + "\n" + " ".join(words) + chance.choice(["\n", "", " "])
+    return (text[: chance.randint(1, len(text))] if chance.random() < 0.2 else text).encode("utf-8")
+
+
+def fault_of_grid(helper, model, chance):
+    """rcell-tif --from takes what rcell takes, with the same cells."""
+    text = hostile_grid(chance)
+    left = [text]
+    try:
+        found = [cell for cells in helper.Grid(lambda most: left.pop()[:most] if left else b"").cells() for cell in cells.tolist()]
+    except helper.Refused:
+        return None
+    try:
+        wanted = [cell for row in model.read_map(b"m", text).rows for cell in row]
+    except model.Refused as fault:
+        return f"{text!r} is taken, and rcell says {fault.text}"
+    found = [None if cell == helper.NULL else cell for cell in found]
+    return None if found == wanted else f"{text!r}: {found}, not {wanted}"
+
+
+def hostile_tiff(chance, gdal, numpy, path):
+    """A TIFF with changed or missing bytes."""
+    shape = chance.randint(1, 40), chance.randint(1, 40)
+    code, dtype = chance.choice([(1, "u1"), (3, "i2"), (5, "i4"), (6, "f4"), (12, "u8"), (13, "i8")])
+    options = chance.choice([[], ["COMPRESS=DEFLATE"], ["COMPRESS=LZW", "TILED=YES", "BLOCKXSIZE=16", "BLOCKYSIZE=16"]])
+    if os.path.exists(path):
+        os.unlink(path)
+    made = gdal.GetDriverByName("GTiff").Create(path, shape[1], shape[0], 1, code, options)
+    made.SetGeoTransform([0, 1, 0, shape[0], 0, -1])
+    made.GetRasterBand(1).WriteArray(numpy.full(shape, chance.randint(0, 100), dtype))
+    made.GetRasterBand(1).SetNoDataValue(7)
+    made = None
+    with open(path, "rb") as file:
+        data = bytearray(file.read())
+    for _ in range(chance.randint(1, 6)):
+        data[chance.randrange(min(len(data), 500) if chance.random() < 0.7 else len(data))] = chance.choice([0, 1, 7, 0x7f, 0x80, 0xff])
+    with open(path, "wb") as file:
+        file.write(data[: chance.randint(8, len(data))] if chance.random() < 0.2 else data)
+
+
+def ways_of_tiff(helper, gdal, rcell):
+    """What reads a TIFF, with the exceptions that end in one line."""
+    def by_helper(path):
+        written = []
+        dataset = gdal.Open(path)
+        helper.write_grid(dataset, helper.one_band(dataset), written.append)
+        return cells_of(b"".join(written))
+
+    def by_package(path):
+        cells = rcell.run("r.stats -1 input=m", m=path)[0].categories[:, 0].tolist()
+        return [None if cell == helper.NULL else cell for cell in cells]
+
+    return (by_helper, (helper.Refused, RuntimeError, MemoryError)), (by_package, (rcell.RcellError, MemoryError))
+
+
+def fault_of_tiff(ways, chance, gdal, numpy, path):
+    hostile_tiff(chance, gdal, numpy, path)
+    answers = []
+    for way, expected in ways:
+        try:
+            answers.append(way(path))
+        except expected:
+            continue
+    if len(answers) < 2 or answers[0] == answers[1]:
+        return None
+    if is_unsteady(path):
+        return LEFT_OUT
+    kept = shutil.copy(path, f"{tempfile.gettempdir()}/hostile-{os.getpid()}-{chance.randrange(10**6)}.tif")
+    return f"{kept}: the helper and the package differ"
+
+
+def is_unsteady(path):
+    """Whether the cells that GDAL alone reads depend on the bytes in free memory: of a block that ends early, it leaves the rest as it was."""
+    readings = [subprocess.run([sys.executable, "-c", READ, path], env={**os.environ, "MALLOC_PERTURB_": str(byte)}, capture_output=True, check=False).stdout
+                for byte in (1, 85, 170)]
+    return len(set(readings)) > 1
+
+
+def tried(name, count, seed, fault_of):
+    """Return how many files of a kind are good, and how many are not."""
+    failed = left_out = 0
+    for at in range(count):
+        chance = random.Random(f"{seed} {name} {at}")
+        try:
+            fault = fault_of(chance)
+        except Exception:
+            fault = traceback.format_exc(limit=-2)
+        left_out += fault == LEFT_OUT
+        if fault and fault != LEFT_OUT:
+            failed += 1
+            print(f"{name} {at}: {fault[:600]}", flush=True)
+        if (at + 1) % PROGRESS == 0 or at + 1 == count:
+            print(f"{name}: {at + 1 - failed - left_out} of {at + 1}, {left_out} left out, seed {seed}", flush=True)
+    return count - failed - left_out, failed
+
+
+def main():
+    words = argparse.ArgumentParser(description=__doc__, formatter_class=argparse.RawDescriptionHelpFormatter)
+    words.add_argument("--count", type=int, default=500)
+    words.add_argument("--tiffs", type=int, help="of TIFFs, another number")
+    words.add_argument("--seed", type=int, default=1)
+    settings = words.parse_args()
+    resource.setrlimit(resource.RLIMIT_AS, (MEMORY, MEMORY))
+    import model_grids
+    import rcell_tif
+
+    aaigrid = loaded("rcell-aaigrid")
+    with tempfile.TemporaryDirectory(prefix="rcell-hostile-") as folder:
+        counts = [tried("AAIGrid", settings.count, settings.seed, lambda chance: fault_of_aaigrid(aaigrid, chance, folder)),
+                  tried("grid", settings.count, settings.seed, lambda chance: fault_of_grid(rcell_tif, model_grids, chance))]
+        try:
+            import numpy
+            from osgeo import gdal
+
+            importlib.import_module("rasterio")
+        except ImportError as fault:
+            print(f"skipped  helpers/hostile TIFFs: {fault}; install: apt-get install python3-gdal python3-rasterio")
+        else:
+            import rcell
+
+            os.environ.setdefault("RCELL", f"{ROOT}/bin/rcell")
+            gdal.UseExceptions()
+            ways = ways_of_tiff(rcell_tif, gdal, rcell)
+            counts.append(tried("TIFF", settings.count if settings.tiffs is None else settings.tiffs, settings.seed, lambda chance: fault_of_tiff(ways, chance, gdal, numpy, f"{folder}/m.tif")))
+    print(f"{sum(passed for passed, _ in counts)} passed, {sum(failed for _, failed in counts)} failed")
+    return 1 if any(failed for _, failed in counts) else 0
+
+
+if __name__ == "__main__":
+    sys.exit(main())

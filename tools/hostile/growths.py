@@ -1,0 +1,142 @@
+"""Each growth of memory refused in turn: over the program on each case, and over the built test programs of the crates."""
+from __future__ import annotations
+
+import glob
+import itertools
+import os
+import re
+import signal
+import subprocess
+import time
+from typing import Iterator
+
+import model
+from compare import ROOT, Program, is_told_refusal, read
+from case_texts import Cases, Made, Report
+
+SECONDS = 120  # the most that a test may take
+MOST_GROWTHS = 2000  # of a test that grows more often, some are chosen
+SECONDS_OF_CHOICE = 60  # and as many as so much time allows
+PASSED, FAILED = 0, 101  # how a test ends that returned
+ASSERTED = -signal.SIGABRT  # how one ends in which an assertion did not hold, and says so
+FIRST_REFUSED = b"rcell: arguments:0: no memory\n"  # the first growth is that of the words
+TEST = re.compile(r"^(\S+): test$", re.M)
+AGAIN = "_again"  # ends the name of a test that makes a refused call once more, over an object that is as before
+TOLD_AGAIN = b"made again"  # what such a test tells where it does so
+CALLS_AGAIN = 8  # the calls that leave their object unchanged, and a run over a sink whose flush works or fails
+
+
+# The program
+
+
+def numbers(settings, asked: int) -> Iterator[int]:
+    """The growths to refuse: all, counted upwards without an end, or some of those that were asked for."""
+    if settings.growths >= asked:
+        return itertools.count(1)
+    return iter(sorted(settings.random.sample(range(1, asked + 1), settings.growths)))
+
+
+def wrong_growth(program: Program, made: Made, expected: model.Answer, shim: str, settings) -> tuple[str, int]:
+    """What is wrong with a run of which a growth was refused, and how many were refused."""
+    plain, asked = program.answer_refused(made.words, shim, 0)
+    if plain != expected:
+        return f"{plain}, and not {expected}", 0
+    first, _ = program.answer_refused(made.words, shim, 1)
+    if (first.status, first.output, first.told) != (3, b"", FIRST_REFUSED):
+        return f"with the first growth refused: {first}", 0
+    refused = 0
+    for at in numbers(settings, asked):
+        got, asked = program.answer_refused(made.words, shim, at)
+        if asked < at:
+            return ("" if got == expected else f"growth {at} was not asked for, and yet {got}"), refused
+        refused += 1
+        goes_on = got == expected and asked > at  # the standard library asked once more
+        if not goes_on and not is_told_refusal(expected, got):
+            return f"with growth {at} refused: {got}", refused
+    return "", refused
+
+
+def in_turn(program: Program, cases: Cases) -> Iterator[tuple[str, Made, model.Answer]]:
+    """Each case, with its files in the current folder, and what the model answers."""
+    for name, made in cases.made.items():
+        program.put(made)
+        yield name, made(made)
+    for name, (folder, words, expected) in cases.others.items():
+        os.chdir(folder)
+        yield name, Made({}, [], words), expected
+    os.chdir(program.room)
+
+
+def growths(report: Report, program: Program, shim: str, cases: Cases, settings) -> None:
+    refused = number = 0
+    for name, made, expected in in_turn(program, cases):
+        wrong, count = wrong_growth(program, made, expected, shim, settings)
+        refused, number = refused + count, number + 1
+        report.check(f"growths of {name}", wrong)
+    report.runs += refused
+    print(f"growths: {number} cases, {refused} growths refused in turn")
+
+
+# The tests of the crates
+
+
+def run_test(path: str, test: str, room: str, shim: str, at: int) -> tuple[int, bytes, int]:
+    """How a test ends with growth `at` refused, what it tells, and how many growths it asked for."""
+    count = f"{room}/count"
+    environment = {"PATH": "/usr/bin:/bin", "LD_PRELOAD": shim, "REFUSE_AT": str(at), "REFUSE_COUNT": count}
+    done = subprocess.run([path, test], cwd=room, env=environment, stdin=subprocess.DEVNULL, capture_output=True, timeout=SECONDS)
+    return done.returncode, done.stderr, int(read(count, b"0"))
+
+
+def is_end(test: str, status: int, told: bytes) -> bool:
+    """Whether a test may end so with a growth refused. One that makes a refused call once more has to find all as it asserts."""
+    return status in (PASSED, FAILED) or not test.endswith(AGAIN) and status == ASSERTED and b"assert" in told
+
+
+def end_of(status: int, told: bytes) -> str:
+    if status == PASSED:
+        return "made again" if TOLD_AGAIN in told else "passed"
+    return "named memory" if re.search(rb"Alloc|[Mm]emory", told) else "failed"
+
+
+def wrong_test(path: str, test: str, room: str, shim: str, settings) -> tuple[str, dict[str, int]]:
+    """What is wrong with a test of which each growth is refused in turn, and how its runs ended."""
+    status, told, asked = run_test(path, test, room, shim, 0)
+    ends = {"growths": asked, "refused": 0, "passed": 0, "made again": 0, "named memory": 0, "failed": 0}
+    if status != PASSED:
+        return f"status {status}, told {told!r}", ends
+    chosen = range(1, asked + 1) if asked <= MOST_GROWTHS else settings.random.sample(range(1, asked + 1), MOST_GROWTHS)
+    begun = time.monotonic()
+    for at in chosen:
+        if asked > MOST_GROWTHS and time.monotonic() - begun > SECONDS_OF_CHOICE:
+            break
+        status, told, _ = run_test(path, test, room, shim, at)
+        ends["refused"] += 1
+        if not is_end(test, status, told):
+            return f"with growth {at} refused: status {status}, told {told!r}", ends
+        ends[end_of(status, told)] += 1
+    if test.endswith(AGAIN) and not ends["made again"]:
+        return "no call was made again", ends
+    return "", ends
+
+
+def tests(report: Report, room: str, shim: str, settings) -> None:
+    """The test programs that the gate built: a refused growth ends a test by what it returns or asserts, and in no other way.
+
+    A short run takes those tests alone that make a refused call once more.
+    """
+    programs = sorted(glob.glob(f"{ROOT}/crates/*/out/*_tests"))
+    made_again = 0
+    for path in programs:
+        listed = subprocess.run([path, "--list"], capture_output=True, text=True, check=True).stdout
+        for test in TEST.findall(listed):
+            made_again += test.endswith(AGAIN)
+            if settings.short and not test.endswith(AGAIN):
+                continue
+            name = f"{os.path.basename(path)} {test}"
+            wrong, ends = wrong_test(path, test, room, shim, settings)
+            report.runs += ends["refused"]
+            if report.check(f"tests: {name}", wrong):
+                print(f"tests: {name}: " + ", ".join(f"{count} {end}" for end, count in ends.items()), flush=True)
+    print(f"tests: {len(programs)} test programs, in which {made_again} tests make a refused call once more")
+    report.check("tests: refused calls made again", "" if made_again >= CALLS_AGAIN else f"{made_again} of {CALLS_AGAIN} are built")

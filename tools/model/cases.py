@@ -1,0 +1,208 @@
+#!/usr/bin/env python3
+r"""Runs the proved program on each folder of cases/ and examples/, and again with each growth and each write refused in turn.
+
+A case is a folder with the files that the program reads and
+    args     its words, one a line
+    stdout   what it must write; no file: nothing
+    stderr   what it must tell; no file: nothing
+    status   its exit status; no file: 0
+    output   where its standard output goes in place of a pipe that is read: a path, or `closed` for a closed pipe
+    more     lines FILE COUNT TEXT: so many times the text, in which \n, \r and \x20 are bytes, follows what the file has
+    refused  lines SOURCE LINE BYTES: what is told where growths are refused, and how many bytes are out then; each such
+             line has to come, and no other; no file: those that the model allows
+A run whose growth is refused has written just what the statements before the line that it tells write, of which
+tools/model/model.py says what it is. The last line is 'N passed, M failed'.
+"""
+import glob
+import os
+import re
+import resource
+import shutil
+import subprocess
+import sys
+import tempfile
+
+import model
+
+ROOT = os.path.abspath(f"{__file__}/../../..")
+PROGRAM = f"{ROOT}/bin/rcell"
+OUR_OWN = ("args", "stdout", "stderr", "status", "output", "more", "refused")
+LONGEST_LIMITED = 256  # a case that writes more is not tried with outputs of each size
+NO_MEMORY = re.compile(rb"rcell: ([^:]+):([0-9]+): no memory\n")
+
+
+def read(path, otherwise=b""):
+    if not os.path.isfile(path):
+        return otherwise
+    with open(path, "rb") as file:
+        return file.read()
+
+
+def more_of(case):
+    """What follows the contents of files of the case: names of files, each with bytes."""
+    for name, count, text in (line.split() for line in read(f"{case}/more").decode().splitlines()):
+        yield name, text.encode().decode("unicode_escape").encode("latin-1") * int(count)
+
+
+def lay_out(case, folder):
+    """Puts the files of the case into a new folder."""
+    shutil.copytree(case, folder, ignore=shutil.ignore_patterns(*OUR_OWN))
+    for name, text in more_of(case):
+        with open(f"{folder}/{name}", "ab") as file:
+            file.write(text)
+
+
+def output_to(place):
+    """The file that standard output goes to, or a pipe that is read."""
+    if not place:
+        return subprocess.PIPE
+    if place == "closed":
+        reading, writing = os.pipe()
+        os.close(reading)
+        return os.fdopen(writing, "wb")
+    return open(place, "wb")
+
+
+def folders():
+    """The folders of cases: those of cases/, and those of examples/ that have the words of a run."""
+    return sorted(glob.glob(f"{ROOT}/cases/*") + [os.path.dirname(it) for it in glob.glob(f"{ROOT}/examples/*/args")])
+
+
+def words_of(case):
+    return read(f"{case}/args").splitlines()
+
+
+def expected_of_case(case):
+    return model.Answer(int(read(f"{case}/status", b"0")), read(f"{case}/stdout"), read(f"{case}/stderr"))
+
+
+def run_to(output, case, folder, restore_signals=True, **more):
+    """Runs the program in the folder with the words of the case and its standard output to a file or a pipe."""
+    environment = {"PATH": "/usr/bin:/bin", **more}
+    ran = subprocess.run([PROGRAM.encode(), *words_of(case)], cwd=folder, stdin=subprocess.DEVNULL, stdout=output,
+                         stderr=subprocess.PIPE, timeout=120, env=environment, restore_signals=restore_signals)
+    return model.Answer(ran.returncode, ran.stdout or b"", ran.stderr)
+
+
+def run(case, folder, **more):
+    """What the program answers to the words of the case."""
+    output = output_to(read(f"{case}/output").decode().strip())
+    answer = run_to(output, case, folder, **more)
+    if output is not subprocess.PIPE:
+        output.close()
+    return answer
+
+
+def refusal(wanted, got):
+    """The source, line and number of bytes out where memory was refused; None where that is not told, where no such source is
+    among those of the run, or where what is out is not the whole output of the statements before the line. `wanted` is what
+    the run answers with memory enough."""
+    told = NO_MEMORY.fullmatch(got.told)
+    if got.status != 3 or not told:
+        return None
+    source, line = told[1], int(told[2])
+    is_place = source in (b"arguments", b"script", *wanted.grids) if line == 0 else source == b"script" and line in dict(wanted.parts)
+    before = b"".join(output for at, output in wanted.parts if at < line)
+    return (source.decode(), line, len(before)) if is_place and got.output == before else None
+
+
+def refused_in_turn(case, folder, shim, room, wanted):
+    """Refuses growth 1, 2, .. until a run asks for fewer. Answers how many there were, or what went wrong.
+
+    Where the standard library asks once more for what it was refused, the run does all its work.
+    """
+    count, found = f"{room}/count", set()
+    for at in range(1, 100000):
+        got = run(case, folder, LD_PRELOAD=shim, REFUSE_AT=str(at), REFUSE_COUNT=count)
+        asked = int(read(count) or b"0")
+        if asked < at:
+            return at - 1, wrong_refusals(case, found) if got == wanted else f"growth {at} was not asked for, and yet {got}"
+        told = refusal(wanted, got)
+        if told:
+            found.add(told)
+        elif not (got == wanted and asked > at):
+            return at, f"with growth {at} refused: {got}"
+    return at, "no run ended without a refusal"
+
+
+def wrong_refusals(case, found):
+    """What is wrong with where growths were refused, if the case says where that is."""
+    lines = (line.split() for line in read(f"{case}/refused").decode().splitlines())
+    wanted = {(source, int(line), int(count)) for source, line, count in lines}
+    return f"refused at {sorted(found)}, and not at {sorted(wanted)}" if wanted and found != wanted else ""
+
+
+def run_limited(case, folder, size):
+    """Runs the program with a file that takes so many bytes as its standard output, the signal of a full file ignored."""
+    soft, hard = resource.getrlimit(resource.RLIMIT_FSIZE)
+    with tempfile.TemporaryFile() as output:
+        resource.setrlimit(resource.RLIMIT_FSIZE, (size, hard))
+        try:
+            got = run_to(output, case, folder, restore_signals=False)
+        finally:
+            resource.setrlimit(resource.RLIMIT_FSIZE, (soft, hard))
+        output.seek(0)
+        return model.Answer(got.status, output.read(), got.told)
+
+
+def limited_in_turn(case, folder, wanted):
+    """Lets the output be a file that takes 0, 1, .. bytes. Answers how many there were, or what went wrong."""
+    sizes = range(len(wanted.output) if len(wanted.output) <= LONGEST_LIMITED else 0)
+    for size in sizes:
+        got = run_limited(case, folder, size)
+        if got != model.Answer(4, wanted.output[:size], b"rcell: output:0: write failed after %d bytes\n" % size):
+            return size + 1, f"with an output of {size} bytes: {got}"
+    return len(sizes), ""
+
+
+def judge(case, room, shim):
+    """What is wrong with a case, or '', and how many growths and how many writes were refused in turn."""
+    folder = f"{room}/folder"
+    shutil.rmtree(folder, ignore_errors=True)
+    lay_out(case, folder)
+    wanted, got = expected_of_case(case), run(case, folder)
+    if got != wanted:
+        return f"{got}, and not {wanted}", 0, 0
+    if wanted.status:
+        return "", 0, 0
+    wanted = model.program(words_of(case), os.fsencode(folder))
+    if got != wanted:
+        return f"by the model {wanted}", 0, 0
+    grown, wrong = refused_in_turn(case, folder, shim, room, wanted)
+    cut, wrong_output = limited_in_turn(case, folder, wanted)
+    return wrong or wrong_output, grown, cut
+
+
+class Count:
+    """How many checks passed and failed so far; what is wrong is printed."""
+
+    def __init__(self):
+        self.passed = self.failed = 0
+
+    def add(self, what, wrong):
+        self.passed, self.failed = self.passed + (not wrong), self.failed + bool(wrong)
+        if wrong:
+            print(f"{what}: FAILED: {wrong}", flush=True)
+
+
+def build_shim(clang, path, name="refuse"):
+    subprocess.run([clang, "--target=x86_64-unknown-linux-gnu", "-O1", "-fPIC", "-shared", "-nostdlib", "-fuse-ld=lld",
+                    "-o", path, f"{ROOT}/tools/hostile/{name}.c"], check=True)
+
+
+def main():
+    passed = failed = 0
+    with tempfile.TemporaryDirectory(prefix="rcell-cases-") as room:
+        shim = f"{room}/refuse.so"
+        build_shim(sys.argv[1], shim)
+        for case in folders():
+            wrong, grown, cut = judge(case, room, shim)
+            refusals = f", {grown} growths refused in turn" * bool(grown) + f", an output of {cut} sizes" * bool(cut)
+            print(f"{case[len(ROOT) + 1 :]}: {'FAILED: ' + wrong if wrong else 'ok' + refusals}", flush=True)
+            passed, failed = passed + (not wrong), failed + bool(wrong)
+    print(f"{passed} passed, {failed} failed")
+    return 1 if failed else 0
+
+
+if __name__ == "__main__":
+    sys.exit(main())

@@ -1,0 +1,350 @@
+#!/usr/bin/env python3
+"""Runs rcell-pipe beside rcell over the same maps as text, and beside a plain reader of requests.
+
+    test_pipe.py [CLANG] [--program PROGRAM] [--rcell PROGRAM] [--runs N] [--seed N]
+
+- N random requests of all types, with nodata, masks, labels and scripts of tools/model/fuzz.py: the printed frames must be the output of
+  rcell, and the errors of scripts those of rcell;
+- each error of a request by name, each truncation of ten requests, and random damage: the first error must be that of the plain reader;
+- a caller that stops reading, a request that announces a large map, and, with CLANG, each growth, read and write that fails.
+
+The last line is 'N passed, M failed'.
+"""
+from __future__ import annotations
+
+import argparse
+import os
+import random
+import re
+import resource
+import select
+import struct
+import subprocess
+import sys
+import tempfile
+from dataclasses import replace
+from typing import Iterator, Optional
+
+import cases
+from fuzz import damaged_bytes
+from made_cases import NAMES, ScriptMaker
+from pipe_model import NULL, TYPES, UNITS, Edges, Frame, Raster, Reader, Rejected, Response, cell_text, header, printed, request
+
+ROOT = os.path.abspath(f"{__file__}/../../..")
+SIZES = [(1, 1), (1, 70), (3, 5), (7, 130), (40, 1), (9, 64), (5, 65), (2, 3), (4, 4)]
+LABELS = [b"wood", b"a b", b"x", b"l\xc3\xa4nge"]
+STATUS_DONE, STATUS_REJECTED, STATUS_MEMORY, STATUS_FAILED = 0, 1, 3, 4
+TAKEN = re.compile(rb"q[0-9]")  # names of the grids that r.reclass reads
+MESSAGE = re.compile(rb"rcell: script:(\d+): (.*?(?: at column (\d+))?)\n")
+MOST_MEMORY = 64 << 20  # of a program that is given a large header and no rows
+LONGEST_WHOLE = 300  # of a request that is cut at each of its bytes
+DAMAGED_IN = 4  # one random request of so many is damaged too
+MOMENT = 0.3  # seconds in which a program would have written
+SECONDS = 120
+
+
+class Programs:
+    """rcell-pipe and rcell, run in a folder."""
+
+    def __init__(self, pipe: str, rcell: str, room: str):
+        self.pipe, self.rcell, self.room = pipe, rcell, room
+
+    def run(self, data: bytes, **more: str) -> tuple[int, bytes]:
+        ran = subprocess.run([self.pipe], input=data, stdout=subprocess.PIPE, timeout=SECONDS, env={"PATH": "/usr/bin:/bin", **more})
+        return ran.returncode, ran.stdout
+
+    def frames(self, data: bytes, **more: str) -> list[Frame]:
+        """The frames of a response, which has the status of the process."""
+        status, output = self.run(data, **more)
+        frames = Response(output).frames()
+        if frames[-1]["status"] != status:
+            raise ValueError(f"status {status}, and {frames[-1]}")
+        return frames
+
+    def over_text(self, maps: list[Raster], script: bytes) -> tuple[int, bytes, bytes, int]:
+        """What rcell says of the same maps as grids, and by how many lines its script is longer: labels come by r.reclass."""
+        words, before = [b"script"], b""
+        for place, it in enumerate(maps):
+            rows = (b" ".join(cell_text(cell, b"*") for cell in row) + b"\n" for row in it.cells())
+            self.put(f"{place}", header(it.edges, len(it.rows), len(it.rows[0])) + b"".join(rows))
+            words.append(b"q%d=%d" % (place, place))
+            labels = b"".join(b"%d = %d %s\n" % (category, category, text) for category, text in dict(it.labels).items())
+            before += b"r.reclass input=q%d output=%s\n%s* = *\nend\n" % (place, it.name, labels)
+        self.put("script", before + script)
+        ran = subprocess.run([self.rcell, *words], cwd=self.room, stdin=subprocess.DEVNULL, capture_output=True, timeout=SECONDS)
+        return ran.returncode, ran.stdout, ran.stderr, before.count(b"\n")
+
+    def put(self, name: str, text: bytes) -> None:
+        with open(os.path.join(self.room, name), "wb") as file:
+            file.write(text)
+
+
+# Requests made at random
+
+
+def random_raster(choice: random.Random, name: bytes, edges: Edges, rows: int, cols: int) -> Raster:
+    code = choice.randint(1, 7)
+    _, smallest, largest = TYPES[code]
+    low, high = max(smallest, choice.choice([-2, -300, NULL + 1])), min(largest, choice.choice([3, 300, 254, 2**31 - 1]))
+    nodata = choice.choice([None, low, high, smallest, largest])
+    mask = [[choice.randint(0, 1) for _ in range(cols)] for _ in range(rows)] if choice.random() < 0.3 else None
+    table = []
+    for place in range(rows):
+        number, row = choice.randint(low, high), []
+        for column in range(cols):
+            number = number if choice.random() < 0.6 else choice.randint(low, high)
+            row.append(choice.randint(smallest, largest) if mask and mask[place][column] else number)
+        table.append(row)
+    labels = [(choice.randint(low, high), choice.choice(LABELS)) for _ in range(choice.choice([0, 0, 1, 4]))]
+    return Raster(name, edges, code, table, nodata, mask, labels)
+
+
+def random_edges(choice: random.Random) -> Edges:
+    """North, south, east and west as texts, not always as rcell prints them."""
+    south, west = (choice.choice([0, 1, -1, -99999999, 5 * 10**7, choice.randint(-(10**17), 10**17)]) for _ in range(2))
+    north, east = (edge + choice.choice([1, 10**8, choice.randint(1, 10**16)]) for edge in (south, west))
+    return tuple(coordinate(choice, units) for units in (north, south, east, west))
+
+
+def coordinate(choice: random.Random, units: int) -> bytes:
+    """A number of units as a text of its many, with or without zeros that mean nothing."""
+    sign = "-" if units < 0 else choice.choice(["", "", "+"])
+    whole, part = divmod(abs(units), UNITS)
+    digits = f"{part:08}"
+    decimals = digits if choice.random() < 0.3 else digits.rstrip("0")
+    return f"{sign}{whole}{'.' if decimals else ''}{decimals}".encode()
+
+
+def random_request(choice: random.Random) -> tuple[list[Raster], bytes]:
+    rows, cols = choice.choice(SIZES)
+    names = choice.sample(NAMES, choice.choice([1, 1, 2, 3]))
+    maker = ScriptMaker(choice)
+    maker.badness = choice.choice([0, 0, 0, 0.02, 0.1])
+    edges = random_edges(choice)
+    return [random_raster(choice, name, edges, rows, cols) for name in names], maker.script(names)
+
+
+# What is wrong, or ''
+
+
+def wrong_run(programs: Programs, maps: list[Raster], script: bytes) -> str:
+    """Whether an accepted request gives what rcell gives."""
+    *frames, end = programs.frames(request(maps, script))
+    status, output, message, before = programs.over_text(maps, script)
+    if end["status"] != status:
+        return f"{end}; rcell: {status} {message!r}; {script!r}"
+    if status == STATUS_DONE:
+        text = b"".join(map(printed, frames))
+        return "" if text == output else f"{script!r}: {text!r} is not {output!r}"
+    found = MESSAGE.fullmatch(message)
+    if found is None:
+        return f"rcell says {message!r}"
+    wanted = (2, 0, int(found[1]) - before, int(found[3] or 0), found[2])
+    got = tuple(end[key] for key in ("source", "maps", "line", "column", "text"))
+    return "" if got == wanted and not frames else f"{script!r}: {got} is not {wanted}, after {len(frames)} frames"
+
+
+def wrong_reading(programs: Programs, data: bytes) -> str:
+    """Whether any bytes are read as the plain reader does, to the same first error."""
+    if data.startswith(b"RCELLP1\n"):
+        return ""  # damage made a plan of it: test_plan.py
+    try:
+        maps, script = Reader(data).run()
+    except Rejected as error:
+        *frames, end = programs.frames(data)
+        got = end["status"], end["source"], (end["text"], end["maps"], end["line"]), end["column"], len(frames)
+        wanted = STATUS_REJECTED, 1, error.place, 0, 0
+        return "" if got == wanted else f"{data!r}: {got} is not {wanted}"
+    if not all(is_plain(it) for it in maps):
+        programs.frames(data)
+        return ""
+    return wrong_run(programs, maps, script)
+
+
+def is_plain(raster: Raster) -> bool:
+    """Whether a map can be given to rcell as text: its labels as rules."""
+    return all(text in LABELS for _, text in raster.labels) and not TAKEN.match(raster.name)
+
+
+def named_errors() -> Iterator[tuple[str, bytes]]:
+    """A request for each error of docs/pipe.md, by its text."""
+    land = Raster(b"land", (b"2", b"0", b"3", b"0"), 1, [[1, 1, 2], [2, 2, 255]], 255)
+    zone, script = replace(land, name=b"zone"), b"r.stats -c input=land\n"
+    good = request([land, zone], script)
+    yield "bad magic", b"RCELLQ2" + good[7:]
+    yield "bad magic", good.replace(b"\n", b"\r\n", 1)
+    yield "bad number of maps", good[:8] + struct.pack("<I", 0) + good[12:]
+    yield "bad number of maps", good[:8] + struct.pack("<I", 65536) + good[12:]
+    yield "bad name", request([land, replace(zone, name=b"1")], script)
+    yield "name used twice", request([land, land], script)
+    yield "bad number", request([land, replace(zone, edges=(b"2", b"0", b"3", b"1e1"))], script)
+    yield "bad number", request([replace(land, edges=(b"2", b"0.123456789", b"3", b"0"))], script)
+    yield "bad region", request([replace(land, edges=(b"0", b"2", b"3", b"0"))], script)
+    yield "bad region", good.replace(struct.pack("<II", 2, 3), struct.pack("<II", 65536, 3), 1)
+    yield "bad region", good.replace(struct.pack("<II", 2, 3), struct.pack("<II", 65535, 32769), 1)
+    yield "other region", request([land, replace(zone, edges=(b"2", b"0", b"3", b"-1"))], script)
+    yield "bad type", request([land], script).replace(struct.pack("<BB", 1, 1) + struct.pack("<q", 255), struct.pack("<BBq", 8, 1, 255), 1)
+    yield "bad flags", request([land], script).replace(struct.pack("<BBq", 1, 1, 255), struct.pack("<BBq", 1, 4, 255), 1)
+    yield "bad nodata", request([replace(land, nodata=256)], script)
+    yield "bad nodata", request([land], script).replace(struct.pack("<BBq", 1, 1, 255), struct.pack("<BBq", 1, 0, 255), 1)
+    yield "bad label", request([replace(land, labels=[(NULL, b"x")])], script)
+    yield "bad label", request([replace(land, labels=[(1, b"a\nb")])], script)
+    yield "bad mask", request([replace(land, type=6, rows=[[1, 1, 2], [NULL, 2, 3]], nodata=None, mask=[[0, 0, 0], [0, 0, 2]])], script)
+    yield "cell out of range", request([land, replace(zone, type=7, rows=[[1, 1, 2], [2, 2**31, 3]], nodata=None)], script)
+    yield "script too long", request([land], b"#" * 1048577)
+    yield "bytes after the request", good + b"\n"
+    yield "bytes after the request", good + good
+    yield "request too short", b""
+
+
+def check_errors(programs: Programs, count: cases.Count) -> None:
+    for text, data in named_errors():
+        said = programs.frames(data)[-1]["text"].decode()
+        count.add(f"the error {text}", "" if said == text else f"{said!r}")
+        count.add(f"the place of {text}", wrong_reading(programs, data))
+
+
+def check_damage(programs: Programs, count: cases.Count, choice: random.Random, runs: int) -> None:
+    """Each truncation of ten requests, and some random ones with a few bytes changed."""
+    for number in range(10):
+        maps, script = random_request(choice)
+        data = request(maps, script)
+        places = range(len(data)) if len(data) < LONGEST_WHOLE else sorted(choice.sample(range(len(data)), LONGEST_WHOLE))
+        wrong = (wrong_reading(programs, data[:at]) for at in places)
+        count.add(f"request {number}, cut short", next(filter(None, wrong), ""))
+    for number in range(runs // DAMAGED_IN):
+        count.add(f"damaged request {number}", wrong_reading(programs, damaged_bytes(choice, request(*random_request(choice)))))
+
+
+def check_random(programs: Programs, count: cases.Count, choice: random.Random, runs: int) -> None:
+    for number in range(runs):
+        maps, script = random_request(choice)
+        count.add(f"request {number}", wrong_reading(programs, request(maps, script)))
+
+
+# What the system does
+
+
+def wide_request() -> bytes:
+    """A request whose response fills a pipe several times."""
+    rows = [[column % 250 for column in range(1000)]] * 400
+    return request([Raster(b"land", (b"400", b"0", b"1000", b"0"), 1, rows)], b"r.out.ascii input=land\n" * 3)
+
+
+def wrong_stop(programs: Programs, taken: int) -> str:
+    """A caller that takes so many bytes of a long response, and stops reading: the program ends."""
+    with subprocess.Popen([programs.pipe], stdin=subprocess.PIPE, stdout=subprocess.PIPE, stderr=subprocess.PIPE) as ran:
+        assert ran.stdin and ran.stdout
+        ran.stdin.write(wide_request())
+        ran.stdin.close()
+        ran.stdout.read(taken)
+        ran.stdout.close()
+        status = ran.wait(SECONDS)
+    return "" if status in (STATUS_FAILED, -13) else f"status {status}"
+
+
+def limit_memory() -> None:
+    resource.setrlimit(resource.RLIMIT_AS, (MOST_MEMORY, MOST_MEMORY))
+
+
+def wrong_announcement(programs: Programs, rows: int, cols: int, labels: int) -> str:
+    """A header that announces cells or labels and gives none, in little memory."""
+    data = b"RCELLQ1\n" + struct.pack("<I", 1) + b"\4land\0011\0010\0011\0010" + struct.pack("<IIBBqI", rows, cols, 6, 0, 0, labels)
+    ran = subprocess.run([programs.pipe], input=data, stdout=subprocess.PIPE, preexec_fn=limit_memory, timeout=SECONDS)
+    end = Response(ran.stdout).frames()[-1]
+    return "" if (ran.returncode, end["text"]) == (STATUS_REJECTED, b"request too short") else f"status {ran.returncode}, {end}"
+
+
+def wrong_order(programs: Programs) -> str:
+    """Half of a request: nothing comes back before the rest of it."""
+    data = few_bytes()
+    with subprocess.Popen([programs.pipe], stdin=subprocess.PIPE, stdout=subprocess.PIPE) as ran:
+        assert ran.stdin and ran.stdout
+        ran.stdin.write(data[: len(data) // 2])
+        ran.stdin.flush()
+        is_early = bool(select.select([ran.stdout], [], [], MOMENT)[0])
+        ran.stdin.write(data[len(data) // 2 :])
+        ran.stdin.close()
+        output = ran.stdout.read()
+    return "bytes before the end of the request" if is_early else "" if (ran.returncode, output) == programs.run(data) else f"status {ran.returncode}"
+
+
+def few_bytes() -> bytes:
+    land = Raster(b"land", (b"2", b"0", b"3", b"0"), 6, [[1, 1, 2], [2, 700, 255]], 255, [[0, 0, 1], [0, 0, 0]], [(1, b"wood"), (2, b"x")])
+    script = b"r.mapcalc b = land + 1\nr.clump input=b output=k\nr.stats -cl input=land,k\nr.stats -1 input=land\n"
+    script += b"r.stats -1nl input=land,k\nr.out.ascii input=b\n"
+    return request([land, replace(land, name=b"zone", type=4)], script)
+
+
+def wrong_growths(programs: Programs, shim: str) -> str:
+    """Each growth of memory refused in turn: all is done, or the last frame says that memory ran out after whole frames."""
+    data, counter = few_bytes(), os.path.join(programs.room, "count")
+    wanted, at, asked = programs.frames(data), 0, 1
+    while at < asked:
+        at += 1
+        *frames, end = programs.frames(data, LD_PRELOAD=shim, REFUSE_AT=str(at), REFUSE_COUNT=counter)
+        with open(counter, encoding="ascii") as file:
+            asked = int(file.read())
+        is_end = end == wanted[-1] if end["status"] == STATUS_DONE else (end["status"], end["source"], end["text"]) == (STATUS_MEMORY, 0, b"no memory")
+        if not is_end or frames != wanted[: len(frames)]:
+            return f"with growth {at} refused: {end}"
+    return ""
+
+
+def wrong_devices(programs: Programs, shim: str) -> str:
+    """Each read that fails or ends once, reads and writes that move little, and each write that fails."""
+    data = few_bytes()
+    wanted = programs.run(data)
+    for piece in (1, 7, 64):
+        if programs.run(data, LD_PRELOAD=shim, READ_PIECE=str(piece), WRITE_PIECE=str(piece)) != wanted:
+            return f"by pieces of {piece} bytes"
+    for at in range(1, len(data) // 7 + 2):
+        for once in ("0", "1"):
+            end = programs.frames(data, LD_PRELOAD=shim, READ_PIECE="7", READ_FAILS=str(at), READ_ONCE=once)[-1]
+            if (end["status"], end["text"]) != (STATUS_FAILED, b"read failed"):
+                return f"read {at} fails: {end}"
+        if at * 7 < len(data) and programs.frames(data, LD_PRELOAD=shim, READ_PIECE="7", READ_ENDS=str(at))[-1]["text"] != b"request too short":
+            return f"read {at} ends"
+    status, output, at = STATUS_FAILED, b"", 0
+    while status == STATUS_FAILED:
+        at, before = at + 1, output
+        status, output = programs.run(data, LD_PRELOAD=shim, WRITE_PIECE="7", WRITE_FAILS=str(at))
+        if not wanted[1].startswith(output) or not output.startswith(before) or (at == 1 and output):
+            return f"write {at} fails: {len(output)} bytes"
+    return "" if (status, output) == wanted else f"{at} writes, status {status}"
+
+
+def check_system(programs: Programs, count: cases.Count, clang: Optional[str]) -> None:
+    for taken in (0, 1, 100_000):
+        count.add(f"a caller that stops after {taken} bytes", wrong_stop(programs, taken))
+    count.add("a header that announces 8 GB", wrong_announcement(programs, 32767, 65535, 0))
+    count.add("a header that announces labels", wrong_announcement(programs, 1, 1, 2**32 - 1))
+    count.add("half of a request", wrong_order(programs))
+    if clang:
+        for name, wrong in (("refuse", wrong_growths), ("devices", wrong_devices)):
+            shim = os.path.join(programs.room, f"{name}.so")
+            cases.build_shim(clang, shim, name)
+            count.add(f"the system fails: {name}", wrong(programs, shim))
+
+
+def main() -> int:
+    words = argparse.ArgumentParser(description=__doc__, formatter_class=argparse.RawDescriptionHelpFormatter)
+    words.add_argument("clang", nargs="?")
+    words.add_argument("--program", default=f"{ROOT}/bin/rcell-pipe")
+    words.add_argument("--rcell", default=f"{ROOT}/bin/rcell")
+    words.add_argument("--runs", type=int, default=1000)
+    words.add_argument("--seed", type=int, default=1)
+    given, count = words.parse_args(), cases.Count()
+    choice = random.Random(given.seed)
+    with tempfile.TemporaryDirectory(prefix="pipe-") as room:
+        programs = Programs(os.path.abspath(given.program), os.path.abspath(given.rcell), room)
+        check_errors(programs, count)
+        check_random(programs, count, choice, given.runs)
+        check_damage(programs, count, choice, given.runs)
+        check_system(programs, count, given.clang)
+    print(f"{count.passed} passed, {count.failed} failed")
+    return 1 if count.failed else 0
+
+
+if __name__ == "__main__":
+    sys.exit(main())

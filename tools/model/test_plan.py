@@ -1,0 +1,368 @@
+#!/usr/bin/env python3
+"""Sends plan requests to rcell-pipe, and compares each response with that of a plain model of docs/pipe.md, field by field.
+
+    test_plan.py [--program PROGRAM] [--runs N] [--seed N]
+
+- worked examples: maps made of made maps, r.clump between, a position, labels;
+- each error of a plan request by name, and each truncation of a request;
+- N random scripts of tools/model/fuzz.py, most of them good, some requests damaged.
+
+The last line is 'N passed, M failed'.
+"""
+from __future__ import annotations
+
+import argparse
+import os
+import random
+import re
+import struct
+import subprocess
+import sys
+from dataclasses import dataclass
+from typing import Iterator, NamedTuple
+
+import model
+from fuzz import damaged_bytes
+from made_cases import ScriptMaker
+from model_expressions import FUNCTIONS, Binary, Call, Expression, MapCell, Negated, Not
+from model_grids import Refused, is_name
+from pipe_model import NULL
+
+MOST_NAMES = 65535
+WRITES, LABELS, WHOLE, POSITION = 1, 2, 4, 8
+COMMANDS = (model.Mapcalc, model.Reclass, model.Clump, model.Stats, model.OutAscii)
+POSITIONS = [FUNCTIONS[name] for name in (b"row", b"col", b"nrows", b"ncols")]
+
+
+class Need(NamedTuple):
+    """How far a map is needed around a cell: rows above and below, columns to the left and right, or all of it."""
+
+    up: int = 0
+    down: int = 0
+    left: int = 0
+    right: int = 0
+    whole: bool = False
+
+    def moved(self, reach: Need) -> Need:
+        return Need(*(a + b for a, b in zip(self[:4], reach[:4])), self.whole)
+
+
+Needs = dict[bytes, Need]
+
+
+@dataclass(frozen=True)
+class Frame:
+    line: int
+    command: int
+    flags: int
+    made: bytes
+    reads: tuple[tuple[bytes, Need], ...]
+    needs: tuple[tuple[bytes, Need], ...]
+    options: int
+    inputs: tuple[bytes, ...]
+    after: tuple[int, ...]
+
+
+@dataclass(frozen=True)
+class Done:
+    status: int = 0
+    source: int = 0
+    maps: int = 0
+    line: int = 0
+    column: int = 0
+    text: bytes = b""
+
+
+Response = tuple[list[Frame], Done]
+
+
+# What a script reads, makes and writes
+
+
+def within(expression: Expression) -> Iterator[Expression]:
+    """The expression and all of its parts."""
+    yield expression
+    if isinstance(expression, (Negated, Not)):
+        yield from within(expression.operand)
+    elif isinstance(expression, Binary):
+        yield from within(expression.left)
+        yield from within(expression.right)
+    elif isinstance(expression, Call):
+        for argument in expression.arguments:
+            yield from within(argument)
+
+
+def reads_of(statement: model.Statement) -> list[tuple[bytes, Need]]:
+    """The maps that a statement reads; a map may come several times."""
+    if isinstance(statement, model.Mapcalc):
+        return [
+            (part.name, Need(max(0, -part.down), max(0, part.down), max(0, -part.right), max(0, part.right)))
+            for part in within(statement.expression)
+            if isinstance(part, MapCell)
+        ]
+    return [(name, Need()) for name in inputs_of(statement)]
+
+
+def inputs_of(statement: model.Statement) -> list[bytes]:
+    """The maps of `input=`."""
+    if isinstance(statement, model.Mapcalc):
+        return []
+    return statement.inputs if isinstance(statement, model.Stats) else [statement.input]
+
+
+def options_of(statement: model.Statement) -> int:
+    if not isinstance(statement, model.Stats):
+        return 0
+    skip = 8 if b"n" in statement.flags else 16 if b"N" in statement.flags else 0
+    return sum(value for flag, value in ((b"c", 1), (b"l", 2), (b"1", 4)) if flag in statement.flags) + skip
+
+
+def after_of(statement: model.Statement) -> tuple[int, ...]:
+    after = getattr(statement, "after", None) or ()
+    return tuple(NULL if cell is None else cell for cell in after)
+
+
+def flags_of(statement: model.Statement) -> int:
+    if isinstance(statement, model.Mapcalc):
+        calls = [part.function for part in within(statement.expression) if isinstance(part, Call)]
+        return POSITION if any(function is of_place for function in calls for of_place in POSITIONS) else 0
+    if isinstance(statement, model.Stats):
+        return WRITES + (LABELS if b"l" in statement.flags else 0)
+    return {model.Reclass: 0, model.Clump: WHOLE, model.OutAscii: WRITES}[type(statement)]
+
+
+def joined(found: list[tuple[bytes, Need]], order: list[bytes]) -> Needs:
+    """Each map once, with the largest need in each direction, in the order of the names."""
+    most: Needs = {}
+    for name, need in found:
+        most[name] = Need(*map(max, most.get(name, need), need))
+    return {name: most[name] for name in order if name in most}
+
+
+def plan(names: list[bytes], statements: list[tuple[int, model.Statement]]) -> list[Frame]:
+    known = list(names)
+    needs_of: dict[bytes, Needs] = {name: {name: Need()} for name in names}
+    frames = []
+    for line, statement in statements:
+        reads = joined(reads_of(statement), known)
+        found = [(name, need.moved(reach)) for read, reach in reads.items() for name, need in needs_of[read].items()]
+        if isinstance(statement, model.Clump):
+            found = [(name, need._replace(whole=True)) for name, need in found]
+        needs = joined(found, names)
+        made = getattr(statement, "target", b"")
+        if made:
+            known.append(made)
+            needs_of[made] = needs
+        command = COMMANDS.index(type(statement)) + 1
+        options = options_of(statement), tuple(inputs_of(statement)), after_of(statement)
+        frames.append(Frame(line, command, flags_of(statement), made, tuple(reads.items()), tuple(needs.items()), *options))
+    return frames
+
+
+# Requests
+
+
+class BadRequest(Exception):
+    def __init__(self, text: bytes):
+        super().__init__(text)
+        self.text = text
+
+
+class Reader:
+    """Bytes read from left to right."""
+
+    def __init__(self, data: bytes):
+        self.data, self.at = data, 0
+
+    def take(self, count: int) -> bytes:
+        piece = self.data[self.at : self.at + count]
+        if len(piece) < count:
+            raise BadRequest(b"request too short")
+        self.at += count
+        return piece
+
+    def number(self, letter: str) -> int:
+        return struct.unpack("<" + letter, self.take(struct.calcsize("<" + letter)))[0]
+
+
+def request(names: list[bytes], script: bytes) -> bytes:
+    head = b"RCELLP1\n" + struct.pack("<I", len(names)) + b"".join(bytes([len(name)]) + name for name in names)
+    return head + struct.pack("<I", len(script)) + script
+
+
+def read_request(data: bytes, names: list[bytes]) -> bytes:
+    """Put the names of a request into the list, and return its script."""
+    reader = Reader(data)
+    if reader.take(8) != b"RCELLP1\n":
+        raise BadRequest(b"bad magic")
+    count = reader.number("I")
+    if count > MOST_NAMES:
+        raise BadRequest(b"bad number of maps")
+    for _ in range(count):
+        name = reader.take(reader.number("B"))
+        if not is_name(name):
+            raise BadRequest(b"bad name")
+        if name in names:
+            raise BadRequest(b"name used twice")
+        names.append(name)
+    size = reader.number("I")
+    if size > model.LONGEST_SCRIPT:
+        raise BadRequest(b"script too long")
+    script = reader.take(size)
+    if reader.at < len(data):
+        raise BadRequest(b"bytes after the request")
+    return script
+
+
+def expected(data: bytes) -> Response:
+    """What the response to the bytes of a request must say."""
+    names: list[bytes] = []
+    try:
+        script = read_request(data, names)
+        return plan(names, model.ScriptReader(script, names).read()), Done()
+    except BadRequest as fault:
+        return [], Done(1, 1, len(names), 0, 0, fault.text)
+    except Refused as fault:
+        column = re.search(r" at column (\d+)$", fault.text)
+        return [], Done(1, 2, 0, fault.line, int(column[1]) if column else 0, fault.text.encode())
+
+
+# Responses
+
+
+class ResponseReader(Reader):
+    def text(self) -> bytes:
+        return self.take(self.number("Q"))
+
+    def needs(self, has_whole: bool) -> tuple[tuple[bytes, Need], ...]:
+        found = []
+        for _ in range(self.number("Q")):
+            name = self.text()
+            margin = [self.number("Q") for _ in range(4)]
+            found.append((name, Need(*margin, bool(self.number("B")) if has_whole else False)))
+        return tuple(found)
+
+    def frame(self) -> Frame:
+        line, command, flags, made = self.number("Q"), self.number("B"), self.number("B"), self.text()
+        reads, needs, options = self.needs(False), self.needs(True), self.number("B")
+        inputs = tuple(self.text() for _ in range(self.number("Q")))
+        return Frame(line, command, flags, made, reads, needs, options, inputs, tuple(self.number("i") for _ in range(self.number("Q"))))
+
+    def response(self) -> Response:
+        if self.take(8) != b"RCELLA1\n":
+            raise ValueError("not a response")
+        frames = []
+        while (kind := self.take(4)) == b"PLAN":
+            frames.append(self.frame())
+        if kind != b"DONE":
+            raise ValueError(f"no frame of a plan: {kind!r}")
+        done = Done(*(self.number("Q") for _ in range(5)), self.text())
+        if self.at < len(self.data):
+            raise ValueError("bytes after the response")
+        return frames, done
+
+
+# Requests to try
+
+GIVEN = [b"g", b"h", b"k"]
+EXAMPLES = {
+    "made maps add up": (b"r.mapcalc a = g[1,0]\nr.mapcalc b = a[0,-2] + h\nr.stats -c input=b\n",
+                         {b"b": {b"g": Need(0, 1, 2, 0), b"h": Need()}}),
+    "r.clump needs the full map": (b"r.mapcalc a = g[0,3]\nr.clump input=a output=b\nr.mapcalc c = b + h[-1,0]\n",
+                                   {b"b": {b"g": Need(0, 0, 0, 3, True)}, b"c": {b"g": Need(0, 0, 0, 3, True), b"h": Need(1)}}),
+    "the widest of several": (b"r.mapcalc a = g[-1,4] + g[2,-3] + g\n", {b"a": {b"g": Need(1, 2, 3, 4)}}),
+    "rules pass needs on": (b"r.mapcalc a = k[5,0]\nr.reclass input=a output=b\n1 = 2 wood\nend\n", {b"b": {b"k": Need(0, 5)}}),
+    "maps in their order": (b"r.stats -nlc input=h,g,h after=1,*,-2\nr.stats -1N input=k\n", {}),
+    "a position needs no map": (b"r.mapcalc a = row() * ncols()\n", {b"a": {}}),
+}
+
+
+def named_errors() -> Iterator[tuple[str, bytes]]:
+    """A request for each error, with its text."""
+    good = request([b"g", b"h"], b"r.stats input=g\n")
+    yield "bad magic", b"RCELLP2" + good[7:]
+    yield "bad magic", b"RCELLA1" + good[7:]
+    yield "bad number of maps", b"RCELLP1\n" + struct.pack("<I", MOST_NAMES + 1)
+    yield "bad name", request([b"g", b"1"], b"")
+    yield "bad name", request([b""], b"")
+    yield "name used twice", request([b"g", b"h", b"g"], b"")
+    yield "script too long", request([b"g"], b"")[:-4] + struct.pack("<I", model.LONGEST_SCRIPT + 1)
+    yield "bytes after the request", good + good
+    yield "request too short", good[:-1]
+    yield "unknown map", request([b"g"], b"r.stats input=h\n")
+    yield "map exists", request([b"g", b"h"], b"\nr.mapcalc h = g\n")
+    yield "unexpected token at column 18", request([b"g"], b"r.mapcalc a = g +\n")
+
+
+def random_request(chance: random.Random) -> bytes:
+    maker = ScriptMaker(chance)
+    maker.badness = chance.choice([0, 0, 0, 0.01])
+    names = chance.sample([b"a", b"b", b"g", b"_x.1", b"h", b"unused"], chance.randint(1, 5))
+    script = maker.script(list(names))
+    if chance.random() < 0.05:
+        script = damaged_bytes(chance, script)
+    data = request(names, script)
+    return damaged_bytes(chance, data) if chance.random() < 0.1 else data
+
+
+class Tests:
+    """What was tried, and what went wrong."""
+
+    def __init__(self, program: str):
+        self.program, self.passed, self.failed = program, 0, 0
+
+    def check(self, name: str, wrong: str) -> None:
+        self.passed += not wrong
+        self.failed += bool(wrong)
+        if wrong:
+            print(f"{name}: {wrong}")
+
+    def wrong(self, data: bytes) -> str:
+        """What is wrong with the response to a request, or nothing."""
+        if data.startswith(b"RCELLQ1\n"):
+            return ""  # damage made a run of it
+        run = subprocess.run([self.program], input=data, stdout=subprocess.PIPE, check=False)
+        wanted = expected(data)
+        given = ResponseReader(run.stdout).response()
+        if (given, run.returncode) != (wanted, wanted[1].status):
+            return f"{data!r}\nexpected {wanted}\nreceived {given} and status {run.returncode}"
+        return ""
+
+
+def check_examples(tests: Tests) -> None:
+    for name, (script, needs) in EXAMPLES.items():
+        frames, _ = expected(request(GIVEN, script))
+        found = {frame.made: dict(frame.needs) for frame in frames}
+        tests.check(name, "" if all(found[made] == wanted for made, wanted in needs.items()) else f"the model says {found}")
+        tests.check(name, tests.wrong(request(GIVEN, script)))
+
+
+def check_errors(tests: Tests) -> None:
+    for text, data in named_errors():
+        found = expected(data)[1].text.decode()
+        tests.check(text, "" if found == text else f"the model says {found}")
+        tests.check(text, tests.wrong(data))
+    whole = request([b"g", b"h"], EXAMPLES["made maps add up"][0])
+    for length in range(len(whole)):
+        tests.check(f"the first {length} bytes", tests.wrong(whole[:length]))
+
+
+def main() -> int:
+    root = os.path.abspath(f"{__file__}/../../..")
+    parser = argparse.ArgumentParser()
+    parser.add_argument("--program", default=os.path.join(root, "bin", "rcell-pipe"))
+    parser.add_argument("--runs", type=int, default=500)
+    parser.add_argument("--seed", type=int, default=1)
+    settings = parser.parse_args()
+    tests = Tests(settings.program)
+    check_examples(tests)
+    check_errors(tests)
+    chance = random.Random(settings.seed)
+    for number in range(settings.runs):
+        tests.check(f"random request {number} of seed {settings.seed}", tests.wrong(random_request(chance)))
+    print(f"{tests.passed} passed, {tests.failed} failed")
+    return tests.failed > 0
+
+
+if __name__ == "__main__":
+    sys.exit(main())
