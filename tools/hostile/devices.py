@@ -1,6 +1,8 @@
 """Each read and each write in turn: files that fail, end or give little, terminals, and outputs that fail, fill up, close or wait."""
 from __future__ import annotations
 
+import fcntl
+import mmap
 import os
 import resource
 import signal
@@ -199,6 +201,17 @@ def to_waiting(program: Program, made: Made) -> model.Answer:
     return model.Answer(child.wait(SECONDS), output, told)
 
 
+def without_waiting(program: Program, made: Made) -> model.Answer:
+    """A run whose output is a small pipe that is read at the end, and that says so, in place of waiting, when it is full."""
+    reading, writing = os.pipe()
+    fcntl.fcntl(writing, fcntl.F_SETPIPE_SZ, mmap.PAGESIZE)
+    os.set_blocking(writing, False)
+    with os.fdopen(writing, "wb") as output:
+        got = ran(program, made.words, output)
+    with os.fdopen(reading, "rb") as pipe:
+        return model.Answer(got.status, pipe.read(), got.told)
+
+
 def wrong_output(program: Program, made: Made, expected: model.Answer, settings) -> tuple[str, int]:
     """What is wrong with the program at outputs that fail, and how many runs were made."""
     nothing_out = written(expected, 0) if expected.output else expected
@@ -261,13 +274,15 @@ def outputs(report: Report, devices: Devices, cases: dict[str, Made], settings) 
     program, runs = devices.program, 0
     for name, made in cases.items():
         program.put(made)
-        wrong, count = wrong_output(program, made(made), settings)
+        wrong, count = wrong_output(program, made, answer_of_model(made), settings)
         runs += count
         report.check(f"outputs of {name}", wrong)
     full_disks(report, program)
     made = large_output()
     program.put(made)
-    report.compare("an output read a byte at a time", made(made), to_waiting(program, made))
+    report.compare("an output read a byte at a time", made, answer_of_model(made), to_waiting(program, made))
+    got = without_waiting(program, made)
+    report.compare("an output that does not wait", made, written(answer_of_model(made), len(got.output)), got)
     report.runs += runs
     print(f"outputs: {len(cases)} cases, {runs} runs to full, closed and limited files")
 

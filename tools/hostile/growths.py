@@ -11,7 +11,7 @@ import time
 from typing import Iterator
 
 import model
-from compare import ROOT, Program, is_told_refusal, read
+from compare import ROOT, Program, answer_of_model, is_told_refusal, read
 from case_texts import Cases, Made, Report
 
 SECONDS = 120  # the most that a test may take
@@ -60,7 +60,7 @@ def in_turn(program: Program, cases: Cases) -> Iterator[tuple[str, Made, model.A
     """Each case, with its files in the current folder, and what the model answers."""
     for name, made in cases.made.items():
         program.put(made)
-        yield name, made(made)
+        yield name, made, answer_of_model(made)
     for name, (folder, words, expected) in cases.others.items():
         os.chdir(folder)
         yield name, Made({}, [], words), expected
