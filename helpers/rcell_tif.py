@@ -9,6 +9,7 @@
 
 If a raster cannot be a grid, `Refused` says why. GDAL's settings are not changed.
 """
+import os
 import re
 import warnings
 from fractions import Fraction
@@ -421,7 +422,7 @@ def write_tif(grid, path, like=None):
         grid.region.with_edges_of(other, like.GetDescription())
         transform = like.GetGeoTransform(can_return_null=True)
     options = ["COMPRESS=DEFLATE", "TILED=YES", "BIGTIFF=IF_SAFER"]
-    made = gdal.GetDriverByName("GTiff").Create(path, grid.region.cols, grid.region.rows, 1, gdal.GDT_Int32, options)
+    made = gdal.GetDriverByName("GTiff").Create(os.fsencode(path), grid.region.cols, grid.region.rows, 1, gdal.GDT_Int32, options)
     if made is None:
         raise Refused("%s can't be written" % path)
     if transform is not None:

@@ -81,6 +81,7 @@ MOST_SIDE = 65535  # rows or columns that rcell takes
 MOST_CELLS = 2147483647
 BLOCK_CELLS = 1 << 20  # cells that are sent at a time
 ENTRIES_OF_A_PIECE = 1 << 16  # of a table that is printed
+BYTES_OF_A_PIECE = 1 << 20  # of a table that is copied
 SECONDS_OF_A_STEP = 0.5  # of the line of progress
 BLANKS = b" \t\r"
 NAME = re.compile(r"[A-Za-z_][A-Za-z0-9_.]{0,63}")
@@ -426,9 +427,11 @@ def look_up_region():
 
 
 def read_script(path):
+    from rcell_front.files import read_all
+
     try:
         if path == "-":
-            return sys.stdin.buffer.read().decode("utf-8", "surrogateescape")
+            return read_all(0).decode("utf-8", "surrogateescape")
         with open(path, encoding="utf-8", errors="surrogateescape", newline="") as file:
             return file.read()
     except OSError as fault:
@@ -480,8 +483,11 @@ class Table:
             raise self.failed(fault) from None
 
     def copy(self):
-        with open(self.file.name, "rb") as kept, open(self.target or 1, "ab", closefd=bool(self.target)) as stream:
-            shutil.copyfileobj(kept, stream)
+        from rcell_front.files import write_all
+
+        with open(self.file.name, "rb") as kept, open(self.target or 1, "ab", 0, closefd=bool(self.target)) as stream:
+            while piece := kept.read(BYTES_OF_A_PIECE):
+                write_all(stream.fileno(), piece)
 
     def mode(self):
         """The mode of the file that is replaced, or that of a new file."""

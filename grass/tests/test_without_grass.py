@@ -12,6 +12,7 @@ import stat
 import subprocess
 import sys
 import tempfile
+import threading
 import types
 import unittest
 from unittest import mock
@@ -124,6 +125,45 @@ class Scripts(Session):
         self.assertEqual(str(caught.exception), "/bin/true failed: the program ended in status 0 and said: nothing")
 
 
+class Late(unittest.TestCase):
+    """Standard input and output are pipes that do not wait."""
+
+    def setUp(self):
+        for number in (0, 1):
+            kept = os.dup(number)
+            self.addCleanup(os.close, kept)
+            self.addCleanup(os.dup2, kept, number)
+
+    def later(self, do):
+        thread = threading.Timer(0.2, do)
+        thread.start()
+        return thread
+
+    def test_a_script_is_read_whole(self):
+        reads, writes = os.pipe()
+        os.set_blocking(reads, False)
+        os.dup2(reads, 0)
+        os.write(writes, b"r.stats input=a\n")
+        thread = self.later(lambda: (os.write(writes, b"r.stats -c input=a\n"), os.close(writes)))
+        self.assertEqual(rcell.read_script("-"), "r.stats input=a\nr.stats -c input=a\n")
+        thread.join()
+        os.close(reads)
+
+    def test_a_table_is_written_whole(self):
+        reads, writes = os.pipe()
+        os.set_blocking(writes, False)
+        os.dup2(writes, 1)
+        os.close(writes)
+        table, text, read = rcell.Table("-", "script"), b"1 2\n" * 50000, bytearray()
+        table.file.write(text)
+        thread = self.later(lambda: [read.extend(os.read(reads, 1 << 16)) for _ in iter(lambda: len(read) < len(text), False)])
+        table.finish()
+        table.remove()
+        thread.join()
+        os.close(reads)
+        self.assertEqual(read, text)
+
+
 class Names(unittest.TestCase):
     def test_pairs(self):
         found = rcell.pairs_of("lc,ws=basins@P,zones@PERMANENT", rcell.Input)
@@ -192,6 +232,11 @@ class Tables(unittest.TestCase):
         self.write(link)
         self.assertEqual((os.readlink(link), stat.S_IMODE(os.stat(path).st_mode)), ("t", 0o600))
         self.assertEqual(sorted(os.listdir(self.room)), ["link", "t"])
+
+    def test_names_of_any_bytes(self):
+        path = os.fsdecode(b"%s/\xff" % self.room.encode())
+        self.write(path)
+        self.assertEqual((os.listdir(self.room), rcell.read_script(path)), (["\udcff"], "1 2\n"))
 
     def test_pipes_stay_pipes(self):
         path = f"{self.room}/pipe"

@@ -1,4 +1,6 @@
 """What is at the edge of the helpers: devices, links, modes, old masks, closed streams, signals, full disks."""
+import contextlib
+import fcntl
 import os
 import shlex
 import signal
@@ -9,6 +11,8 @@ import time
 from tif import has_gdal, make
 
 SECONDS = 60
+LATE = 1.5  # seconds, in which a helper starts
+SET_PIPE_SIZE, PIPE_SIZE = 1031, 4096  # of Linux
 HOSTILE = os.path.abspath(f"{__file__}/../../../tools/hostile/files.py")
 ASC = "ncols 3\nnrows 2\nxllcorner 0\nyllcorner 0\ncellsize 1\nNODATA_value -1\n1 2 3\n4 -1 6\n"
 HEADER = "north: 2\nsouth: 0\neast: 3\nwest: 0\nrows: 2\ncols: 3\n"
@@ -205,6 +209,47 @@ def test_paths(room, tally):
     tally.same("RCELL=rcell", ran.stdout, b"stranger\n")
 
 
+def late(room, given, *words):
+    """What a helper does with pipes that do not wait: its input comes late and in two parts, and its output is read at the end."""
+    (reads, given_to), (taken_from, writes) = os.pipe(), os.pipe()
+    fcntl.fcntl(writes, SET_PIPE_SIZE, PIPE_SIZE)
+    for end in (reads, writes):
+        os.set_blocking(end, False)
+    program = subprocess.Popen([f"{room.programs}/{words[0]}", *words[1:]], cwd=room.path, env=room.environment, stdin=reads, stdout=writes, stderr=subprocess.PIPE)
+    os.close(reads)
+    os.close(writes)
+    with contextlib.suppress(BrokenPipeError):
+        for part in (given[:100], given[100:]):
+            time.sleep(LATE)
+            os.write(given_to, part.encode())
+    os.close(given_to)
+    with open(taken_from, encoding="ascii") as file:
+        time.sleep(LATE)
+        text = file.read()
+    return program.wait(SECONDS), text, program.stderr.read()
+
+
+def test_pipes_that_do_not_wait(room, tally):
+    rows = ("1 2 3 " * 499 + "1 2 3\n") * 3
+    grid = "north: 3\nsouth: 0\neast: 1500\nwest: 0\nrows: 3\ncols: 1500\n" + rows
+    text = "ncols 1500\nnrows 3\nxllcorner 0\nyllcorner 0\ncellsize 1\n" + rows
+    tally.same("rcell-aaigrid with pipes that do not wait", late(room, text, "rcell-aaigrid"), (0, grid, b""))
+    if has_gdal():
+        tally.same("rcell-tif --from with a pipe that does not wait", late(room, grid, "rcell-tif", "--from", "-", "late.tif"), (0, "", b""))
+        tally.same("rcell-tif with a pipe that does not wait", late(room, "", "rcell-tif", "late.tif", "-"), (0, grid, b""))
+
+
+def test_names_of_any_bytes(room, tally):
+    """Names that are not UTF-8, which GDAL takes as bytes alone."""
+    for writer in writers():
+        given = writer.words[-1]
+        ran = room.shell(f"cp {given} $'\\xff-in'; {shlex.join(writer.words[:-1])} $'\\xff-in' $'\\xff-out'; {shlex.join(writer.words)} out; cmp $'\\xff-out' out")
+        tally.same(f"{' '.join(writer.words)}: names of any bytes", (ran.returncode, ran.stdout, ran.stderr), (0, b"", b""))
+    for command in ("rcell-explain script m=$'\\xff'", "rcell-explain $'\\xff' m=in.txt", "rcell-split $'\\xff' parts m=in.txt", "rcell-split script parts m=$'\\xff'"):
+        ran = room.shell(command)
+        tally.same(f"{command}: a name that is not UTF-8", (ran.returncode, b"Traceback" in ran.stderr, b"UTF-8" in ran.stderr), (2, False, "explain" in command))
+
+
 def test_hostile_files(tally):
     ran = subprocess.run(["/usr/bin/python3", "-W", "ignore", HOSTILE, "--count", "200"], capture_output=True, text=True, timeout=10 * SECONDS)
     tally.true("hostile files", ran.returncode == 0, ran.stdout[-3000:] + ran.stderr[-1000:])
@@ -217,5 +262,6 @@ def test(room, tally):
     room.put("in.txt", GRID)
     if has_gdal():
         make(room, [("in.tif", "uint8", None, "[[1, 2, 3], [4, 5, 6]]", {"transform": [0, 1, 0, 2, 0, -1]})])
-    for part in (test_special_files, test_replaced_files, test_shared_memory, test_old_masks, test_closed_streams, test_signals, test_paths):
+    for part in (test_special_files, test_replaced_files, test_shared_memory, test_old_masks, test_closed_streams, test_signals, test_paths, test_pipes_that_do_not_wait,
+                 test_names_of_any_bytes):
         part(room, tally)

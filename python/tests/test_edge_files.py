@@ -9,6 +9,7 @@ import signal
 import stat
 import subprocess
 import sys
+import threading
 import time
 from typing import Any, Callable
 
@@ -16,7 +17,7 @@ import numpy as np
 import pytest
 
 import rcell
-from rcell import _program
+from rcell import _program, _shell
 
 from .conftest import LAND, TRANSFORM
 from .test_edge import cells, environment
@@ -113,7 +114,44 @@ def test_an_input_is_no_output(room: pathlib.Path) -> None:
     assert (ran.returncode, ran.stderr) == (2, "rcell-gis: arguments: ./x.tif: two maps go to one file\n")
 
 
+def test_paths_that_are_not_utf8(room: pathlib.Path, raster: Write) -> None:
+    """A grid may have one, and so may what is written; rasterio opens none."""
+    odd = str(room / os.fsdecode(b"\xff"))
+    grid = rcell.grid("r.reclass input=m output=n\n* = 1 wood\nend", "n", m=raster(LAND))
+    for ending in (".txt", ".tif"):
+        grid.write(odd + ending)
+    assert cells(odd + ".txt") == np.ones(LAND.shape, int).tolist()
+    labels = os.fsencode(odd + ".tif.aux.xml")
+    assert b"wood" in pathlib.Path(os.fsdecode(labels)).read_bytes()
+    for given in (odd + ".tif", "/vsigzip/" + odd):
+        with pytest.raises(rcell.ReadFailed, match="rasterio takes no path that is not UTF-8: rename the file"):
+            rcell.run("r.stats input=m", m=given)
+    with pytest.raises(rcell.ReadFailed, match="no path has a surrogate"):
+        rcell.run("r.stats input=m", m="\ud800.txt")
+    for legend in ("\ud800.csv", "\ud800.qml", "\0.csv", "\0.qml"):
+        with pytest.raises(rcell.ReadFailed, match="^labels: cannot open"):
+            rcell.composition(LAND, labels=legend)
+
+
 # Streams and signals
+
+
+def test_a_script_that_comes_late_is_read_whole(monkeypatch: pytest.MonkeyPatch) -> None:
+    """Standard input is a pipe that does not wait."""
+    reads, writes = os.pipe()
+    os.set_blocking(reads, False)
+    os.write(writes, b"r.stats -c input=m\n")
+
+    def send() -> None:
+        os.write(writes, b"r.stats input=m\n")
+        os.close(writes)
+
+    late = threading.Timer(0.3, send)
+    late.start()
+    with open(reads) as pipe:
+        monkeypatch.setattr("sys.stdin", pipe)
+        assert _shell.script_of("-") == "r.stats -c input=m\nr.stats input=m\n"
+    late.join()
 
 
 @pytest.mark.parametrize("closed", ["<&-", "2>&-", "<&- 2>&-"])

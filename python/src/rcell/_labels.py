@@ -245,7 +245,7 @@ def _columns(usages: list[int], titles: list[str]) -> tuple[int | None, int | No
 def _write_by_gdal(path: str, labels: Mapping[int, str]) -> None:
     gdal = _quiet_gdal()
     with _Exceptions(gdal):
-        dataset = gdal.Open(path)
+        dataset = gdal.Open(os.fsencode(path))  # as text it may only be UTF-8
         layer = dataset.GetRasterBand(1)
         if _fit_names(labels):
             layer.SetRasterCategoryNames(_names(labels))

@@ -93,7 +93,7 @@ def _of_csv(path: str) -> Legend:
                 raise _refused(f"{path} is empty")
             at = _columns_of(header, f"the first line is {','.join(header)!r}")
             return _of_rows((f"line {lines.line_num}", _picked(row, at)) for row in lines if row)
-    except (OSError, UnicodeDecodeError, csv.Error) as error:
+    except (OSError, ValueError, csv.Error) as error:
         raise ReadFailed("labels", f"cannot open: {path}: {getattr(error, 'strerror', None) or error}") from None
 
 
@@ -138,8 +138,8 @@ def legend_of_qml(path: str) -> Legend:
     """Return the legend of a QGIS style: the entries of a palette, or the items of a colour ramp."""
     try:
         root = ElementTree.parse(path).getroot()
-    except OSError as error:
-        raise ReadFailed("labels", f"cannot open: {path}: {error.strerror}") from None
+    except (OSError, ValueError) as error:
+        raise ReadFailed("labels", f"cannot open: {path}: {getattr(error, 'strerror', None) or error}") from None
     except ElementTree.ParseError as error:
         raise _refused(f"{path} is no style of QGIS: {error}") from None
     entries = root.findall(".//paletteEntry") or root.findall(".//colorrampshader/item")

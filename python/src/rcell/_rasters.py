@@ -59,6 +59,8 @@ def told_of_reading(name: str, told: str) -> Iterator[None]:
     gdal_error = need("rasterio._err", "gis", _PURPOSE).CPLE_BaseError  # some properties of a dataset raise it unchanged
     try:
         yield
+    except UnicodeEncodeError:
+        raise ReadFailed(name, f"{told}: rasterio takes no path that is not UTF-8: rename the file") from None
     except (rasterio.errors.RasterioError, gdal_error, OSError, ValueError, TypeError) as error:
         if isinstance(error, RcellError):
             raise

@@ -16,7 +16,7 @@ from typing import Any, Callable, Iterable, Iterator, NoReturn, Sequence
 import numpy as np
 
 from rcell_front.advice import lines_of_error
-from rcell_front.files import Output, end_on_signals, is_same_file, open_standard_streams, write_all
+from rcell_front.files import Output, end_on_signals, is_same_file, open_standard_streams, read_all, write_all
 
 from ._align import align
 from ._answers import outputs_with, run_of
@@ -309,7 +309,7 @@ def script_of(word: str) -> str:
     """Return the text of a script: of a file, of standard input, or the word itself."""
     if word == "-":
         with _told_of_script("standard input"):
-            return sys.stdin.buffer.read().decode("utf-8", "surrogateescape")
+            return read_all(sys.stdin.fileno()).decode("utf-8", "surrogateescape")
     if not os.path.exists(word) and word.startswith("r."):
         return word
     with _told_of_script(word), open(word, encoding="utf-8", errors="surrogateescape", newline="") as file:

@@ -147,6 +147,8 @@ def open_path(name: str, path: str | os.PathLike[str]) -> Source:
         return _raster(name, text)
     except OSError as error:
         raise ReadFailed(name, f"cannot open: {text}: {error.strerror}") from None
+    except UnicodeEncodeError:
+        raise ReadFailed(name, f"cannot open: {text!r}: no path has a surrogate") from None
     is_file = stat.S_ISREG(os.fstat(stream.fileno()).st_mode)
     head = _head_of(stream, is_file)
     if _FIRST_LINE.match(head):

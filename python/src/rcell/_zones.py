@@ -144,7 +144,7 @@ def _read(path: str, layer: str | None, field: str | None) -> _Polygons:
             raise Refused(f"no layer {layer}: there are {', '.join(layers)}", "zones")
         with fiona.open(path, layer=layers[0] if layer is None else layer) as opened:
             return _Polygons([_plain(feature) for feature in opened], field, opened.crs_wkt or None)
-    except (fiona.errors.FionaError, fiona.errors.FionaValueError, OSError) as error:
+    except (fiona.errors.FionaError, fiona.errors.FionaValueError, OSError, ValueError) as error:
         raise ReadFailed("zones", f"cannot open: {path}: {error}") from None
 
 

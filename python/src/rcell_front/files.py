@@ -14,7 +14,7 @@ import stat
 import sys
 from types import TracebackType
 
-__all__ = ["SIDECARS", "Output", "end_on_signals", "is_same_file", "open_standard_streams", "private_folder", "remove_folder", "write_all"]
+__all__ = ["SIDECARS", "Output", "end_on_signals", "is_same_file", "open_standard_streams", "private_folder", "read_all", "read_some", "remove_folder", "write_all"]
 
 SIDECARS = (".aux.xml", ".msk", ".ovr")
 """The endings of GDAL's files next to a raster: a new raster must not get an old mask or old labels."""
@@ -59,6 +59,26 @@ def is_same_file(path: str, other: str) -> bool:
         return False
 
 
+def _wait(descriptor: int, event: int) -> None:
+    ready = select.poll()
+    ready.register(descriptor, event)
+    ready.poll()
+
+
+def read_some(descriptor: int, most: int) -> bytes:
+    """Read from a descriptor, even if it is not ready; only the end is empty."""
+    while True:
+        try:
+            return os.read(descriptor, most)
+        except BlockingIOError:
+            _wait(descriptor, select.POLLIN)
+
+
+def read_all(descriptor: int) -> bytes:
+    """Read a descriptor to its end, even if it is not ready."""
+    return b"".join(iter(lambda: read_some(descriptor, PIECE), b""))
+
+
 def write_all(descriptor: int, data: bytes | memoryview) -> None:
     """Write all bytes to a descriptor, even if it takes only some at a time or is not ready."""
     rest = memoryview(data).cast("B")
@@ -66,7 +86,7 @@ def write_all(descriptor: int, data: bytes | memoryview) -> None:
         try:
             rest = rest[os.write(descriptor, rest) :]
         except BlockingIOError:
-            select.select([], [descriptor], [])
+            _wait(descriptor, select.POLLOUT)
 
 
 def private_folder(folder: str, name: str) -> str:

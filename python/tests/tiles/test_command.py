@@ -2,7 +2,6 @@
 
 from __future__ import annotations
 
-import io
 import os
 from pathlib import Path
 
@@ -29,9 +28,11 @@ def test_table(lc: str, tmp_path: Path, scheduler: str, capfd: pytest.CaptureFix
     assert err == "rcell: the maps fit into the memory of this machine: rcell.table and rcell.grid are as fast, without tiles\n"
 
 
-def test_script_from_standard_input(lc: str, scheduler: str, capfd: pytest.CaptureFixture[str], monkeypatch: pytest.MonkeyPatch) -> None:
-    monkeypatch.setattr("sys.stdin", io.TextIOWrapper(io.BytesIO(b"r.stats input=lc")))
-    assert main(["table", "-", lc, "--scheduler", scheduler]) == 0
+def test_script_from_standard_input(lc: str, scheduler: str, capfd: pytest.CaptureFixture[str], monkeypatch: pytest.MonkeyPatch, tmp_path: Path) -> None:
+    (tmp_path / "script").write_text("r.stats input=lc")
+    with open(tmp_path / "script") as script:
+        monkeypatch.setattr("sys.stdin", script)
+        assert main(["table", "-", lc, "--scheduler", scheduler]) == 0
     assert capfd.readouterr().out == "lc\n1\n2\n3\n"
 
 

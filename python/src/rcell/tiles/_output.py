@@ -66,7 +66,7 @@ def _window(place: Rectangle) -> Any:
 
 def _told(path: str) -> AbstractContextManager[None]:
     """Raise errors of rasterio and the system as `WriteFailed`."""
-    return told_of(path, need("rasterio.errors", "gis", PURPOSE).RasterioError)
+    return told_of(path, need("rasterio.errors", "gis", PURPOSE).RasterioError, UnicodeEncodeError)
 
 
 @contextmanager
