@@ -114,16 +114,18 @@ class Explanation:
         if not bad:
             self.say_all("files", text)
             return
-        cause, values = self.file_cause(text, bad[0], source)
+        cause, values = self.file_cause(text, bad[0], source, self.words)
         self.say_known("files", text, cause, dict(values, path=quoted(bad[0])))
 
     @staticmethod
-    def file_cause(text, path, name=""):
+    def file_cause(text, path, name="", words=()):
         """Return why a file cannot be opened or read, with values for its advice, or None if no reason is found."""
         if text == "read failed":
             return ("folder", {}) if os.path.isdir(path) else ("device", {})
         if os.path.exists(path):
             return None if os.access(path, os.R_OK) else ("not readable", {})
+        if name == "script" and path.startswith("r.") and " " in path and path.isprintable():
+            return "script itself", {"fixed": "echo %s | rcell /dev/stdin %s" % (quoted(path), " ".join(map(quoted, words[1:])))}
         if path.startswith("~"):
             return "tilde", {"fixed": '%s="$HOME%s"' % (name, shown(path[1:].encode("utf-8", "surrogateescape")))}
         parts = path.split(",")
