@@ -24,6 +24,7 @@ NOBODY = 65534
 ELSEWHERE = {"TZ": "Asia/Kolkata", "LC_ALL": "C.UTF-8", "LANG": "de_DE.UTF-8"}
 STRAY = ("helpers/rcell-tif~", "examples/secret.key", "docs/notes.md", "r/rcell/R/x.R", "python/src/rcell/x.py", "qgis/rcell/x.py")
 OLD = 1_000_000_000  # a date of files, in seconds
+LINES_OF_A_PAGE = 66
 
 
 def version():
@@ -99,6 +100,12 @@ def check_paths(count, path, found, places):
     held = [f"{name}: {place}" for name, text in found.items() for place in places
             if place.encode() in (gzip.decompress(text) if name.endswith(".gz") else text)]
     count.add(f"no path of this machine in {path.name}", "; ".join(held))
+
+
+def check_page(count, path, found):
+    """PROVED.txt is one page, in the artefacts that have it."""
+    for lines in (text.count(b"\n") for name, text in found.items() if name.endswith("/PROVED.txt")):
+        count.add(f"the page of PROVED.txt in {path.name}", "" if lines <= LINES_OF_A_PAGE else f"{lines} lines")
 
 
 def faults_of_bill(bill, folder):
@@ -177,6 +184,7 @@ def check_all(count, folder, room):
     for path in sorted(folder.iterdir()):
         found = members(path)
         check_licences(count, path, found)
+        check_page(count, path, found)
         check_paths(count, path, found, [str(room), build.kit()])
     bill = json.loads(next(folder.glob("*.spdx.json")).read_text(encoding="utf-8"))
     count.add("the bill of materials", "; ".join(faults_of_bill(bill, folder)))
