@@ -16,12 +16,13 @@ from fractions import Fraction
 
 import numpy as np
 
+from rcell_front.maps import DECIMALS, UNITS, edge_text
 from rcell_front.spelling import rows_text
 
 GREATEST = 2147483647  # the limit of cells, above and below 0
 NULL = -GREATEST - 1  # in arrays of cells and in new GeoTIFFs
 GREATEST_SIDE, MOST_CELLS = 65535, 2147483647
-EDGE_DIGITS, EDGE_DECIMALS = 10, 8
+EDGE_DIGITS = 10
 EDGES = ("north", "south", "east", "west")
 BLOCK_CELLS = 1 << 20  # cells that are converted at once
 PIECE = 1 << 22  # bytes of a grid that are read at once
@@ -38,20 +39,12 @@ class Refused(Exception):
 # Regions
 
 
-def edge_text(value):
-    """Return an edge with at most 8 decimals, without trailing zeros."""
-    size = round(abs(value) * 10**EDGE_DECIMALS)
-    whole, fraction = divmod(size, 10**EDGE_DECIMALS)
-    digits = ("%d.%0*d" % (whole, EDGE_DECIMALS, fraction)).rstrip("0").rstrip(".")
-    return "-" + digits if value < 0 and size else digits
-
-
 class Region:
     """The four edges, as fractions equal to their texts in a grid, and the numbers of rows and columns."""
 
     def __init__(self, north, south, east, west, rows, cols):
         self.rows, self.cols = rows, cols
-        self.texts = {edge: edge_text(value) for edge, value in zip(EDGES, (north, south, east, west))}
+        self.texts = {edge: edge_text(round(value * UNITS)) for edge, value in zip(EDGES, (north, south, east, west))}
         self.check()
 
     def __getattr__(self, edge):
@@ -67,7 +60,7 @@ class Region:
             if len(self.texts[edge].lstrip("-").partition(".")[0]) > EDGE_DIGITS:
                 raise Refused("the edge %s has more than %d digits before its point" % (edge, EDGE_DIGITS))
         if self.north <= self.south or self.east <= self.west:
-            raise Refused("north is not above south, or east is not above west, to %d decimals" % EDGE_DECIMALS)
+            raise Refused("north is not above south, or east is not above west, to %d decimals" % DECIMALS)
 
     @classmethod
     def of_transform(cls, transform, rows, cols):

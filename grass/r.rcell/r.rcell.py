@@ -85,7 +85,6 @@ BYTES_OF_A_PIECE = 1 << 20  # of a table that is copied
 SECONDS_OF_A_STEP = 0.5  # of the line of progress
 BLANKS = b" \t\r"
 NAME = re.compile(r"[A-Za-z_][A-Za-z0-9_.]{0,63}")
-COLUMN = re.compile(r" at column \d+$")
 BYTES = {"u8": 1, "i32": 4}  # of a cell, by the types of maps that come back
 
 Input = namedtuple("Input", "name map")  # the name in the script, the raster map
@@ -124,38 +123,25 @@ def made_by(statements):
 
 def stopped(end, script, names):
     """What rcell says of a script or a map, with the line of the user's script beneath."""
-    lines = script.split("\n")
-    if end.source == "request" and end.map < len(names):
-        return Stopped("rcell: %s:%d: %s" % (names[end.map], end.line, end.text))
-    if not 0 < end.line <= len(lines):
-        return Stopped("rcell: script:%d: %s" % (end.line, end.text))
-    line = lines[end.line - 1].rstrip("\r")
-    column, advice = advice_on(script, names, end)
-    found = COLUMN.search(end.text)
-    is_option = end.text == "bad option" and column is not None and column > 1  # 1: two options that exclude each other
-    place = int(found[0].split()[-1]) if found else column if is_option else None
-    word = ""
-    if is_option:
-        word = ": " + line.encode("utf-8", "surrogateescape")[column - 1 :].split()[0].decode(errors="replace")
+    from rcell_front.pipe import Fault
+
+    fault = Fault(**end.parts(script, names))
+    said, word, line = "rcell: %s:%d: %s" % (fault.source, fault.line, fault.text), "", fault.content
+    if line is None:
+        return Stopped(said)
+    is_option = fault.text == "bad option"
+    place = None if is_option and fault.column == 1 else fault.column  # 1: two options that exclude each other
+    if place and is_option:
+        word = ": " + line.encode("utf-8", "surrogateescape")[place - 1 :].split()[0].decode(errors="replace")
     beneath = "    %s\n" % shown(line)
     if place:
         beneath += "    " + " " * len(shown(line.encode("utf-8", "surrogateescape")[: place - 1].decode(errors="replace"))) + "^\n"
-    return Stopped("rcell: script:%d: %s%s" % (end.line, end.text, word), beneath + ("    try: %s\n" % advice if advice else ""))
+    return Stopped(said + word, beneath + ("    try: %s\n" % fault.advice if fault.advice else ""))
 
 
 def shown(text):
     """A text as a terminal takes it."""
     return text.encode("utf-8", "surrogateescape").decode(errors="replace").replace("\t", " ")
-
-
-def advice_on(script, names, end):
-    """The column that an error is about, and what to write instead; None if they are not known."""
-    try:
-        from rcell_front.mending import advice
-
-        return advice(script.encode("utf-8", "surrogateescape"), names, end.line, COLUMN.sub("", end.text))
-    except Exception:  # advice must not hide the message
-        return None, None
 
 
 # Maps that go in

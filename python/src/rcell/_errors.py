@@ -3,10 +3,9 @@
 
 from __future__ import annotations
 
-import re
 from typing import Any
 
-from rcell_front.advice import lines_of_error
+from rcell_front.pipe import Fault
 
 __all__ = [
     "BadMap",
@@ -28,7 +27,6 @@ _CAUSES = {
     9: "too little memory, or someone ended it",
     11: "too little room for its stack (ulimit -s), or a bug in the program",
 }
-_COLUMN = re.compile(r" at column (\d+)$")
 
 
 class RcellError(Exception):
@@ -42,7 +40,7 @@ class RcellError(Exception):
     """
 
 
-class Refused(RcellError):
+class Refused(Fault, RcellError):
     """A map, a script or a request is invalid, and nothing was returned.
 
     Parameters
@@ -74,35 +72,6 @@ class Refused(RcellError):
                             ^
       try: r.mapcalc half = lc / 2  (`/` drops the remainder (7 / 2 is 3), so multiply counts of cells instead if fractions matter)
     """
-
-    def __init__(
-        self,
-        text: str,
-        source: str = "arguments",
-        line: int = 0,
-        status: int = 1,
-        content: str | None = None,
-        advice: str | None = None,
-        column: int | None = None,
-    ) -> None:
-        super().__init__(text, source, line, status, content, advice, column)
-        self.text = text
-        self.source = source
-        self.line = line
-        self.status = status
-        self.content = content
-        self.advice = advice
-        found = _COLUMN.search(text)
-        self.column = int(found[1]) if found else column
-
-    def __str__(self) -> str:
-        place = f"{self.source}, line {self.line}" if self.line else self.source
-        lines = [f"{place}: {self.text}"]
-        if self.content is not None:
-            lines += [f"  {line}" for line in lines_of_error(self.content, self.column)]
-        if self.advice:
-            lines.append("  try: " + self.advice.replace("\n", "\n       "))
-        return "\n".join(lines)
 
 
 class OutOfMemory(Refused, MemoryError):

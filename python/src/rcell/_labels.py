@@ -15,6 +15,7 @@ import warnings
 import xml.etree.ElementTree as ElementTree
 from typing import Any, Mapping
 
+from rcell_front import maps
 from rcell_front.pipe import NULL
 
 from ._errors import BadMap, RcellError
@@ -23,12 +24,7 @@ from ._libraries import has, need
 
 __all__ = ["checked_labels", "read_labels", "read_legend", "write_labels"]
 
-# Category names are a list from 0 on: beyond so many, or with negative categories, an attribute table says the same in less.
-NAMES_LIMIT = 1 << 16
-# What GDAL calls the columns of a table of attributes: numbers of its enumerations.
-_INTEGER, _TEXT = 0, 2
-_USAGE_NAME, _USAGE_VALUE = 2, 5
-_VALUE_USAGES = (_USAGE_VALUE, 3)
+# Columns of attribute tables, in GDAL's numbers.
 _USAGES_RGB = (6, 7, 8)
 # NUL, and lone surrogates.
 _UNWRITABLE = re.compile("[\0\ud800-\udfff]")
@@ -134,7 +130,7 @@ def _attribute_colors(path: str, band: int) -> dict[int, str]:
         return {}
     places = range(table.GetColumnCount())
     usages = [table.GetUsageOfCol(at) for at in places]
-    value = _columns(usages, [table.GetNameOfCol(at) for at in places])[0]
+    value = maps.columns_of(usages, [table.GetNameOfCol(at) for at in places])[0]
     if value is None or not set(_USAGES_RGB) <= set(usages):
         return {}
     columns = [usages.index(usage) for usage in _USAGES_RGB]
@@ -176,14 +172,6 @@ def write_labels(path: str, labels: Mapping[int, str]) -> str | None:
     return beside
 
 
-def _fit_names(labels: Mapping[int, str]) -> bool:
-    return min(labels) >= 0 and max(labels) < NAMES_LIMIT
-
-
-def _names(labels: Mapping[int, str]) -> list[str]:
-    return [labels.get(category, "") for category in range(max(labels) + 1)]
-
-
 # With GDAL
 
 
@@ -212,52 +200,14 @@ def _read_by_gdal(path: str, band: int) -> dict[int, str]:
             dataset = gdal.Open(path)
         except RuntimeError:
             return {}
-        layer = dataset.GetRasterBand(band)
-        # Straight after opening, some versions have category names only once something else was asked for.
-        layer.GetNoDataValue()
-        names = layer.GetRasterCategoryNames()
-        if names and any(names):
-            return {category: name for category, name in enumerate(names) if name}
-        table = layer.GetDefaultRAT()
-        return {} if table is None else _labels_of_table(table)
-
-
-def _labels_of_table(table: Any) -> dict[int, str]:
-    value, name = _columns([table.GetUsageOfCol(at) for at in range(table.GetColumnCount())],
-                           [table.GetNameOfCol(at) for at in range(table.GetColumnCount())])
-    if value is None or name is None:
-        return {}
-    rows = range(table.GetRowCount())
-    return {table.GetValueAsInt(row, value): text for row in rows if (text := table.GetValueAsString(row, name))}
-
-
-def _columns(usages: list[int], titles: list[str]) -> tuple[int | None, int | None]:
-    """Return the columns of an attribute table with the values and labels: by their usage, or else by common titles."""
-
-    def first(wanted: tuple[int, ...], usual: tuple[str, ...]) -> int | None:
-        by_use = (at for at, usage in enumerate(usages) if usage in wanted)
-        by_title = (at for at, title in enumerate(titles) if title.lower() in usual)
-        return next(by_use, next(by_title, None))
-
-    return first(_VALUE_USAGES, ("value",)), first((_USAGE_NAME,), ("class_name", "class_names", "name", "label", "category"))
+        return maps.labels_of_band(dataset.GetRasterBand(band))
 
 
 def _write_by_gdal(path: str, labels: Mapping[int, str]) -> None:
     gdal = _quiet_gdal()
     with _Exceptions(gdal):
         dataset = gdal.Open(os.fsencode(path))  # as text it may only be UTF-8
-        layer = dataset.GetRasterBand(1)
-        if _fit_names(labels):
-            layer.SetRasterCategoryNames(_names(labels))
-        else:
-            table = gdal.RasterAttributeTable()
-            table.CreateColumn("Value", gdal.GFT_Integer, gdal.GFU_MinMax)
-            table.CreateColumn("Class_Name", gdal.GFT_String, gdal.GFU_Name)
-            table.SetRowCount(len(labels))
-            for row, (category, label) in enumerate(sorted(labels.items())):
-                table.SetValueAsInt(row, 0, category)
-                table.SetValueAsString(row, 1, label)
-            layer.SetDefaultRAT(table)
+        maps.put_labels(gdal, dataset.GetRasterBand(1), labels)
         dataset.FlushCache()
 
 
@@ -292,7 +242,7 @@ def _read_beside(path: str, band: int) -> dict[int, str]:
 def _labels_of_element(table: ElementTree.Element) -> dict[int, str]:
     fields = table.findall("FieldDefn")
     usages = [_category(field.findtext("Usage", "0")) or 0 for field in fields]
-    value, name = _columns(usages, [field.findtext("Name", "") for field in fields])
+    value, name = maps.columns_of(usages, [field.findtext("Name", "") for field in fields])
     if value is None or name is None:
         return {}
     rows = [[cell.text or "" for cell in row.findall("F")] for row in table.findall("Row")]
@@ -305,13 +255,13 @@ def _write_beside(path: str, labels: Mapping[int, str]) -> None:
     if root is None or root.tag != "PAMDataset":
         root = ElementTree.Element("PAMDataset")
     band = ElementTree.SubElement(root, "PAMRasterBand", band="1")
-    if _fit_names(labels):
+    if maps.fit_names(labels):
         names = ElementTree.SubElement(band, "CategoryNames")
-        for name in _names(labels):
+        for name in maps.names_of(labels):
             ElementTree.SubElement(names, "Category").text = name
     else:
         table = ElementTree.SubElement(band, "GDALRasterAttributeTable", tableType="thematic")
-        for at, (title, kind, usage) in enumerate([("Value", _INTEGER, _USAGE_VALUE), ("Class_Name", _TEXT, _USAGE_NAME)]):
+        for at, (title, kind, usage) in enumerate([("Value", maps.INTEGER, maps.USAGE_VALUE), ("Class_Name", maps.TEXT, maps.USAGE_NAME)]):
             field = ElementTree.SubElement(table, "FieldDefn", index=str(at))
             for tag, text in (("Name", title), ("Type", str(kind)), ("Usage", str(usage))):
                 ElementTree.SubElement(field, tag).text = text

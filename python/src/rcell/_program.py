@@ -7,7 +7,6 @@ Scripts run in rcell-pipe, which takes maps as bytes and returns tables and maps
 from __future__ import annotations
 
 import contextlib
-import importlib
 import os
 import re
 import sys
@@ -35,7 +34,6 @@ PROBE_SECONDS = 60
 
 _NUMBER = re.compile("0*([0-9]{1,10})")
 _PROBE_COLS = 1 << 10
-_AT_COLUMN = re.compile(r" at column [0-9]+$")
 _MESSAGE = re.compile(r"rcell: ([^:]*):(\d+): (.*)")
 
 
@@ -140,7 +138,6 @@ _ENDLESS = "{} does not end within {} seconds: it is no program {}"
 _PROBE_GRID = b"north: 1\nsouth: 0\neast: 3\nwest: 0\nrows: 1\ncols: 3\nnull: ***\n007 *** 012 "
 _PROBE_SCRIPT = b"r.stats -1 input=probe null_value=-2147483648\n"
 _PROBE_ANSWER = b"7\n-2147483648\n12\n"
-_PIPE_SCRIPT = b"r.clump -d input=probe output=k\nr.stats -c input=probe,k after=7,1\nr.stats -1 input=k\nr.out.ascii input=k\n"
 
 
 def _probe(path: str) -> None:
@@ -163,21 +160,15 @@ def _probe(path: str) -> None:
 
 
 def _probe_pipe(path: str) -> None:
-    """Run rcell-pipe once on a map of three cells, with a frame of each kind."""
-    probe = front.Map("probe", ("1", "0", "3", "0"), 1, 3, "u8", [front.Block(b"\7\xff\14")], nodata=255)
+    """Run rcell-pipe once."""
     try:
-        frames = front.run(path, [probe], _PIPE_SCRIPT, seconds=PROBE_SECONDS)
+        is_known = front.is_known(path, PROBE_SECONDS)
     except TimeoutError:
         raise WrongProgram(_ENDLESS.format(path, PROBE_SECONDS, "rcell-pipe")) from None
     except front.NotStarted as error:
         raise MissingProgram(_NOT_STARTED.format(path, error.strerror)) from None
-    except (front.Rejected, front.Killed, front.NoAnswer):
-        frames = []
-    if [bytes(frame.cells) for frame in frames] != _PIPE_ANSWER:
+    if not is_known:
         raise WrongProgram(_UNKNOWN.format(path, "rcell-pipe"))
-
-
-_PIPE_ANSWER = [np.array([12, 2, NULL, NULL], np.int32).tobytes(), np.array([1, NULL, 2], np.int32).tobytes(), b"\1\xff\2"]
 
 
 # Runs of rcell-pipe
@@ -273,7 +264,7 @@ def _told(script: str, names: list[str], path: str) -> Iterator[None]:
     try:
         yield
     except front.Rejected as end:
-        raise _fault(end, script, names) from None
+        raise (OutOfMemory if end.status == 3 else Refused)(**end.parts(script, names)) from None
     except front.Killed as error:
         raise Killed(int(error.args[0])) from None
     except front.NoAnswer as error:
@@ -311,28 +302,6 @@ def _cells(frame: front.GridFrame) -> NDArray[np.int32]:
     wide = cells.astype(np.int32)
     np.copyto(wide, NULL, where=cells == frame.null)
     return wide
-
-
-def _fault(end: front.Rejected, script: str, names: list[str]) -> RcellError:
-    """Return the error of a run that was rejected."""
-    kind = OutOfMemory if end.status == 3 else Refused
-    if end.source == "request" and end.map < len(names):
-        return kind(end.text, names[end.map], end.line, end.status)
-    lines = script.split("\n")
-    content = advice = column = None
-    if 0 < end.line <= len(lines):
-        content = lines[end.line - 1].rstrip("\r")
-        column, advice = _advice(script, names, end.line, end.text)
-    return kind(end.text, "script", end.line, end.status, content, advice, column)
-
-
-def _advice(script: str, names: Iterable[str], line: int, text: str) -> tuple[int | None, str | None]:
-    """Return the column that a message is about, and what to write instead, if rcell-explain knows them."""
-    with contextlib.suppress(Exception):  # a fault of the advice must not hide the message
-        mending: Any = importlib.import_module("rcell_front.mending")
-        column, advice = mending.advice(script.encode("utf-8", "surrogateescape"), names, line, _AT_COLUMN.sub("", text))
-        return (column if text == "bad option" else None), advice
-    return None, None
 
 
 # Runs of rcell

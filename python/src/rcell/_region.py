@@ -7,22 +7,22 @@ import math
 import numbers
 from dataclasses import dataclass
 from fractions import Fraction
-from typing import Any, Callable, Sequence
+from typing import Any, Sequence
 
 import numpy as np
+
+from rcell_front.maps import DECIMALS, UNITS, differences_of, edge_text
 
 from ._arrays import NDArray
 from ._errors import BadMap
 
-__all__ = ["Region", "Shift", "Transform", "check_upright", "differences_of", "edges_of_transform", "six_numbers", "units_of"]
+__all__ = ["Region", "Shift", "Transform", "check_upright", "edges_of_transform", "six_numbers", "units_of"]
 
 # a, b, c, d, e, f of x = a * column + b * row + c and y = d * column + e * row + f, as in rasterio's Affine.
 Transform = tuple[float, float, float, float, float, float]
 # North, south, east and west in units of 10^-8.
 Units = tuple[int, int, int, int]
 
-DECIMALS = 8
-UNITS = 10**DECIMALS
 EDGE_LIMIT = 10**10 * UNITS
 SIDE_LIMIT = 65_535
 CELL_LIMIT = 2_147_483_647
@@ -48,12 +48,6 @@ def six_numbers(name: str, given: Any) -> Transform:
     return a, b, c, d, e, f
 
 
-def _edge_text(units: int) -> str:
-    whole, part = divmod(abs(units), UNITS)
-    sign = "-" if units < 0 else ""
-    return f"{sign}{whole}.{part:0{DECIMALS}d}".rstrip("0").rstrip(".")
-
-
 def check_upright(name: str, transform: Transform) -> None:
     """Raise BadMap unless rows run from north to south and columns from west to east."""
     a, b, _, d, e, _ = transform
@@ -69,20 +63,6 @@ def edges_of_transform(transform: Transform, rows: int, cols: int) -> tuple[Frac
     """Return north, south, east and west of an upright map, exactly."""
     width, _, west, _, height, north = map(Fraction, transform)
     return north, north + height * rows, west + width * cols, west
-
-
-def differences_of(mine: tuple[Units, tuple[int, int]], its: tuple[Units, tuple[int, int]]) -> list[str]:
-    """Return the edges and sizes in which the second of two maps differs from the first, with the difference.
-
-    Examples
-    --------
-    >>> differences_of(((3 * UNITS, 0, UNITS, 0), (3, 1)), ((4 * UNITS, 0, UNITS, 0), (4, 1)))
-    ['north is 4, not 3 (1 more)', 'rows is 4, not 3 (1 more)']
-    """
-    texts: list[Callable[[int], str]] = [_edge_text] * 4 + [str] * 2
-    names = ("north", "south", "east", "west", "rows", "cols")
-    return [f"{name} is {text(other)}, not {text(one)} ({text(abs(other - one))} {'more' if other > one else 'less'})"
-            for name, text, one, other in zip(names, texts, mine[0] + mine[1], its[0] + its[1]) if one != other]
 
 
 @dataclass(frozen=True, eq=False)
@@ -254,7 +234,7 @@ class Region:
         >>> rcell.Region.of_cells(2, 3).edges
         ('2', '0', '3', '0')
         """
-        north, south, east, west = map(_edge_text, self.units)
+        north, south, east, west = map(edge_text, self.units)
         return north, south, east, west
 
     def header(self) -> str:
@@ -331,7 +311,7 @@ class Region:
         >>> rcell.Region.of_cells(2, 3).differences(rcell.Region(2, 0, 3.5, 0, 2, 3))
         ['east is 3.5, not 3 (0.5 more)']
         """
-        return differences_of((self.units, self.shape), (other.units, other.shape))
+        return differences_of(self.units + self.shape, other.units + other.shape)
 
     def __eq__(self, other: object) -> bool:
         return isinstance(other, Region) and self.units == other.units and self.shape == other.shape

@@ -17,6 +17,7 @@ import numpy as np
 from rcell_front.files import write_all
 from rcell_front.pipe import NULL
 from rcell_front.programs import Started, above_standard, close, pipe
+from rcell_front.spelling import listed_rows
 
 from ._errors import BadMap, ReadFailed
 from ._maps import Block, Source, in_region
@@ -72,15 +73,9 @@ class TextMap:
         """
         from ._program import fault_of_text
 
-        cols, text, cells = self.region.cols, b"", np.empty(0, np.int32)
         with self._listing() as run:
-            for piece in run.pieces():
-                lines, _, text = (text + piece).rpartition(b"\n")
-                cells = np.concatenate([cells, np.fromstring(lines, np.int32, sep=" ")])
-                whole = cells.size // cols * cols
-                if whole:
-                    yield Block(cells[:whole].reshape(-1, cols), None)
-                    cells = cells[whole:]
+            for rows in listed_rows(run.pieces(), self.region.cols):
+                yield Block(rows, None)
             status, message = run.end()
         if status:
             raise fault_of_text(status, message)

@@ -7,17 +7,22 @@ the response is read, and no thread is needed.
 
 from __future__ import annotations
 
+import contextlib
+import importlib
 import os
+import re
 import select
 import struct
 from collections.abc import Callable, Iterable, Iterator, Mapping, Sequence
 from dataclasses import dataclass, field, replace
-from typing import NamedTuple, NoReturn, Optional, Union
+from typing import Any, NamedTuple, NoReturn, Optional, Union
 
+from .advice import lines_of_error
 from .programs import WATCH_SECONDS, Started, close, pipe
 
 __all__ = [
-    "NULL", "Block", "Buffer", "Frame", "GridFrame", "Killed", "Map", "Margin", "NoAnswer", "NotStarted", "Rejected", "Statement", "TableFrame", "plan", "request", "run",
+    "NULL", "Block", "Buffer", "Fault", "Frame", "GridFrame", "Killed", "Map", "Margin", "NoAnswer", "NotStarted", "Rejected", "Statement", "TableFrame", "is_known", "plan", "request",
+    "run",
     "script_bytes",
 ]
 
@@ -35,6 +40,7 @@ _SOURCES = {1: "request", 2: "script"}
 _COMMANDS = ("r.mapcalc", "r.reclass", "r.clump", "r.stats", "r.out.ascii")
 _OPTIONS = "cl1nN"
 _IS_PLACED = 8
+_AT_COLUMN = re.compile(r" at column (\d+)$")
 # Rows and their masks are put together in pieces that stay in the cache of a processor.
 PIECE_BYTES = 1 << 18
 
@@ -294,6 +300,39 @@ class Statement:
 _AnyFrame = Union[Frame, Statement]
 
 
+class Fault(Exception):
+    """A map, a script or a request is invalid; the class Refused of each package documents the attributes."""
+
+    def __init__(
+        self,
+        text: str,
+        source: str = "arguments",
+        line: int = 0,
+        status: int = 1,
+        content: Optional[str] = None,
+        advice: Optional[str] = None,
+        column: Optional[int] = None,
+    ) -> None:
+        super().__init__(text, source, line, status, content, advice, column)
+        self.text = text
+        self.source = source
+        self.line = line
+        self.status = status
+        self.content = content
+        self.advice = advice
+        found = _AT_COLUMN.search(text)
+        self.column = int(found[1]) if found else column
+
+    def __str__(self) -> str:
+        place = f"{self.source}, line {self.line}" if self.line else self.source
+        lines = [f"{place}: {self.text}"]
+        if self.content is not None:
+            lines += [f"  {line}" for line in lines_of_error(self.content, self.column)]
+        if self.advice:
+            lines.append("  try: " + self.advice.replace("\n", "\n       "))
+        return "\n".join(lines)
+
+
 class Rejected(Exception):
     """The program rejected the request or the script, or ran out of memory.
 
@@ -315,6 +354,20 @@ class Rejected(Exception):
     def __init__(self, status: int, source: str, map: int, line: int, column: int, text: str) -> None:
         super().__init__(status, source, map, line, column, text)
         self.status, self.source, self.map, self.line, self.column, self.text = status, source, map, line, column, text
+
+    def parts(self, script: str, names: Sequence[str]) -> dict[str, Any]:
+        """Return the arguments of `Fault` for this error of a script over maps of some names."""
+        parts = {"text": self.text, "source": "script", "line": self.line, "status": self.status}
+        if self.source == "request" and self.map < len(names):
+            return {**parts, "source": names[self.map]}
+        lines = script.split("\n")
+        if not 0 < self.line <= len(lines):
+            return parts
+        column = advice = None
+        with contextlib.suppress(Exception):  # an error of the advice must not hide the message
+            mending: Any = importlib.import_module(".mending", __package__)
+            column, advice = mending.advice(script.encode("utf-8", "surrogateescape"), list(names), self.line, _AT_COLUMN.sub("", self.text))
+        return {**parts, "content": lines[self.line - 1].rstrip("\r"), "advice": advice, "column": column if self.text == "bad option" else None}
 
 
 class NotStarted(OSError):
@@ -467,6 +520,26 @@ def run(
         It takes too long.
     """
     return [frame for frame in _answered(program, request(maps, script), seconds, watch) if not isinstance(frame, Statement)]
+
+
+_PROBE_SCRIPT = b"r.clump -d input=probe output=k\nr.stats -c input=probe,k after=7,1\nr.stats -1 input=k\nr.out.ascii input=k\n"
+_PROBE_CELLS = [struct.pack("<4i", 12, 2, NULL, NULL), struct.pack("<3i", 1, NULL, 2), b"\1\xff\2"]
+
+
+def is_known(program: str, seconds: float) -> bool:
+    """Return whether a program is rcell-pipe of this version, after a run over three cells with a frame of each kind.
+
+    Raises
+    ------
+    NotStarted, TimeoutError
+        As `run`.
+    """
+    probe = Map("probe", ("1", "0", "3", "0"), 1, 3, "u8", [Block(b"\7\xff\14")], nodata=255)
+    try:
+        frames = run(program, [probe], _PROBE_SCRIPT, seconds=seconds)
+    except (Rejected, Killed, NoAnswer):
+        return False
+    return [bytes(frame.cells) for frame in frames] == _PROBE_CELLS
 
 
 def plan(

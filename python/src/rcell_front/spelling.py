@@ -1,8 +1,9 @@
 # SPDX-License-Identifier: Apache-2.0 OR GPL-2.0-or-later
-"""Cells as the text of a grid, for programs that read grids. Needs numpy."""
+"""Cells as text, for programs that read grids, and from rcell, which lists the cells of a grid. Needs numpy."""
 
 from __future__ import annotations
 
+from collections.abc import Iterable, Iterator
 from typing import TYPE_CHECKING, Any
 
 import numpy as np
@@ -10,7 +11,7 @@ import numpy as np
 if TYPE_CHECKING:
     from numpy.typing import NDArray
 
-__all__ = ["rows_text"]
+__all__ = ["listed_rows", "rows_text"]
 
 BLOCK_CELLS = 1 << 17
 
@@ -25,6 +26,24 @@ def rows_text(cells: NDArray[Any], null: int) -> bytes:
     """
     step = max(1, BLOCK_CELLS // cells.shape[1])
     return b"".join(_lines(cells[row : row + step], null) for row in range(0, len(cells), step))
+
+
+def listed_rows(pieces: Iterable[bytes], cols: int) -> Iterator[NDArray[np.int32]]:
+    """Yield whole rows of the cells that `r.stats -1` lists with a number for null.
+
+    Examples
+    --------
+    >>> [rows.tolist() for rows in listed_rows([b"1\\n-2", b"0\\n3\\n4\\n"], 2)]
+    [[[1, -20], [3, 4]]]
+    """
+    rest, cells = b"", np.empty(0, np.int32)
+    for piece in pieces:
+        lines, _, rest = (rest + piece).rpartition(b"\n")
+        cells = np.concatenate([cells, np.fromstring(lines, np.int32, sep=" ")])
+        whole = cells.size // cols * cols
+        if whole:
+            yield cells[:whole].reshape(-1, cols)
+            cells = cells[whole:]
 
 
 def _lines(cells: NDArray[Any], null: int) -> bytes:

@@ -3,20 +3,20 @@
 
 from __future__ import annotations
 
-import re
 import signal
-from typing import Any
+from typing import TYPE_CHECKING, Any
 
-from .front.advice import lines_of_error
-
-_COLUMN = re.compile(r" at column (\d+)$")
+if TYPE_CHECKING:
+    from rcell_front.pipe import Fault
+else:
+    from .front.pipe import Fault
 
 
 class RcellError(Exception):
     """The base class of all errors."""
 
 
-class Refused(RcellError):
+class Refused(Fault, RcellError):
     """A map, a script or a request is invalid, and there is no result.
 
     Attributes
@@ -36,27 +36,6 @@ class Refused(RcellError):
     advice : str or None
         What to write instead.
     """
-
-    def __init__(self, text: str, source: str = "arguments", line: int = 0, status: int = 1, content: str | None = None,
-                 column: int | None = None, advice: str | None = None) -> None:
-        super().__init__(text, source, line, status, content, column, advice)
-        self.text = text
-        self.source = source
-        self.line = line
-        self.status = status
-        self.content = content
-        found = _COLUMN.search(text)
-        self.advice = advice
-        self.column = int(found[1]) if found else column
-
-    def __str__(self) -> str:
-        place = f"{self.source}, line {self.line}" if self.line else self.source
-        lines = [f"{place}: {self.text}"]
-        if self.content is not None:
-            lines += [f"  {line}" for line in lines_of_error(self.content, self.column)]
-        if self.advice:
-            lines.append("  try: " + self.advice.replace("\n", "\n       "))
-        return "\n".join(lines)
 
 
 class OutOfMemory(Refused, MemoryError):

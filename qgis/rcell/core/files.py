@@ -19,7 +19,7 @@ from .answers import Column, Table
 from .counting import Answer
 from .errors import RcellError, Refused, WriteFailed
 from .front.files import Output, is_same_file
-from .labels import put_labels
+from .front.maps import put_labels
 from .rasters import BLOCK_CELLS, Raster, quiet
 
 # Level 1 with differences of neighbours takes an eighth of the time of level 6 without, for files of the same size.
@@ -277,7 +277,7 @@ def _write_tiff(path: str, cells: NDArray[np.int32], null: int, like: Raster, la
         dataset.SetProjection(like.crs)
     band = dataset.GetRasterBand(1)
     band.SetNoDataValue(null)
-    put_labels(band, labels)
+    put_labels(gdal, band, labels)
     step = max(1, BLOCK_CELLS // cols)
     for row in range(0, rows, step):
         check()

@@ -4,14 +4,13 @@
 from __future__ import annotations
 
 import contextlib
-import importlib
 import os
 import re
 import shlex
 import stat
 import sys
 from dataclasses import dataclass
-from typing import Any, Callable, Iterator, Mapping, Sequence
+from typing import Callable, Iterator, Mapping, Sequence
 
 import numpy as np
 
@@ -19,9 +18,9 @@ from .errors import Cancelled, Killed, MissingProgram, OutOfMemory, RcellError, 
 from .front import pipe
 from .front.pipe import NULL
 from .front.programs import Started, above_standard, found_on_path
+from .front.spelling import listed_rows
 from .rasters import Cells, Mask, Raster, Warn
 
-_AT_COLUMN = re.compile(r" at column \d+$")
 _MESSAGE = re.compile(r"rcell: ([^:]*):(\d+): (.*)")
 _PROBE_SECONDS = 60
 _FOLDER = os.path.join(os.path.dirname(os.path.dirname(os.path.abspath(__file__))), "bin")
@@ -107,21 +106,15 @@ def _set_executable(path: str) -> None:
             raise MissingProgram(f"the program {path} may not be executed, and that cannot be changed: {error.strerror}") from None
 
 
-_PROBE_SCRIPT = b"r.clump -d input=probe output=k\nr.stats -c input=probe,k after=7,1\nr.stats -1 input=k\nr.out.ascii input=k\n"
-_PROBE_CELLS = [np.array([12, 2, NULL, NULL], np.int32).tobytes(), np.array([1, NULL, 2], np.int32).tobytes(), b"\1\xff\2"]
-
-
 def _probe(path: str) -> None:
-    """Run the program once on three cells, with a frame of each kind."""
-    probe = pipe.Map("probe", ("1", "0", "3", "0"), 1, 3, "u8", [pipe.Block(b"\7\xff\14")], nodata=255)
-    frames: list[pipe.Frame] = []
+    """Run the program once."""
     try:
-        frames = pipe.run(path, [probe], _PROBE_SCRIPT, seconds=_PROBE_SECONDS)
-    except (pipe.Rejected, pipe.Killed, pipe.NoAnswer, TimeoutError):
-        pass
+        is_known = pipe.is_known(path, _PROBE_SECONDS)
+    except TimeoutError:
+        is_known = False
     except OSError as error:
         raise MissingProgram(f"the program {path} cannot be executed: {error.strerror}") from None
-    if [bytes(frame.cells) for frame in frames] != _PROBE_CELLS:
+    if not is_known:
         raise WrongProgram(f"{path} is not a program rcell-pipe of a version that this plugin knows")
 
 
@@ -180,7 +173,7 @@ def _errors_of(script: str, names: Sequence[str]) -> Iterator[None]:
     try:
         yield
     except pipe.Rejected as end:
-        raise _fault(end, script, names) from None
+        raise (OutOfMemory if end.status == 3 else Refused)(**end.parts(script, names)) from None
     except pipe.Killed as error:
         raise Killed(int(error.args[0])) from None
     except pipe.NoAnswer as error:
@@ -230,15 +223,9 @@ def _text_blocks(program: str, name: str, raster: Raster) -> Iterator[tuple[Cell
         run = Started([path, f"/dev/fd/{script}", f"{name}={os.path.abspath(raster.path)}"], [script])
     finally:
         os.close(script)
-    cols, rest, cells = raster.region.cols, b"", np.empty(0, np.int32)
     with run:
-        for piece in run.pieces():
-            lines, _, rest = (rest + piece).rpartition(b"\n")
-            cells = np.concatenate([cells, np.fromstring(lines, np.int32, sep=" ")])
-            whole = cells.size // cols * cols
-            if whole:
-                yield cells[:whole].reshape(-1, cols), None
-                cells = cells[whole:]
+        for rows in listed_rows(run.pieces(), raster.region.cols):
+            yield rows, None
         status, message = run.end()
     if status:
         raise _fault_of_text(status, message.decode("utf-8", "replace"))
@@ -251,27 +238,3 @@ def _fault_of_text(status: int, message: str) -> RcellError:
     if not found:
         return WrongProgram(f"the program rcell ended in status {status} and said: {message.strip() or 'nothing'}")
     return (OutOfMemory if status == 3 else Refused)(found[3], found[1], int(found[2]), status)
-
-
-# Errors
-
-
-def _fault(end: pipe.Rejected, script: str, names: Sequence[str]) -> RcellError:
-    """Return the error of a run that was rejected."""
-    kind = OutOfMemory if end.status == 3 else Refused
-    if end.source == "request" and end.map < len(names):
-        return kind(end.text, names[end.map], end.line, end.status)
-    lines = script.split("\n")
-    if not 0 < end.line <= len(lines):
-        return kind(end.text, "output" if end.status == 3 else "script", 0, end.status)
-    column, advice = _advice(script, names, end.line, end.text)
-    return kind(end.text, "script", end.line, end.status, lines[end.line - 1].rstrip("\r"), column, advice)
-
-
-def _advice(script: str, names: Sequence[str], line: int, text: str) -> tuple[int | None, str | None]:
-    """Return the column of an invalid option and what to write instead, from rcell-explain."""
-    with contextlib.suppress(Exception):  # a fault of the advice must not hide the message
-        mending: Any = importlib.import_module(".front.mending", __package__)
-        column, advice = mending.advice(script.encode("utf-8", "surrogateescape"), list(names), line, _AT_COLUMN.sub("", text))
-        return (column if text == "bad option" else None), advice
-    return None, None

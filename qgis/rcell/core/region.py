@@ -9,9 +9,8 @@ from fractions import Fraction
 from typing import Sequence
 
 from .errors import BadMap
+from .front.maps import DECIMALS, UNITS, differences_of, edge_text
 
-DECIMALS = 8
-UNITS = 10**DECIMALS
 EDGE_LIMIT = 10**10 * UNITS
 SIDE_LIMIT = 65_535
 CELL_LIMIT = 2_147_483_647
@@ -23,16 +22,6 @@ GeoTransform = tuple[float, float, float, float, float, float]
 def _units(edge: float | Fraction) -> int:
     """Return an edge in units of 10^-8, the precision of the program."""
     return int(round(Fraction(edge) * UNITS))
-
-
-def _edge_text(units: int) -> str:
-    whole, part = divmod(abs(units), UNITS)
-    sign = "-" if units < 0 else ""
-    return f"{sign}{whole}.{part:0{DECIMALS}d}".rstrip("0").rstrip(".")
-
-
-def _size_text(size: int) -> str:
-    return str(size)
 
 
 @dataclass(frozen=True)
@@ -71,7 +60,7 @@ class Region:
     def _check(self, name: str) -> None:
         for edge in ("north", "south", "east", "west"):
             if abs(getattr(self, edge)) >= EDGE_LIMIT:
-                raise BadMap(name, f"an edge of more than ten digits: {edge} is {_edge_text(getattr(self, edge))}")
+                raise BadMap(name, f"an edge of more than ten digits: {edge} is {edge_text(getattr(self, edge))}")
         if not (self.rows <= SIDE_LIMIT and self.cols <= SIDE_LIMIT and self.rows * self.cols <= CELL_LIMIT):
             size = f"{self.rows:,} rows and {self.cols:,} columns"
             limits = f"1 to {SIDE_LIMIT:,} each, and {CELL_LIMIT:,} cells in all"
@@ -82,18 +71,14 @@ class Region:
 
     def edge_texts(self) -> tuple[str, str, str, str]:
         """Return north, south, east and west for the program."""
-        return _edge_text(self.north), _edge_text(self.south), _edge_text(self.east), _edge_text(self.west)
+        return edge_text(self.north), edge_text(self.south), edge_text(self.east), edge_text(self.west)
 
     def differences(self, other: Region) -> list[str]:
         """Return the edges and sizes in which another region differs, with the difference; empty if they are equal."""
-        found = []
-        for edge in ("north", "south", "east", "west", "rows", "cols"):
-            mine, its = getattr(self, edge), getattr(other, edge)
-            text = _size_text if edge in ("rows", "cols") else _edge_text
-            if mine != its:
-                found.append(f"{edge} is {text(its)}, not {text(mine)} ({text(abs(its - mine))} {'more' if its > mine else 'less'})")
+        mine, its = ((each.north, each.south, each.east, each.west, each.rows, each.cols) for each in (self, other))
+        found: list[str] = differences_of(mine, its)
         return found
 
     def __str__(self) -> str:
-        edges = ", ".join(f"{edge} {_edge_text(getattr(self, edge))}" for edge in ("north", "south", "east", "west"))
+        edges = ", ".join(f"{edge} {edge_text(getattr(self, edge))}" for edge in ("north", "south", "east", "west"))
         return f"{edges}, {self.rows} rows, {self.cols} columns"

@@ -11,6 +11,8 @@ from typing import Any
 
 import numpy as np
 
+from rcell_front.maps import differences_of
+
 from .._crs import common_crs, wkt_of
 from .._errors import BadMap, OtherRegion
 from .._labels import read_labels
@@ -18,7 +20,7 @@ from .._libraries import need
 from .._maps import ArrayMap, check_computed, check_names, checked, nodata_of
 from .._masked import unmasked
 from .._rasters import Layer, only_band, open_dataset, told_of_reading, upright
-from .._region import Region, Transform, differences_of, edges_of_transform, units_of
+from .._region import Region, Transform, edges_of_transform, units_of
 from .._xarray import flat_of, is_lazy, variables_of
 from .joining import Rectangle
 
@@ -62,7 +64,7 @@ class Sheet:
 
     def differences(self, other: Sheet) -> list[str]:
         """Return the edges and sizes in which another sheet differs, with the difference."""
-        return differences_of((self._units, (self.rows, self.cols)), (other._units, (other.rows, other.cols)))
+        return differences_of((*self._units, self.rows, self.cols), (*other._units, other.rows, other.cols))
 
     @property
     def _units(self) -> tuple[int, int, int, int]:

@@ -1,0 +1,99 @@
+# SPDX-License-Identifier: Apache-2.0 OR GPL-2.0-or-later
+"""What maps have besides cells: edges as the program keeps them, and labels as GDAL keeps them."""
+
+from __future__ import annotations
+
+from collections.abc import Callable, Iterable, Mapping, Sequence
+from typing import Any, Optional
+
+__all__ = ["DECIMALS", "UNITS", "columns_of", "differences_of", "edge_text", "fit_names", "labels_of_band", "names_of", "put_labels"]
+
+DECIMALS = 8
+UNITS = 10**DECIMALS
+"""An edge of 1; the program keeps edges as whole numbers of this unit."""
+
+NAMES_LIMIT = 1 << 16
+"""Category names are a list from 0 on. For larger or negative categories, an attribute table is smaller."""
+
+# Columns of attribute tables, in GDAL's numbers.
+INTEGER, TEXT = 0, 2
+USAGE_NAME, USAGE_VALUE = 2, 5
+_VALUE_USAGES = (USAGE_VALUE, 3)
+
+
+def edge_text(units: int) -> str:
+    """Return an edge in units of 10^-8 as a decimal text."""
+    whole, part = divmod(abs(units), UNITS)
+    sign = "-" if units < 0 else ""
+    return f"{sign}{whole}.{part:0{DECIMALS}d}".rstrip("0").rstrip(".")
+
+
+def differences_of(mine: Iterable[int], its: Iterable[int]) -> list[str]:
+    """Return a text for each difference of two grids, each of four edges in units of 10^-8, rows and columns.
+
+    Examples
+    --------
+    >>> differences_of((3 * UNITS, 0, UNITS, 0, 3, 1), (4 * UNITS, 0, UNITS, 0, 4, 1))
+    ['north is 4, not 3 (1 more)', 'rows is 4, not 3 (1 more)']
+    """
+    texts: list[Callable[[int], str]] = [edge_text] * 4 + [str] * 2
+    return [f"{name} is {text(other)}, not {text(one)} ({text(abs(other - one))} {'more' if other > one else 'less'})"
+            for name, text, one, other in zip(("north", "south", "east", "west", "rows", "cols"), texts, mine, its) if one != other]
+
+
+def labels_of_band(band: Any) -> dict[int, str]:
+    """Return the category names of a band, or else the names of its attribute table; empty if there are neither."""
+    # Right after opening, some versions of GDAL return category names only after another call.
+    band.GetNoDataValue()
+    names = band.GetRasterCategoryNames()
+    if names and any(names):
+        return {category: name for category, name in enumerate(names) if name}
+    table = band.GetDefaultRAT()
+    return {} if table is None else _labels_of_table(table)
+
+
+def _labels_of_table(table: Any) -> dict[int, str]:
+    places = range(table.GetColumnCount())
+    value, name = columns_of([table.GetUsageOfCol(at) for at in places], [table.GetNameOfCol(at) for at in places])
+    if value is None or name is None:
+        return {}
+    rows = range(table.GetRowCount())
+    return {table.GetValueAsInt(row, value): text for row in rows if (text := table.GetValueAsString(row, name))}
+
+
+def columns_of(usages: Sequence[int], titles: Sequence[str]) -> tuple[Optional[int], Optional[int]]:
+    """Return the columns of an attribute table with the values and labels: by their usage, or else by common titles."""
+
+    def first(wanted: tuple[int, ...], usual: tuple[str, ...]) -> Optional[int]:
+        by_use = (at for at, usage in enumerate(usages) if usage in wanted)
+        by_title = (at for at, title in enumerate(titles) if title.lower() in usual)
+        return next(by_use, next(by_title, None))
+
+    return first(_VALUE_USAGES, ("value",)), first((USAGE_NAME,), ("class_name", "class_names", "name", "label", "category"))
+
+
+def fit_names(labels: Mapping[int, str]) -> bool:
+    """Return whether labels are written as category names, and not as an attribute table."""
+    return min(labels) >= 0 and max(labels) < NAMES_LIMIT
+
+
+def names_of(labels: Mapping[int, str]) -> list[str]:
+    """Return labels as category names."""
+    return [labels.get(category, "") for category in range(max(labels) + 1)]
+
+
+def put_labels(gdal: Any, band: Any, labels: Mapping[int, str]) -> None:
+    """Write the labels of a band to its dataset."""
+    if not labels:
+        return
+    if fit_names(labels):
+        band.SetRasterCategoryNames(names_of(labels))
+        return
+    table = gdal.RasterAttributeTable()
+    table.CreateColumn("Value", INTEGER, USAGE_VALUE)
+    table.CreateColumn("Class_Name", TEXT, USAGE_NAME)
+    table.SetRowCount(len(labels))
+    for row, (category, label) in enumerate(sorted(labels.items())):
+        table.SetValueAsInt(row, 0, category)
+        table.SetValueAsString(row, 1, label)
+    band.SetDefaultRAT(table)
