@@ -7,6 +7,7 @@ import math
 import numbers
 from dataclasses import dataclass
 from fractions import Fraction
+from functools import cached_property
 from typing import Any, Sequence
 
 import numpy as np
@@ -175,7 +176,7 @@ class Region:
         """
         return cls(rows, 0, cols, 0, rows, cols)
 
-    @property
+    @cached_property
     def units(self) -> Units:
         """North, south, east and west in units of 10^-8, as the program compares them.
 

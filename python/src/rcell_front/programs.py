@@ -17,10 +17,13 @@ from typing import Optional
 
 __all__ = ["WATCH_SECONDS", "Started", "above_standard", "close", "found_on_path", "pipe"]
 
-PIPE_BYTES = 1 << 20
-READ_BYTES = 1 << 18  # stays in the cache of a processor until it is copied
+PIPE_BYTES = 1 << 18  # stays in the cache of a processor, as what is read at once
+READ_BYTES = 1 << 18
 SET_PIPE_SIZE = getattr(fcntl, "F_SETPIPE_SZ", 1031)  # Python has it from 3.10 on
 WATCH_SECONDS = 0.1
+LARGE_PAGES = {"GLIBC_TUNABLES": "glibc.malloc.hugetlb=1"}
+"""Memory for a map comes in pages of 2 MiB, where the system has them: with those of 4 KiB, an eighth of a table's time went into them."""
+
 MESSAGE_LIMIT = 1 << 16
 """The programs print one line on standard error; of what another one prints no more is kept."""
 
@@ -58,7 +61,7 @@ def above_standard(descriptor: int) -> int:
 
 
 def pipe() -> tuple[int, int]:
-    """Create a pipe of a MiB, if the system allows it; both ends are closed in forked children."""
+    """Create a pipe, larger than usual if the system allows it; both ends are closed in forked children."""
     with _lock:
         reader, writer = (above_standard(end) for end in os.pipe())
         _held.update((reader, writer))
@@ -109,7 +112,7 @@ class Started:
         self._output, output = pipe()
         self._told, told = pipe()
         try:
-            self._process = subprocess.Popen(words, stdin=stdin, stdout=output, stderr=told, pass_fds=inherited)
+            self._process = subprocess.Popen(words, stdin=stdin, stdout=output, stderr=told, pass_fds=inherited, env={**LARGE_PAGES, **os.environ})
         except BaseException:
             close(self._output)
             close(self._told)
