@@ -1,14 +1,14 @@
 #!/usr/bin/env python3
 """Times `parse` of r.mapcalc's language on a text of 65535 bytes and 999 tokens: best of 5, per text.
 
-It runs the proved test that reads this text a hundred times, so `rt test` in crates/cell_calc_language_tests comes first.
+It runs the proved test that reads this text a hundred times, so `rt test` in crates/cell_calc_tests comes first.
 """
 import os
 import subprocess
 import time
 
 ROOT = os.path.dirname(os.path.dirname(os.path.abspath(__file__)))
-TESTS = f"{ROOT}/crates/cell_calc_language_tests/out/cell_calc_language_tests_tests"
+TESTS = f"{ROOT}/crates/cell_calc_tests/out/cell_calc_tests_tests"
 
 
 def seconds(test):

@@ -29,7 +29,7 @@ ROOT = pathlib.Path(__file__).resolve().parents[2]
 EDITS = ROOT / "tools/build/turned"
 IMPORTED = re.compile(r"^(?:pub )?use Rattle\.(\w+)\.((?:specs|proofs)[\w.]*)\.\{", re.MULTILINE)
 SPREAD = re.compile(r"\{\n((?:  [^\n]*,\n)+)\}")
-VERDICT = re.compile(r"^fn \w+::law::(\w+): (.*)$", re.MULTILINE)
+VERDICT = re.compile(r"^fn \w+::(?:\w+_)?law::(\w+): (.*)$", re.MULTILINE)
 
 
 @dataclass

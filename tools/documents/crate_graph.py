@@ -13,7 +13,7 @@ import sys
 
 ROOT = os.path.abspath(f"{__file__}/../../..")
 PICTURE = f"{ROOT}/docs/crates.svg"
-ROOMS = {"core": "#dcecf7", "ascii": "#e4f3df", "raw": "#e7f0e4", "calc": "#fdf1d3", "cats": "#f9e2e2", "stats": "#ece3f5", "tiles": "#eeeeee",
+ROOMS = {"core": "#dcecf7", "ascii": "#e4f3df", "calc": "#fdf1d3", "cats": "#f9e2e2", "stats": "#ece3f5", "tiles": "#eeeeee",
          "rcell": "#dff2f0"}
 PROGRAMS = ("rcell_program", "rcell_join", "rcell_pipe")
 TITLE = re.compile(r"<title>([^<]+)</title>")
@@ -49,7 +49,8 @@ def edges(uses):
 
 
 def room(name):
-    return "rcell" if name.startswith("rcell") else name.split("_")[1]
+    found = "rcell" if name.startswith("rcell") else name.split("_")[1]
+    return found if found in ROOMS else "tiles"
 
 
 def dot():

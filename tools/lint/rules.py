@@ -17,7 +17,7 @@ ANSWERS = {"Answers.antt", "Invariants.antt", "Proof.antt"}
 WORKED = "Worked.antt"
 # The crates that the steps of an expression are for: those that make them, the one that evaluates them, and the one that
 # says how far they reach.
-CRATES_OF_STEPS = {"cell_calc_steps", "cell_calc_language", "cell_calc_binding", "cell_calc", "rcell_plan"}
+CRATES_OF_STEPS = {"cell_calc_grammar", "cell_calc_language", "cell_calc_binding", "cell_calc", "rcell_plan"}
 STEPS = re.compile(r"\.steps\(|\bstep::Step\b|declared\.step\b")
 
 

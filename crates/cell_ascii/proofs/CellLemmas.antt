@@ -4,7 +4,7 @@ use Rattle.std.specs.Option.{option_map}
 use Rattle.std.specs.Result.{IfErr}
 use Rattle.cell_core_devices.specs.Device.{Coming}
 use Rattle.cell_core.specs.Grid.{CellValue}
-use Rattle.cell_ascii_scanner.specs.Ahead.{Ahead}
+use Rattle.cell_ascii_reading.specs.Ahead.{Ahead}
 use Rattle.cell_ascii_meaning.specs.GridTokens.{Start, Begins, Ends, Stops, grid_start, word_from}
 use Rattle.cell_ascii_meaning.specs.Header.{◌>>=◌, At, HeaderValue, at_line}
 use Rattle.cell_ascii_meaning.specs.CellTexts.{Reading, after_start, cell_after_word, after_cell, cell_from, cell_of_number, cell_of_word, at_of, many}
@@ -14,7 +14,7 @@ use Rattle.cell_ascii.specs.Reader.{ReaderPlace, token_read, token_seen, reading
 use Rattle.cell_ascii_meaning.specs.declared.grid_fault.GridFault.{GridFault}
 use Rattle.cell_ascii_meaning.specs.declared.grid_fault.GridKind.{GridKind}
 use Rattle.cell_ascii_meaning.specs.declared.grid_fault.GridKind.TheVariants.{CellRange}
-use Rattle.cell_ascii_header.proofs.MapLemmas.{then_map, map_same}
+use Rattle.cell_ascii_reading.proofs.MapLemmas.{then_map, map_same}
 
 -- where a cell leaves a reader
 abbrev pub place_after : HeaderValue → ℕ → Ahead → ReaderPlace

@@ -14,11 +14,11 @@ use Rattle.cell_ascii_meaning.specs.FaultPlaces.{opening_fault}
 use Rattle.cell_ascii_meaning.specs.RowPlaces.{IsPlaceOf, end_fault}
 use Rattle.cell_ascii.specs.GridReaders.{ReaderValue, reader_place, opened_in, fault_of_reading}
 use Rattle.cell_ascii.specs.parts.Unread.{HasRows}
-use Rattle.cell_ascii_header.specs.Opening.{header_seen}
+use Rattle.cell_ascii_reading.specs.Opening.{header_seen}
 use Rattle.cell_ascii_meaning.specs.declared.grid_fault.GridFault.{GridFault}
 use Rattle.cell_ascii_meaning.specs.declared.grid_fault.GridKind.{GridKind}
 use Rattle.cell_ascii_meaning.specs.declared.grid_fault.GridKind.TheVariants.{MissingKey, Region}
-use Rattle.cell_ascii_header.proofs.MapLemmas.{known}
+use Rattle.cell_ascii_reading.proofs.MapLemmas.{known}
 use Rattle.cell_ascii.proofs.CellLemmas.{with_front, more_fails}
 use Rattle.cell_ascii_law_faults.proofs.GridFaultLemmas.{opening_agrees, opening_keeps_places}
 use Rattle.cell_ascii.proofs.RowReadLemmas.{implied, rows_kept, end_is}

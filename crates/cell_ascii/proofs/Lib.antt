@@ -1,3 +1,12 @@
+pub mod ManyLemmas
+pub mod HeldLemmas
+pub mod HeldRowLemmas
+pub mod AgainLemmas
+pub mod LaneLemmas
+mod ByteLemmas
+pub mod BitLemmas
+pub mod RunLemmas
+pub mod WordLemmas
 pub mod RowReadLemmas
 pub mod CellLemmas
 pub mod DataLemmas

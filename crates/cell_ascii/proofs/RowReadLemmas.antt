@@ -14,7 +14,7 @@ use Rattle.cell_ascii_law_faults.proofs.PlaceDataLemmas.{fault_in}
 use Rattle.cell_ascii_law_faults.proofs.RowPlaceLemmas.{cells_told, end_told}
 use Rattle.cell_ascii_law_faults.proofs.PlaceKeptLemmas.{cells_kept}
 use Rattle.cell_ascii_law_faults.proofs.GridFaultLemmas.{opening_keeps_places}
-use Rattle.cell_ascii_held.proofs.ManyLemmas.{many_cut, many_snoc, with_last}
+use Rattle.cell_ascii.proofs.ManyLemmas.{many_cut, many_snoc, with_last}
 
 -- what a known source gives, gives more
 pub implied : {A : Type 0} (P Q : A → Type 0) (a : Option A) → ((c : A) → P c → Q c) → IfSome a P → IfSome a Q

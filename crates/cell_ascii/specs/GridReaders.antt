@@ -8,7 +8,7 @@ use Rattle.cell_ascii_meaning.specs.Header.{At, HeaderValue, OpenedText, header_
 use Rattle.cell_ascii_meaning.specs.CellTexts.{cell_from, many}
 use Rattle.cell_ascii_meaning.specs.GridTokens.{grid_fault}
 use Rattle.cell_ascii_meaning.specs.RowPlaces.{end_fault}
-use Rattle.cell_ascii_scanner.specs.Scan.{FailsInText}
+use Rattle.cell_ascii_reading.specs.Scan.{FailsInText}
 use Rattle.cell_ascii_meaning.specs.declared.grid_fault.GridKind.TheVariants.{Memory, Failed}
 use Rattle.cell_ascii_meaning.specs.declared.grid_fault.GridFault.{GridFault}
 

@@ -2,8 +2,8 @@
 use Rattle.std.specs.Prelude.{ℕ, ◌≡◌, ◌+◌, ◌*◌, ◌^◌, ◌<◌, Bool, false, List, [], Option, Some, None, Result, Ok, Err, IfSome, if◌then◌else◌}
 use Rattle.cell_core_devices.specs.Device.{Coming}
 use Rattle.cell_core.specs.Grid.{CellValue}
-use Rattle.cell_ascii_scanner.specs.Ahead.{Ahead, bytes_to_come}
-use Rattle.cell_ascii_scanner.specs.Scan.{Scan}
+use Rattle.cell_ascii_reading.specs.Ahead.{Ahead, bytes_to_come}
+use Rattle.cell_ascii_reading.specs.Scan.{Scan}
 use Rattle.cell_ascii_meaning.specs.GridTokens.{Start, Begins, Ends, Stops, word_from, grid_fault}
 use Rattle.cell_ascii_meaning.specs.Header.{◌>>=◌, At, HeaderValue, OpenedText}
 use Rattle.cell_ascii_meaning.specs.CellTexts.{Reading, cell_from, many}

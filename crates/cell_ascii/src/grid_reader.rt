@@ -6,7 +6,7 @@ ghost use Rattle.std.specs.Result.{is_err};
 ghost use Rattle.cell_core_devices.specs.Device.{Coming};
 ghost use Rattle.cell_core_devices.specs.Asking.{hears, heard_first};
 ghost use Rattle.cell_ascii_meaning.specs.Kinds.{tells_read};
-ghost use Rattle.cell_ascii_scanner.specs.Ahead.{bytes_to_come, Agrees};
+ghost use Rattle.cell_ascii_reading.specs.Ahead.{bytes_to_come, Agrees};
 ghost use Rattle.cell_ascii_meaning.specs.GridTokens.{grid_start};
 ghost use Rattle.cell_ascii_meaning.specs.Header.{at_line, header_of, header_of_text};
 ghost use Rattle.cell_ascii_meaning.specs.CellTexts.{cell_of_word, cell_from, many, end_of, grid_of};
@@ -15,17 +15,17 @@ ghost use Rattle.cell_ascii_meaning.specs.FaultPlaces.{opening_fault, text_fault
 ghost use Rattle.cell_ascii_meaning.specs.RowPlaces.{cells_fault};
 ghost use Rattle.cell_ascii.specs.Reader.{ReaderPlace, at_place, token_read, token_seen, reading_seen, always, rows_from};
 ghost use Rattle.cell_ascii.specs.GridReaders.{reader_place, IsOpened, fault_of_reading, reader_has_failed, AnswersGrid, IsCutRow, IsChangedInFront, IsOfReading, TellsEnd};
-ghost use Rattle.cell_ascii_scanner.specs.Scan.{Hears, FailsInText};
+ghost use Rattle.cell_ascii_reading.specs.Scan.{Hears, FailsInText};
 ghost use Rattle.cell_ascii.specs.parts.Unread.{IsUnread, IsAtData, IsBehindHeader, HasRows};
 
-use cell_ascii_header::header::Header;
-use cell_ascii_header::header_reading;
-use cell_ascii_header::keys::HeaderKeys;
-use cell_ascii_held::pace::Pace;
-use cell_ascii_held::short_cells::cells_in;
-use cell_ascii_held::word_table::WordTable;
+use crate::pace::Pace;
+use crate::short_cells::cells_in;
+use crate::word_table::WordTable;
 use cell_ascii_meaning::grid_fault::{GridFault, GridKind};
-use cell_ascii_scanner::scanner::{Next, Scanner};
+use cell_ascii_reading::header::Header;
+use cell_ascii_reading::header_reading;
+use cell_ascii_reading::keys::HeaderKeys;
+use cell_ascii_reading::scanner::{Next, Scanner};
 use cell_core::cell::Cell;
 use cell_core::map::{CellMap, MapBuilder};
 use cell_core::region::Region;
@@ -158,7 +158,7 @@ impl<R: Source> CellReader<R> {
     }
 
     // Reads the cells whose bytes are held into the front of a row, and returns how many they are.
-    #[tactic(auto, using(cell_ascii_held::proofs::WordLemmas::lines_held))]
+    #[tactic(auto, using(crate::proofs::WordLemmas::lines_held))]
     fn held_cells(&mut self, row: &mut [Cell]) -> usize
         requires room { self.old.line + length row.old * 64 < 2 ^ 64 }
         ensures cells { Agrees (λ c. many (cell_from self.old.header) result (at_place self.old c))

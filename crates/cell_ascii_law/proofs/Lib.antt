@@ -7,3 +7,11 @@ pub mod GridCellLemmas
 pub mod TextLawLemmas
 pub mod GridLawLemmas
 pub mod HeaderReadLemmas
+pub mod WritingDigitLemmas
+pub mod WritingNumberLemmas
+pub mod WritingLexLemmas
+pub mod WritingTokenLemmas
+pub mod WritingDataLemmas
+pub mod WritingHeaderLemmas
+pub mod WritingLawLemmas
+pub mod Worked

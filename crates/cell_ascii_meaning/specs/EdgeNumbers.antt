@@ -3,8 +3,8 @@ use Rattle.std.specs.Prelude.{ℕ, ℤ, Bool, pos, negsuc, ◌+◌, ◌-◌, ◌
 use Rattle.std.specs.List.{list_all, before_first, after_first}
 use Rattle.std.specs.Option.{option_map}
 use Rattle.cell_core_values.specs.Letters.{byte}
-pub use Rattle.cell_core_text.specs.Digits.{is_digit, value_of_digits, digits_of}
-pub use Rattle.cell_core_text.specs.WholeNumbers.{signed_number, whole_number, is_in_range, whole_in_range}
+pub use Rattle.cell_core_values.specs.Digits.{is_digit, value_of_digits, digits_of}
+pub use Rattle.cell_core_values.specs.WholeNumbers.{signed_number, whole_number, is_in_range, whole_in_range}
 
 -- at most ten digits, and at most eight behind the point, one at least in all, in units of 10^-8
 abbrev pub in_units : List ℕ → List ℕ → Option ℕ

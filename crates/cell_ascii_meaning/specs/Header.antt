@@ -1,5 +1,5 @@
 -- The header of a grid text, from the bytes to come: key lines, up to the end of the first word of the data (r.in.ascii manual; the limits are the profile's).
-pub use Rattle.cell_core_text.specs.Answers.{◌>>=◌}
+pub use Rattle.cell_core_values.specs.Answers.{◌>>=◌}
 pub use Rattle.cell_ascii_meaning.specs.GridWords.{is_line_feed, HeaderValue, is_colon, has_colon, is_int, usual_null, usual_multiplier}
 use Rattle.std.specs.Prelude.{ℕ, ℤ, zero, suc, ◌+◌, Bool, true, false, ◌&&◌, ◌==◌, not, nat_lt, List, [], ◌∷◌, drop, Option, Some, None, Result, Ok, Err, if◌then◌else◌, unwrap_or}
 use Rattle.std.specs.List.{prefix_len, before_first, after_first}

@@ -1,4 +1,12 @@
 -- What several proofs share.
+pub mod Columns
+pub mod Frequent
+pub mod Strips
+pub mod Places
+pub mod Ready
+pub mod Rings
+pub mod StretchCells
+pub mod Waiting
 pub mod Operands
 pub mod StretchSteps
 pub mod Values

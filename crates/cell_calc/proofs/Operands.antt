@@ -5,14 +5,14 @@ use Rattle.std.proofs.lemmas.List.{take_all, length-map, length-take-le, length-
 use Rattle.std.proofs.lemmas.List.Elements.{All-head, All-push, All-same, All-tail, All-take}
 use Rattle.std.specs.Prelude.{All, IfOk, OnOk, reverse}
 use Rattle.cell_core.specs.Grid.{CellValue}
-use Rattle.cell_calc_steps.specs.declared.step.Step.{Step}
+use Rattle.cell_calc_grammar.specs.declared.step.Step.{Step}
 use Rattle.cell_calc.specs.declared.strip.Operand.{Operand}
 use Rattle.cell_calc.specs.declared.strip.Strip.{Strip}
-use Rattle.cell_calc_windows.specs.Window.{Window}
+use Rattle.cell_calc.specs.Window.{Window}
 use Rattle.cell_calc.specs.parts.Operands.{operand_at, cells_at, seen_cell, spot_at}
-use Rattle.cell_calc_steps.specs.Postfix.{arity, values_after, AreEnough}
-use Rattle.cell_calc_rows.specs.RowValues.{at, column}
-use Rattle.cell_calc_steps.proofs.PostfixLemmas.{one_step}
+use Rattle.cell_calc_grammar.specs.Postfix.{arity, values_after, AreEnough}
+use Rattle.cell_calc.specs.RowValues.{at, column}
+use Rattle.cell_calc_grammar.proofs.PostfixLemmas.{one_step}
 
 -- what stands before the last operands, and those
 pub front_is : {X : Type 0} (old new ys : List X) (n : ℕ) → old ≡ new ++ ys → length ys ≡ n → new ≡ take (length old - n) old

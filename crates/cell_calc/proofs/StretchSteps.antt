@@ -5,22 +5,22 @@ use Rattle.std.specs.Prelude.{All, slice_get}
 use Rattle.std.proofs.lemmas.Int.{ints}
 use Rattle.std.proofs.lemmas.List.Elements.{All-tail}
 use Rattle.cell_core.specs.Grid.{CellValue}
-use Rattle.cell_calc_operators.specs.Applied.{Spot, call_result}
-use Rattle.cell_calc_rows.specs.RowValues.{at}
-use Rattle.cell_calc_steps.specs.declared.step.Step.{Step}
-use Rattle.cell_calc_steps.specs.declared.step.Step.TheVariants as step
-use Rattle.cell_calc_steps.specs.Postfix.{values_after}
-use Rattle.cell_calc_tokens.specs.declared.function.Function.{Function}
-use Rattle.cell_calc_tokens.specs.declared.function.Function.TheVariants as function
-use Rattle.cell_calc_windows.specs.Window.{Window, Reaches}
-use Rattle.cell_calc_windows.specs.WindowsOver.{row_below}
-use Rattle.cell_calc_windows.specs.parts.InReach.{IsInReach}
-use Rattle.cell_calc_windows.specs.CommonStretches.{centre_row, start_cells, AreShort}
-use Rattle.cell_calc_windows.specs.parts.Columns.{IsLikeStart}
+use Rattle.cell_calc_binding.specs.Applied.{Spot, call_result}
+use Rattle.cell_calc.specs.RowValues.{at}
+use Rattle.cell_calc_grammar.specs.declared.step.Step.{Step}
+use Rattle.cell_calc_grammar.specs.declared.step.Step.TheVariants as step
+use Rattle.cell_calc_grammar.specs.Postfix.{values_after}
+use Rattle.cell_calc_grammar.specs.declared.function.Function.{Function}
+use Rattle.cell_calc_grammar.specs.declared.function.Function.TheVariants as function
+use Rattle.cell_calc.specs.Window.{Window, Reaches}
+use Rattle.cell_calc.specs.WindowsOver.{row_below}
+use Rattle.cell_calc.specs.parts.InReach.{IsInReach}
+use Rattle.cell_calc.specs.CommonStretches.{centre_row, start_cells, AreShort}
+use Rattle.cell_calc.specs.parts.Columns.{IsLikeStart}
 use Rattle.cell_calc.specs.parts.InPlace.{asks_column, IsInPlace}
 use Rattle.cell_calc.specs.parts.Operands.{IsReadyStep, seen_cell}
-use Rattle.cell_calc_windows.proofs.Ready.{within}
-use Rattle.cell_calc_windows.proofs.StretchCells.{same_count}
+use Rattle.cell_calc.proofs.Ready.{within}
+use Rattle.cell_calc.proofs.StretchCells.{same_count}
 use Rattle.cell_calc.proofs.Values.{after_same}
 
 -- windows over the cells where stretches begin, and those that they were made of

@@ -5,21 +5,21 @@ use Rattle.std.proofs.lemmas.Int.{ints}
 use Rattle.std.proofs.lemmas.List.Elements.{All-head, All-tail}
 use Rattle.cell_core.specs.Grid.{Grid, CellValue}
 use Rattle.cell_calc_language.specs.Grammatical.{up_by, down_by}
-use Rattle.cell_calc_steps.specs.declared.step.Step.{Step}
-use Rattle.cell_calc_steps.specs.declared.step.Step.TheVariants as step
+use Rattle.cell_calc_grammar.specs.declared.step.Step.{Step}
+use Rattle.cell_calc_grammar.specs.declared.step.Step.TheVariants as step
 use Rattle.cell_calc_binding.specs.Formula.{Formula, Formulas, NoTrees, Then}
 use Rattle.cell_calc_binding.specs.Reach.{IsProper, top_at, up_at, down_at, top_of, up_of, down_of}
-use Rattle.cell_calc_operators.specs.Applied.{Spot, operator_value, call_result, negated_cell, inverted_cell}
-use Rattle.cell_calc_operators.specs.Offsets.{cell_in, item_at, row_of}
+use Rattle.cell_calc_binding.specs.Applied.{Spot, operator_value, call_result, negated_cell, inverted_cell}
+use Rattle.cell_calc_binding.specs.Offsets.{cell_in, item_at, row_of}
 use Rattle.cell_calc_binding.specs.Value.{value, argument_values}
-use Rattle.cell_calc_windows.specs.Window.{Window, IsWindowOf, Reaches, IsOver, HasReach}
+use Rattle.cell_calc.specs.Window.{Window, IsWindowOf, Reaches, IsOver, HasReach}
 use Rattle.cell_calc.specs.parts.Operands.{IsReadyStep, seen_cell}
-use Rattle.cell_calc_steps.specs.Postfix.{postfix, arity, values_after}
+use Rattle.cell_calc_grammar.specs.Postfix.{postfix, arity, values_after}
 use Rattle.cell_calc_binding.specs.parts.TreeSteps.{IsProperStep}
-use Rattle.cell_calc_windows.specs.WindowsOver.{row_below}
-use Rattle.cell_calc_windows.specs.parts.InReach.{IsInReach}
-use Rattle.cell_calc_steps.proofs.PostfixLemmas.{listed, IsMeaning, after_postfix}
-use Rattle.cell_calc_windows.proofs.Rings.{held_row}
+use Rattle.cell_calc.specs.WindowsOver.{row_below}
+use Rattle.cell_calc.specs.parts.InReach.{IsInReach}
+use Rattle.cell_calc_grammar.proofs.PostfixLemmas.{listed, IsMeaning, after_postfix}
+use Rattle.cell_calc.proofs.Rings.{held_row}
 use Rattle.cell_calc_binding.proofs.Steps.{proper_steps, below_greatest, top-postfix, up-postfix, down-postfix}
 
 -- what a step makes of cells over maps

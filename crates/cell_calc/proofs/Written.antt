@@ -1,8 +1,8 @@
 -- Rows that are written through a slice.
 use Rattle.std.proofs.Common.{◌≡◌, ◌<◌, ◌++◌, ◌∙◌, ℕ, List, length, take, drop, ap}
 use Rattle.cell_core.specs.Grid.{CellValue}
-use Rattle.cell_calc_rows.specs.RowValues.{at}
-use Rattle.cell_calc_windows.proofs.Rings.{written}
+use Rattle.cell_calc.specs.RowValues.{at}
+use Rattle.cell_calc.proofs.Rings.{written}
 
 -- a cell of a row after a slice of all of it was written
 pub at_written : (n : ℕ) (new old : List CellValue) (k : ℕ) → n ≡ length old → length new ≡ length old → at (take n (new ++ drop (length new) old)) k ≡ at new k

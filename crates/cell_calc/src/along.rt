@@ -2,15 +2,15 @@
 
 ghost use Rattle.std.specs.Prelude.{All, IfOk, OnOk};
 ghost use Rattle.cell_calc.specs.parts.Operands.{IsStrip, IsReadyStep, AreReady, IsStepped, IsCalled, AreGathered, HasValuesAfter};
-ghost use Rattle.cell_calc_steps.specs.Postfix.{arity, AreEnough};
+ghost use Rattle.cell_calc_grammar.specs.Postfix.{arity, AreEnough};
 
+use crate::calls::call_values;
 use crate::operand::{binary_value, choice_value, pop_operand, row_of, spare_row};
+use crate::rows;
 use crate::strip::{Operand, Spare, Strip};
-use cell_calc_rows::calls::call_values;
-use cell_calc_rows::rows;
-use cell_calc_steps::step::Step;
-use cell_calc_tokens::function::Function;
-use cell_calc_windows::window::RowWindow;
+use crate::window::RowWindow;
+use cell_calc_grammar::function::Function;
+use cell_calc_grammar::step::Step;
 use cell_core::cell::Cell;
 use cell_core::memory::Memory;
 use std::alloc::Global;

@@ -2,12 +2,12 @@
 
 ghost use Rattle.std.specs.Prelude.{◌≡◌, ◌≤◌, All, IfOk, IfSome, true};
 ghost use Rattle.cell_calc.specs.parts.InPlace.{IsInPlace};
-ghost use Rattle.cell_calc_windows.specs.CommonStretches.{AreStretches};
+ghost use Rattle.cell_calc.specs.CommonStretches.{AreStretches};
 
-use cell_calc_steps::step::Step;
-use cell_calc_tokens::function::Function;
-use cell_calc_windows::common_stretches::{are_changing, stretches_of};
-use cell_calc_windows::window::RowWindow;
+use crate::common_stretches::{are_changing, stretches_of};
+use crate::window::RowWindow;
+use cell_calc_grammar::function::Function;
+use cell_calc_grammar::step::Step;
 use cell_core::memory::Memory;
 use std::alloc::Global;
 

@@ -1,18 +1,18 @@
 //! Operands of the steps of an expression, along strips.
 
 ghost use Rattle.std.specs.Prelude.{◌≡◌, ◌<◌, ◌++◌, [], ◌∷◌, length, slice_get, IfOk, OnOk};
-ghost use Rattle.cell_calc_operators.specs.Applied.{operator_value};
-ghost use Rattle.cell_calc_operators.specs.CellOperators.{chosen_cell};
+ghost use Rattle.cell_calc_binding.specs.Applied.{operator_value};
+ghost use Rattle.cell_calc_binding.specs.CellOperators.{chosen_cell};
 ghost use Rattle.cell_calc.specs.parts.Operands.{IsStrip, IsOperandReady, AtColumns, operand_at, HasCells};
-ghost use Rattle.cell_calc_windows.specs.WindowsOver.{row_below};
-ghost use Rattle.cell_calc_windows.specs.parts.InReach.{IsInReach};
-ghost use Rattle.cell_calc_rows.specs.RowValues.{at, Becomes};
+ghost use Rattle.cell_calc.specs.WindowsOver.{row_below};
+ghost use Rattle.cell_calc.specs.parts.InReach.{IsInReach};
+ghost use Rattle.cell_calc.specs.RowValues.{at, Becomes};
 
+use crate::rows;
 use crate::strip::{Operand, Strip};
-use cell_calc_operators::cell_operators;
-use cell_calc_rows::rows;
-use cell_calc_tokens::operator::Operator;
-use cell_calc_windows::window::RowWindow;
+use crate::window::RowWindow;
+use cell_calc_binding::cell_operators;
+use cell_calc_grammar::operator::Operator;
 use cell_core::cell::Cell;
 use cell_core::memory::Memory;
 use std::alloc::Global;

@@ -1,4 +1,5 @@
 -- What several proofs share.
+pub mod Fit
 pub mod Compact
 pub mod Index
 pub mod Moved

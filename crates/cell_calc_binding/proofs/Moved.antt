@@ -5,14 +5,14 @@ use Rattle.std.proofs.Math.Seq.{take-append_seam, drop-append_seam}
 use Rattle.std.proofs.lemmas.List.{map_more}
 use Rattle.std.proofs.lemmas.List.Elements.{All-take, All-drop, All-same, All-head, All-more, All-weaker}
 use Rattle.cell_core.specs.Grid.{Grid}
-use Rattle.cell_calc_steps.specs.declared.step.Step.{Step}
-use Rattle.cell_calc_steps.specs.declared.step.Step.TheVariants as step
+use Rattle.cell_calc_grammar.specs.declared.step.Step.{Step}
+use Rattle.cell_calc_grammar.specs.declared.step.Step.TheVariants as step
 use Rattle.cell_calc_binding.specs.Compact.{ArePicked}
 use Rattle.cell_calc_binding.specs.Formula.{Formula, Number, Map, Negated, Not, Binary, Call, Formulas, NoTrees, Then, count}
-use Rattle.cell_calc_operators.specs.Applied.{Spot, operator_value, call_result, negated_cell, inverted_cell}
-use Rattle.cell_calc_operators.specs.Offsets.{cell_in}
+use Rattle.cell_calc_binding.specs.Applied.{Spot, operator_value, call_result, negated_cell, inverted_cell}
+use Rattle.cell_calc_binding.specs.Offsets.{cell_in}
 use Rattle.cell_calc_binding.specs.Value.{value, argument_values}
-use Rattle.cell_calc_steps.specs.Postfix.{postfix, postfix_all, step_over}
+use Rattle.cell_calc_grammar.specs.Postfix.{postfix, postfix_all, step_over}
 use Rattle.cell_calc_grammar.specs.Tree.{with_leaves, with_leaves_all}
 use Rattle.cell_calc_binding.specs.parts.TreeSteps.{index_in, IsListed}
 use Rattle.cell_calc_binding.proofs.Index.{index_there}

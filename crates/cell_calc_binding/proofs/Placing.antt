@@ -3,9 +3,9 @@ use Rattle.std.proofs.Common.{◌≡◌, ◌<◌, ◌≤◌, ◌+◌, ◌^◌, �
 use Rattle.std.specs.Option.{unwrap_or}
 use Rattle.std.specs.Prelude.{cond}
 use Rattle.std.specs.List.{position_from}
-use Rattle.cell_calc_steps.specs.declared.step.Step.{Step}
-use Rattle.cell_calc_steps.specs.Postfix.{postfix}
-use Rattle.cell_calc_steps.proofs.PostfixLemmas.{count-over, are_of_tree}
+use Rattle.cell_calc_grammar.specs.declared.step.Step.{Step}
+use Rattle.cell_calc_grammar.specs.Postfix.{postfix}
+use Rattle.cell_calc_grammar.proofs.PostfixLemmas.{count-over, are_of_tree}
 use Rattle.cell_calc_grammar.specs.Tree.{Tree, Number, Map, Negated, Not, Binary, Call, Trees, NoTrees, Then, with_leaves, with_leaves_all}
 use Rattle.cell_calc_grammar.specs.Term.{Term}
 use Rattle.cell_calc_language.specs.Grammatical.{IsGrammatical, AreGrammatical}

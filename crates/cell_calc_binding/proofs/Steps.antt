@@ -3,10 +3,10 @@ use Rattle.std.proofs.Common.{◌≡◌, ◌<◌, ◌≤◌, ◌+◌, ◌^◌, �
 use Rattle.std.specs.Prelude.{All}
 use Rattle.std.proofs.lemmas.List.{take_more}
 use Rattle.std.proofs.lemmas.List.Elements.{All-nil, All-cons, All-append, All-weaker}
-use Rattle.cell_calc_steps.specs.declared.step.Step.{Step}
-use Rattle.cell_calc_steps.specs.declared.step.Step.TheVariants as step
-use Rattle.cell_calc_steps.specs.Postfix.{postfix, postfix_all, at_step, fold_steps}
-use Rattle.cell_calc_steps.proofs.PostfixLemmas.{IsJoin, fold-append, fold-postfix}
+use Rattle.cell_calc_grammar.specs.declared.step.Step.{Step}
+use Rattle.cell_calc_grammar.specs.declared.step.Step.TheVariants as step
+use Rattle.cell_calc_grammar.specs.Postfix.{postfix, postfix_all, at_step, fold_steps}
+use Rattle.cell_calc_grammar.proofs.PostfixLemmas.{IsJoin, fold-append, fold-postfix}
 use Rattle.cell_calc_language.specs.Grammatical.{IsGrammatical, AreGrammatical}
 use Rattle.cell_calc_binding.specs.Compact.{ReadsMap, AreReading}
 use Rattle.cell_calc_binding.specs.Formula.{Formula, Number, Map, Negated, Not, Binary, Call, Formulas, NoTrees, Then, count}

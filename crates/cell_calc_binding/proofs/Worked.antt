@@ -1,8 +1,8 @@
 -- Worked rows, computed by the definition of value.
 use Rattle.std.proofs.Common.{◌≡◌, pos, negsuc, [], Some, None, refl}
 use Rattle.cell_core.specs.Grid.{CellValue}
-use Rattle.cell_calc_tokens.specs.declared.function.Function.TheVariants as function
-use Rattle.cell_calc_tokens.specs.declared.operator.Operator.TheVariants as operator
+use Rattle.cell_calc_grammar.specs.declared.function.Function.TheVariants as function
+use Rattle.cell_calc_grammar.specs.declared.operator.Operator.TheVariants as operator
 use Rattle.cell_calc_binding.specs.Formula.{Formula, Number, Negated, Binary, Call, NoTrees, Then}
 use Rattle.cell_calc_binding.specs.Value.{value}
 

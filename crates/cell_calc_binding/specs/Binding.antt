@@ -3,8 +3,8 @@ use Rattle.std.specs.Prelude.{◌≡◌, ℕ, List, Some, ◌⊎◌}
 use Rattle.std.specs.Option.{unwrap_or}
 use Rattle.cell_core_values.specs.Name.{place_of}
 use Rattle.cell_calc_binding.specs.Formula.{Formula}
-use Rattle.cell_calc_tokens.specs.declared.calc_fault.CalcFault.{CalcFault}
-use Rattle.cell_calc_tokens.specs.declared.calc_fault.CalcKind.TheVariants.{UnknownMap, Memory}
+use Rattle.cell_calc_grammar.specs.declared.calc_fault.CalcFault.{CalcFault}
+use Rattle.cell_calc_grammar.specs.declared.calc_fault.CalcKind.TheVariants.{UnknownMap, Memory}
 use Rattle.cell_calc_grammar.specs.declared.map_name.MapName.{MapName}
 use Rattle.cell_calc_grammar.specs.Tree.{with_leaves}
 use Rattle.cell_calc_grammar.specs.Term.{Term}

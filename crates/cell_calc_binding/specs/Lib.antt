@@ -1,4 +1,9 @@
+-- What operators and functions of r.mapcalc make of cells.
 -- Expressions of r.mapcalc whose maps are places: what they are bound to, their values at cells, which maps they read and how far.
+pub mod Applied
+pub mod CellOperators
+pub mod Joins
+pub mod Offsets
 pub mod Binding
 pub mod Compact
 pub mod Formula

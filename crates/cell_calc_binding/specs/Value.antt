@@ -1,8 +1,8 @@
 -- The value of an expression at a cell (r.mapcalc manual; cells outside the region are the profile's).
 use Rattle.std.specs.Prelude.{pos, ◌+ℤ◌, List, [], ◌∷◌, Some, slice_get}
 use Rattle.cell_core.specs.Grid.{Grid, CellValue}
-use Rattle.cell_calc_operators.specs.Applied.{Spot, negated_cell, inverted_cell, operator_value, call_result}
-use Rattle.cell_calc_operators.specs.Offsets.{cell_in}
+use Rattle.cell_calc_binding.specs.Applied.{Spot, negated_cell, inverted_cell, operator_value, call_result}
+use Rattle.cell_calc_binding.specs.Offsets.{cell_in}
 use Rattle.cell_calc_binding.specs.Formula.{Formula, Number, Map, Negated, Not, Binary, Call, Formulas, NoTrees, Then}
 
 abbrev mutual

@@ -2,14 +2,14 @@
 
 ghost use Rattle.std.specs.Prelude.{◌≡◌, map, None, IfOk, IfErr, IfSome, IsErrOf, OnOk};
 ghost use Rattle.cell_calc_binding.specs.Binding.{place_in, with_places, IsBindingFault};
-ghost use Rattle.cell_calc_steps.specs.Postfix.{step_over};
+ghost use Rattle.cell_calc_grammar.specs.Postfix.{step_over};
 ghost use Rattle.cell_calc_language.specs.Unknown.{first_unknown};
 
 use crate::bound::Bound;
 use cell_calc_grammar::map_name::MapName;
+use cell_calc_grammar::step::Step;
 use cell_calc_language::calc_fault::{CalcFault, CalcKind};
 use cell_calc_language::expr::Expr;
-use cell_calc_steps::step::Step;
 use cell_core::memory::Memory;
 use cell_core::name::{Name, Names};
 use std::alloc::Global;

@@ -1,11 +1,11 @@
 //! Expressions over places of maps.
 
 ghost use Rattle.std.specs.Prelude.{◌≡◌, ◌<◌, ◌≤◌, max, All};
-ghost use Rattle.cell_calc_steps.specs.Postfix.{postfix, at_step, fold_steps};
+ghost use Rattle.cell_calc_grammar.specs.Postfix.{postfix, at_step, fold_steps};
 ghost use Rattle.cell_calc_binding.specs.Reach.{top_at, up_at, down_at, top_of, up_of, down_of, IsProper};
 ghost use Rattle.cell_calc_binding.specs.parts.TreeSteps.{IsProperStep};
 
-use cell_calc_steps::step::Step;
+use cell_calc_grammar::step::Step;
 use std::marker::Model;
 
 /// An expression whose maps are places in a list of maps.
@@ -17,10 +17,10 @@ pub struct Bound {
 impl Model for Bound {
     ghost use Rattle.std.specs.Prelude.{ℕ, List};
     ghost use Rattle.std.specs.Coded.{code_by, codes};
-    ghost use Rattle.cell_calc_steps.specs.declared.step.Step.{Step};
-    ghost use Rattle.cell_calc_steps.proofs.PostfixLemmas.{tree-postfix};
+    ghost use Rattle.cell_calc_grammar.specs.declared.step.Step.{Step};
+    ghost use Rattle.cell_calc_grammar.proofs.PostfixLemmas.{tree-postfix};
     ghost use Rattle.cell_calc_binding.specs.Formula.{Formula};
-    ghost use Rattle.cell_calc_steps.specs.Postfix.{postfix, tree_of};
+    ghost use Rattle.cell_calc_grammar.specs.Postfix.{postfix, tree_of};
     ghost use Rattle.cell_calc_binding.specs.parts.TreeSteps.{AreBound};
 
     ghost Value = { Formula };

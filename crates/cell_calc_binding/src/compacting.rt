@@ -5,13 +5,13 @@ ghost use Rattle.cell_core.specs.Grid.{Grid};
 ghost use Rattle.cell_calc_binding.specs.Compact.{ReadsMap, AreMapsRead, ArePicked, AreDistinctPlaces};
 ghost use Rattle.cell_calc_binding.specs.Formula.{Formula};
 ghost use Rattle.cell_calc_binding.specs.Reach.{top_at, top_of};
-ghost use Rattle.cell_calc_operators.specs.Applied.{Spot};
+ghost use Rattle.cell_calc_binding.specs.Applied.{Spot};
 ghost use Rattle.cell_calc_binding.specs.Value.{value};
-ghost use Rattle.cell_calc_steps.specs.Postfix.{at_step, step_over};
+ghost use Rattle.cell_calc_grammar.specs.Postfix.{at_step, step_over};
 ghost use Rattle.cell_calc_binding.specs.parts.TreeSteps.{index_in, IsListed, ReadsPlace, KeepsPlaces, AreOverRead};
 
 use crate::bound::Bound;
-use cell_calc_steps::step::Step;
+use cell_calc_grammar::step::Step;
 use cell_core::memory::Memory;
 use std::alloc::Global;
 

@@ -1,6 +1,7 @@
-//! Expressions of r.mapcalc whose maps are places in a list: names bound to places, and which maps an expression reads.
+//! Operators and functions of cells; map names replaced by indices, and how far an expression reads.
 #![tactic(auto)]
 
 pub mod binding;
 pub mod bound;
+pub mod cell_operators;
 pub mod compacting;

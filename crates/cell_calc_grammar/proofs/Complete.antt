@@ -2,18 +2,18 @@
 use Rattle.std.proofs.Common.{◌≡◌, ℕ, zero, suc, ◌≤◌, ℤ, List, [], ◌∷◌, ◌++◌, Option, Some, None, Ok, true, refl, sym, ap, ◌∙◌, subst, arith, append_assoc, append-nil}
 use Rattle.std.specs.Prelude.{nat_le}
 use Rattle.std.proofs.lemmas.Bool.Decides.{nat_tests}
-use Rattle.cell_calc_tokens.specs.declared.operator.Operator.{Operator}
-use Rattle.cell_calc_tokens.specs.declared.token.Placed.{Placed}
-use Rattle.cell_calc_tokens.specs.declared.token.Sign.TheVariants.{Question, Colon, OpenParenthesis, CloseParenthesis, OpenBracket, CloseBracket, Comma}
-use Rattle.cell_calc_tokens.specs.declared.token.Token.TheVariants as token
-use Rattle.cell_calc_tokens.specs.Function.{function_of}
+use Rattle.cell_calc_grammar.specs.declared.operator.Operator.{Operator}
+use Rattle.cell_calc_grammar.specs.declared.token.Placed.{Placed}
+use Rattle.cell_calc_grammar.specs.declared.token.Sign.TheVariants.{Question, Colon, OpenParenthesis, CloseParenthesis, OpenBracket, CloseBracket, Comma}
+use Rattle.cell_calc_grammar.specs.declared.token.Token.TheVariants as token
+use Rattle.cell_calc_grammar.specs.Function.{function_of}
 use Rattle.cell_calc_grammar.specs.Grammar as grammar
 use Rattle.cell_calc_grammar.specs.Grammar.{IsOffset, AreOffsets, Stands, IsExpression, AreCalled, AreArguments, below, joined, choice}
-use Rattle.cell_calc_tokens.specs.Operator.{operator_of, level_of, top}
+use Rattle.cell_calc_grammar.specs.Operator.{operator_of, level_of, top}
 use Rattle.cell_calc_grammar.specs.TokensRead as reading
 use Rattle.cell_calc_grammar.specs.TokensRead.{PartOfExpression, read_then, offset, to_bracket, ReadOutcome, Got, GotAll, Stops, State, Operand, Whole, More, Expression, Choice, AfterQuestion, Called, Arguments, Onward, below_level, next, IsNot, IsAlone, BeginsNone, negate, invert, close, join, choose, move, call_judged, call, add, GrammarReads, nothing, whole, stopped, done, more, expression, unread, unchosen, asked, unasked, no_colon, otherwise, arguments, halted, unended}
 use Rattle.cell_calc_grammar.specs.Term.{Term, Number, Terms}
-use Rattle.cell_calc_tokens.specs.Token.{name_at, sign_at, head}
+use Rattle.cell_calc_grammar.specs.Token.{name_at, sign_at, head}
 use Rattle.cell_calc_grammar.proofs.Walk.{operator_alone}
 
 -- what is there once

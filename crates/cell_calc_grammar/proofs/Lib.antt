@@ -1,3 +1,8 @@
+pub mod Longest
+pub mod Named
+pub mod OnlyLemmas
+pub mod Pieces
+pub mod SpellingLemmas
 pub mod Complete
 pub mod Sound
 pub mod Splits
@@ -5,3 +10,4 @@ pub mod Walk
 pub mod Refused
 pub mod Viable
 pub mod Occurs
+pub mod PostfixLemmas

@@ -1,19 +1,19 @@
 -- Each name among the tokens that are read is read as an operand.
 use Rattle.std.proofs.Common.{◌≡◌, ℕ, ℤ, List, [], ◌∷◌, ◌++◌, Some, Ok, Err, Bool, true, false, refl, sym, ap, ◌∙◌, subst}
-use Rattle.cell_calc_tokens.specs.declared.calc_fault.CalcKind.{CalcKind}
-use Rattle.cell_calc_tokens.specs.declared.operator.Operator.{Operator}
-use Rattle.cell_calc_tokens.specs.declared.token.Placed.{Placed}
-use Rattle.cell_calc_tokens.specs.declared.token.Sign.TheVariants.{Minus, Exclamation, Question, Colon, OpenParenthesis, CloseParenthesis, OpenBracket, CloseBracket, Comma}
-use Rattle.cell_calc_tokens.specs.declared.token.Token.{Token}
-use Rattle.cell_calc_tokens.specs.declared.token.Token.TheVariants as token
-use Rattle.cell_calc_tokens.specs.Function.{accepts}
-use Rattle.cell_calc_tokens.specs.Operator.{operator_of}
+use Rattle.cell_calc_grammar.specs.declared.calc_fault.CalcKind.{CalcKind}
+use Rattle.cell_calc_grammar.specs.declared.operator.Operator.{Operator}
+use Rattle.cell_calc_grammar.specs.declared.token.Placed.{Placed}
+use Rattle.cell_calc_grammar.specs.declared.token.Sign.TheVariants.{Minus, Exclamation, Question, Colon, OpenParenthesis, CloseParenthesis, OpenBracket, CloseBracket, Comma}
+use Rattle.cell_calc_grammar.specs.declared.token.Token.{Token}
+use Rattle.cell_calc_grammar.specs.declared.token.Token.TheVariants as token
+use Rattle.cell_calc_grammar.specs.Function.{accepts}
+use Rattle.cell_calc_grammar.specs.Operator.{operator_of}
 use Rattle.cell_calc_grammar.specs.Grammar as grammar
 use Rattle.cell_calc_grammar.specs.Grammar.{IsOffset, AreOffsets}
 use Rattle.cell_calc_grammar.specs.TokensRead as reading
 use Rattle.cell_calc_grammar.specs.TokensRead.{PartOfExpression, tail, read_then, distance_at, distance, offset_signed, offset_at, offset, comma_at, bracket_at, to_bracket, ReadOutcome, Got, GotAll, Stops, State, Operand, Whole, More, Expression, Choice, AfterQuestion, Called, Arguments, Onward, next, after_bracket, close, join, choose, move, call_judged, call, add, GrammarReads, nothing, whole, stopped, done, more, expression, unread, unchosen, asked, unasked, no_colon, otherwise, arguments, halted, unended}
 use Rattle.cell_calc_grammar.specs.Term.{Term, count}
-use Rattle.cell_calc_tokens.specs.Token.{token_number_at, name_at, sign_at, head}
+use Rattle.cell_calc_grammar.specs.Token.{token_number_at, name_at, sign_at, head}
 use Rattle.cell_calc_grammar.proofs.Sound.{below_some, Looks, ASign, look, Signed, unsigned, minus, plus, NoOffsets, first, no_comma, second, no_bracket, IsPart, AreBoth, offsets_part, both_parts, sound}
 use Rattle.cell_calc_grammar.proofs.Splits.{Stays, in_first, in_second, stays, not_nothing}
 

@@ -1,20 +1,20 @@
 -- Where more is expected, the walk of the tokens by their shape ends too.
 use Rattle.std.proofs.Common.{◌≡◌, ℕ, ℤ, List, [], ◌∷◌, ◌++◌, Option, Some, None, Ok, Err, Bool, true, false, refl, sym, ap, ◌∙◌, subst}
-use Rattle.cell_calc_tokens.specs.declared.calc_fault.CalcKind.{CalcKind}
-use Rattle.cell_calc_tokens.specs.declared.calc_fault.CalcKind.TheVariants.{Expected}
-use Rattle.cell_calc_tokens.specs.declared.operator.Operator.{Operator}
-use Rattle.cell_calc_tokens.specs.declared.operator.Operator.TheVariants.{Times}
-use Rattle.cell_calc_tokens.specs.declared.token.Placed.{Placed}
-use Rattle.cell_calc_tokens.specs.declared.token.Sign.TheVariants.{Plus, Minus, Exclamation, Question, Colon, OpenParenthesis, CloseParenthesis, OpenBracket, CloseBracket, Comma}
-use Rattle.cell_calc_tokens.specs.declared.token.Token.{Token}
-use Rattle.cell_calc_tokens.specs.declared.token.Token.TheVariants as token
-use Rattle.cell_calc_tokens.specs.Function.{accepts}
-use Rattle.cell_calc_tokens.specs.Operator.{operator_of, top}
+use Rattle.cell_calc_grammar.specs.declared.calc_fault.CalcKind.{CalcKind}
+use Rattle.cell_calc_grammar.specs.declared.calc_fault.CalcKind.TheVariants.{Expected}
+use Rattle.cell_calc_grammar.specs.declared.operator.Operator.{Operator}
+use Rattle.cell_calc_grammar.specs.declared.operator.Operator.TheVariants.{Times}
+use Rattle.cell_calc_grammar.specs.declared.token.Placed.{Placed}
+use Rattle.cell_calc_grammar.specs.declared.token.Sign.TheVariants.{Plus, Minus, Exclamation, Question, Colon, OpenParenthesis, CloseParenthesis, OpenBracket, CloseBracket, Comma}
+use Rattle.cell_calc_grammar.specs.declared.token.Token.{Token}
+use Rattle.cell_calc_grammar.specs.declared.token.Token.TheVariants as token
+use Rattle.cell_calc_grammar.specs.Function.{accepts}
+use Rattle.cell_calc_grammar.specs.Operator.{operator_of, top}
 use Rattle.cell_calc_grammar.specs.TokensRead as reading
 use Rattle.cell_calc_grammar.specs.TokensRead.{PartOfExpression, tail, read_then, distance_at, distance, offset_signed, offset_at, offset, comma_at, bracket_at, to_bracket, ReadOutcome, Got, GotAll, Stops, State, Operand, Whole, More, Expression, Choice, AfterQuestion, Called, Arguments, Onward, below_level, next, IsNot, IsAlone, BeginsNone, after_bracket, close, join, choose, move, call_judged, call, add, GrammarReads, nothing, whole, stopped, done, more, expression, unread, unchosen, asked, unasked, no_colon, otherwise, arguments, halted, unended}
 use Rattle.cell_calc_grammar.specs.Shape.{shape_of, shape}
 use Rattle.cell_calc_grammar.specs.Term.{Term, count}
-use Rattle.cell_calc_tokens.specs.Token.{token_number_at, name_at, sign_at, head}
+use Rattle.cell_calc_grammar.specs.Token.{token_number_at, name_at, sign_at, head}
 use Rattle.cell_calc_grammar.proofs.Occurs.{left}
 use Rattle.cell_calc_grammar.proofs.Sound.{below_some, Looks, ASign, look, unsigned, IsNoNumber, none, NoOffset, NoOffsets, first, no_comma, second, no_bracket, IsPart, AreBoth, offsets_part, both_parts, IsSound, sound}
 use Rattle.cell_calc_grammar.proofs.Walk as place

@@ -1,18 +1,18 @@
 -- Where a list of tokens stands after each of them, by their shape alone.
 use Rattle.std.proofs.Common.{◌≡◌, ℕ, ℤ, List, [], ◌∷◌, ◌++◌, Option, Some, None, Bool, true, false, refl, sym, ap, ◌∙◌, subst, ◌⊎◌, inl, inr}
 use Rattle.std.proofs.lemmas.List.{map-append}
-use Rattle.cell_calc_tokens.specs.declared.operator.Operator.{Operator}
-use Rattle.cell_calc_tokens.specs.declared.token.Placed.{Placed}
-use Rattle.cell_calc_tokens.specs.declared.token.Sign.TheVariants.{Plus, Minus, Exclamation, Question, Colon, OpenParenthesis, CloseParenthesis, OpenBracket, CloseBracket, Comma, Assign}
-use Rattle.cell_calc_tokens.specs.declared.token.Token.{Token}
-use Rattle.cell_calc_tokens.specs.declared.token.Token.TheVariants as token
+use Rattle.cell_calc_grammar.specs.declared.operator.Operator.{Operator}
+use Rattle.cell_calc_grammar.specs.declared.token.Placed.{Placed}
+use Rattle.cell_calc_grammar.specs.declared.token.Sign.TheVariants.{Plus, Minus, Exclamation, Question, Colon, OpenParenthesis, CloseParenthesis, OpenBracket, CloseBracket, Comma, Assign}
+use Rattle.cell_calc_grammar.specs.declared.token.Token.{Token}
+use Rattle.cell_calc_grammar.specs.declared.token.Token.TheVariants as token
 use Rattle.cell_calc_grammar.specs.Grammar as grammar
 use Rattle.cell_calc_grammar.specs.Grammar.{IsOffset, AreOffsets, Stands, IsExpression, AreCalled, AreArguments, below, joined, choice}
-use Rattle.cell_calc_tokens.specs.Operator.{operator_of}
+use Rattle.cell_calc_grammar.specs.Operator.{operator_of}
 use Rattle.cell_calc_grammar.specs.TokensRead.{IsAlone}
 use Rattle.cell_calc_grammar.specs.Shape.{shape_of, shape}
 use Rattle.cell_calc_grammar.specs.Term.{Term, Terms}
-use Rattle.cell_calc_tokens.specs.Token.{sign_at}
+use Rattle.cell_calc_grammar.specs.Token.{sign_at}
 
 -- what is open around the place
 pub data Frame : Type 0 where

@@ -1,15 +1,15 @@
 -- Which lists of tokens stand for which expressions and assignments (r.mapcalc manual; the order of `?` and `:` is the profile's).
 use Rattle.std.specs.Prelude.{◌≡◌, ◌≤◌, ℕ, zero, suc, ℤ, pos, List, [], ◌∷◌, ◌++◌, Some, true}
 use Rattle.std.proofs.Common.{neg_ℤ}
-use Rattle.cell_calc_tokens.specs.declared.function.Function.{Function}
-use Rattle.cell_calc_tokens.specs.declared.function.Function.TheVariants.{If}
-use Rattle.cell_calc_tokens.specs.declared.operator.Operator.{Operator}
-use Rattle.cell_calc_tokens.specs.declared.token.Placed.{Placed}
-use Rattle.cell_calc_tokens.specs.declared.token.Sign.TheVariants.{Plus, Minus, Exclamation, Question, Colon, OpenParenthesis, CloseParenthesis, OpenBracket, CloseBracket, Comma}
-use Rattle.cell_calc_tokens.specs.Function.{function_of, accepts}
-use Rattle.cell_calc_tokens.specs.Operator.{operator_of, level_of, top}
+use Rattle.cell_calc_grammar.specs.declared.function.Function.{Function}
+use Rattle.cell_calc_grammar.specs.declared.function.Function.TheVariants.{If}
+use Rattle.cell_calc_grammar.specs.declared.operator.Operator.{Operator}
+use Rattle.cell_calc_grammar.specs.declared.token.Placed.{Placed}
+use Rattle.cell_calc_grammar.specs.declared.token.Sign.TheVariants.{Plus, Minus, Exclamation, Question, Colon, OpenParenthesis, CloseParenthesis, OpenBracket, CloseBracket, Comma}
+use Rattle.cell_calc_grammar.specs.Function.{function_of, accepts}
+use Rattle.cell_calc_grammar.specs.Operator.{operator_of, level_of, top}
 use Rattle.cell_calc_grammar.specs.Term.{Term, Number, Map, Negated, Not, Binary, Call, Terms, NoTrees, Then, count, map_name}
-use Rattle.cell_calc_tokens.specs.Token.{token_number_at, name_at, sign_at}
+use Rattle.cell_calc_grammar.specs.Token.{token_number_at, name_at, sign_at}
 
 -- off = NUMBER | "-" NUMBER | "+" NUMBER, where the number is at most 255
 pub data IsOffset : List Placed → ℤ → Type 0 where

@@ -1,6 +1,6 @@
 -- What the laws of reading state.
 use Rattle.std.specs.Prelude.{◌≡◌, List, []}
-use Rattle.cell_calc_tokens.specs.declared.token.Placed.{Placed}
+use Rattle.cell_calc_grammar.specs.declared.token.Placed.{Placed}
 use Rattle.cell_calc_grammar.specs.Grammar.{IsExpression}
 use Rattle.cell_calc_grammar.specs.TokensRead.{Expression, Got, ReadOutcome, GrammarReads, State}
 use Rattle.cell_calc_grammar.specs.Term.{Term}

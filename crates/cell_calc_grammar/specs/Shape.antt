@@ -1,8 +1,8 @@
 -- Tokens, but for which number or which name each of them is.
 use Rattle.std.specs.Prelude.{List, [], map}
-use Rattle.cell_calc_tokens.specs.declared.token.Placed.{Placed}
-use Rattle.cell_calc_tokens.specs.declared.token.Token.{Token}
-use Rattle.cell_calc_tokens.specs.declared.token.Token.TheVariants.{Number, Name, Sign}
+use Rattle.cell_calc_grammar.specs.declared.token.Placed.{Placed}
+use Rattle.cell_calc_grammar.specs.declared.token.Token.{Token}
+use Rattle.cell_calc_grammar.specs.declared.token.Token.TheVariants.{Number, Name, Sign}
 
 -- a token, but for which number or which name it is
 abbrev pub shape_of : Token → Token

@@ -1,20 +1,20 @@
 -- Reading from the left, with one token of look-ahead: what the parser does, which the laws show to be the grammar.
 use Rattle.std.specs.Prelude.{◌≡◌, ℕ, ℤ, pos, List, [], ◌∷◌, Option, Some, None, Result, Ok, Err, Bool, cond, nat_lt, nat_le, if◌then◌else◌}
 use Rattle.std.proofs.Common.{neg_ℤ}
-use Rattle.cell_calc_tokens.specs.declared.calc_fault.CalcKind.{CalcKind}
-use Rattle.cell_calc_tokens.specs.declared.calc_fault.CalcKind.TheVariants.{Expected, UnknownFunction, Arguments as BadArguments, BadOffset}
-use Rattle.cell_calc_tokens.specs.declared.function.Function.{Function}
-use Rattle.cell_calc_tokens.specs.declared.function.Function.TheVariants.{If}
-use Rattle.cell_calc_tokens.specs.declared.operator.Operator.{Operator}
-use Rattle.cell_calc_tokens.specs.declared.token.Placed.{Placed}
-use Rattle.cell_calc_tokens.specs.declared.token.Sign.{Sign}
-use Rattle.cell_calc_tokens.specs.declared.token.Sign.TheVariants.{Plus, Minus, Exclamation, Question, Colon, OpenParenthesis, CloseParenthesis, OpenBracket, CloseBracket, Comma}
-use Rattle.cell_calc_tokens.specs.declared.token.Token.{Token}
-use Rattle.cell_calc_tokens.specs.declared.token.Token.TheVariants as token
-use Rattle.cell_calc_tokens.specs.Function.{function_of, accepts}
-use Rattle.cell_calc_tokens.specs.Operator.{operator_of, level_of, top}
+use Rattle.cell_calc_grammar.specs.declared.calc_fault.CalcKind.{CalcKind}
+use Rattle.cell_calc_grammar.specs.declared.calc_fault.CalcKind.TheVariants.{Expected, UnknownFunction, Arguments as BadArguments, BadOffset}
+use Rattle.cell_calc_grammar.specs.declared.function.Function.{Function}
+use Rattle.cell_calc_grammar.specs.declared.function.Function.TheVariants.{If}
+use Rattle.cell_calc_grammar.specs.declared.operator.Operator.{Operator}
+use Rattle.cell_calc_grammar.specs.declared.token.Placed.{Placed}
+use Rattle.cell_calc_grammar.specs.declared.token.Sign.{Sign}
+use Rattle.cell_calc_grammar.specs.declared.token.Sign.TheVariants.{Plus, Minus, Exclamation, Question, Colon, OpenParenthesis, CloseParenthesis, OpenBracket, CloseBracket, Comma}
+use Rattle.cell_calc_grammar.specs.declared.token.Token.{Token}
+use Rattle.cell_calc_grammar.specs.declared.token.Token.TheVariants as token
+use Rattle.cell_calc_grammar.specs.Function.{function_of, accepts}
+use Rattle.cell_calc_grammar.specs.Operator.{operator_of, level_of, top}
 use Rattle.cell_calc_grammar.specs.Term.{Term, Number, Map, Negated, Not, Binary, Call, Terms, NoTrees, Then, count, map_name}
-use Rattle.cell_calc_tokens.specs.Token.{token_number_at, name_at, sign_at, head}
+use Rattle.cell_calc_grammar.specs.Token.{token_number_at, name_at, sign_at, head}
 
 -- the tokens after the first
 abbrev pub tail : List Placed → List Placed

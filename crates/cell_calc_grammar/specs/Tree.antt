@@ -1,7 +1,7 @@
 -- Expressions as trees, without where they lie in memory, over leaves: what their maps are.
 use Rattle.std.specs.Prelude.{ℕ, zero, suc, ℤ}
-use Rattle.cell_calc_tokens.specs.declared.function.Function.{Function}
-use Rattle.cell_calc_tokens.specs.declared.operator.Operator.{Operator}
+use Rattle.cell_calc_grammar.specs.declared.function.Function.{Function}
+use Rattle.cell_calc_grammar.specs.declared.operator.Operator.{Operator}
 
 mutual
   -- an expression

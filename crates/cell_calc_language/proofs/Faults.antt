@@ -3,15 +3,15 @@ use Rattle.std.proofs.Common.{◌≡◌, ℕ, ℤ, List, [], ◌∷◌, ◌++◌
 use Rattle.std.specs.Prelude.{◌+◌, length, Result, Ok, Err, IfErr, MatchResult}
 use Rattle.std.proofs.lemmas.List.{append_cancel_right}
 use Rattle.cell_calc_language.specs.declared.assignment.Assignment.{Assignment}
-use Rattle.cell_calc_tokens.specs.declared.calc_fault.CalcFault.{CalcFault}
-use Rattle.cell_calc_tokens.specs.declared.calc_fault.CalcKind.{CalcKind}
-use Rattle.cell_calc_tokens.specs.declared.calc_fault.CalcKind.TheVariants.{Expected, UnknownFunction, Arguments as BadArguments, BadOffset}
+use Rattle.cell_calc_grammar.specs.declared.calc_fault.CalcFault.{CalcFault}
+use Rattle.cell_calc_grammar.specs.declared.calc_fault.CalcKind.{CalcKind}
+use Rattle.cell_calc_grammar.specs.declared.calc_fault.CalcKind.TheVariants.{Expected, UnknownFunction, Arguments as BadArguments, BadOffset}
 use Rattle.cell_calc_language.specs.declared.token_parsing.ParseStop.{ParseStop}
 use Rattle.cell_calc_language.specs.declared.token_parsing.ParseStop.TheVariants.{Memory, At}
-use Rattle.cell_calc_tokens.specs.declared.token.Placed.{Placed}
-use Rattle.cell_calc_tokens.specs.declared.token.Sign.TheVariants.{OpenParenthesis, CloseParenthesis, Assign}
-use Rattle.cell_calc_tokens.specs.declared.token.Token.{Token}
-use Rattle.cell_calc_tokens.specs.declared.token.Token.TheVariants as token
+use Rattle.cell_calc_grammar.specs.declared.token.Placed.{Placed}
+use Rattle.cell_calc_grammar.specs.declared.token.Sign.TheVariants.{OpenParenthesis, CloseParenthesis, Assign}
+use Rattle.cell_calc_grammar.specs.declared.token.Token.{Token}
+use Rattle.cell_calc_grammar.specs.declared.token.Token.TheVariants as token
 use Rattle.cell_calc_language.specs.Assignment.{IsAssignment}
 use Rattle.cell_calc_grammar.specs.Grammar as grammar
 use Rattle.cell_calc_grammar.specs.Grammar.{IsExpression}
@@ -22,8 +22,8 @@ use Rattle.cell_calc_grammar.specs.Shape.{shape_of, shape}
 use Rattle.cell_calc_language.specs.Stopping.{ParserStopsAt, FollowsSign, fault_of_stop}
 use Rattle.cell_calc_grammar.specs.Tree.{Tree}
 use Rattle.cell_calc_grammar.specs.Term.{Term}
-use Rattle.cell_calc_tokens.specs.Token.{token_number_at, name_at, sign_at, head}
-use Rattle.cell_calc_tokens.specs.Tokens.{token_fault, token_list}
+use Rattle.cell_calc_grammar.specs.Token.{token_number_at, name_at, sign_at, head}
+use Rattle.cell_calc_grammar.specs.Tokens.{token_fault, token_list}
 use Rattle.cell_calc_language.proofs.Bad.{can_before, HasNoBad, tells_none, none_in_nothing, none_in_one, none_in_assignment, none_in_call, called_end}
 use Rattle.cell_calc_grammar.proofs.Complete.{one_outcome, read_all}
 use Rattle.cell_calc_language.proofs.Law.{one}

@@ -1,17 +1,17 @@
 -- What stands for an expression is grammatical.
 use Rattle.std.proofs.Common.{◌≡◌, ◌≤◌, ℕ, zero, suc, ℤ, pos, neg_ℤ, List, [], ◌∷◌, ◌++◌, refl, subst, arith}
-use Rattle.cell_calc_tokens.specs.declared.token.Placed.{Placed}
-use Rattle.cell_calc_tokens.specs.declared.token.Sign.TheVariants.{Question, Colon, CloseParenthesis, Comma, Assign}
-use Rattle.cell_calc_tokens.specs.declared.token.Token.{Token}
-use Rattle.cell_calc_tokens.specs.declared.token.Token.TheVariants as token
+use Rattle.cell_calc_grammar.specs.declared.token.Placed.{Placed}
+use Rattle.cell_calc_grammar.specs.declared.token.Sign.TheVariants.{Question, Colon, CloseParenthesis, Comma, Assign}
+use Rattle.cell_calc_grammar.specs.declared.token.Token.{Token}
+use Rattle.cell_calc_grammar.specs.declared.token.Token.TheVariants as token
 use Rattle.cell_calc_grammar.specs.Grammar as grammar
 use Rattle.cell_calc_grammar.specs.Grammar.{IsOffset, AreOffsets, Stands, IsExpression, AreCalled, AreArguments, below, joined, choice}
 use Rattle.cell_calc_language.specs.Grammatical.{up_by, down_by, IsGrammatical, AreGrammatical}
 use Rattle.cell_calc_grammar.specs.TokensRead.{Got, Expression, GrammarReads}
-use Rattle.cell_calc_tokens.specs.TokenSpelling as spelling
-use Rattle.cell_calc_tokens.specs.TokenSpelling.{SpellsToken, AreSpelled}
+use Rattle.cell_calc_grammar.specs.TokenSpelling as spelling
+use Rattle.cell_calc_grammar.specs.TokenSpelling.{SpellsToken, AreSpelled}
 use Rattle.cell_calc_grammar.specs.Term.{Term, Terms}
-use Rattle.cell_calc_tokens.specs.Token.{sign_at, name_at, IsCategory, AreCategories}
+use Rattle.cell_calc_grammar.specs.Token.{sign_at, name_at, IsCategory, AreCategories}
 use Rattle.cell_calc_language.proofs.Faults.{Begins, begins_is}
 use Rattle.cell_calc_grammar.proofs.Sound.{sound_all}
 

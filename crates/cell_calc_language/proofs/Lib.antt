@@ -4,3 +4,5 @@ pub mod Bad
 pub mod Faults
 pub mod Grammatical
 pub mod PostfixLemmas
+pub mod Total
+pub mod Judged

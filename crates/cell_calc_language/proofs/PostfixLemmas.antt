@@ -1,9 +1,9 @@
 -- The first unknown name of an expression, by its steps.
 use Rattle.std.proofs.Common.{◌≡◌, ℕ, List, Option, Some, None, refl}
 use Rattle.cell_calc_grammar.specs.Term.{Term}
-use Rattle.cell_calc_steps.specs.Postfix.{postfix, fold_steps}
+use Rattle.cell_calc_grammar.specs.Postfix.{postfix, fold_steps}
 use Rattle.cell_calc_language.specs.Unknown.{first_column, first_unknown, unknown_at}
-use Rattle.cell_calc_steps.proofs.PostfixLemmas.{IsJoin, fold-postfix}
+use Rattle.cell_calc_grammar.proofs.PostfixLemmas.{IsJoin, fold-postfix}
 
 first_of_three : (a b c : Option ℕ) → first_column a (first_column b c) ≡ first_column (first_column a b) c
 first_of_three None b c = refl

@@ -3,34 +3,34 @@ use Rattle.std.proofs.Common.{◌≡◌, ℕ, suc, ◌+◌, ℤ, pos, List, [], 
 use Rattle.std.proofs.lemmas.List.{reverse-append, nil_from_length}
 use Rattle.std.specs.Borrow.{Bor}
 use Rattle.std.specs.Prelude.{Vec}
-use Rattle.cell_calc_tokens.specs.declared.calc_fault.CalcKind.{CalcKind}
-use Rattle.cell_calc_tokens.specs.declared.calc_fault.CalcKind.TheVariants.{Expected, UnknownFunction, Arguments as BadArguments}
-use Rattle.cell_calc_tokens.specs.declared.function.Function.{Function}
-use Rattle.cell_calc_tokens.specs.declared.function.Function.TheVariants.{If}
-use Rattle.cell_calc_tokens.specs.declared.operator.Operator.{Operator}
+use Rattle.cell_calc_grammar.specs.declared.calc_fault.CalcKind.{CalcKind}
+use Rattle.cell_calc_grammar.specs.declared.calc_fault.CalcKind.TheVariants.{Expected, UnknownFunction, Arguments as BadArguments}
+use Rattle.cell_calc_grammar.specs.declared.function.Function.{Function}
+use Rattle.cell_calc_grammar.specs.declared.function.Function.TheVariants.{If}
+use Rattle.cell_calc_grammar.specs.declared.operator.Operator.{Operator}
 use Rattle.cell_calc_language.specs.declared.token_parsing.ParseStop.{ParseStop}
 use Rattle.cell_calc_language.specs.declared.token_parsing.ParseStop.TheVariants.{Memory, At}
 use Rattle.cell_calc_language.specs.declared.expression_reader.Frame.{Frame}
 use Rattle.cell_calc_language.specs.declared.expression_reader.Frame.TheVariants as frame
 use Rattle.cell_calc_grammar.specs.declared.map_name.MapName.{MapName}
-use Rattle.cell_calc_steps.specs.declared.step.Step.{Step}
-use Rattle.cell_calc_steps.specs.declared.step.Step.TheVariants as step
-use Rattle.cell_calc_tokens.specs.declared.token.Placed.{Placed}
-use Rattle.cell_calc_tokens.specs.declared.token.Sign.{Sign}
-use Rattle.cell_calc_tokens.specs.declared.token.Sign.TheVariants.{Minus, Exclamation, Question, Colon, OpenParenthesis, CloseParenthesis, OpenBracket, Comma}
-use Rattle.cell_calc_tokens.specs.declared.token.Token.{Token}
-use Rattle.cell_calc_tokens.specs.declared.token.Token.TheVariants as token
-use Rattle.cell_calc_tokens.specs.Function.{function_of, accepts}
-use Rattle.cell_calc_tokens.specs.Operator.{level_of}
-use Rattle.cell_calc_steps.specs.Postfix.{postfix, postfix_all}
+use Rattle.cell_calc_grammar.specs.declared.step.Step.{Step}
+use Rattle.cell_calc_grammar.specs.declared.step.Step.TheVariants as step
+use Rattle.cell_calc_grammar.specs.declared.token.Placed.{Placed}
+use Rattle.cell_calc_grammar.specs.declared.token.Sign.{Sign}
+use Rattle.cell_calc_grammar.specs.declared.token.Sign.TheVariants.{Minus, Exclamation, Question, Colon, OpenParenthesis, CloseParenthesis, OpenBracket, Comma}
+use Rattle.cell_calc_grammar.specs.declared.token.Token.{Token}
+use Rattle.cell_calc_grammar.specs.declared.token.Token.TheVariants as token
+use Rattle.cell_calc_grammar.specs.Function.{function_of, accepts}
+use Rattle.cell_calc_grammar.specs.Operator.{level_of}
+use Rattle.cell_calc_grammar.specs.Postfix.{postfix, postfix_all}
 use Rattle.cell_calc_grammar.specs.TokensRead as reading
 use Rattle.cell_calc_grammar.specs.TokensRead.{PartOfExpression, tail, ReadOutcome, Got, GotAll, Stops, State, Operand, More, Expression, Choice, AfterQuestion, Called, Onward, next, GoesOn, IsNot, BeginsNone, negate, invert, after_bracket, close, join, choose, move, call_judged, call, add, GrammarReads, nothing, whole, stopped, done, expression, unread, unchosen, unasked, no_colon, otherwise, arguments, halted, unended}
 use Rattle.cell_calc_language.specs.Stopping.{ParserStopsAt, IsPartStop, FollowsSign, IsCallOf}
 use Rattle.cell_calc_grammar.specs.Term.{Term, Number, Map, Negated, Not, Binary, Call, Terms, NoTrees, Then, count, map_name}
-use Rattle.cell_calc_tokens.specs.Token.{token_number_at, name_at, sign_at, head}
-use Rattle.cell_calc_steps.specs.Postfix.{tree_of}
+use Rattle.cell_calc_grammar.specs.Token.{token_number_at, name_at, sign_at, head}
+use Rattle.cell_calc_grammar.specs.Postfix.{tree_of}
 use Rattle.cell_calc_language.specs.parts.Waiting.{add_all, Fills, Awaits, IsReadExpression, latest_first}
-use Rattle.cell_calc_steps.proofs.PostfixLemmas.{are_of_tree}
+use Rattle.cell_calc_grammar.proofs.PostfixLemmas.{are_of_tree}
 use Rattle.cell_calc_grammar.proofs.Sound.{front_is}
 
 -- a sign at the front, as it stands there

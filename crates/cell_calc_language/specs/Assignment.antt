@@ -1,11 +1,11 @@
 -- Which lists of tokens stand for which assignments (r.mapcalc manual).
 use Rattle.std.specs.Prelude.{◌≡◌, ℕ, List, ◌∷◌, IsOkAnd}
 use Rattle.cell_calc_language.specs.declared.assignment.Assignment.{Assignment}
-use Rattle.cell_calc_tokens.specs.declared.token.Placed.{Placed}
-use Rattle.cell_calc_tokens.specs.declared.token.Sign.TheVariants.{Assign}
+use Rattle.cell_calc_grammar.specs.declared.token.Placed.{Placed}
+use Rattle.cell_calc_grammar.specs.declared.token.Sign.TheVariants.{Assign}
 use Rattle.cell_calc_grammar.specs.Grammar.{IsExpression}
-use Rattle.cell_calc_tokens.specs.Token.{name_at, sign_at}
-use Rattle.cell_calc_tokens.specs.Tokens.{token_list}
+use Rattle.cell_calc_grammar.specs.Token.{name_at, sign_at}
+use Rattle.cell_calc_grammar.specs.Tokens.{token_list}
 
 -- assignment = NAME "=" expr
 abbrev pub IsAssignment : List Placed → Assignment → Type 0

@@ -1,19 +1,19 @@
 -- Why a list of tokens stands for no assignment, and which fault it tells first (profile).
 use Rattle.std.specs.Prelude.{◌≡◌, ◌<◌, ◌+◌, ℕ, ℤ, List, [], ◌∷◌, ◌++◌, length, Some, None, false, ◌⊎◌, MatchResult}
 use Rattle.cell_calc_language.specs.declared.assignment.Assignment.{Assignment}
-use Rattle.cell_calc_tokens.specs.declared.calc_fault.CalcFault.{CalcFault}
-use Rattle.cell_calc_tokens.specs.declared.calc_fault.CalcKind.{CalcKind}
-use Rattle.cell_calc_tokens.specs.declared.calc_fault.CalcKind.TheVariants.{Expected, UnknownFunction, Arguments, BadOffset}
-use Rattle.cell_calc_tokens.specs.declared.function.Function.{Function}
-use Rattle.cell_calc_tokens.specs.declared.token.Placed.{Placed}
-use Rattle.cell_calc_tokens.specs.declared.token.Sign.TheVariants.{OpenParenthesis, OpenBracket, Comma, Minus, Plus}
+use Rattle.cell_calc_grammar.specs.declared.calc_fault.CalcFault.{CalcFault}
+use Rattle.cell_calc_grammar.specs.declared.calc_fault.CalcKind.{CalcKind}
+use Rattle.cell_calc_grammar.specs.declared.calc_fault.CalcKind.TheVariants.{Expected, UnknownFunction, Arguments, BadOffset}
+use Rattle.cell_calc_grammar.specs.declared.function.Function.{Function}
+use Rattle.cell_calc_grammar.specs.declared.token.Placed.{Placed}
+use Rattle.cell_calc_grammar.specs.declared.token.Sign.TheVariants.{OpenParenthesis, OpenBracket, Comma, Minus, Plus}
 use Rattle.cell_calc_language.specs.Assignment.{IsAssignment}
-use Rattle.cell_calc_tokens.specs.Function.{function_of, accepts}
+use Rattle.cell_calc_grammar.specs.Function.{function_of, accepts}
 use Rattle.cell_calc_grammar.specs.Grammar.{IsOffset, AreCalled}
 use Rattle.cell_calc_grammar.specs.Shape.{shape}
 use Rattle.cell_calc_grammar.specs.Term.{Terms, count}
-use Rattle.cell_calc_tokens.specs.Token.{token_number_at, name_at, sign_at}
-use Rattle.cell_calc_tokens.specs.Tokens.{token_fault, no_memory, token_list}
+use Rattle.cell_calc_grammar.specs.Token.{token_number_at, name_at, sign_at}
+use Rattle.cell_calc_grammar.specs.Tokens.{token_fault, no_memory, token_list}
 
 -- the column of the first of the tokens, or the end of the text
 abbrev pub column_of : (end : ℕ) → List Placed → ℕ

@@ -1,9 +1,9 @@
 -- What holds of each expression of the grammar (offsets, numbers of arguments: r.mapcalc manual; their limits: profile).
 use Rattle.std.specs.Prelude.{◌≡◌, ◌≤◌, IsTrue, List, ℕ, zero, suc, ℤ, pos, negsuc}
-use Rattle.cell_calc_tokens.specs.Function.{accepts}
+use Rattle.cell_calc_grammar.specs.Function.{accepts}
 use Rattle.cell_calc_grammar.specs.Tree.{Tree, Number, Map, Negated, Not, Binary, Call, Trees, NoTrees, Then, count}
-use Rattle.cell_calc_steps.specs.declared.step.Step.{Step}
-use Rattle.cell_calc_steps.specs.Postfix.{postfix, tree_of}
+use Rattle.cell_calc_grammar.specs.declared.step.Step.{Step}
+use Rattle.cell_calc_grammar.specs.Postfix.{postfix, tree_of}
 
 -- the rows up, or columns to the left, that an offset asks for
 abbrev pub up_by : ℤ → ℕ

@@ -1,7 +1,9 @@
 -- The language of r.mapcalc: assignments, the faults of the grammar.
+-- Laws of the faults of the grammar.
 pub mod Assignment
 pub mod GrammarFault
 pub mod Grammatical
 pub mod Stopping
 pub mod Unknown
+pub mod GrammarLaw
 pub mod parts

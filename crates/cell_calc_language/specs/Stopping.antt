@@ -1,17 +1,17 @@
 -- Where the parser stops.
 use Rattle.std.specs.Borrow.{Bor}
 use Rattle.std.specs.Prelude.{MatchResult, Ok, Result, ◌≡◌, ℕ, List, Some, Err}
-use Rattle.cell_calc_tokens.specs.declared.calc_fault.CalcFault.{CalcFault}
-use Rattle.cell_calc_tokens.specs.declared.calc_fault.CalcKind.TheVariants as kind
+use Rattle.cell_calc_grammar.specs.declared.calc_fault.CalcFault.{CalcFault}
+use Rattle.cell_calc_grammar.specs.declared.calc_fault.CalcKind.TheVariants as kind
 use Rattle.cell_calc_language.specs.declared.token_parsing.ParseStop.{ParseStop}
 use Rattle.cell_calc_language.specs.declared.token_parsing.ParseStop.TheVariants.{Memory, At}
-use Rattle.cell_calc_tokens.specs.declared.token.Placed.{Placed}
-use Rattle.cell_calc_tokens.specs.declared.token.Sign.{Sign}
-use Rattle.cell_calc_tokens.specs.declared.token.Sign.TheVariants.{OpenParenthesis}
-use Rattle.cell_calc_tokens.specs.declared.token.Token.TheVariants as token
+use Rattle.cell_calc_grammar.specs.declared.token.Placed.{Placed}
+use Rattle.cell_calc_grammar.specs.declared.token.Sign.{Sign}
+use Rattle.cell_calc_grammar.specs.declared.token.Sign.TheVariants.{OpenParenthesis}
+use Rattle.cell_calc_grammar.specs.declared.token.Token.TheVariants as token
 use Rattle.cell_calc_language.specs.GrammarFault.{column_of}
 use Rattle.cell_calc_grammar.specs.TokensRead.{State, Stops, GrammarReads, PartOfExpression, tail}
-use Rattle.cell_calc_tokens.specs.Token.{head}
+use Rattle.cell_calc_grammar.specs.Token.{head}
 
 -- reading stops there, if memory lasts
 abbrev pub ParserStopsAt : State → ParseStop → Type 0

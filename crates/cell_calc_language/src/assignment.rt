@@ -2,14 +2,14 @@
 
 ghost use Rattle.std.specs.Prelude.{◌≡◌, ◌≤◌, List, length, IfOk, IfErr};
 ghost use Rattle.cell_calc_language.specs.declared.assignment.Assignment.{Assignment};
-ghost use Rattle.cell_calc_tokens.specs.declared.token.Placed.{Placed};
+ghost use Rattle.cell_calc_grammar.specs.declared.token.Placed.{Placed};
 ghost use Rattle.cell_calc_language.specs.Assignment.{IsAssignment, IsAssignmentText};
 ghost use Rattle.cell_calc_language.specs.GrammarFault.{IsTextFault};
 
 use crate::expr::Expr;
 use crate::token_parsing::assignment;
-use cell_calc_tokens::calc_fault::CalcFault;
-use cell_calc_tokens::tokens::tokens;
+use cell_calc_grammar::calc_fault::CalcFault;
+use cell_calc_grammar::tokens::tokens;
 use cell_core_values::name::Name;
 use std::alloc::Global;
 

@@ -2,12 +2,12 @@
 
 ghost use Rattle.std.specs.Prelude.{◌≡◌};
 ghost use Rattle.cell_calc_language.specs.Grammatical.{IsGrammatical};
-ghost use Rattle.cell_calc_steps.specs.Postfix.{postfix};
+ghost use Rattle.cell_calc_grammar.specs.Postfix.{postfix};
 ghost use Rattle.cell_calc_language.specs.Unknown.{first_unknown};
 
 use crate::unknown::first_unplaced;
 use cell_calc_grammar::map_name::MapName;
-use cell_calc_steps::step::Step;
+use cell_calc_grammar::step::Step;
 use cell_core_values::name::Names;
 use std::marker::Model;
 
@@ -21,11 +21,11 @@ pub struct Expr {
 impl Model for Expr {
     ghost use Rattle.std.specs.Prelude.{List};
     ghost use Rattle.std.specs.Coded.{code_by, codes};
-    ghost use Rattle.cell_calc_steps.specs.declared.step.Step.{Step};
+    ghost use Rattle.cell_calc_grammar.specs.declared.step.Step.{Step};
     ghost use Rattle.cell_calc_grammar.specs.declared.map_name.MapName.{MapName};
-    ghost use Rattle.cell_calc_steps.proofs.PostfixLemmas.{tree-postfix};
+    ghost use Rattle.cell_calc_grammar.proofs.PostfixLemmas.{tree-postfix};
     ghost use Rattle.cell_calc_grammar.specs.Term.{Term};
-    ghost use Rattle.cell_calc_steps.specs.Postfix.{postfix, tree_of};
+    ghost use Rattle.cell_calc_grammar.specs.Postfix.{postfix, tree_of};
     ghost use Rattle.cell_calc_language.specs.Grammatical.{AreOfExpression};
 
     ghost Value = { Term };

@@ -3,21 +3,21 @@
 ghost use Rattle.std.specs.Prelude.{◌≡◌, ◌<◌, ◌+◌, ◌*◌, ◌++◌, [], ◌∷◌, length, vec_len, IfOk, IfErr};
 ghost use Rattle.cell_calc_language.specs.declared.token_parsing.ParseStop.TheVariants.{Memory};
 ghost use Rattle.cell_calc_language.specs.declared.expression_reader.Frame.TheVariants as frame;
-ghost use Rattle.cell_calc_tokens.specs.declared.token.Sign.TheVariants.{OpenParenthesis};
-ghost use Rattle.cell_calc_steps.specs.Postfix.{postfix};
+ghost use Rattle.cell_calc_grammar.specs.declared.token.Sign.TheVariants.{OpenParenthesis};
+ghost use Rattle.cell_calc_grammar.specs.Postfix.{postfix};
 ghost use Rattle.cell_calc_grammar.specs.TokensRead.{State, Operand, Expression, Got, GrammarReads, IsNot};
 ghost use Rattle.cell_calc_language.specs.Stopping.{ParserStopsAt, FollowsSign, IsCallOf};
-ghost use Rattle.cell_calc_tokens.specs.Token.{head, name_at};
-ghost use Rattle.cell_calc_steps.specs.Postfix.{tree_of};
+ghost use Rattle.cell_calc_grammar.specs.Token.{head, name_at};
+ghost use Rattle.cell_calc_grammar.specs.Postfix.{tree_of};
 ghost use Rattle.cell_calc_language.specs.parts.Waiting.{IsReadExpression, Goes, ReadsOn, Resumes, LeavesWork, waiting, latest_first, turn_tokens, work};
 
 use crate::token_parsing::{ParseStop, after_sign, first_token, name_copy, next_operator, offsets};
+use cell_calc_grammar::calc_fault::CalcKind;
+use cell_calc_grammar::function::{Function, accepts, function_of};
 use cell_calc_grammar::map_name::MapName;
-use cell_calc_steps::step::Step;
-use cell_calc_tokens::calc_fault::CalcKind;
-use cell_calc_tokens::function::{Function, accepts, function_of};
-use cell_calc_tokens::operator::{Operator, TOP_LEVEL, level_of};
-use cell_calc_tokens::token::{Placed, Sign, Token};
+use cell_calc_grammar::operator::{Operator, TOP_LEVEL, level_of};
+use cell_calc_grammar::step::Step;
+use cell_calc_grammar::token::{Placed, Sign, Token};
 use cell_core_values::name::Name;
 use std::alloc::Global;
 

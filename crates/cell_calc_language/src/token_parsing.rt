@@ -7,14 +7,14 @@ ghost use Rattle.cell_calc_language.specs.Assignment.{IsAssignment};
 ghost use Rattle.cell_calc_language.specs.GrammarFault.{IsFaultOf, column_of};
 ghost use Rattle.cell_calc_grammar.specs.TokensRead.{next, offset, distance, offsets, GoesOn, IsNot};
 ghost use Rattle.cell_calc_language.specs.Stopping.{IsPartRead, FollowsSign, fault_of_stop};
-ghost use Rattle.cell_calc_tokens.specs.Token.{head, AreCategories};
+ghost use Rattle.cell_calc_grammar.specs.Token.{head, AreCategories};
 
 use crate::assignment::Assignment;
 use crate::expr::Expr;
 use crate::expression_reader::expression;
-use cell_calc_tokens::calc_fault::{CalcFault, CalcKind};
-use cell_calc_tokens::operator::{Operator, level_of, operator_of};
-use cell_calc_tokens::token::{Placed, Sign, Token};
+use cell_calc_grammar::calc_fault::{CalcFault, CalcKind};
+use cell_calc_grammar::operator::{Operator, level_of, operator_of};
+use cell_calc_grammar::token::{Placed, Sign, Token};
 use cell_core_values::name::Name;
 use std::alloc::Global;
 

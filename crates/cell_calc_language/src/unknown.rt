@@ -2,10 +2,10 @@
 
 ghost use Rattle.std.specs.Prelude.{◌≡◌, None};
 ghost use Rattle.cell_calc_language.specs.Unknown.{unknown_at, first_column};
-ghost use Rattle.cell_calc_steps.specs.Postfix.{at_step, fold_steps};
+ghost use Rattle.cell_calc_grammar.specs.Postfix.{at_step, fold_steps};
 
 use cell_calc_grammar::map_name::MapName;
-use cell_calc_steps::step::Step;
+use cell_calc_grammar::step::Step;
 use cell_core_values::name::Names;
 
 // The column of a map name that has no place among the names.

@@ -8,8 +8,8 @@ use Rattle.std.specs.declared.cmp.Ordering.TheVariants.{Less, Equal}
 use Rattle.std.proofs.lemmas.List.{map-append}
 use Rattle.cell_core.specs.Grid.{CellValue}
 use Rattle.cell_core_values.specs.Cell.{cell_cmp, cell_eq}
-use Rattle.cell_calc_operators.specs.Applied.{spot}
-use Rattle.cell_stats_combinations.specs.Combinations.{Combination, combination_cmp, combination_at}
+use Rattle.cell_calc_binding.specs.Applied.{spot}
+use Rattle.cell_stats_counts.specs.Combinations.{Combination, combination_cmp, combination_at}
 use Rattle.cell_stats_counts.specs.Counts.{count_of}
 use Rattle.cell_stats.proofs.TableLemmas.{count_cons}
 use Rattle.cell_calc_law.specs.LocalLaw.{cells_alone, cells_of_shelf, CountsFollow}

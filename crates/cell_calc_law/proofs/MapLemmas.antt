@@ -6,11 +6,11 @@ use Rattle.std.proofs.lemmas.List.Elements.{All-get_or}
 use Rattle.cell_core_values.specs.Region.{RegionValue}
 use Rattle.cell_core.specs.Grid.{Grid, CellValue, IsFilled, cell_at}
 use Rattle.cell_core.specs.Shelf.{ShelfValue}
-use Rattle.cell_calc_operators.specs.Applied.{spot}
-use Rattle.cell_calc_operators.specs.CellOperators.{chosen_cell, truth, is_null}
+use Rattle.cell_calc_binding.specs.Applied.{spot}
+use Rattle.cell_calc_binding.specs.CellOperators.{chosen_cell, truth, is_null}
 use Rattle.cell_calc_binding.specs.Formula.{Formula, Map}
 use Rattle.cell_calc_binding.specs.Value.{value}
-use Rattle.rcell_making.specs.Making.{AreValues}
+use Rattle.rcell.specs.Making.{AreValues}
 use Rattle.cell_calc_law.specs.LocalLaw.{OneMapOfValues, CopyIsTheMap, EitherWayIsTheSame, either_way}
 use Rattle.cell_calc_law.proofs.LocalLemmas.{value-here}
 

@@ -3,7 +3,7 @@ use Rattle.std.proofs.Common.{◌+◌, ◌-◌, ◌<◌, ◌≤◌, max, min, co
 use Rattle.std.specs.Prelude.{◌≡◌, ℕ, ◌⊎◌, Bool, true, false}
 use Rattle.std.proofs.lemmas.Bool.{cases_lt}
 use Rattle.cell_core_values.specs.Region.{RegionValue}
-use Rattle.cell_calc_operators.specs.Applied.{spot}
+use Rattle.cell_calc_binding.specs.Applied.{spot}
 use Rattle.cell_calc_language.specs.Grammatical.{up_by, down_by}
 use Rattle.cell_calc_binding.specs.Formula as formula
 use Rattle.cell_calc_binding.specs.Formula.{Formula, Formulas}

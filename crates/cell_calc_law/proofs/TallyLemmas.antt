@@ -7,10 +7,10 @@ use Rattle.std.specs.declared.cmp.Ordering.{Ordering}
 use Rattle.std.specs.declared.cmp.Ordering.TheVariants.{Less}
 use Rattle.std.specs.Cmp.{tied_itself}
 use Rattle.std.specs.FinMap.Entries.{find, is_sorted, below_all}
-use Rattle.cell_stats_combinations.specs.declared.skip.Skip.TheVariants.{Nothing}
-use Rattle.cell_stats_combinations.specs.Combinations.{Combination, combination_cmp}
-use Rattle.cell_stats_combinations.specs.LeftOut.{kept_cells}
-use Rattle.cell_stats_combinations.proofs.OrderLemmas.{combination_cmp-total, combination_cmp-exact, is_equal}
+use Rattle.cell_stats_counts.specs.declared.skip.Skip.TheVariants.{Nothing}
+use Rattle.cell_stats_counts.specs.Combinations.{Combination, combination_cmp}
+use Rattle.cell_stats_counts.specs.LeftOut.{kept_cells}
+use Rattle.cell_stats_counts.proofs.OrderLemmas.{combination_cmp-total, combination_cmp-exact, is_equal}
 use Rattle.cell_stats_counts.specs.Counts.{count_of}
 use Rattle.cell_stats.specs.CategoryTables.{Pairs, table_of}
 use Rattle.cell_stats.proofs.SortedLemmas.{both_true, is_less}

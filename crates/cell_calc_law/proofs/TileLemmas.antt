@@ -3,17 +3,17 @@ use Rattle.std.proofs.Common.{◌≡◌, ℕ, pos, ◌+◌, ◌-◌, ◌<◌, �
 use Rattle.cell_core_values.specs.Region.{RegionValue}
 use Rattle.cell_core.specs.Grid.{Grid, CellValue, cell_at}
 use Rattle.cell_core.specs.Shelf.{ShelfValue}
-use Rattle.cell_calc_tokens.specs.declared.function.Function.{Function}
-use Rattle.cell_calc_tokens.specs.declared.function.Function.TheVariants.{Row, Column}
-use Rattle.cell_calc_operators.specs.Applied.{Spot, spot, negated_cell, inverted_cell, operator_value, call_result}
-use Rattle.cell_calc_operators.proofs.Fit.{fit_number}
+use Rattle.cell_calc_grammar.specs.declared.function.Function.{Function}
+use Rattle.cell_calc_grammar.specs.declared.function.Function.TheVariants.{Row, Column}
+use Rattle.cell_calc_binding.specs.Applied.{Spot, spot, negated_cell, inverted_cell, operator_value, call_result}
+use Rattle.cell_calc_binding.proofs.Fit.{fit_number}
 use Rattle.cell_calc_binding.specs.Formula.{Formula, Number, Map, Negated, Not, Binary, Call, Formulas, NoTrees, Then}
 use Rattle.cell_calc_binding.specs.Value.{value, argument_values}
 use Rattle.cell_calc_law.specs.HaloParts.{value_told, values_told}
 use Rattle.cell_parts.specs.Parts.{Rectangle}
 use Rattle.cell_calc_law.specs.ReachParts.{reach_of, spot_in, IsCellInside}
 use Rattle.cell_calc_law.proofs.ReachLemmas.{its-reach-is-enough, its-reach-is-enough-told}
-use Rattle.rcell_making.specs.Making.{AreValues}
+use Rattle.rcell.specs.Making.{AreValues}
 use Rattle.cell_calc_law.specs.TileLaw.{haloed_rectangle, IsHaloedTile, TilesMakeTheMap}
 use Rattle.cell_calc_law.specs.TileLaw.{placed, all_placed, placed_call, PlacedTilesMakeTheMap}
 

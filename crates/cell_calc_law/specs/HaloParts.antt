@@ -2,11 +2,11 @@
 use Rattle.std.specs.Prelude.{ℕ, ℤ, pos, ◌+ℤ◌, Some, slice_get, [], ◌∷◌, Bool, true, false, ◌||◌, ◌==◌, ◌≡◌, ◌≤◌, ◌<◌, ◌+◌, ◌⊎◌, max, List, All, if◌then◌else◌}
 use Rattle.cell_core_values.specs.Region.{RegionValue}
 use Rattle.cell_core.specs.Grid.{Grid, CellValue, IsFilled}
-use Rattle.cell_calc_tokens.specs.declared.function.Function.{Function}
-use Rattle.cell_calc_tokens.specs.declared.function.Function.TheVariants.{Row, Column, RowCount, ColumnCount}
+use Rattle.cell_calc_grammar.specs.declared.function.Function.{Function}
+use Rattle.cell_calc_grammar.specs.declared.function.Function.TheVariants.{Row, Column, RowCount, ColumnCount}
 use Rattle.cell_calc_language.specs.Grammatical.{up_by, down_by}
-use Rattle.cell_calc_operators.specs.Applied.{Spot, spot, negated_cell, inverted_cell, operator_value, call_result}
-use Rattle.cell_calc_operators.specs.Offsets.{cell_in}
+use Rattle.cell_calc_binding.specs.Applied.{Spot, spot, negated_cell, inverted_cell, operator_value, call_result}
+use Rattle.cell_calc_binding.specs.Offsets.{cell_in}
 use Rattle.cell_calc_grammar.specs.Tree.{fold_maps, fold_all}
 use Rattle.cell_calc_binding.specs.Formula.{Formula, Number, Map, Negated, Not, Binary, Call, Formulas, NoTrees, Then}
 use Rattle.cell_calc_binding.specs.Reach.{up_of, down_of}

@@ -4,17 +4,17 @@ use Rattle.cell_core_values.specs.Cell.{cell_eq}
 use Rattle.cell_core_values.specs.Region.{RegionValue}
 use Rattle.cell_core.specs.Grid.{Grid, CellValue, IsFilled}
 use Rattle.cell_core.specs.Shelf.{ShelfValue}
-use Rattle.cell_calc_tokens.specs.declared.function.Function.{Function}
-use Rattle.cell_calc_tokens.specs.declared.function.Function.TheVariants.{If, IsNull, Row, Column, RowCount, ColumnCount}
-use Rattle.cell_calc_operators.specs.Applied.{Spot, spot}
+use Rattle.cell_calc_grammar.specs.declared.function.Function.{Function}
+use Rattle.cell_calc_grammar.specs.declared.function.Function.TheVariants.{If, IsNull, Row, Column, RowCount, ColumnCount}
+use Rattle.cell_calc_binding.specs.Applied.{Spot, spot}
 use Rattle.cell_calc_binding.specs.Compact.{ReadsMap}
 use Rattle.cell_calc_binding.specs.Formula.{Formula, Number, Map, Negated, Not, Binary, Call, Formulas, NoTrees, Then}
 use Rattle.cell_calc_binding.specs.Value.{value}
-use Rattle.cell_stats_combinations.specs.Combinations.{Combination, combination_at, all_combinations}
-use Rattle.cell_stats_combinations.specs.declared.skip.Skip.TheVariants.{Nothing}
+use Rattle.cell_stats_counts.specs.Combinations.{Combination, combination_at, all_combinations}
+use Rattle.cell_stats_counts.specs.declared.skip.Skip.TheVariants.{Nothing}
 use Rattle.cell_stats_counts.specs.Counts.{count_of}
 use Rattle.cell_stats.specs.CategoryTables.{table_of}
-use Rattle.rcell_making.specs.Making.{AreValues, with_map}
+use Rattle.rcell.specs.Making.{AreValues, with_map}
 
 -- row() and col(), nrows() and ncols()
 abbrev pub asks_where : Function → Bool

@@ -4,7 +4,7 @@ use Rattle.cell_core.specs.Grid.{Grid, IsFilled, cell_at}
 use Rattle.cell_core.specs.Shelf.{ShelfValue}
 use Rattle.cell_calc_binding.specs.Formula.{Map}
 use Rattle.cell_stats_counts.specs.Counts.{count_of}
-use Rattle.rcell_making.specs.Making.{AreValues, with_map}
+use Rattle.rcell.specs.Making.{AreValues, with_map}
 use Rattle.cell_calc_law.specs.LocalLaw.{cells_alone, cells_of_shelf}
 
 -- after `x = g[a,b]`, `y = x[c,d]`, `z = g[a+c,b+d]`: y has the cell of z where the step by (c,d) stays in the region

@@ -3,14 +3,14 @@ use Rattle.std.specs.Prelude.{ℕ, ◌≡◌, ◌≤◌, ◌-◌, false, All}
 use Rattle.cell_core_values.specs.Region.{RegionValue, most_cells}
 use Rattle.cell_core.specs.Grid.{Grid, IsFilled, cell_at}
 use Rattle.cell_core.specs.Shelf.{ShelfValue}
-use Rattle.cell_calc_tokens.specs.declared.function.Function.{Function}
-use Rattle.cell_calc_tokens.specs.declared.function.Function.TheVariants.{Row, Column, RowCount, ColumnCount}
-use Rattle.cell_calc_tokens.specs.declared.operator.Operator.TheVariants.{Plus}
+use Rattle.cell_calc_grammar.specs.declared.function.Function.{Function}
+use Rattle.cell_calc_grammar.specs.declared.function.Function.TheVariants.{Row, Column, RowCount, ColumnCount}
+use Rattle.cell_calc_grammar.specs.declared.operator.Operator.TheVariants.{Plus}
 use Rattle.cell_calc_binding.specs.Formula.{Formula, Number, Map, Negated, Not, Binary, Call, Formulas, NoTrees, Then}
 use Rattle.cell_calc_law.specs.HaloParts.{calls, asks_rows, asks_cols}
 use Rattle.cell_parts.specs.Parts.{Rectangle, AreCutOut}
 use Rattle.cell_calc_law.specs.ReachParts.{reach_of, with_halo, IsCellInside}
-use Rattle.rcell_making.specs.Making.{AreValues}
+use Rattle.rcell.specs.Making.{AreValues}
 
 -- a tile with its halo: as many rows and columns around it as an expression reaches, as far as the region goes
 abbrev pub haloed_rectangle : Formula → ShelfValue → Rectangle → Rectangle

@@ -5,17 +5,17 @@ use Rattle.std.proofs.lemmas.List.{length-drop, nil_from_length}
 use Rattle.std.proofs.lemmas.List.Elements.{All-nil, All-cons, All-append, All-same}
 use Rattle.cell_core.specs.Grid.{Grid, CellValue}
 use Rattle.cell_calc_binding.specs.Binding.{place_in, with_places}
-use Rattle.cell_calc_operators.specs.Applied.{Spot, call_result}
+use Rattle.cell_calc_binding.specs.Applied.{Spot, call_result}
 use Rattle.cell_calc_binding.specs.Value.{value, argument_values}
 use Rattle.cell_calc_tests.specs.Steps.{step_value, IsProperStep}
 use Rattle.cell_calc_language.specs.Grammatical.{IsGrammatical, AreGrammatical}
 use Rattle.cell_calc_grammar.specs.declared.map_name.MapName.{MapName}
 use Rattle.cell_calc_grammar.specs.Tree.{with_leaves_all}
 use Rattle.cell_calc_grammar.specs.Term.{Term, Number, Map, Negated, Not, Binary, Call, Terms, NoTrees, Then, count}
-use Rattle.cell_calc_steps.specs.Postfix.{postfix, postfix_all, values_after}
-use Rattle.cell_calc_steps.specs.declared.step.Step.{Step}
-use Rattle.cell_calc_steps.specs.declared.step.Step.TheVariants as step
-use Rattle.cell_calc_steps.proofs.PostfixLemmas.{listed, IsMeaning, after_postfix}
+use Rattle.cell_calc_grammar.specs.Postfix.{postfix, postfix_all, values_after}
+use Rattle.cell_calc_grammar.specs.declared.step.Step.{Step}
+use Rattle.cell_calc_grammar.specs.declared.step.Step.TheVariants as step
+use Rattle.cell_calc_grammar.proofs.PostfixLemmas.{listed, IsMeaning, after_postfix}
 
 values-listed : (names : List (List ℕ)) (maps : List Grid) (s : Spot) (xs : Terms)
     → map (λ e. value (with_places names e) maps s) (listed xs) ≡ argument_values (with_leaves_all (place_in names) xs) maps s

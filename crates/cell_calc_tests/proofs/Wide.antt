@@ -4,7 +4,7 @@ use Rattle.std.proofs.lemmas.Int.{ints, quot-rem, rem_below, fits_signed_mul, fi
 use Rattle.std.proofs.lemmas.Bool.Decides.{nat_tests}
 use Rattle.std.proofs.Math.Nat.{div-le_self}
 use Rattle.std.specs.Int.RustNames.{int_div, int_rem, unsigned_abs}
-use Rattle.cell_calc_operators.specs.CellOperators.{is_zero}
+use Rattle.cell_calc_binding.specs.CellOperators.{is_zero}
 
 -- the size of a number of 32 bits
 size_of : (x : ℤ) → FitsSigned w32 x → unsigned_abs x ≤ 2147483648

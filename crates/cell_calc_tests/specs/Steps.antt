@@ -2,11 +2,11 @@
 use Rattle.std.specs.Prelude.{◌≤◌, ◌+ℤ◌, ℕ, pos, List, Some, None, slice_get, slice_index_or}
 use Rattle.cell_core.specs.Grid.{Grid, CellValue}
 use Rattle.cell_calc_binding.specs.Binding.{place_in}
-use Rattle.cell_calc_operators.specs.Applied.{Spot, negated_cell, inverted_cell, operator_value, call_result}
-use Rattle.cell_calc_operators.specs.Offsets.{cell_in}
+use Rattle.cell_calc_binding.specs.Applied.{Spot, negated_cell, inverted_cell, operator_value, call_result}
+use Rattle.cell_calc_binding.specs.Offsets.{cell_in}
 use Rattle.cell_calc_grammar.specs.declared.map_name.MapName.{MapName}
-use Rattle.cell_calc_steps.specs.declared.step.Step.{Step}
-use Rattle.cell_calc_steps.specs.declared.step.Step.TheVariants.{Number, Map, Negated, Not, Binary, Call}
+use Rattle.cell_calc_grammar.specs.declared.step.Step.{Step}
+use Rattle.cell_calc_grammar.specs.declared.step.Step.TheVariants.{Number, Map, Negated, Not, Binary, Call}
 
 -- the value of a step, of those of its operands
 abbrev pub step_value : List (List ℕ) → List Grid → Spot → Step MapName → List CellValue → CellValue

@@ -2,11 +2,11 @@
 
 ghost use Rattle.std.specs.Prelude.{◌≡◌, ◌<◌, ◌≤◌, ℕ, length, slice_get, IfOk};
 ghost use Rattle.cell_calc_binding.specs.Reach.{top_of, up_of, down_of};
-ghost use Rattle.cell_calc_windows.specs.Window.{HasReach};
+ghost use Rattle.cell_calc.specs.Window.{HasReach};
 
 use cell_calc::Bound;
 use cell_calc::rows_of_values::eval_row;
-use cell_calc_windows::window::RowWindow;
+use cell_calc::window::RowWindow;
 use cell_core::cell::Cell;
 use cell_core::map::CellMap;
 use cell_core::memory::Memory;

@@ -1,3 +1,4 @@
+//! Tests of the language over worked texts: tokens, trees and faults.
 //! The value of an expression at a cell, as a plain program of its definition, and tests of expressions and windows beside it.
 #![tactic(auto)]
 
@@ -8,8 +9,16 @@ mod definition;
 #[cfg(test)]
 mod evaluation;
 #[cfg(test)]
+mod faults;
+#[cfg(test)]
+mod limits;
+#[cfg(test)]
 mod random;
 #[cfg(test)]
+mod spellings;
+#[cfg(test)]
 mod tests;
+#[cfg(test)]
+mod trees;
 #[cfg(test)]
 mod windows;

@@ -8,7 +8,7 @@ use cell_core::map::{CellMap, MapBuilder};
 use cell_core::name::{Name, Names};
 use cell_core::region::Region;
 use cell_core::shelf::Shelf;
-use rcell_making::map_of_values::evaluate;
+use rcell::map_of_values::evaluate;
 use std::alloc::Global;
 use std::process::Abort;
 use std::test::Fail;

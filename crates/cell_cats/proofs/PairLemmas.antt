@@ -7,7 +7,7 @@ use Rattle.std.proofs.lemmas.List.Sums.{split_at_first, passes_at_first}
 use Rattle.std.proofs.lemmas.Bool.{ltb-true, eqb-true}
 use Rattle.std.proofs.lemmas.Bool.Decides.{nat_tests}
 use Rattle.std.proofs.Math.Seq.{take-append_seam, drop-append-add}
-use Rattle.cell_core_text.specs.Words.{is_equals, pair_of}
+use Rattle.cell_core_values.specs.Words.{is_equals, pair_of}
 
 either-right : (a b : Bool) → (a || b) ≡ false → b ≡ false
 either-right true b e = cc

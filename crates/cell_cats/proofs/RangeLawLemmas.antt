@@ -5,7 +5,7 @@ use Rattle.std.specs.Prelude.{bytes_eq}
 use Rattle.std.specs.List.{flat_map}
 use Rattle.std.specs.Option.{option_map, option_and_then}
 use Rattle.std.specs.Cmp.Lexicographic.{bytes_decides}
-use Rattle.cell_core_text.specs.WholeNumbers.{whole_in_range}
+use Rattle.cell_core_values.specs.WholeNumbers.{whole_in_range}
 use Rattle.cell_cats.specs.RuleLine as line
 use Rattle.cell_cats.specs.RuleLine.{SpellsRanges, SpellsListed}
 use Rattle.cell_cats.specs.RuleReading.{is_star, is_end, items_of, Left, left_side, ranges_of, listed_of_line}

@@ -3,11 +3,11 @@ use Rattle.std.proofs.Common.{◌≡◌, ◌≢◌, ℕ, ℤ, Bool, true, false,
 use Rattle.std.proofs.Common.{Some, None, Result, Ok, Err, codes, inl, inr, refl, ap, sym, subst, ◌∙◌}
 use Rattle.std.specs.Prelude.{◌||◌, bytes_eq}
 use Rattle.std.specs.Option.{option_map, ok_or}
-use Rattle.cell_core_text.specs.Answers.{◌>>=◌}
+use Rattle.cell_core_values.specs.Answers.{◌>>=◌}
 use Rattle.std.specs.Cmp.Lexicographic.{bytes_decides}
-use Rattle.cell_core_text.specs.Blanks.{trimmed_text}
-use Rattle.cell_core_text.specs.WholeNumbers.{whole_in_range}
-use Rattle.cell_core_text.specs.Words.{list_words_of, pair_of}
+use Rattle.cell_core_values.specs.Blanks.{trimmed_text}
+use Rattle.cell_core_values.specs.WholeNumbers.{whole_in_range}
+use Rattle.cell_core_values.specs.Words.{list_words_of, pair_of}
 use Rattle.cell_cats.specs.Rule.{RuleValue}
 use Rattle.cell_cats.specs.RuleLine.{is_skipped, SpellsOutput, output_word, label_of_right, SpellsRule}
 use Rattle.cell_cats.specs.RuleReading.{is_star, Left, left_side, is_output, is_star_left}

@@ -2,9 +2,9 @@
 use Rattle.std.specs.Prelude.{ℕ, ℤ, ◌≡◌, ◌≢◌, ◌<◌, ◌⊎◌, ◌==◌, Bool, true, false, List, [], ◌∷◌, ◌++◌, length, Option, Some, None, codes}
 use Rattle.std.specs.List.{before_first, after_first, list_any}
 use Rattle.cell_core_values.specs.Letters.{byte}
-use Rattle.cell_core_text.specs.Blanks.{is_blank, trimmed_text}
-use Rattle.cell_core_text.specs.WholeNumbers.{whole_in_range}
-use Rattle.cell_core_text.specs.Words.{is_equals, list_words_of}
+use Rattle.cell_core_values.specs.Blanks.{is_blank, trimmed_text}
+use Rattle.cell_core_values.specs.WholeNumbers.{whole_in_range}
+use Rattle.cell_core_values.specs.Words.{is_equals, list_words_of}
 use Rattle.cell_cats.specs.Rule.{RuleValue}
 use Rattle.cell_cats.specs.declared.rule.Output.{Output}
 use Rattle.cell_cats.specs.declared.rule.Output.TheVariants.{Same, To}

@@ -1,10 +1,10 @@
 -- How a rule line is read, with its faults, and that it is read where it is spelled (r.reclass manual).
 use Rattle.std.specs.Prelude.{ℕ, ℤ, Bool, true, false, not, ◌&&◌, ◌||◌, ◌≡◌, ◌↔◌, List, [], ◌∷◌, ◌++◌, Option, Some, None, Result, Ok, Err, if◌then◌else◌, bytes_eq, codes}
 use Rattle.std.specs.Option.{option_map, option_and_then, ok_or}
-use Rattle.cell_core_text.specs.Answers.{◌>>=◌}
-use Rattle.cell_core_text.specs.Blanks.{trimmed_text}
-use Rattle.cell_core_text.specs.WholeNumbers.{whole_in_range}
-use Rattle.cell_core_text.specs.Words.{is_word, list_words_of, pair_of}
+use Rattle.cell_core_values.specs.Answers.{◌>>=◌}
+use Rattle.cell_core_values.specs.Blanks.{trimmed_text}
+use Rattle.cell_core_values.specs.WholeNumbers.{whole_in_range}
+use Rattle.cell_core_values.specs.Words.{is_word, list_words_of, pair_of}
 use Rattle.cell_cats.specs.Rule.{RuleValue}
 use Rattle.cell_cats.specs.RuleLine.{is_skipped, output_word, label_of_right, SpellsRule}
 use Rattle.cell_cats.specs.declared.rule.Output.{Output}

@@ -2,7 +2,7 @@
 
 ghost use Rattle.std.specs.Prelude.{◌≡◌, ◌∷◌, ◌≤◌, ◌&&◌, length, drop};
 ghost use Rattle.std.specs.Option.{option_map, ok_or};
-ghost use Rattle.cell_core_text.specs.Answers.{Answers};
+ghost use Rattle.cell_core_values.specs.Answers.{Answers};
 ghost use Rattle.cell_cats.specs.RuleLine.{is_skipped};
 ghost use Rattle.cell_cats.specs.RuleReading.{is_thru, is_star, is_null_word, is_end, with_item, items_of, is_lone_star, left_side};
 ghost use Rattle.cell_cats.specs.RuleReading.{is_output, ranges_of, range_of, listed_of_line, output_of, rule_of};
@@ -12,9 +12,9 @@ ghost use Rattle.cell_cats.specs.declared.rules.RuleFault.TheVariants.{BadRule, 
 use crate::rule::{Output, Rule};
 use crate::rules::RuleFault;
 use cell_core::cell::Cell;
-use cell_core_text::blanks::{around_blank, trimmed_text};
-use cell_core_text::whole_numbers::whole_in_range;
-use cell_core_text::words::{list_words_of, pair_of};
+use cell_core_values::blanks::{around_blank, trimmed_text};
+use cell_core_values::whole_numbers::whole_in_range;
+use cell_core_values::words::{list_words_of, pair_of};
 use std::alloc::Global;
 
 /// Whether a line without blanks at its ends is empty or a comment.

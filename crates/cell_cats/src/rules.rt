@@ -2,7 +2,7 @@
 
 ghost use Rattle.std.specs.Prelude.{◌≡◌, [], OnErr};
 ghost use Rattle.std.specs.Option.{option_map};
-ghost use Rattle.cell_core_text.specs.Answers.{Answers};
+ghost use Rattle.cell_core_values.specs.Answers.{Answers};
 ghost use Rattle.cell_cats.specs.Rule.{new_category, output_for, last_output, is_star_rule, outcome};
 ghost use Rattle.cell_cats.specs.RuleReading.{with_line};
 
@@ -10,7 +10,7 @@ use crate::line::{is_skipped, rule_of};
 use crate::rule::{Output, Rule};
 use cell_core::cell::Cell;
 use cell_core::memory::Memory;
-use cell_core_text::blanks::trimmed_text;
+use cell_core_values::blanks::trimmed_text;
 use std::alloc::{AllocError, AllocFailed, Global};
 use std::marker::Model;
 

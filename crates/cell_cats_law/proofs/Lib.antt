@@ -1,3 +1,11 @@
+pub mod MadeLemmas
+pub mod LeadLemmas
+pub mod LinkLemmas
+pub mod FirstLemmas
+pub mod ExistsLemmas
+pub mod CountLemmas
+pub mod PageLemmas
+pub mod ReclassLemmas
 pub mod AreaLemmas
 pub mod CornerLemmas
 pub mod PartLemmas

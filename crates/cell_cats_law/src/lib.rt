@@ -1,4 +1,7 @@
-//! Laws of areas, which divide their category and which corners only join, and of parts of maps by rules.
+//! Every map has a numbering of its clumps; clumps divide their category; pages of a table join; tiles of
+//! reclassified maps.
 #![tactic(auto)]
 
 pub mod law;
+pub mod numbering_law;
+pub mod tables_law;

@@ -1,4 +1,5 @@
 //! Worked answers of the calls of cell_core, and what no clause says of a reader's and a writer's `Err`.
+//! Worked answers of the calls of cell_text.
 #![tactic(auto)]
 
 #[cfg(test)]
@@ -16,8 +17,12 @@ mod maps;
 #[cfg(test)]
 mod names;
 #[cfg(test)]
+mod numbers;
+#[cfg(test)]
 mod regions;
 #[cfg(test)]
 mod sinks;
 #[cfg(test)]
 mod sources;
+#[cfg(test)]
+mod words;

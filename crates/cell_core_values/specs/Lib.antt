@@ -1,8 +1,15 @@
 -- Cells, cells in a byte each, regions, names.
+-- Blanks, whole numbers and words of texts.
 pub mod Cell
 pub mod Name
 pub mod Region
 pub mod SmallCells
 pub mod SameRegion
-pub mod parts
 pub mod Letters
+pub mod Blanks
+pub mod Digits
+pub mod WholeNumbers
+pub mod Capped
+pub mod Words
+pub mod Answers
+pub mod parts

@@ -1,11 +1,11 @@
-//! Cells, cells in a byte each, regions, names, and being out of memory.
-//!
-//! The meaning of cells and regions is that of CELL maps of GRASS (g.region and r.in.ascii manuals). Where a rule is this
-//! project's own choice, its text says profile.
+//! Cells, regions, names, running out of memory; blanks, integers and words of a line.
 #![tactic(auto)]
 
+pub mod blanks;
 pub mod cell;
 pub mod memory;
 pub mod name;
 pub mod region;
 pub mod small_cells;
+pub mod whole_numbers;
+pub mod words;

@@ -1,7 +1,7 @@
 -- Formats whose lines can be read back: their fields can be told apart.
 use Rattle.std.specs.Prelude.{ℕ, Bool, ◌==◌, ◌&&◌, ◌||◌, not, codes, is_none}
 use Rattle.std.specs.List.{list_all}
-use Rattle.cell_core_text.specs.Digits.{is_digit}
+use Rattle.cell_core_values.specs.Digits.{is_digit}
 use Rattle.cell_core_values.specs.Letters.{byte}
 use Rattle.cell_stats.specs.TableText.{FormatValue}
 use Rattle.cell_join_lines.specs.LineFields.{category_of_field}

@@ -7,7 +7,7 @@ ghost use Rattle.cell_join_lines.specs.SourceLines.{says_read};
 use crate::places::cut_at;
 use crate::table_fault::TableKind;
 use cell_core::cell::Cell;
-use cell_core_text::whole_numbers::whole_in_range;
+use cell_core_values::whole_numbers::whole_in_range;
 use cell_stats::format::Format;
 use itoa::Buffer;
 

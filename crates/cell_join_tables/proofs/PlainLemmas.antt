@@ -11,10 +11,10 @@ use Rattle.std.specs.List.{AllByRecursion, Contains, join_with_byte, onto_first,
 use Rattle.std.specs.Option.{option_and_then}
 use Rattle.cell_core_devices.specs.Blocks.{capped_count}
 use Rattle.cell_core_devices.specs.Device.{Coming, append_known}
-use Rattle.cell_core_text.specs.WholeNumbers.{whole_in_range}
+use Rattle.cell_core_values.specs.WholeNumbers.{whole_in_range}
 use Rattle.cell_core.specs.Grid.{CellValue}
 use Rattle.cell_core.specs.Text.{cell_text}
-use Rattle.cell_stats_combinations.specs.Combinations.{Combination}
+use Rattle.cell_stats_counts.specs.Combinations.{Combination}
 use Rattle.cell_stats.specs.CategoryTables.{Pairs}
 use Rattle.cell_stats.specs.TableText.{FormatValue}
 use Rattle.cell_parts.specs.TableParts.{IsMerge}

@@ -8,14 +8,14 @@ use Rattle.std.proofs.lemmas.Slice.Eq.{bytes_eq-Decides}
 use Rattle.std.specs.Prelude.{All, bytes_eq, nat_le}
 use Rattle.std.specs.Fmt.{signed_decimal}
 use Rattle.std.specs.List.{list_all, slice_split, join_with_byte}
-use Rattle.cell_core_text.specs.Digits.{is_digit, value_of_digits}
-use Rattle.cell_core_text.specs.WholeNumbers.{whole_in_range, whole_number, is_in_range}
+use Rattle.cell_core_values.specs.Digits.{is_digit, value_of_digits}
+use Rattle.cell_core_values.specs.WholeNumbers.{whole_in_range, whole_number, is_in_range}
 use Rattle.cell_core_values.specs.Cell.{IsCell}
 use Rattle.cell_core.specs.Grid.{CellValue}
 use Rattle.cell_core.specs.Text.{cell_text}
-use Rattle.cell_ascii_law_written.proofs.WritingDigitLemmas.{IsNumeralOf, numeral}
-use Rattle.cell_ascii_law_written.proofs.WritingNumberLemmas.{whole_back, in_range_low, size}
-use Rattle.cell_stats_combinations.specs.Combinations.{Combination}
+use Rattle.cell_ascii_law.proofs.WritingDigitLemmas.{IsNumeralOf, numeral}
+use Rattle.cell_ascii_law.proofs.WritingNumberLemmas.{whole_back, in_range_low, size}
+use Rattle.cell_stats_counts.specs.Combinations.{Combination}
 use Rattle.cell_stats.specs.TableText.{FormatValue}
 use Rattle.cell_join_lines.specs.LineFields.{capped_value, category_of_field, cell_of_field, count_of_field, entry_of_fields, entry_of_line, cell_before, with_count}
 use Rattle.cell_join_lines.specs.TableLines.{entry_fields}

@@ -1,25 +1,38 @@
+//! Tests of maps in grids of tiles: the clumps of the full map beside those that are joined.
 //! Tests of what joins tables, clumps and sizes: worked texts, each fault with its place, texts that come in small pieces, texts that are
 //! cut short, sinks that fail, and random sizes beside a plain count.
 #![tactic(auto)]
 
 #[cfg(test)]
+mod assertions;
+#[cfg(test)]
 mod border_faults;
 #[cfg(test)]
 mod border_texts;
 #[cfg(test)]
+mod chance;
+#[cfg(test)]
 mod clump_faults;
+#[cfg(test)]
+mod cuts;
 #[cfg(test)]
 mod labels;
 #[cfg(test)]
 mod lines;
 #[cfg(test)]
+mod random;
+#[cfg(test)]
 mod random_sizes;
+#[cfg(test)]
+mod shapes;
 #[cfg(test)]
 mod size_faults;
 #[cfg(test)]
 mod sizes;
 #[cfg(test)]
 mod tile_texts;
+#[cfg(test)]
+mod tiles;
 #[cfg(test)]
 mod worked_borders;
 #[cfg(test)]

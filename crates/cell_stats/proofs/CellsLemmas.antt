@@ -4,9 +4,9 @@ use Rattle.std.proofs.lemmas.Grind.{flat_map-append}
 use Rattle.std.proofs.lemmas.List.Elements.{filter-append}
 use Rattle.std.specs.List.{flat_map, range_with_len}
 use Rattle.cell_core.specs.Grid.{Grid}
-use Rattle.cell_stats_combinations.specs.declared.skip.Skip.{Skip}
-use Rattle.cell_stats_combinations.specs.Combinations.{Combination, combination_at, row_combinations, all_combinations}
-use Rattle.cell_stats_combinations.specs.LeftOut.{kept_cells, is_left_out}
+use Rattle.cell_stats_counts.specs.declared.skip.Skip.{Skip}
+use Rattle.cell_stats_counts.specs.Combinations.{Combination, combination_at, row_combinations, all_combinations}
+use Rattle.cell_stats_counts.specs.LeftOut.{kept_cells, is_left_out}
 use Rattle.cell_stats.specs.TableText.{FormatValue, cell_line}
 use Rattle.cell_stats_counts.proofs.WalkLemmas.{stretch, kept-replicate, all_combinations_more}
 

@@ -8,13 +8,13 @@ use Rattle.std.specs.List.{Contains, AllByRecursion}
 use Rattle.std.specs.List.Sorted.{IsStrictlySortedBy}
 use Rattle.std.specs.FinMap as finmap
 use Rattle.std.specs.FinMap.Entries.{find, is_sorted, below_all, same_entries}
-use Rattle.cell_stats_combinations.specs.Combinations.{Combination, combination_cmp}
+use Rattle.cell_stats_counts.specs.Combinations.{Combination, combination_cmp}
 use Rattle.cell_stats_counts.specs.Counts.{count_of}
 use Rattle.cell_stats_counts.specs.Listed.{Counts, entry_of, listed_of, HasNoZero}
-use Rattle.cell_stats_combinations.specs.declared.skip.Skip.{Skip}
+use Rattle.cell_stats_counts.specs.declared.skip.Skip.{Skip}
 use Rattle.cell_stats.specs.CategoryTables.{Pairs, IsTable, counts_of, table_of}
-use Rattle.cell_stats_combinations.specs.LeftOut.{kept_cells, is_left_out}
-use Rattle.cell_stats_combinations.proofs.OrderLemmas.{combination_cmp-total, combination_cmp-exact, is_equal}
+use Rattle.cell_stats_counts.specs.LeftOut.{kept_cells, is_left_out}
+use Rattle.cell_stats_counts.proofs.OrderLemmas.{combination_cmp-total, combination_cmp-exact, is_equal}
 use Rattle.cell_stats.proofs.SortedLemmas.{both_true, is_less, each_found}
 
 -- ---- the table as what is found in it

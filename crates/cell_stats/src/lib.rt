@@ -8,4 +8,4 @@ pub mod printing;
 pub mod table;
 pub mod tallying;
 
-pub use cell_stats_combinations::{combination, combination_text, skip};
+pub use cell_stats_counts::{combination, combination_text, skip};

@@ -1,7 +1,7 @@
 -- Counts in a list.
 use Rattle.std.proofs.Common.{◌≡◌, ℕ, ◌+◌, ◌<◌, ◌≤◌, length, get_or, set, cond, ap, ◌∙◌, arith}
 use Rattle.std.proofs.lemmas.List.Sums.{sum_by-set, get_or-le-sum_by}
-use Rattle.cell_stats_combinations.specs.Combinations.{Combination}
+use Rattle.cell_stats_counts.specs.Combinations.{Combination}
 use Rattle.cell_stats_counts.specs.Listed.{Counts, entry_of, listed_of}
 use Rattle.cell_stats_counts.specs.parts.HeldPlaces.{is_same}
 use Rattle.cell_stats_counts.proofs.HeldLemmas.{same-itself, cond-add}

@@ -4,9 +4,9 @@ use Rattle.cell_stats_counts.specs.declared.gathered.Gathered.{Gathered}
 use Rattle.std.specs.Cmp.{eq_by_cmp_equiv}
 use Rattle.std.proofs.lemmas.List.Sums.{sum_by-append, sum_by-set}
 use Rattle.cell_stats_counts.specs.declared.counting.CountPlace.{CountPlace}
-use Rattle.cell_stats_combinations.specs.Combinations.{Combination, combination_cmp_total}
+use Rattle.cell_stats_counts.specs.Combinations.{Combination, combination_cmp_total}
 use Rattle.cell_stats_counts.specs.parts.HeldPlaces.{is_same, held_by, held_of, total_of, gathered_of, IsCounting}
-use Rattle.cell_stats_combinations.proofs.OrderLemmas.{combination_cmp-exact, is_equal}
+use Rattle.cell_stats_counts.proofs.OrderLemmas.{combination_cmp-exact, is_equal}
 
 pub same-itself : (a : Combination) → is_same a a ≡ true
 same-itself a = (eq_by_cmp_equiv combination_cmp_total).refl a

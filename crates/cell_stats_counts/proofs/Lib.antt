@@ -1,3 +1,6 @@
+pub mod OrderLemmas
+pub mod ReadingLemmas
+pub mod CursorLemmas
 pub mod ByteCountLemmas
 pub mod GatheredLemmas
 pub mod HeldLemmas

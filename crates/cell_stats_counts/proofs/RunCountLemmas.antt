@@ -6,14 +6,14 @@ use Rattle.std.specs.List.{range_with_len}
 use Rattle.std.specs.Prelude.{slice_get}
 use Rattle.cell_core.specs.Grid.{Grid, CellValue, row_at}
 use Rattle.cell_core.specs.Runs.{RunValue, written_out}
-use Rattle.cell_stats_combinations.specs.declared.skip.Skip.{Skip}
-use Rattle.cell_stats_combinations.specs.Combinations.{Combination, combination_at, all_combinations, row_combinations}
+use Rattle.cell_stats_counts.specs.declared.skip.Skip.{Skip}
+use Rattle.cell_stats_counts.specs.Combinations.{Combination, combination_at, all_combinations, row_combinations}
 use Rattle.cell_stats_counts.specs.Counts.{count_of}
 use Rattle.cell_stats_counts.specs.parts.Alone.{alone}
-use Rattle.cell_stats_cursors.specs.Cursors.{row_in}
+use Rattle.cell_stats_counts.specs.Cursors.{row_in}
 use Rattle.cell_stats_counts.specs.parts.HeldPlaces.{is_same}
-use Rattle.cell_stats_combinations.specs.LeftOut.{kept_cells, is_left_out}
-use Rattle.cell_stats_cursors.proofs.CursorLemmas.{row-of}
+use Rattle.cell_stats_counts.specs.LeftOut.{kept_cells, is_left_out}
+use Rattle.cell_stats_counts.proofs.CursorLemmas.{row-of}
 use Rattle.cell_stats_counts.proofs.WalkLemmas.{cell-row, count-append, count-replicate, kept-replicate, all_combinations_more, count_small}
 
 -- the counts of two parts

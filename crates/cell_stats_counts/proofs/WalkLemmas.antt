@@ -11,12 +11,12 @@ use Rattle.std.specs.Prelude.{slice_get}
 use Rattle.std.specs.Ordering.{eq_by_cmp}
 use Rattle.cell_core.specs.Grid.{Grid, CellValue, cell_at, row_at}
 use Rattle.cell_core.specs.Runs.{RunValue, written_out}
-use Rattle.cell_stats_combinations.specs.declared.skip.Skip.{Skip}
-use Rattle.cell_stats_combinations.specs.Combinations.{Combination, combination_cmp, cell_of_map, combination_at, all_combinations, row_combinations}
+use Rattle.cell_stats_counts.specs.declared.skip.Skip.{Skip}
+use Rattle.cell_stats_counts.specs.Combinations.{Combination, combination_cmp, cell_of_map, combination_at, all_combinations, row_combinations}
 use Rattle.cell_stats_counts.specs.Counts.{count_of}
-use Rattle.cell_stats_cursors.specs.Cursors.{CursorValue, to_come, AreCursorsReady, row_in}
+use Rattle.cell_stats_counts.specs.Cursors.{CursorValue, to_come, AreCursorsReady, row_in}
 use Rattle.cell_stats_counts.specs.parts.HeldPlaces.{is_same}
-use Rattle.cell_stats_combinations.specs.LeftOut.{kept_cells, is_left_out}
+use Rattle.cell_stats_counts.specs.LeftOut.{kept_cells, is_left_out}
 
 -- ---- the cells of a stretch
 

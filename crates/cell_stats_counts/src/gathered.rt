@@ -1,15 +1,15 @@
 //! Counts of combinations in a list, in which each is found by a number of it.
 
 ghost use Rattle.std.specs.Prelude.{◌≡◌, ◌+◌, ◌<◌, ◌^◌, [], OnOk, false, cond, length, take};
-ghost use Rattle.cell_stats_combinations.specs.Combinations.{Combination};
+ghost use Rattle.cell_stats_counts.specs.Combinations.{Combination};
 ghost use Rattle.cell_stats_counts.specs.Listed.{listed_of, HasNoZero, AreAscending};
 ghost use Rattle.cell_stats_counts.specs.parts.HeldPlaces.{is_same, gathered_of, GathersNoZero, Grows};
 ghost use Rattle.cell_stats_counts.specs.parts.GatheredCounts.{GatheredFits, GathersSame, ListedFits, ListsMore, ListsSame};
 ghost use Rattle.cell_stats_counts.specs.parts.Joined.{AreOfOne, CanAddUp, IsRising, JoinsMore};
 
+use crate::combination::Combo;
 use cell_core::cell::Cell;
 use cell_core::memory::Memory;
-use cell_stats_combinations::combination::Combo;
 use std::alloc::Global;
 
 // How many places are looked at for a combination.

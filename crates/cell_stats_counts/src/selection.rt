@@ -1,7 +1,7 @@
 //! What of a shelf is looked at.
 
+use crate::skip::Skip;
 use cell_core::shelf::Shelf;
-use cell_stats_combinations::skip::Skip;
 
 /// Maps of a shelf that are looked at together, and which of their combinations are left out.
 #[derive(Clone, Copy)]

@@ -1,4 +1,7 @@
-//! `assert_same!` is `assert_eq!` by a call: the comparison and its message are proved once, and not at each place.
+//! `assert_same!` and `assert_holds!` are `assert_eq!` and `assert!` by a call: the comparison and its message are
+//! proved once, and not at each place.
+
+ghost use Rattle.std.specs.Prelude.{◌≡◌, true};
 
 use std::fmt::{Debug, Display};
 use std::process::Abort;
@@ -23,3 +26,21 @@ macro_rules! assert_same {
 }
 
 pub(crate) use assert_same;
+
+/// What is asserted is true.
+pub(crate) fn holds<R: Abort, N: Display + Drop>(rt: &R, note: N, truth: bool)
+    ensures { truth ≡ true }
+{
+    assert!(rt; truth, "{note}");
+}
+
+macro_rules! assert_holds {
+    ($rt:expr; $truth:expr $(,)?) => {
+        crate::assertions::holds(&$rt, stringify!($truth), $truth)
+    };
+    ($rt:expr; $truth:expr, $($note:tt)+) => {
+        crate::assertions::holds(&$rt, format_args!($($note)+), $truth)
+    };
+}
+
+pub(crate) use assert_holds;

@@ -1,4 +1,7 @@
 -- What several proofs share.
+pub mod WindowLemmas
+pub mod LoadingLemmas
+pub mod TextLemmas
 pub mod OutputLemmas
 pub mod TableLemmas
 pub mod StatsLemmas

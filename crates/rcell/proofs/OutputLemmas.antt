@@ -11,7 +11,7 @@ use Rattle.cell_core.specs.Shelf.{ShelfValue}
 use Rattle.rcell_script_commands.specs.declared.command.Command.{Command}
 use Rattle.rcell_script_commands.specs.declared.command.Command.TheVariants.{Mapcalc, Reclass, Clump, Stats, OutAscii}
 use Rattle.rcell_script.specs.declared.statement.Statement.{Statement}
-use Rattle.rcell_making.specs.Making.{AreValues, AreNumbers, IsOfMap, with_map}
+use Rattle.rcell.specs.Making.{AreValues, AreNumbers, IsOfMap, with_map}
 use Rattle.rcell_script.specs.KnownMaps.{known_after}
 use Rattle.rcell.specs.After.{IsShelfAfter}
 use Rattle.rcell.specs.Output.{Executes, command_text}

@@ -1,7 +1,7 @@
 -- The shelf after each statement (profile).
 use Rattle.std.specs.Prelude.{◌≡◌}
 use Rattle.cell_core.specs.Shelf.{ShelfValue}
-use Rattle.rcell_making.specs.Making.{IsWithValues, IsWithClasses, IsWithNumbers}
+use Rattle.rcell.specs.Making.{IsWithValues, IsWithClasses, IsWithNumbers}
 use Rattle.rcell_script_commands.specs.declared.command.Command.{Command}
 use Rattle.rcell_script_commands.specs.declared.command.Command.TheVariants.{Mapcalc, Reclass, Clump, Stats, OutAscii}
 

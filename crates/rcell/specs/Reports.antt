@@ -1,7 +1,7 @@
 -- Where a fault of a run is told, and by what text (profile).
 use Rattle.std.specs.Prelude.{ℕ, List, [], codes, slice_get, unwrap_or}
-use Rattle.rcell_loading.specs.declared.run_fault.RunFault.{RunFault}
-use Rattle.rcell_loading.specs.declared.run_fault.RunFault.TheVariants.{GridTwice, GridRegion, Grid, ScriptRead, ScriptSize, Script, Memory, Write}
+use Rattle.rcell.specs.declared.run_fault.RunFault.{RunFault}
+use Rattle.rcell.specs.declared.run_fault.RunFault.TheVariants.{GridTwice, GridRegion, Grid, ScriptRead, ScriptSize, Script, Memory, Write}
 use Rattle.rcell.specs.declared.report.FaultText.{FaultText}
 use Rattle.rcell.specs.declared.report.FaultText.TheVariants as texts
 

@@ -11,13 +11,13 @@ ghost use Rattle.rcell.specs.parts.OutputSteps.{stops_write};
 ghost use Rattle.rcell.specs.runs.Execution.{Stops};
 ghost use Rattle.rcell.specs.runs.Outcomes.{IsDone};
 
+use crate::making::{make_classes, make_numbers, make_values};
 use crate::tables::write_stats;
 use cell_ascii::writer::write_grid;
 use cell_core::block::OutputBlock;
 use cell_core::memory::Memory;
 use cell_core::shelf::Shelf;
 use cell_core::sink::Sink;
-use rcell_making::making::{make_classes, make_numbers, make_values};
 use rcell_script::statement::{Command, Statement};
 use std::alloc::Global;
 

@@ -3,8 +3,8 @@
 ghost use Rattle.std.specs.Prelude.{◌≡◌};
 ghost use Rattle.rcell.specs.runs.Statuses.{grid_status, script_status, fault_status};
 
+pub use crate::run_fault::RunFault;
 use cell_ascii::grid_fault::GridKind;
-pub use rcell_loading::run_fault::RunFault;
 use rcell_script::script_fault::ScriptKind;
 
 /// What a run did.

@@ -1,2 +1,5 @@
 -- What several proofs share.
+pub mod CommandLemmas
+pub mod ParseLemmas
+pub mod WordLemmas
 pub mod LabelFields

@@ -1,8 +1,8 @@
 -- Where a fault is reported, and with which exit status (profile).
 use Rattle.std.specs.Prelude.{ℕ, List, [], Option, Some, None, codes, slice_get, unwrap_or}
-use Rattle.rcell_join_request.specs.Refusals.{refusal_status}
-use Rattle.rcell_join_request.specs.declared.refusal.Refusal.{Refusal}
-use Rattle.rcell_join_request.specs.declared.refusal.Refusal.TheVariants.{Usage, BadOption, Memory, File}
+use Rattle.rcell_join.specs.Refusals.{refusal_status}
+use Rattle.rcell_join.specs.declared.refusal.Refusal.{Refusal}
+use Rattle.rcell_join.specs.declared.refusal.Refusal.TheVariants.{Usage, BadOption, Memory, File}
 use Rattle.rcell_join.specs.PlaceValues.{PlaceValue}
 use Rattle.rcell_join.specs.declared.report_line.Report.{Report}
 

@@ -4,15 +4,23 @@
 
 mod border_report;
 mod clumps_report;
+mod command_words;
 mod kind_status;
+mod opening;
+mod refusal;
 mod report_line;
+mod request;
 mod shown;
 mod sizes_report;
 mod tables_report;
 
 use crate::border_report::border_report;
 use crate::clumps_report::clumps_report;
+use crate::command_words::read_words;
+use crate::opening::{open_file, open_files};
+use crate::refusal::{Refusal, Usage};
 use crate::report_line::{tell, tell_refusal};
+use crate::request::{Request, TableFormat};
 use crate::sizes_report::sizes_report;
 use crate::tables_report::tables_report;
 use cell_cats_areas::clump::Joining;
@@ -21,10 +29,6 @@ use cell_join_borders::map_border::write_border;
 use cell_join_clumps::clumps_joining::join_border_texts;
 use cell_join_sizes::table_sizes::join_table_sizes;
 use cell_join_tables::table_joining::join_texts;
-use rcell_join_request::command_words::read_words;
-use rcell_join_request::opening::{open_file, open_files};
-use rcell_join_request::refusal::{Refusal, Usage};
-use rcell_join_request::request::{Request, TableFormat};
 use std::env;
 use std::io::{self, ErrorKind};
 use std::process::ExitCode;

@@ -2,10 +2,10 @@
 
 ghost use Rattle.std.specs.Prelude.{◌≡◌, map};
 ghost use Rattle.rcell_join.specs.ReportPlaces.{on_line, path_at_place, refusal_place, status_of};
-ghost use Rattle.rcell_join_request.specs.Refusals.{refusal_status};
+ghost use Rattle.rcell_join.specs.Refusals.{refusal_status};
 
+use crate::refusal::Refusal;
 use crate::shown::Shown;
-use rcell_join_request::refusal::Refusal;
 use std::fmt;
 use std::marker::Model;
 

@@ -7,8 +7,8 @@ use Rattle.cell_core_values.specs.Region.{RegionValue}
 use Rattle.cell_core.specs.Grid.{Grid, IsFilled}
 use Rattle.cell_core.specs.Shelf.{ShelfValue}
 use Rattle.cell_ascii_meaning.specs.GridText.{Denotes}
-use Rattle.rcell_loading.specs.Sources.{Named}
-use Rattle.rcell_script_options.proofs.PlaceLemmas.{place_of-within}
+use Rattle.rcell.specs.Sources.{Named}
+use Rattle.rcell_script_commands.proofs.PlaceLemmas.{place_of-within}
 use Rattle.rcell_script_commands.specs.declared.command.Command.{Command}
 use Rattle.rcell_script_commands.specs.declared.command.Command.TheVariants.{Mapcalc, Reclass, Clump, Stats, OutAscii}
 use Rattle.rcell_script_commands.specs.CommandSpelling.{SpellsCommand}

@@ -11,22 +11,22 @@ use Rattle.cell_core.specs.Grid.{Grid, CellValue, cell_at, no_labels}
 use Rattle.cell_core.specs.Shelf.{ShelfValue}
 use Rattle.cell_calc_binding.specs.Formula.{Formula}
 use Rattle.cell_calc_binding.specs.Value.{value}
-use Rattle.cell_calc_operators.specs.Applied.{Spot, spot}
+use Rattle.cell_calc_binding.specs.Applied.{Spot, spot}
 use Rattle.cell_ascii_meaning.specs.Writing.{grid_text}
-use Rattle.cell_ascii_law_written.specs.WrittenLaw.{without_labels}
+use Rattle.cell_ascii_law.specs.WrittenLaw.{without_labels}
 use Rattle.cell_cats.specs.Rule.{RuleValue}
 use Rattle.cell_cats.specs.Reclass.{reclassed_map, new_rows}
 use Rattle.cell_cats_areas.specs.declared.clump.Joining.{Joining}
 use Rattle.cell_cats_areas.specs.Areas.{Position, cell_at_spot, AreJoined, IsFirst, HasNumber, IsClumping}
-use Rattle.cell_stats_combinations.specs.LeftOut.{kept_cells}
-use Rattle.cell_stats_combinations.specs.Combinations.{all_combinations}
+use Rattle.cell_stats_counts.specs.LeftOut.{kept_cells}
+use Rattle.cell_stats_counts.specs.Combinations.{all_combinations}
 use Rattle.cell_stats.specs.CategoryTables.{table_of}
 use Rattle.cell_stats.specs.TableText.{printed_pairs}
 use Rattle.rcell_script_commands.specs.declared.command.Command.{Command}
 use Rattle.rcell_script_commands.specs.declared.command.Command.TheVariants.{Mapcalc, Reclass, Clump, Stats, OutAscii}
 use Rattle.rcell_script_commands.specs.declared.command.StatsOptions.{StatsOptions}
 use Rattle.rcell_script.specs.declared.statement.Statement.{Statement}
-use Rattle.rcell_making.specs.Making.{AreValues, AreNumbers, IsOfMap, with_map}
+use Rattle.rcell.specs.Making.{AreValues, AreNumbers, IsOfMap, with_map}
 use Rattle.rcell.specs.After.{IsShelfAfter}
 use Rattle.rcell.specs.Output.{Executes, command_text, format_of, stats_text, out_ascii_text}
 use Rattle.rcell_law.specs.ReadAgain.{bare, prints_labels, PrintNoLabels, LabelsChangeNoOtherText}

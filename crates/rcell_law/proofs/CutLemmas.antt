@@ -10,8 +10,8 @@ use Rattle.cell_core.specs.Shelf.{ShelfValue}
 use Rattle.cell_cats_areas.proofs.LawLemmas.{clumping_is_one}
 use Rattle.cell_ascii_meaning.specs.GridText.{Denotes}
 use Rattle.cell_ascii_meaning.specs.Writing.{IsNullText}
-use Rattle.cell_ascii_law_written.specs.WrittenLaw.{without_labels, IsWritable}
-use Rattle.rcell_loading.specs.Sources.{Named}
+use Rattle.cell_ascii_law.specs.WrittenLaw.{without_labels, IsWritable}
+use Rattle.rcell.specs.Sources.{Named}
 use Rattle.rcell_script.specs.declared.statement.Statement.{Statement}
 use Rattle.rcell.specs.Output.{Executes, IsOutput}
 use Rattle.rcell.specs.runs.Accepted.{AreGrids}

@@ -9,18 +9,18 @@ use Rattle.cell_core.specs.Grid.{Grid, CellValue, IsFilled, no_labels}
 use Rattle.cell_core.specs.Shelf.{ShelfValue}
 use Rattle.cell_calc_binding.specs.Formula.{Formula}
 use Rattle.cell_calc_binding.specs.Value.{value}
-use Rattle.cell_calc_operators.specs.Applied.{spot}
+use Rattle.cell_calc_binding.specs.Applied.{spot}
 use Rattle.cell_cats.specs.Rule.{RuleValue}
 use Rattle.cell_cats.specs.Reclass.{reclassed_map, new_row}
-use Rattle.cell_cats_areas_law.proofs.ExistsLemmas.{clumping_exists}
-use Rattle.cell_cats_areas_law.proofs.MadeLemmas.{made_map, made_filled, made_there}
+use Rattle.cell_cats_law.proofs.ExistsLemmas.{clumping_exists}
+use Rattle.cell_cats_law.proofs.MadeLemmas.{made_map, made_filled, made_there}
 use Rattle.rcell_script_commands.specs.declared.command.Command.{Command}
 use Rattle.rcell_script_commands.specs.declared.command.Command.TheVariants.{Mapcalc, Reclass, Clump, Stats, OutAscii}
 use Rattle.rcell_script_commands.specs.FittingCommands.{FitsCommand}
 use Rattle.rcell_script.specs.FittingScripts.{Fits}
 use Rattle.rcell_script.specs.KnownMaps.{known_after}
 use Rattle.rcell_script.specs.declared.statement.Statement.{Statement}
-use Rattle.rcell_making.specs.Making.{AreValues, AreNumbers, IsOfMap, with_map}
+use Rattle.rcell.specs.Making.{AreValues, AreNumbers, IsOfMap, with_map}
 use Rattle.rcell.specs.After.{IsShelfAfter}
 use Rattle.rcell.specs.Output.{Executes, command_text}
 use Rattle.rcell_law.specs.OutputExists.{OutputsExist}

@@ -21,7 +21,7 @@ use Rattle.rcell_script.specs.KnownMaps.{known_after}
 use Rattle.rcell_script.specs.Lines.{ScriptLine, script_lines, numbered_lines}
 use Rattle.rcell_script.specs.Scripts.{Group, none, skipped, command, reclass, IsScript}
 use Rattle.rcell_script.specs.declared.statement.Statement.{Statement}
-use Rattle.rcell_making.specs.Making.{AreNumbers, IsOfMap, with_map}
+use Rattle.rcell.specs.Making.{AreNumbers, IsOfMap, with_map}
 use Rattle.rcell.specs.After.{IsShelfAfter}
 use Rattle.rcell.specs.Output.{Executes}
 use Rattle.rcell.proofs.OutputLemmas.{IsAfter-one, names_after}

@@ -1,3 +1,6 @@
+-- Lemmas on runs over the parts of maps.
+pub mod Plain
+pub mod Judged
 pub mod BareLemmas
 pub mod AlikeLemmas
 pub mod WrittenLemmas
@@ -9,3 +12,15 @@ pub mod LineLemmas
 pub mod JoinedLemmas
 pub mod RangeLemmas
 pub mod RunMapLemmas
+pub mod AddedLemmas
+pub mod CellLemmas
+pub mod GridSizeLemmas
+pub mod JoinLemmas
+pub mod NumberLemmas
+pub mod PartRunLemmas
+pub mod ReadLemmas
+pub mod RunLemmas
+pub mod ScriptRunLemmas
+pub mod SizeLemmas
+pub mod TableLemmas
+pub mod TileLemmas

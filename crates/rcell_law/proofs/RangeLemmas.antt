@@ -10,21 +10,21 @@ use Rattle.std.proofs.lemmas.List.{get_or_past}
 use Rattle.std.proofs.lemmas.List.Elements.{All-nil, All-cons, All-head, All-tail, All-get_or, All-filter}
 use Rattle.std.proofs.lemmas.List.Elements.{All-from_get_or}
 use Rattle.std.proofs.lemmas.Option.{slice_get_within, get_or_from_slice_get}
-use Rattle.cell_core_text.specs.WholeNumbers.{is_in_range}
+use Rattle.cell_core_values.specs.WholeNumbers.{is_in_range}
 use Rattle.cell_core.specs.Grid.{Grid, CellValue, IsFilled, cell_at}
-use Rattle.cell_calc_tokens.specs.declared.function.Function.{Function}
-use Rattle.cell_calc_tokens.specs.declared.function.Function.TheVariants as function
-use Rattle.cell_calc_tokens.specs.declared.operator.Operator.{Operator}
-use Rattle.cell_calc_tokens.specs.declared.operator.Operator.TheVariants as operator
-use Rattle.cell_calc_operators.specs.Applied.{Spot, operator_value, call_result}
-use Rattle.cell_calc_operators.specs.CellOperators.{fit, is_zero, is_null, truth, of_one, of_both}
+use Rattle.cell_calc_grammar.specs.declared.function.Function.{Function}
+use Rattle.cell_calc_grammar.specs.declared.function.Function.TheVariants as function
+use Rattle.cell_calc_grammar.specs.declared.operator.Operator.{Operator}
+use Rattle.cell_calc_grammar.specs.declared.operator.Operator.TheVariants as operator
+use Rattle.cell_calc_binding.specs.Applied.{Spot, operator_value, call_result}
+use Rattle.cell_calc_binding.specs.CellOperators.{fit, is_zero, is_null, truth, of_one, of_both}
 use Rattle.cell_core_values.specs.Cell.{is_category}
-use Rattle.cell_calc_operators.specs.CellOperators.{is_false, is_true, chosen_cell, lesser, greater, least}
-use Rattle.cell_calc_operators.specs.CellOperators.{greatest_cell}
-use Rattle.cell_calc_operators.specs.CellOperators.{known_cells, most_frequent}
-use Rattle.cell_calc_operators.specs.CellOperators.{is_most_frequent, first_known, if_of}
-use Rattle.cell_calc_operators.specs.Offsets.{item_at, cell_in}
-use Rattle.cell_calc_operators.proofs.Fit.{fit_number}
+use Rattle.cell_calc_binding.specs.CellOperators.{is_false, is_true, chosen_cell, lesser, greater, least}
+use Rattle.cell_calc_binding.specs.CellOperators.{greatest_cell}
+use Rattle.cell_calc_binding.specs.CellOperators.{known_cells, most_frequent}
+use Rattle.cell_calc_binding.specs.CellOperators.{is_most_frequent, first_known, if_of}
+use Rattle.cell_calc_binding.specs.Offsets.{item_at, cell_in}
+use Rattle.cell_calc_binding.proofs.Fit.{fit_number}
 use Rattle.cell_calc_binding.specs.Formula.{Formula, Number, Map, Negated, Not, Binary, Call, Formulas, NoTrees}
 use Rattle.cell_calc_binding.specs.Formula.{Then}
 use Rattle.cell_calc_binding.specs.Value.{value, argument_values}

@@ -14,17 +14,17 @@ use Rattle.cell_core_values.specs.Region.{RegionValue, IsRegion, region_fault, i
 use Rattle.cell_core_values.specs.Region.{most_side, most_cells}
 use Rattle.cell_core_values.specs.declared.region.RegionFault.TheVariants.{BadExtent, BadRows, BadCols, TooManyCells}
 use Rattle.cell_core_devices.specs.Device.{Coming}
-use Rattle.cell_core_text.specs.Blanks.{trimmed_text}
-use Rattle.cell_core_text.specs.WholeNumbers.{whole_number, whole_in_range, is_in_range}
+use Rattle.cell_core_values.specs.Blanks.{trimmed_text}
+use Rattle.cell_core_values.specs.WholeNumbers.{whole_number, whole_in_range, is_in_range}
 use Rattle.cell_core.specs.Grid.{Grid, CellValue, IsFilled, cell_at}
 use Rattle.cell_core.specs.Shelf.{ShelfValue}
 use Rattle.cell_ascii_meaning.specs.GridText.{Denotes, data_words, line_words}
 use Rattle.cell_ascii_meaning.specs.declared.grid_fault.GridKind.{GridKind}
 use Rattle.cell_ascii_meaning.specs.declared.grid_fault.GridKind.TheVariants.{CellRange}
 use Rattle.cell_ascii_meaning.specs.GridWords.{HeaderValue, cell_of_number, cell_of_word}
-use Rattle.cell_ascii_law_written.specs.WrittenLaw.{IsWritable}
-use Rattle.cell_ascii_law_written.proofs.WritingNumberLemmas.{whole_back, in_range_low}
-use Rattle.cell_calc_operators.specs.Applied.{spot}
+use Rattle.cell_ascii_law.specs.WrittenLaw.{IsWritable}
+use Rattle.cell_ascii_law.proofs.WritingNumberLemmas.{whole_back, in_range_low}
+use Rattle.cell_calc_binding.specs.Applied.{spot}
 use Rattle.cell_calc_binding.specs.Formula.{Formula}
 use Rattle.cell_cats.specs.Rule.{RuleValue, last_such, last_output, outcome, new_category, lists, is_star_rule}
 use Rattle.cell_cats.specs.RuleLine.{SpellsOutput, output_word, SpellsRule}
@@ -44,12 +44,12 @@ use Rattle.cell_calc_language.specs.Grammatical.{IsGrammatical, AreGrammatical}
 use Rattle.cell_calc_language.specs.Assignment.{IsAssignment, IsAssignmentText}
 use Rattle.cell_calc_language.specs.declared.assignment.Assignment.{Assignment}
 use Rattle.cell_calc_language.proofs.Grammatical.{expression_grammatical, spelled_categories}
-use Rattle.cell_calc_tokens.specs.Token.{AreCategories}
-use Rattle.cell_calc_tokens.specs.Tokens.{token_list}
-use Rattle.cell_calc_tokens.specs.declared.calc_fault.CalcFault.{CalcFault}
-use Rattle.cell_calc_tokens.specs.declared.token.Placed.{Placed}
-use Rattle.cell_calc_tokens.proofs.SpellingLemmas.{are_spelled}
-use Rattle.rcell_loading.specs.Sources.{Named}
+use Rattle.cell_calc_grammar.specs.Token.{AreCategories}
+use Rattle.cell_calc_grammar.specs.Tokens.{token_list}
+use Rattle.cell_calc_grammar.specs.declared.calc_fault.CalcFault.{CalcFault}
+use Rattle.cell_calc_grammar.specs.declared.token.Placed.{Placed}
+use Rattle.cell_calc_grammar.proofs.SpellingLemmas.{are_spelled}
+use Rattle.rcell.specs.Sources.{Named}
 use Rattle.rcell_script_commands.specs.CommandSpelling.{SpellsCommand}
 use Rattle.rcell_script_commands.specs.RMapcalc.{assignment_text}
 use Rattle.rcell_script_commands.specs.declared.command.Command.{Command}
@@ -58,7 +58,7 @@ use Rattle.rcell_script.specs.Lines.{ScriptLine, script_lines, numbered_lines}
 use Rattle.rcell_script.specs.Scripts as scripts
 use Rattle.rcell_script.specs.Scripts.{Group, IsScript}
 use Rattle.rcell_script.specs.declared.statement.Statement.{Statement}
-use Rattle.rcell_making.specs.Making.{AreValues, AreNumbers, IsOfMap, with_map}
+use Rattle.rcell.specs.Making.{AreValues, AreNumbers, IsOfMap, with_map}
 use Rattle.rcell.specs.After.{IsShelfAfter}
 use Rattle.rcell.specs.Output.{Executes}
 use Rattle.rcell.proofs.runs.AcceptedLemmas.{AllDenote}

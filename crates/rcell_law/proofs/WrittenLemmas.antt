@@ -8,8 +8,8 @@ use Rattle.cell_core.specs.Grid.{Grid}
 use Rattle.cell_core.specs.Shelf.{ShelfValue}
 use Rattle.cell_ascii_meaning.specs.GridText.{Denotes}
 use Rattle.cell_ascii_meaning.specs.Writing.{IsNullText, grid_text}
-use Rattle.cell_ascii_law_written.specs.WrittenLaw.{without_labels, IsWritable}
-use Rattle.cell_ascii_law_written.proofs.WritingLawLemmas.{writing_is_read}
+use Rattle.cell_ascii_law.specs.WrittenLaw.{without_labels, IsWritable}
+use Rattle.cell_ascii_law.proofs.WritingLawLemmas.{writing_is_read}
 use Rattle.rcell.specs.Output.{out_ascii_text}
 use Rattle.rcell.proofs.runs.AcceptedLemmas.{AllDenote}
 use Rattle.rcell_law.specs.ReadAgain.{written_from, WrittenMapsAreGrids, WrittenIsReadAgain}

@@ -3,8 +3,8 @@ use Rattle.std.specs.Prelude.{ℕ, ◌≡◌, ◌≤◌, ◌↔◌, false, List,
 use Rattle.cell_core_devices.specs.Device.{Coming}
 use Rattle.cell_core.specs.Shelf.{ShelfValue}
 use Rattle.cell_ascii_meaning.specs.Writing.{IsNullText}
-use Rattle.cell_ascii_law_written.specs.WrittenLaw.{IsWritable}
-use Rattle.rcell_loading.specs.Sources.{Named}
+use Rattle.cell_ascii_law.specs.WrittenLaw.{IsWritable}
+use Rattle.rcell.specs.Sources.{Named}
 use Rattle.rcell_script.specs.Scripts.{IsScript}
 use Rattle.rcell_script.specs.declared.statement.Statement.{Statement}
 use Rattle.rcell.specs.Output.{Executes, IsOutput}

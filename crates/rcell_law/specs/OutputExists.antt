@@ -3,7 +3,7 @@ use Rattle.std.specs.Prelude.{ℕ, ◌≡◌, List, length, All}
 use Rattle.cell_core_devices.specs.Device.{Coming}
 use Rattle.cell_core.specs.Grid.{IsFilled}
 use Rattle.cell_core.specs.Shelf.{ShelfValue}
-use Rattle.rcell_loading.specs.Sources.{Named}
+use Rattle.rcell.specs.Sources.{Named}
 use Rattle.rcell_script.specs.FittingScripts.{Fits}
 use Rattle.rcell_script.specs.declared.statement.Statement.{Statement}
 use Rattle.rcell.specs.Output.{IsOutput}

@@ -4,8 +4,8 @@ use Rattle.cell_core_values.specs.Name.{AreDistinct}
 use Rattle.cell_core_devices.specs.Device.{Coming}
 use Rattle.cell_core.specs.Shelf.{ShelfValue}
 use Rattle.cell_ascii_meaning.specs.Writing.{IsNullText}
-use Rattle.cell_ascii_law_written.specs.WrittenLaw.{without_labels, IsWritable}
-use Rattle.rcell_loading.specs.Sources.{Named}
+use Rattle.cell_ascii_law.specs.WrittenLaw.{without_labels, IsWritable}
+use Rattle.rcell.specs.Sources.{Named}
 use Rattle.rcell_script_commands.specs.declared.command.Command.{Command}
 use Rattle.rcell_script_commands.specs.declared.command.Command.TheVariants.{Mapcalc, Reclass, Clump, Stats, OutAscii}
 use Rattle.rcell_script.specs.Scripts.{IsScript}

@@ -1,4 +1,7 @@
-//! The laws of maps that are written and read again, of a script cut in two, and of the output that there is.
+//! Every text is a script or has one first error; maps written and read again; runs over tiles, joined, give the
+//! results of the full maps.
 #![tactic(auto)]
 
 pub mod law;
+pub mod parts_law;
+pub mod script_law;

@@ -11,14 +11,14 @@ use Rattle.cell_core_values.specs.declared.region.RegionFault.{RegionFault}
 use Rattle.cell_core_values.specs.SameRegion.{is_same_region}
 use Rattle.cell_core.specs.Shelf.{ShelfValue}
 use Rattle.cell_ascii_meaning.specs.EdgeNumbers.{coordinate}
-use Rattle.cell_raw.specs.declared.kind.CellType.{CellType}
-use Rattle.cell_raw.specs.Numbers.{type_of_code, has_number}
+use Rattle.rcell_pipe_request.specs.declared.kind.CellType.{CellType}
+use Rattle.rcell_pipe_request.specs.Numbers.{type_of_code, has_number}
 use Rattle.rcell_pipe_request.specs.declared.head.RawFormat.{RawFormat}
 use Rattle.rcell_pipe_request.specs.declared.head.Label.{Label}
 use Rattle.rcell_pipe_request.specs.declared.head.MapHead.{MapHead}
 use Rattle.rcell_pipe_request.specs.declared.error.ErrorKind.{ErrorKind}
 use Rattle.rcell_pipe_request.specs.declared.error.ErrorKind.TheVariants as kinds
-use Rattle.cell_core_text.specs.Answers.{◌>>=◌}
+use Rattle.cell_core_values.specs.Answers.{◌>>=◌}
 use Rattle.rcell_pipe_request.specs.RequestFields.{FieldReading, number_at, signed_at, text_at, steps}
 
 -- the value, or an error where there is none

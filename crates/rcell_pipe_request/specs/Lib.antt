@@ -1,4 +1,8 @@
+-- Rows of cells as bytes.
 -- What the bytes of a request denote, and their first error.
+pub mod Numbers
+pub mod RawRows
+pub mod PackedRows
 pub mod RequestFields
 pub mod Heads
 pub mod Rows

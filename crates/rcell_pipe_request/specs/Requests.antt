@@ -15,7 +15,7 @@ use Rattle.rcell_pipe_request.specs.declared.error.RequestStop.{RequestStop}
 use Rattle.rcell_pipe_request.specs.declared.error.RequestStop.TheVariants as request_stops
 use Rattle.rcell_pipe_request.specs.declared.named_map.NamedMap.{NamedMap}
 use Rattle.rcell_pipe_request.specs.declared.request.Request.{Request}
-use Rattle.cell_core_text.specs.Answers.{◌>>=◌}
+use Rattle.cell_core_values.specs.Answers.{◌>>=◌}
 use Rattle.rcell_pipe_request.specs.RequestFields.{FieldReading, bytes_at, number_at, steps}
 use Rattle.rcell_pipe_request.specs.Heads.{LabelValue, head_at}
 use Rattle.rcell_pipe_request.specs.Rows.{cells_at}

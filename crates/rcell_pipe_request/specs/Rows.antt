@@ -2,14 +2,14 @@
 use Rattle.std.specs.Prelude.{ℕ, ◌*◌, List, Option, Some, None, Ok, Err, if◌then◌else◌}
 use Rattle.cell_core_devices.specs.Device.{Coming}
 use Rattle.cell_core.specs.Grid.{CellValue}
-use Rattle.cell_raw.specs.Numbers.{byte_size}
-use Rattle.cell_raw.specs.RawRows.{raw_cells, row_error}
-use Rattle.cell_raw.specs.declared.raw_row.RowError.{RowError}
-use Rattle.cell_raw.specs.declared.raw_row.RowError.TheVariants as row_errors
+use Rattle.rcell_pipe_request.specs.Numbers.{byte_size}
+use Rattle.rcell_pipe_request.specs.RawRows.{raw_cells, row_error}
+use Rattle.rcell_pipe_request.specs.declared.raw_row.RowError.{RowError}
+use Rattle.rcell_pipe_request.specs.declared.raw_row.RowError.TheVariants as row_errors
 use Rattle.rcell_pipe_request.specs.declared.head.RawFormat.{RawFormat}
 use Rattle.rcell_pipe_request.specs.declared.error.ErrorKind.{ErrorKind}
 use Rattle.rcell_pipe_request.specs.declared.error.ErrorKind.TheVariants as kinds
-use Rattle.cell_core_text.specs.Answers.{◌>>=◌}
+use Rattle.cell_core_values.specs.Answers.{◌>>=◌}
 use Rattle.rcell_pipe_request.specs.RequestFields.{FieldReading, bytes_at}
 
 -- how many bytes the mask of a row has: one for each cell, or none at all

@@ -10,12 +10,12 @@ ghost use Rattle.rcell_pipe_request.specs.parts.Edges.{edges_value, region_value
 
 use crate::error::{ErrorKind, FieldStop};
 use crate::feed::{Feed, read_i32, read_i64, read_short_text, read_text, read_u8, read_u32};
-use cell_ascii_header::number::coordinate;
+use crate::kind::CellType;
+use cell_ascii_reading::number::coordinate;
 use cell_core::name::{Name, NameFault};
 use cell_core::region::{Region, RegionFault};
 use cell_core::shelf::Shelf;
 use cell_core::source::Source;
-use cell_raw::kind::CellType;
 use std::alloc::Global;
 
 /// How the rows of a map are kept: the type of the numbers, the number for null, and whether each row has a mask.

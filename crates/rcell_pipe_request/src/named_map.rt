@@ -5,8 +5,8 @@ ghost use Rattle.std.specs.Option.{option_map};
 ghost use Rattle.std.specs.FinMap.{insert};
 ghost use Rattle.cell_core_values.specs.Region.{RegionValue};
 ghost use Rattle.cell_core.specs.Grid.{Grid, Draft, no_labels};
-ghost use Rattle.cell_raw.specs.Numbers.{byte_size};
-ghost use Rattle.cell_raw.specs.PackedRows.{cells_in};
+ghost use Rattle.rcell_pipe_request.specs.Numbers.{byte_size};
+ghost use Rattle.rcell_pipe_request.specs.PackedRows.{cells_in};
 ghost use Rattle.rcell_pipe_request.specs.RequestFields.{steps};
 ghost use Rattle.rcell_pipe_request.specs.Feeds.{left, ReadsField, ReadsPlaced};
 ghost use Rattle.rcell_pipe_request.specs.Heads.{IsGoodLabel, head_value, label_values};
@@ -16,6 +16,8 @@ ghost use Rattle.rcell_pipe_request.specs.Requests.{one_more_row, with_labels, m
 use crate::error::{ErrorKind, FieldStop, RequestStop};
 use crate::feed::{Feed, read_into};
 use crate::head::{Label, MapHead, RawFormat, read_head};
+use crate::packed_row::read_or_pack_row;
+use crate::raw_row::RowError;
 use cell_core::cell::Cell;
 use cell_core::map::{CellMap, MapBuilder};
 use cell_core::memory::Memory;
@@ -23,8 +25,6 @@ use cell_core::name::Name;
 use cell_core::region::Region;
 use cell_core::shelf::Shelf;
 use cell_core::source::Source;
-use cell_raw::packed_row::read_or_pack_row;
-use cell_raw::raw_row::RowError;
 use std::alloc::Global;
 
 /// A map under its name.

@@ -17,7 +17,7 @@ use cell_core::memory::Memory;
 use cell_core::shelf::Shelf;
 use cell_core::sink::Sink;
 use cell_stats::tallying::tally;
-use rcell_making::making::{make_classes, make_numbers, make_values};
+use rcell::making::{make_classes, make_numbers, make_values};
 use rcell_script::statement::{Command, Statement, StatsOptions};
 use std::alloc::Global;
 

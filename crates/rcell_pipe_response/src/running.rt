@@ -17,7 +17,7 @@ use crate::frames::push_end;
 use cell_core::block::OutputBlock;
 use cell_core::shelf::Shelf;
 use cell_core::sink::Sink;
-use rcell_loading::loading::shelf_names;
+use rcell::loading::shelf_names;
 use rcell_pipe_request::request::Request;
 use rcell_script::script_fault::ScriptFault;
 use rcell_script::script_parsing::parse_script;

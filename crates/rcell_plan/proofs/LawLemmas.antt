@@ -11,8 +11,8 @@ use Rattle.std.proofs.lemmas.Option.{same_Some, slice_get_past, slice_get-get_or
 use Rattle.cell_core_values.specs.Region.{RegionValue}
 use Rattle.cell_core.specs.Grid.{Grid, CellValue, IsFilled, cell_at}
 use Rattle.cell_core.specs.Shelf.{ShelfValue}
-use Rattle.cell_calc_operators.specs.Applied.{spot}
-use Rattle.cell_calc_operators.specs.Offsets.{item_at, row_of, cell_in, cell_at_offset}
+use Rattle.cell_calc_binding.specs.Applied.{spot}
+use Rattle.cell_calc_binding.specs.Offsets.{item_at, row_of, cell_in, cell_at_offset}
 use Rattle.cell_calc_binding.specs.Formula.{Formula}
 use Rattle.cell_calc_binding.specs.Value.{value}
 use Rattle.cell_calc_law.proofs.MapLemmas.{one-map-of-values}
@@ -20,7 +20,7 @@ use Rattle.cell_cats.specs.Rule.{RuleValue, new_category}
 use Rattle.cell_cats.specs.Reclass.{reclassed_map, new_row}
 use Rattle.cell_cats_areas.specs.declared.clump.Joining.{Joining}
 use Rattle.cell_cats_areas.proofs.LawLemmas.{clumping_is_one}
-use Rattle.rcell_making.specs.Making.{AreValues, AreNumbers, IsOfMap, with_map}
+use Rattle.rcell.specs.Making.{AreValues, AreNumbers, IsOfMap, with_map}
 use Rattle.rcell_script_commands.specs.declared.command.Command.{Command}
 use Rattle.rcell_script_commands.specs.declared.command.Command.TheVariants.{Mapcalc, Reclass, Clump, Stats, OutAscii}
 use Rattle.rcell_script.specs.declared.statement.Statement.{Statement}

@@ -4,14 +4,14 @@ use Rattle.std.proofs.Common.{◌||◌, refl, ap, sym, ◌∙◌, arith}
 use Rattle.std.specs.Prelude.{All, ◌==◌, nat_lt, flat_map, if◌then◌else◌}
 use Rattle.std.proofs.lemmas.List.Elements.{All-nil, All-cons, All-head, All-tail, All-weaker, All-push}
 use Rattle.cell_core.specs.Grid.{Grid, CellValue}
-use Rattle.cell_calc_tokens.specs.declared.function.Function.{Function}
-use Rattle.cell_calc_tokens.specs.declared.function.Function.TheVariants as function
-use Rattle.cell_calc_operators.specs.Applied.{Spot, negated_cell, inverted_cell, operator_value, call_result}
+use Rattle.cell_calc_grammar.specs.declared.function.Function.{Function}
+use Rattle.cell_calc_grammar.specs.declared.function.Function.TheVariants as function
+use Rattle.cell_calc_binding.specs.Applied.{Spot, negated_cell, inverted_cell, operator_value, call_result}
 use Rattle.cell_calc_grammar.specs.Tree.{fold_maps}
-use Rattle.cell_calc_steps.specs.declared.step.Step.{Step}
-use Rattle.cell_calc_steps.specs.declared.step.Step.TheVariants as step
-use Rattle.cell_calc_steps.specs.Postfix.{postfix, at_step, fold_steps}
-use Rattle.cell_calc_steps.proofs.PostfixLemmas.{fold-postfix}
+use Rattle.cell_calc_grammar.specs.declared.step.Step.{Step}
+use Rattle.cell_calc_grammar.specs.declared.step.Step.TheVariants as step
+use Rattle.cell_calc_grammar.specs.Postfix.{postfix, at_step, fold_steps}
+use Rattle.cell_calc_grammar.proofs.PostfixLemmas.{fold-postfix}
 use Rattle.cell_calc_binding.proofs.Steps.{greatest}
 use Rattle.cell_calc_binding.specs.Formula.{Formula, Number, Map, Negated, Not, Binary, Call, Formulas, NoTrees, Then}
 use Rattle.cell_calc_binding.specs.Reach.{up_at, down_at}

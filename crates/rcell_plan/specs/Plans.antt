@@ -2,9 +2,9 @@
 use Rattle.std.specs.Prelude.{ℕ, zero, suc, ◌+◌, Bool, true, false, List, [], ◌∷◌, ◌++◌, map, flat_map, length}
 use Rattle.std.specs.Prelude.{slice_get, unwrap_or, Option, Some, None, if◌then◌else◌}
 use Rattle.cell_calc_binding.specs.Formula.{Formula}
-use Rattle.cell_calc_steps.specs.declared.step.Step.{Step}
-use Rattle.cell_calc_steps.specs.declared.step.Step.TheVariants as step
-use Rattle.cell_calc_steps.specs.Postfix.{postfix}
+use Rattle.cell_calc_grammar.specs.declared.step.Step.{Step}
+use Rattle.cell_calc_grammar.specs.declared.step.Step.TheVariants as step
+use Rattle.cell_calc_grammar.specs.Postfix.{postfix}
 use Rattle.cell_calc_law.specs.HaloParts.{calls}
 use Rattle.cell_calc_law.specs.LocalLaw.{asks_where}
 use Rattle.rcell_script_commands.specs.declared.command.Command.{Command}

@@ -1,7 +1,7 @@
 -- What reads and flags say of an expression.
 use Rattle.std.specs.Prelude.{ℕ, ◌≡◌, ◌<◌, List, [], ◌∷◌, All}
 use Rattle.cell_core.specs.Grid.{Grid}
-use Rattle.cell_calc_operators.specs.Applied.{Spot}
+use Rattle.cell_calc_binding.specs.Applied.{Spot}
 use Rattle.cell_calc_binding.specs.Formula.{Formula}
 use Rattle.cell_calc_binding.specs.Reach.{up_of, down_of}
 use Rattle.cell_calc_binding.specs.Value.{value}

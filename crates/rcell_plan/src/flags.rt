@@ -7,8 +7,8 @@ ghost use Rattle.rcell_plan.specs.parts.PositionSteps.{step_asks};
 ghost use Rattle.cell_calc_law.specs.LocalLaw.{asks_where};
 
 use cell_calc_binding::bound::Bound;
-use cell_calc_steps::step::Step;
-use cell_calc_tokens::function::Function;
+use cell_calc_grammar::function::Function;
+use cell_calc_grammar::step::Step;
 use rcell_script::statement::Command;
 
 fn asks_where(function: Function) -> bool

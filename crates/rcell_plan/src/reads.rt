@@ -6,7 +6,7 @@ ghost use Rattle.rcell_plan.specs.Needs.{margin_of, no_margin, own, with_needs};
 ghost use Rattle.rcell_plan.specs.Plans.{step_reads, command_reads};
 
 use crate::needs::{Margin, Need, Needs};
-use cell_calc_steps::step::Step;
+use cell_calc_grammar::step::Step;
 use cell_core::memory::Memory;
 use rcell_script::statement::Command;
 use std::alloc::Global;

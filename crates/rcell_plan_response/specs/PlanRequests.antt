@@ -3,7 +3,7 @@ use Rattle.std.specs.Prelude.{ℕ, nat_le, List, [], ◌∷◌, ◌++◌, length
 use Rattle.std.specs.Option.{is_none}
 use Rattle.std.specs.Int.{w32}
 use Rattle.cell_core_devices.specs.Device.{Coming}
-use Rattle.cell_core_text.specs.Answers.{◌>>=◌}
+use Rattle.cell_core_values.specs.Answers.{◌>>=◌}
 use Rattle.cell_core_values.specs.Name.{place_of}
 use Rattle.rcell_pipe_request.specs.declared.error.ErrorKind.TheVariants as kinds
 use Rattle.rcell_pipe_request.specs.RequestFields.{FieldReading, number_at, steps}

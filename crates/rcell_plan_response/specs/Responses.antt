@@ -1,7 +1,7 @@
 -- What is written in response to a request of either form (profile).
 use Rattle.std.specs.Prelude.{ℕ, List, Option, Some, None, Result, Ok, Err, if◌then◌else◌, codes, bytes_eq}
 use Rattle.cell_core_devices.specs.Device.{Coming}
-use Rattle.cell_core_text.specs.Answers.{◌>>=◌}
+use Rattle.cell_core_values.specs.Answers.{◌>>=◌}
 use Rattle.cell_core.specs.Shelf.{ShelfValue}
 use Rattle.rcell_script.specs.declared.statement.Statement.{Statement}
 use Rattle.rcell_pipe_request.specs.declared.error.ErrorKind.TheVariants as kinds

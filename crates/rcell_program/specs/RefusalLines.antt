@@ -1,8 +1,8 @@
 -- What is told where no run was started (profile).
 use Rattle.std.specs.Prelude.{ℕ, List, codes}
 use Rattle.rcell.specs.Reports.{name_at_place}
-use Rattle.rcell_request.specs.declared.refusal.Refusal.{Refusal}
-use Rattle.rcell_request.specs.declared.refusal.Refusal.TheVariants.{Usage, GridWord, Memory, ScriptFile, GridFile}
+use Rattle.rcell_program.specs.declared.refusal.Refusal.{Refusal}
+use Rattle.rcell_program.specs.declared.refusal.Refusal.TheVariants.{Usage, GridWord, Memory, ScriptFile, GridFile}
 
 -- what a refusal belongs to: the command line, the script or a grid's name
 abbrev pub refusal_source : List (List ℕ) → Refusal → List ℕ

@@ -1,16 +1,19 @@
 //! The program `rcell`: runs a script over grids, `rcell SCRIPT NAME=PATH...`.
 #![tactic(auto)]
 
+mod command_words;
+mod opening;
+mod refusal;
 mod refusal_line;
 
+use crate::command_words::read_words;
+use crate::opening::open_files;
+use crate::refusal::Refusal;
 use crate::refusal_line::refusal_line;
 use cell_core::name::Name;
 use cell_core::sink::WriteSink;
 use rcell::report::fault_line;
 use rcell::run;
-use rcell_request::command_words::read_words;
-use rcell_request::opening::open_files;
-use rcell_request::refusal::Refusal;
 use std::env;
 use std::io::{self, ErrorKind};
 use std::process::ExitCode;

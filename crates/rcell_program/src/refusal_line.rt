@@ -3,9 +3,9 @@
 ghost use Rattle.std.specs.Prelude.{◌≡◌};
 ghost use Rattle.rcell_program.specs.RefusalLines.{refusal_source, refusal_line_number};
 
+use crate::refusal::Refusal;
 use cell_core::name::Name;
 use rcell::report::FaultLine;
-use rcell_request::refusal::Refusal;
 
 fn refusal_source<'a>(names: &'a [Name], refusal: Refusal) -> &'a [u8]
     ensures { result.now ≡ refusal_source names.now refusal }

@@ -12,8 +12,8 @@ use Rattle.cell_cats.proofs.RuleLawLemmas as rule_law
 use Rattle.cell_cats.specs.declared.rules.LineKind.{LineKind}
 use Rattle.cell_cats.specs.declared.rules.LineKind.TheVariants as line_kind
 use Rattle.cell_cats.specs.declared.rules.RuleFault.{RuleFault}
-use Rattle.cell_core_text.specs.Answers.{◌>>=◌}
-use Rattle.cell_core_text.specs.Blanks.{trimmed_text}
+use Rattle.cell_core_values.specs.Answers.{◌>>=◌}
+use Rattle.cell_core_values.specs.Blanks.{trimmed_text}
 use Rattle.rcell_script_commands.specs.Commands.{IsHead}
 use Rattle.rcell_script_commands.specs.Skipped.{IsSkipped}
 use Rattle.rcell_script.specs.Lines.{ScriptLine, numbered_lines, script_lines}

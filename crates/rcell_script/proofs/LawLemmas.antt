@@ -1,7 +1,7 @@
 -- A text that is a script has no other reading.
 use Rattle.std.proofs.Common.{◌≡◌, ℕ, ◌+◌, List, [], ◌∷◌, Option, Some, None, Result, Ok, Err, MatchResult, ap, sym, ◌∙◌, subst}
 use Rattle.std.specs.Prelude.{nat_lt, length, Bool, true, false}
-use Rattle.cell_core_text.specs.Words.{words_of}
+use Rattle.cell_core_values.specs.Words.{words_of}
 use Rattle.rcell_script_commands.specs.Commands.{is_mapcalc, IsShortHead, IsHeadOf, IsHead}
 use Rattle.rcell_script.specs.ScriptsRead.{IsNextTo, IsScriptReading, after_head, start}
 use Rattle.rcell_script.specs.Lines.{script_lines}

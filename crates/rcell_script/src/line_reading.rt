@@ -2,7 +2,7 @@
 
 ghost use Rattle.std.specs.Prelude.{◌≡◌, ◌≢◌, ◌<◌, ℕ, List, IfOk, IfErr, OnOk, Ok, Some};
 ghost use Rattle.std.specs.Option.{option_map};
-ghost use Rattle.cell_core_text.specs.Answers.{Answers};
+ghost use Rattle.cell_core_values.specs.Answers.{Answers};
 ghost use Rattle.rcell_script.specs.KnownMaps.{known_after, made_by};
 ghost use Rattle.rcell_script.specs.ScriptsRead.{start, with_statement, after_head, after_rule, rule_line, IsNext, at_end};
 ghost use Rattle.rcell_script_commands.specs.FittingCommands.{FitsCommand, FitsHead};

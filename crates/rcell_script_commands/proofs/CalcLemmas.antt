@@ -3,10 +3,10 @@ use Rattle.std.proofs.Common.{◌≡◌, ℕ, List, Result, Ok, Err, MatchResult
 use Rattle.std.specs.Prelude.{IsOkAnd}
 use Rattle.cell_calc_language.specs.Assignment.{IsAssignment}
 use Rattle.cell_calc_language.specs.GrammarFault.{IsGrammarFault}
-use Rattle.cell_calc_tokens.specs.Tokens.{token_list}
+use Rattle.cell_calc_grammar.specs.Tokens.{token_list}
 use Rattle.cell_calc_language.specs.declared.assignment.Assignment.{Assignment}
-use Rattle.cell_calc_tokens.specs.declared.calc_fault.CalcFault.{CalcFault}
-use Rattle.cell_calc_tokens.specs.declared.token.Placed.{Placed}
+use Rattle.cell_calc_grammar.specs.declared.calc_fault.CalcFault.{CalcFault}
+use Rattle.cell_calc_grammar.specs.declared.token.Placed.{Placed}
 use Rattle.rcell_script_commands.specs.Commands.{mapcalc_of, IsMapcalc}
 use Rattle.rcell_script_commands.specs.RMapcalc.{assignment_text}
 use Rattle.rcell_script_commands.specs.declared.script_fault.ScriptKind.{ScriptKind}

@@ -1,7 +1,7 @@
 -- Faults of options, told as those of a script.
 use Rattle.std.proofs.Common.{◌≡◌, ◌≢◌, Result, Err, ap, sym, ◌∙◌}
-use Rattle.rcell_script_options.specs.declared.option_fault.OptionFault.{OptionFault}
-use Rattle.rcell_script_options.specs.declared.option_fault.OptionFault.TheVariants as option
+use Rattle.rcell_script_commands.specs.declared.option_fault.OptionFault.{OptionFault}
+use Rattle.rcell_script_commands.specs.declared.option_fault.OptionFault.TheVariants as option
 use Rattle.rcell_script_commands.specs.ScriptFaults.{kind_of, in_script}
 use Rattle.rcell_script_commands.specs.declared.script_fault.ScriptKind.{ScriptKind}
 use Rattle.rcell_script_commands.specs.declared.script_fault.ScriptKind.TheVariants as script

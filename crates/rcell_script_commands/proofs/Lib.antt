@@ -1,3 +1,8 @@
+pub mod NullTextLemmas
+pub mod NameLemmas
+pub mod OptionLemmas
+pub mod OptionLaw
+pub mod PlaceLemmas
 pub mod FaultLemmas
 pub mod CalcLemmas
 pub mod MapcalcLemmas

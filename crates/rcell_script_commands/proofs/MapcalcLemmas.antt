@@ -8,12 +8,12 @@ use Rattle.cell_calc_binding.specs.Reach.{top_of, top_of_all}
 use Rattle.cell_calc_grammar.specs.Tree.{fold_all, with_leaves_all}
 use Rattle.cell_calc_grammar.specs.Term.{Term, Number, Map, Negated, Not, Binary, Call, Terms, NoTrees, Then}
 use Rattle.cell_calc_language.specs.Unknown.{first_column, unplaced_column, unknown_at, first_unknown}
-use Rattle.rcell_script_options.proofs.PlaceLemmas.{place_of-within}
+use Rattle.rcell_script_commands.proofs.PlaceLemmas.{place_of-within}
 use Rattle.cell_calc_language.specs.Assignment.{IsAssignmentText}
 use Rattle.cell_calc_language.specs.GrammarFault.{IsTextFault}
 use Rattle.cell_calc_language.specs.declared.assignment.Assignment.{Assignment}
-use Rattle.cell_calc_tokens.specs.declared.calc_fault.CalcFault.{CalcFault}
-use Rattle.cell_calc_tokens.specs.declared.calc_fault.CalcKind.TheVariants as calc
+use Rattle.cell_calc_grammar.specs.declared.calc_fault.CalcFault.{CalcFault}
+use Rattle.cell_calc_grammar.specs.declared.calc_fault.CalcKind.TheVariants as calc
 use Rattle.rcell_script_commands.specs.Commands.{mapcalc_of, IsMapcalc}
 use Rattle.rcell_script_commands.specs.RMapcalc.{assignment_text}
 use Rattle.rcell_script_commands.specs.declared.script_fault.ScriptKind.{ScriptKind}

@@ -2,8 +2,8 @@
 use Rattle.std.proofs.Common.{◌≡◌, ℕ, Bool, true, false, List, [], ◌∷◌, refl, sym, ◌∙◌}
 use Rattle.std.specs.List.{filter, slice_split, onto_first}
 use Rattle.cell_cats.specs.RuleLine.{is_skipped}
-use Rattle.cell_core_text.specs.Blanks.{is_blank, before_blanks, trimmed_text}
-use Rattle.cell_core_text.specs.Words.{is_word, words_of}
+use Rattle.cell_core_values.specs.Blanks.{is_blank, before_blanks, trimmed_text}
+use Rattle.cell_core_values.specs.Words.{is_word, words_of}
 use Rattle.rcell_script_commands.specs.Skipped.{is_comment}
 
 -- no words, or a comment

@@ -6,18 +6,18 @@ use Rattle.std.specs.List.{flat_map}
 use Rattle.std.proofs.lemmas.Bool.{ltb-false}
 use Rattle.cell_ascii_meaning.specs.Header.{usual_null}
 use Rattle.cell_core_values.specs.Name.{place_of}
-use Rattle.cell_stats_combinations.specs.Combinations.{Combination}
-use Rattle.cell_stats_combinations.specs.ComboText.{SpellsCombination}
-use Rattle.cell_stats_combinations.proofs.ReadingLemmas.{combinations-are-read}
-use Rattle.cell_core_text.specs.Answers.{◌>>=◌}
-use Rattle.cell_core_text.specs.Words.{words_of}
+use Rattle.cell_stats_counts.specs.Combinations.{Combination}
+use Rattle.cell_stats_counts.specs.ComboText.{SpellsCombination}
+use Rattle.cell_stats_counts.proofs.ReadingLemmas.{combinations-are-read}
+use Rattle.cell_core_values.specs.Answers.{◌>>=◌}
+use Rattle.cell_core_values.specs.Words.{words_of}
 use Rattle.rcell_script_commands.specs.Commands.{as_whole, as_opened, head_named, head_of_words, is_mapcalc, IsHead, clump_of, IsMapcalc, out_ascii_of, reclass_of, after_of, printed_with, stats_of}
 use Rattle.rcell_script_commands.specs.ScriptFaults.{in_script}
 use Rattle.rcell_script_commands.specs.Skipped.{IsSkipped}
-use Rattle.rcell_script_options.specs.Options.{letters_in, values_of, IsOptional, SpellsNames}
-use Rattle.rcell_script_options.specs.Maps.{from_to, input_place, input_places}
-use Rattle.rcell_script_options.specs.InputPlaces.{places_of}
-use Rattle.rcell_script_options.specs.OptionReading.{Given, is_torn, no_flags, with_letters, options_of}
+use Rattle.rcell_script_commands.specs.Options.{letters_in, values_of, IsOptional, SpellsNames}
+use Rattle.rcell_script_commands.specs.Maps.{from_to, input_place, input_places}
+use Rattle.rcell_script_commands.specs.InputPlaces.{places_of}
+use Rattle.rcell_script_commands.specs.OptionReading.{Given, is_torn, no_flags, with_letters, options_of}
 use Rattle.rcell_script_commands.specs.RClump.{joining_of, SpellsClump}
 use Rattle.rcell_script_commands.specs.RStats.{skip_of, SpellsStats}
 use Rattle.rcell_script_commands.specs.RReclass.{SpellsReclass}
@@ -27,14 +27,14 @@ use Rattle.rcell_script_commands.specs.declared.script_fault.ScriptKind.{ScriptK
 use Rattle.rcell_script_commands.specs.declared.script_fault.ScriptKind.TheVariants.{UnknownCommand}
 use Rattle.rcell_script_commands.specs.declared.heads.Head.{Head}
 use Rattle.rcell_script_commands.specs.declared.heads.Head.TheVariants.{Skipped, Whole, Opened}
-use Rattle.rcell_script_options.specs.declared.option_fault.OptionFault.{OptionFault}
-use Rattle.rcell_script_options.specs.declared.options.Form.TheVariants as form
+use Rattle.rcell_script_commands.specs.declared.option_fault.OptionFault.{OptionFault}
+use Rattle.rcell_script_commands.specs.declared.options.Form.TheVariants as form
 use Rattle.rcell_script_commands.specs.declared.command.Command.{Command}
 use Rattle.rcell_script_commands.specs.declared.command.Command.TheVariants.{Mapcalc, Reclass, Clump, Stats, OutAscii}
 use Rattle.rcell_script_commands.specs.declared.command.StatsOptions.{StatsOptions}
-use Rattle.rcell_script_options.specs.declared.options.Flags.{Flags}
-use Rattle.cell_stats_combinations.specs.declared.skip.Skip.{Skip}
-use Rattle.rcell_script_options.proofs.OptionLaw.{AreOptions, options-sound, options-complete}
+use Rattle.rcell_script_commands.specs.declared.options.Flags.{Flags}
+use Rattle.cell_stats_counts.specs.declared.skip.Skip.{Skip}
+use Rattle.rcell_script_commands.proofs.OptionLaw.{AreOptions, options-sound, options-complete}
 use Rattle.rcell_script_commands.proofs.SkippedLemmas.{say_nothing, say_nothing-trimmed}
 
 -- one of two, by a test

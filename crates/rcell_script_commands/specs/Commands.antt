@@ -7,18 +7,18 @@ use Rattle.cell_core_values.specs.Name.{place_of}
 use Rattle.cell_calc_language.specs.Assignment.{IsAssignmentText}
 use Rattle.cell_calc_language.specs.GrammarFault.{IsTextFault}
 use Rattle.cell_calc_language.specs.Unknown.{first_unknown}
-use Rattle.cell_stats_combinations.specs.Combinations.{Combination}
-use Rattle.cell_stats_combinations.specs.ComboReading.{combo_of}
-use Rattle.cell_core_text.specs.Answers.{◌>>=◌}
-use Rattle.cell_core_text.specs.Words.{words_of}
+use Rattle.cell_stats_counts.specs.Combinations.{Combination}
+use Rattle.cell_stats_counts.specs.ComboReading.{combo_of}
+use Rattle.cell_core_values.specs.Answers.{◌>>=◌}
+use Rattle.cell_core_values.specs.Words.{words_of}
 use Rattle.cell_calc_language.specs.declared.assignment.Assignment.{Assignment}
-use Rattle.cell_calc_tokens.specs.declared.calc_fault.CalcFault.{CalcFault}
-use Rattle.cell_calc_tokens.specs.declared.calc_fault.CalcKind.TheVariants as calc
-use Rattle.cell_stats_combinations.specs.declared.combination_text.ComboFault.{ComboFault}
+use Rattle.cell_calc_grammar.specs.declared.calc_fault.CalcFault.{CalcFault}
+use Rattle.cell_calc_grammar.specs.declared.calc_fault.CalcKind.TheVariants as calc
+use Rattle.cell_stats_counts.specs.declared.combination_text.ComboFault.{ComboFault}
 use Rattle.rcell_script_commands.specs.ScriptFaults.{in_script, of_combo}
 use Rattle.rcell_script_commands.specs.Skipped.{is_comment}
-use Rattle.rcell_script_options.specs.Maps.{new_target, from_to, input_place, input_places}
-use Rattle.rcell_script_options.specs.OptionReading.{Given, options_of}
+use Rattle.rcell_script_commands.specs.Maps.{new_target, from_to, input_place, input_places}
+use Rattle.rcell_script_commands.specs.OptionReading.{Given, options_of}
 use Rattle.rcell_script_commands.specs.RClump.{joining_of}
 use Rattle.rcell_script_commands.specs.RMapcalc.{assignment_text}
 use Rattle.rcell_script_commands.specs.RStats.{skip_of}
@@ -26,8 +26,8 @@ use Rattle.rcell_script_commands.specs.declared.script_fault.ScriptKind.{ScriptK
 use Rattle.rcell_script_commands.specs.declared.script_fault.ScriptKind.TheVariants.{Calc, UnknownCommand, LongLine}
 use Rattle.rcell_script_commands.specs.declared.heads.Head.{Head}
 use Rattle.rcell_script_commands.specs.declared.heads.Head.TheVariants.{Whole, Skipped, Opened}
-use Rattle.rcell_script_options.specs.declared.option_fault.OptionFault.{OptionFault}
-use Rattle.rcell_script_options.specs.declared.options.Form.TheVariants as form
+use Rattle.rcell_script_commands.specs.declared.option_fault.OptionFault.{OptionFault}
+use Rattle.rcell_script_commands.specs.declared.options.Form.TheVariants as form
 use Rattle.rcell_script_commands.specs.declared.command.Command.{Command}
 use Rattle.rcell_script_commands.specs.declared.command.Command.TheVariants.{Mapcalc, Clump, Stats, OutAscii}
 use Rattle.rcell_script_commands.specs.declared.command.StatsOptions.{StatsOptions}

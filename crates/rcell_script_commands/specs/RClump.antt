@@ -1,9 +1,9 @@
 -- r.clump: the areas that its options ask for (r.clump manual).
 use Rattle.std.specs.Prelude.{ℕ, ◌≡◌, Bool, List, ◌∷◌, if◌then◌else◌, codes}
-use Rattle.cell_core_text.specs.Words.{words_of}
+use Rattle.cell_core_values.specs.Words.{words_of}
 use Rattle.cell_cats_areas.specs.declared.clump.Joining.{Joining}
 use Rattle.cell_cats_areas.specs.declared.clump.Joining.TheVariants.{Edges, EdgesAndCorners}
-use Rattle.rcell_script_options.specs.Options.{has_flag}
+use Rattle.rcell_script_commands.specs.Options.{has_flag}
 use Rattle.rcell_script_commands.specs.RReclass.{AreFromTo}
 
 -- with the flag `d` cells that touch at a corner are joined too

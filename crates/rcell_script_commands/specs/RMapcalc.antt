@@ -6,8 +6,8 @@ use Rattle.cell_core_values.specs.Letters.{byte}
 use Rattle.cell_core_values.specs.Name.{place_of}
 use Rattle.cell_calc_language.specs.Assignment.{IsAssignmentText}
 use Rattle.cell_calc_language.specs.Unknown.{first_unknown}
-use Rattle.cell_core_text.specs.Blanks.{is_blank, after_blanks}
-use Rattle.cell_core_text.specs.Words.{words_of}
+use Rattle.cell_core_values.specs.Blanks.{is_blank, after_blanks}
+use Rattle.cell_core_values.specs.Words.{words_of}
 use Rattle.cell_calc_language.specs.declared.assignment.Assignment.{Assignment}
 
 -- what stands after the first word of a text that begins with it

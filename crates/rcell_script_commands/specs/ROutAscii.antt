@@ -1,10 +1,10 @@
 -- r.out.ascii: the grid text that its options ask for (r.out.ascii manual).
 use Rattle.std.specs.Prelude.{ℕ, ◌≡◌, List, [], ◌∷◌, All, Some, codes}
 use Rattle.cell_ascii_meaning.specs.GridWords.{usual_null}
-use Rattle.cell_core_text.specs.Words.{words_of}
+use Rattle.cell_core_values.specs.Words.{words_of}
 use Rattle.cell_core_values.specs.Name.{is_name, place_of}
-use Rattle.rcell_script_options.specs.NullText.{is_null_text}
-use Rattle.rcell_script_options.specs.Options.{IsOption, values_of, IsOptional, IsOr, SpellsText}
+use Rattle.rcell_script_commands.specs.NullText.{is_null_text}
+use Rattle.rcell_script_commands.specs.Options.{IsOption, values_of, IsOptional, IsOr, SpellsText}
 
 -- r.out.ascii: null is an asterisk where no text is given
 pub record SpellsOutAscii (known : List (List ℕ)) (line : List ℕ) (place : ℕ) (null_text : List ℕ) : Type 0 where

@@ -1,8 +1,8 @@
 -- r.reclass: the maps that its options name (r.reclass manual).
 use Rattle.std.specs.Prelude.{ℕ, ◌≡◌, List, [], ◌∷◌, All, Some, None, codes}
-use Rattle.cell_core_text.specs.Words.{words_of}
+use Rattle.cell_core_values.specs.Words.{words_of}
 use Rattle.cell_core_values.specs.Name.{is_name, place_of}
-use Rattle.rcell_script_options.specs.Options.{IsOption, values_of, IsOptional, SpellsText}
+use Rattle.rcell_script_commands.specs.Options.{IsOption, values_of, IsOptional, SpellsText}
 
 -- options are these flags, a known map as `input` and a new one as `output`
 pub record AreFromTo (flags : List ℕ) (known words : List (List ℕ)) (place : ℕ) (target : List ℕ) : Type 0 where

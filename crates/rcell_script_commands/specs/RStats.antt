@@ -1,14 +1,14 @@
 -- r.stats: the table that its options ask for (r.stats manual; `after` is the profile's).
 use Rattle.std.specs.Prelude.{ℕ, ◌≡◌, Bool, true, false, List, [], ◌∷◌, length, All, Some, None, if◌then◌else◌, codes}
 use Rattle.cell_ascii_meaning.specs.GridWords.{usual_null}
-use Rattle.cell_core_text.specs.Words.{words_of}
+use Rattle.cell_core_values.specs.Words.{words_of}
 use Rattle.cell_core_values.specs.Letters.{byte}
-use Rattle.cell_stats_combinations.specs.ComboText.{SpellsCombination}
-use Rattle.cell_stats_combinations.specs.declared.skip.Skip.{Skip}
-use Rattle.cell_stats_combinations.specs.declared.skip.Skip.TheVariants.{Nothing, AnyNull, AllNull}
-use Rattle.rcell_script_options.specs.InputPlaces.{places_of}
-use Rattle.rcell_script_options.specs.NullText.{is_table_null_text}
-use Rattle.rcell_script_options.specs.Options.{IsOption, has_flag, values_of, IsOptional, IsOr, SpellsText, SpellsNames, separator_in}
+use Rattle.cell_stats_counts.specs.ComboText.{SpellsCombination}
+use Rattle.cell_stats_counts.specs.declared.skip.Skip.{Skip}
+use Rattle.cell_stats_counts.specs.declared.skip.Skip.TheVariants.{Nothing, AnyNull, AllNull}
+use Rattle.rcell_script_commands.specs.InputPlaces.{places_of}
+use Rattle.rcell_script_commands.specs.NullText.{is_table_null_text}
+use Rattle.rcell_script_commands.specs.Options.{IsOption, has_flag, values_of, IsOptional, IsOr, SpellsText, SpellsNames, separator_in}
 use Rattle.rcell_script_commands.specs.declared.command.StatsOptions.{StatsOptions}
 
 -- what is left out: `n` decides over `N`

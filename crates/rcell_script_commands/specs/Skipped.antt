@@ -1,7 +1,7 @@
 -- Lines that say nothing (profile).
 use Rattle.std.specs.Prelude.{ℕ, Bool, false, ◌==◌, List, [], ◌∷◌, ◌≡◌, true, codes}
 use Rattle.cell_cats.specs.RuleLine.{is_skipped}
-use Rattle.cell_core_text.specs.Blanks.{trimmed_text}
+use Rattle.cell_core_values.specs.Blanks.{trimmed_text}
 use Rattle.cell_core_values.specs.Letters.{byte}
 
 -- a word that begins a comment: its first byte is `#`

@@ -1,13 +1,13 @@
 //! What a line of a script asks for.
 
+pub use crate::maps::Places;
+use crate::null_text::{NullText, TableNullText};
 use cell_calc_binding::bound::Bound;
 use cell_cats::rules::Rules;
 use cell_cats_areas::clump::Joining;
 use cell_core::name::Name;
-use cell_stats_combinations::combination::Combo;
-use cell_stats_combinations::skip::Skip;
-pub use rcell_script_options::maps::Places;
-use rcell_script_options::null_text::{NullText, TableNullText};
+use cell_stats_counts::combination::Combo;
+use cell_stats_counts::skip::Skip;
 
 /// How r.stats prints a table, and what of it.
 #[derive(Drop)]

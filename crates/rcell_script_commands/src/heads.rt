@@ -1,7 +1,7 @@
 //! The command of a line.
 
 ghost use Rattle.std.specs.Prelude.{◌≡◌, IfOk};
-ghost use Rattle.rcell_script_options.specs.OptionReading.{texts};
+ghost use Rattle.rcell_script_commands.specs.OptionReading.{texts};
 ghost use Rattle.rcell_script_commands.specs.Commands.{head_named, head_of_words, is_mapcalc, IsHead};
 ghost use Rattle.rcell_script_commands.specs.FittingCommands.{FitsHead};
 ghost use Rattle.rcell_script_commands.specs.ScriptFaults.{Reads};
@@ -16,7 +16,7 @@ use crate::r_reclass::reclass_of;
 use crate::r_stats::stats_of;
 use crate::script_fault::ScriptKind;
 use cell_core::name::{Name, Names};
-use cell_core_text::words::words_of;
+use cell_core_values::words::words_of;
 use std::alloc::Global;
 
 /// The most bytes of a line.

@@ -1,17 +1,17 @@
 //! The words of r.clump.
 
 ghost use Rattle.std.specs.Prelude.{◌≡◌, IfOk};
-ghost use Rattle.rcell_script_options.specs.OptionReading.{GivesOption, texts};
+ghost use Rattle.rcell_script_commands.specs.OptionReading.{GivesOption, texts};
 ghost use Rattle.rcell_script_commands.specs.RClump.{joining_of};
 ghost use Rattle.rcell_script_commands.specs.Commands.{clump_of};
 ghost use Rattle.rcell_script_commands.specs.FittingCommands.{FitsCommand};
 
 use crate::command::Command;
+use crate::maps::from_to;
+use crate::option_fault::OptionFault;
+use crate::options::{Form, options_of};
 use cell_cats_areas::clump::Joining;
 use cell_core::name::Names;
-use rcell_script_options::maps::from_to;
-use rcell_script_options::option_fault::OptionFault;
-use rcell_script_options::options::{Form, options_of};
 use std::alloc::Global;
 
 fn joining_of(corners: bool) -> Joining

@@ -14,7 +14,7 @@ use cell_calc_binding::binding::resolve;
 use cell_calc_language::assignment::{Assignment, parse};
 use cell_core::memory::Memory;
 use cell_core::name::Names;
-use cell_core_text::blanks::{after_blanks, is_blank};
+use cell_core_values::blanks::{after_blanks, is_blank};
 use std::alloc::Global;
 
 fn after_word<'a>(text: &'a [u8]) -> &'a [u8]

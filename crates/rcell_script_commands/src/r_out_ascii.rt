@@ -1,15 +1,15 @@
 //! The words of r.out.ascii.
 
 ghost use Rattle.std.specs.Prelude.{IfOk};
-ghost use Rattle.rcell_script_options.specs.OptionReading.{GivesOption, texts};
+ghost use Rattle.rcell_script_commands.specs.OptionReading.{GivesOption, texts};
 ghost use Rattle.rcell_script_commands.specs.Commands.{out_ascii_of};
 ghost use Rattle.rcell_script_commands.specs.FittingCommands.{FitsCommand};
 
 use crate::command::Command;
+use crate::maps::input_place;
+use crate::option_fault::OptionFault;
+use crate::options::{Form, options_of};
 use cell_core::name::Names;
-use rcell_script_options::maps::input_place;
-use rcell_script_options::option_fault::OptionFault;
-use rcell_script_options::options::{Form, options_of};
 use std::alloc::Global;
 
 /// The grid text that the words after r.out.ascii ask for, over known maps.

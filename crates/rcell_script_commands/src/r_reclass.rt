@@ -3,12 +3,12 @@
 ghost use Rattle.std.specs.Prelude.{◌≡◌, ◌<◌, IfOk, None, length};
 ghost use Rattle.cell_core_values.specs.Name.{place_of};
 ghost use Rattle.rcell_script_commands.specs.Commands.{reclass_of};
-ghost use Rattle.rcell_script_options.specs.OptionReading.{GivesOption, texts};
+ghost use Rattle.rcell_script_commands.specs.OptionReading.{GivesOption, texts};
 
+use crate::maps::from_to;
+use crate::option_fault::OptionFault;
+use crate::options::{Form, options_of};
 use cell_core::name::{Name, Names};
-use rcell_script_options::maps::from_to;
-use rcell_script_options::option_fault::OptionFault;
-use rcell_script_options::options::{Form, options_of};
 use std::alloc::Global;
 
 /// The place of the map that the words after r.reclass name, over known maps, and the name of the one that is made.

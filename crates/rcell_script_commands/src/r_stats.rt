@@ -2,20 +2,20 @@
 
 ghost use Rattle.std.specs.Prelude.{◌≡◌, ◌≤◌, IfOk, IfSome, length};
 ghost use Rattle.std.specs.Option.{option_map};
-ghost use Rattle.rcell_script_options.specs.OptionReading.{texts};
+ghost use Rattle.rcell_script_commands.specs.OptionReading.{texts};
 ghost use Rattle.rcell_script_commands.specs.RStats.{skip_of};
 ghost use Rattle.rcell_script_commands.specs.Commands.{after_of, printed_with, stats_of};
 ghost use Rattle.rcell_script_commands.specs.FittingCommands.{FitsCommand};
 ghost use Rattle.rcell_script_commands.specs.parts.Giving.{GivesScript};
 
 use crate::command::{Command, StatsOptions};
+use crate::maps::input_places;
+use crate::options::{Form, Options, options_of};
 use crate::script_fault::ScriptKind;
 use cell_core::memory::Memory;
 use cell_core::name::Names;
-use cell_stats_combinations::combination::Combo;
-use cell_stats_combinations::skip::Skip;
-use rcell_script_options::maps::input_places;
-use rcell_script_options::options::{Form, Options, options_of};
+use cell_stats_counts::combination::Combo;
+use cell_stats_counts::skip::Skip;
 use std::alloc::Global;
 
 // `-n` also leaves out all combinations that `-N` leaves out, so it stands for both.

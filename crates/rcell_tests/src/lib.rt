@@ -1,3 +1,4 @@
+//! Tests of scripts.
 //! Tests of whole runs over memory, and of fault lines.
 #![tactic(auto)]
 
@@ -6,6 +7,10 @@ mod assertions;
 #[cfg(test)]
 mod devices;
 #[cfg(test)]
+mod faults;
+#[cfg(test)]
 mod reports;
 #[cfg(test)]
 mod runs;
+#[cfg(test)]
+mod statements;

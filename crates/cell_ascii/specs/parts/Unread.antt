@@ -5,8 +5,8 @@ use Rattle.cell_core.specs.Grid.{Grid, no_labels}
 use Rattle.cell_core_devices.specs.Asking.{Heard}
 use Rattle.cell_core_devices.specs.Device.{Coming}
 use Rattle.cell_ascii_meaning.specs.Header.{HeaderValue, header_of_text}
-use Rattle.cell_ascii_scanner.specs.Ahead.{bytes_to_come, Agrees}
-use Rattle.cell_ascii_scanner.specs.Scan.{Scan}
+use Rattle.cell_ascii_reading.specs.Ahead.{bytes_to_come, Agrees}
+use Rattle.cell_ascii_reading.specs.Scan.{Scan}
 use Rattle.cell_ascii.specs.GridReaders.{ReaderValue, reader_place}
 use Rattle.cell_ascii.specs.Reader.{ReaderPlace, opened_at, opened_by, rows_from}
 

@@ -11,7 +11,7 @@ ghost use Rattle.cell_ascii_tests.specs.Seen.{texts, words_of_each};
 
 use crate::definition::words;
 use cell_ascii::grid_fault::GridKind;
-use cell_ascii_header::number;
+use cell_ascii_reading::number;
 use cell_core::memory::Memory;
 use cell_core::region::{Region, RegionFault};
 use std::alloc::Global;

@@ -6,17 +6,17 @@ ghost use Rattle.cell_ascii_meaning.specs.EdgeNumbers.{coordinate, side, is_in_r
 ghost use Rattle.cell_ascii_meaning.specs.Header.{header_of};
 ghost use Rattle.cell_ascii_meaning.specs.GridText.{value_of, null_text};
 ghost use Rattle.cell_ascii_meaning.specs.CellTexts.{cell_of_number, cell_of_word};
-ghost use Rattle.cell_ascii_header.specs.Given.{keys_judged};
+ghost use Rattle.cell_ascii_reading.specs.Given.{keys_judged};
 ghost use Rattle.cell_ascii_meaning.specs.FaultPlaces.{keys_of, header_in};
 ghost use Rattle.cell_ascii_tests.specs.Seen.{words_of_each};
 
 use crate::definition::header;
 use cell_ascii::grid_fault::GridKind;
-use cell_ascii_header::number;
+use cell_ascii_reading::number;
 use cell_core::cell::Cell;
 use cell_core::memory::Memory;
 use cell_core::region::{Region, RegionFault};
-use cell_core_text::whole_numbers;
+use cell_core_values::whole_numbers;
 use std::alloc::Global;
 use std::marker::Model;
 

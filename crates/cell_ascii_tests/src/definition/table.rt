@@ -13,11 +13,11 @@ use crate::definition::keys::Header;
 use crate::definition::place::{Place, ends_line, ends_token, is_end};
 use crate::definition::words::{is_space, is_token, is_word, words_of};
 use cell_ascii::grid_fault::GridKind;
-use cell_ascii_header::key_names::header_key_of;
-use cell_ascii_header::number;
 use cell_ascii_meaning::header_key::HeaderKey;
+use cell_ascii_reading::key_names::header_key_of;
+use cell_ascii_reading::number;
 use cell_core::memory::Memory;
-use cell_core_text::whole_numbers;
+use cell_core_values::whole_numbers;
 use std::alloc::Global;
 
 fn when(told: bool, kind: GridKind) -> Option<GridKind>

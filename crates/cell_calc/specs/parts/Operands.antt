@@ -2,19 +2,19 @@
 use Rattle.std.specs.Prelude.{◌≡◌, ◌≤◌, ◌<◌, ◌+◌, ◌-◌, ◌+ℤ◌, ℕ, pos, All, List, [], ◌∷◌, Vec, Some, None, length, take, drop, map, slice_get, slice_index_or}
 use Rattle.std.specs.Global.{Global}
 use Rattle.cell_core.specs.Grid.{CellValue}
-use Rattle.cell_calc_operators.specs.Applied.{Spot, spot, operator_value, call_result, negated_cell, inverted_cell}
-use Rattle.cell_calc_operators.specs.Offsets.{item_at}
-use Rattle.cell_calc_windows.specs.Window.{Window}
-use Rattle.cell_calc_steps.specs.Postfix.{arity, values_after}
-use Rattle.cell_calc_steps.specs.declared.step.Step.{Step}
-use Rattle.cell_calc_tokens.specs.declared.function.Function.{Function}
-use Rattle.cell_calc_steps.specs.declared.step.Step.TheVariants as step
+use Rattle.cell_calc_binding.specs.Applied.{Spot, spot, operator_value, call_result, negated_cell, inverted_cell}
+use Rattle.cell_calc_binding.specs.Offsets.{item_at}
+use Rattle.cell_calc.specs.Window.{Window}
+use Rattle.cell_calc_grammar.specs.Postfix.{arity, values_after}
+use Rattle.cell_calc_grammar.specs.declared.step.Step.{Step}
+use Rattle.cell_calc_grammar.specs.declared.function.Function.{Function}
+use Rattle.cell_calc_grammar.specs.declared.step.Step.TheVariants as step
 use Rattle.cell_calc.specs.declared.strip.Operand.{Operand}
 use Rattle.cell_calc.specs.declared.strip.Operand.TheVariants as operand
 use Rattle.cell_calc.specs.declared.strip.Strip.{Strip}
-use Rattle.cell_calc_rows.specs.RowValues.{at, AreWide, arguments_at}
-use Rattle.cell_calc_windows.specs.WindowsOver.{row_below}
-use Rattle.cell_calc_windows.specs.parts.InReach.{IsInReach}
+use Rattle.cell_calc.specs.RowValues.{at, AreWide, arguments_at}
+use Rattle.cell_calc.specs.WindowsOver.{row_below}
+use Rattle.cell_calc.specs.parts.InReach.{IsInReach}
 
 -- the last so many operands, and those before them
 abbrev pub top_operands : {X : Type 0} → ℕ → List X → List X

@@ -1,8 +1,8 @@
 -- What single steps say of the expression that they are of.
 use Rattle.std.specs.Prelude.{◌≡◌, ◌≤◌, ◌<◌, ◌+◌, ◌^◌, ◌==◌, ℕ, List, [], ◌∷◌, length, map, max, All, if◌then◌else◌}
-use Rattle.cell_calc_steps.specs.declared.step.Step.{Step}
-use Rattle.cell_calc_steps.specs.declared.step.Step.TheVariants.{Number, Map, Negated, Not, Binary, Call}
-use Rattle.cell_calc_steps.specs.Postfix.{postfix, tree_of, step_over, fold_steps}
+use Rattle.cell_calc_grammar.specs.declared.step.Step.{Step}
+use Rattle.cell_calc_grammar.specs.declared.step.Step.TheVariants.{Number, Map, Negated, Not, Binary, Call}
+use Rattle.cell_calc_grammar.specs.Postfix.{postfix, tree_of, step_over, fold_steps}
 use Rattle.cell_calc_language.specs.Grammatical.{up_by, down_by}
 use Rattle.cell_calc_binding.specs.Compact.{ReadsMap, AreMapsRead, AreDistinctPlaces}
 use Rattle.cell_calc_binding.specs.Formula.{Formula}

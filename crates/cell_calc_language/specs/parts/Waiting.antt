@@ -7,9 +7,9 @@ use Rattle.cell_calc_language.specs.declared.expression_reader.Reader.{Reader}
 use Rattle.cell_calc_language.specs.declared.expression_reader.Turn.{Turn}
 use Rattle.cell_calc_language.specs.declared.expression_reader.Turn.TheVariants as turn
 use Rattle.cell_calc_grammar.specs.declared.map_name.MapName.{MapName}
-use Rattle.cell_calc_steps.specs.declared.step.Step.{Step}
-use Rattle.cell_calc_tokens.specs.declared.token.Placed.{Placed}
-use Rattle.cell_calc_steps.specs.Postfix.{postfix, postfix_all}
+use Rattle.cell_calc_grammar.specs.declared.step.Step.{Step}
+use Rattle.cell_calc_grammar.specs.declared.token.Placed.{Placed}
+use Rattle.cell_calc_grammar.specs.Postfix.{postfix, postfix_all}
 use Rattle.cell_calc_grammar.specs.TokensRead.{ReadOutcome, Got, State, Operand, More, Choice, AfterQuestion, Onward, GrammarReads, negate, invert, close, join, choose, call, add}
 use Rattle.cell_calc_language.specs.Stopping.{ParserStopsAt}
 use Rattle.cell_calc_grammar.specs.Term.{Term, Terms, NoTrees, Then, count}

@@ -1,8 +1,8 @@
 //! What operators make of cells, in numbers wide enough for what they make of any two categories.
 
 ghost use Rattle.std.specs.Prelude.{◌≡◌, ◌≤◌, pos, ◌-ℤ◌, ◌*ℤ◌, Some, None, int_div, if◌then◌else◌};
-ghost use Rattle.cell_calc_operators.specs.CellOperators.{fit, truth, chosen_cell, lesser, greater, is_zero, is_null};
-ghost use Rattle.cell_calc_operators.specs.Applied.{negated_cell, inverted_cell, size_of, operator_value};
+ghost use Rattle.cell_calc_binding.specs.CellOperators.{fit, truth, chosen_cell, lesser, greater, is_zero, is_null};
+ghost use Rattle.cell_calc_binding.specs.Applied.{negated_cell, inverted_cell, size_of, operator_value};
 
 use cell_calc_language::operator::Operator;
 use cell_core::cell::Cell;

@@ -3,7 +3,7 @@
 ghost use Rattle.std.specs.Prelude.{◌≡◌, ◌≤◌, length, fold, filter, nat_le, not, IfOk};
 ghost use Rattle.std.specs.List.{list_any, list_all};
 ghost use Rattle.cell_core_values.specs.Cell.{cell_eq};
-ghost use Rattle.cell_calc_operators.specs.CellOperators.{lesser, greater, least, greatest_cell, known_cells, occurrences, is_most_frequent, most_frequent, mode, first_known, last_argument, if_of, is_null};
+ghost use Rattle.cell_calc_binding.specs.CellOperators.{lesser, greater, least, greatest_cell, known_cells, occurrences, is_most_frequent, most_frequent, mode, first_known, last_argument, if_of, is_null};
 
 use crate::definition::cells;
 use cell_core::cell::Cell;

@@ -3,17 +3,17 @@
 ghost use Rattle.std.specs.Prelude.{◌≡◌, ◌<◌, None, slice_get, IfOk};
 ghost use Rattle.cell_core.specs.Grid.{row_at};
 ghost use Rattle.cell_calc_binding.specs.Binding.{place_in, with_places};
-ghost use Rattle.cell_calc_operators.specs.Applied.{spot, call_result};
-ghost use Rattle.cell_calc_operators.specs.Offsets.{item_at, row_of, cell_in};
+ghost use Rattle.cell_calc_binding.specs.Applied.{spot, call_result};
+ghost use Rattle.cell_calc_binding.specs.Offsets.{item_at, row_of, cell_in};
 ghost use Rattle.cell_calc_binding.specs.Value.{value};
 ghost use Rattle.cell_calc_tests.specs.Steps.{step_value, IsProperStep};
-ghost use Rattle.cell_calc_steps.specs.Postfix.{arity};
+ghost use Rattle.cell_calc_grammar.specs.Postfix.{arity};
 
 use crate::definition::{cells, lists};
 use cell_calc_grammar::map_name::MapName;
+use cell_calc_grammar::step::Step;
 use cell_calc_language::expr::Expr;
 use cell_calc_language::function::Function;
-use cell_calc_steps::step::Step;
 use cell_core::cell::Cell;
 use cell_core::map::CellMap;
 use cell_core::memory::Memory;

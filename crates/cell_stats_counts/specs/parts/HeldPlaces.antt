@@ -4,9 +4,9 @@ use Rattle.std.specs.Ordering.{eq_by_cmp}
 use Rattle.cell_core.specs.Shelf.{ShelfValue}
 use Rattle.cell_stats_counts.specs.declared.counting.CountPlace.{CountPlace}
 use Rattle.cell_stats_counts.specs.declared.gathered.Gathered.{Gathered}
-use Rattle.cell_stats_combinations.specs.Combinations.{Combination, all_combinations, combination_cmp}
-use Rattle.cell_stats_combinations.specs.LeftOut.{kept_cells}
-use Rattle.cell_stats_combinations.specs.declared.skip.Skip.{Skip}
+use Rattle.cell_stats_counts.specs.Combinations.{Combination, all_combinations, combination_cmp}
+use Rattle.cell_stats_counts.specs.LeftOut.{kept_cells}
+use Rattle.cell_stats_counts.specs.declared.skip.Skip.{Skip}
 use Rattle.cell_stats_counts.specs.Counts.{count_of}
 use Rattle.cell_stats_counts.specs.Listed.{listed_of, HasNoZero}
 

@@ -11,15 +11,15 @@ use Rattle.cell_core.specs.Shelf.{ShelfValue}
 use Rattle.cell_ascii_meaning.specs.CellTexts.{grid_of}
 use Rattle.cell_ascii_meaning.specs.GridText.{Denotes}
 use Rattle.cell_ascii_law.proofs.GridLawLemmas.{reading_agrees}
-use Rattle.rcell_loading.proofs.LoadingLemmas.{added-same, differs}
+use Rattle.rcell.proofs.LoadingLemmas.{added-same, differs}
 use Rattle.rcell.specs.runs.Accepted.{AreGrids, IsAccepted}
-use Rattle.rcell_making.specs.Making.{with_map}
-use Rattle.rcell_loading.specs.Loading.{with_grid, shelf_of_one, shelf_from, then_grids}
-use Rattle.rcell_loading.specs.ScriptText.{script_text}
+use Rattle.rcell.specs.Making.{with_map}
+use Rattle.rcell.specs.Loading.{with_grid, shelf_of_one, shelf_from, then_grids}
+use Rattle.rcell.specs.ScriptText.{script_text}
 use Rattle.rcell.specs.runs.Endings.{IsReadScript}
 use Rattle.rcell.specs.runs.Outcomes.{Writes}
 use Rattle.rcell.specs.declared.outcome.Outcome.{Outcome}
-use Rattle.rcell_loading.specs.Sources.{Named}
+use Rattle.rcell.specs.Sources.{Named}
 use Rattle.rcell_script.specs.declared.statement.Statement.{Statement}
 
 name_at : (front : List (List ℕ)) (name : List ℕ) (back : List (List ℕ)) (d : List ℕ) → get_or (front ++ name ∷ back) (length front) d ≡ name

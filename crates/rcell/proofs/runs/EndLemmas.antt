@@ -5,8 +5,8 @@ use Rattle.std.proofs.lemmas.Bool.{true≢false}
 use Rattle.cell_core_devices.specs.Device.{Faults, after_flush, after_put, has_failed}
 use Rattle.cell_core.specs.Shelf.{ShelfValue}
 use Rattle.rcell_script.specs.declared.statement.Statement.{Statement}
-use Rattle.rcell_loading.specs.declared.run_fault.RunFault.{RunFault}
-use Rattle.rcell_loading.specs.declared.run_fault.RunFault.TheVariants as faults
+use Rattle.rcell.specs.declared.run_fault.RunFault.{RunFault}
+use Rattle.rcell.specs.declared.run_fault.RunFault.TheVariants as faults
 use Rattle.rcell.specs.declared.execution.RunStop.{RunStop}
 use Rattle.rcell.specs.declared.execution.RunStop.TheVariants.{Memory, Write}
 use Rattle.rcell.specs.declared.execution.Stopped.{Stopped}

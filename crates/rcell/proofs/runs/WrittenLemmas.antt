@@ -5,15 +5,15 @@ use Rattle.std.proofs.lemmas.Bool.{true≢false}
 use Rattle.cell_core_devices.specs.Device.{Coming}
 use Rattle.cell_core.specs.Shelf.{ShelfValue}
 use Rattle.rcell_script.specs.declared.statement.Statement.{Statement}
-use Rattle.rcell_loading.specs.RunFaults.{IsOfInput, IsBeforeExecution, IsInExecution}
+use Rattle.rcell.specs.RunFaults.{IsOfInput, IsBeforeExecution, IsInExecution}
 use Rattle.rcell.specs.runs.Statuses.{grid_status, script_status, fault_status, status_after}
-use Rattle.rcell_loading.specs.Loading.{shelf_of}
+use Rattle.rcell.specs.Loading.{shelf_of}
 use Rattle.rcell.specs.runs.Endings.{ReadsScript, IsReadScript}
 use Rattle.rcell.specs.runs.Outcomes.{IsDone, Writes}
-use Rattle.rcell_loading.specs.Sources.{Named}
+use Rattle.rcell.specs.Sources.{Named}
 use Rattle.rcell.specs.declared.outcome.Outcome.{Outcome}
-use Rattle.rcell_loading.specs.declared.run_fault.RunFault.{RunFault}
-use Rattle.rcell_loading.specs.declared.run_fault.RunFault.TheVariants.{GridTwice, GridRegion, Grid, ScriptRead, ScriptSize, Script, Memory, Write}
+use Rattle.rcell.specs.declared.run_fault.RunFault.{RunFault}
+use Rattle.rcell.specs.declared.run_fault.RunFault.TheVariants.{GridTwice, GridRegion, Grid, ScriptRead, ScriptSize, Script, Memory, Write}
 
 -- a fault before execution whose status is not that of memory is of the input
 pub input_unless_memory : (f : RunFault) → IsBeforeExecution f → fault_status f ≢ 3 → IsOfInput f

@@ -3,9 +3,9 @@ use Rattle.std.specs.Prelude.{ℕ, ◌≡◌, Bool, true, false, List, Option, S
 use Rattle.cell_core_devices.specs.Device.{Faults, after_flush}
 use Rattle.cell_core.specs.Shelf.{ShelfValue}
 use Rattle.rcell_script.specs.declared.statement.Statement.{Statement}
-use Rattle.rcell_loading.specs.RunFaults.{IsInExecution}
-use Rattle.rcell_loading.specs.declared.run_fault.RunFault.{RunFault}
-use Rattle.rcell_loading.specs.declared.run_fault.RunFault.TheVariants as faults
+use Rattle.rcell.specs.RunFaults.{IsInExecution}
+use Rattle.rcell.specs.declared.run_fault.RunFault.{RunFault}
+use Rattle.rcell.specs.declared.run_fault.RunFault.TheVariants as faults
 use Rattle.rcell.specs.declared.execution.RunStop.{RunStop}
 use Rattle.rcell.specs.declared.execution.RunStop.TheVariants as stops
 use Rattle.rcell.specs.declared.execution.Stopped.{Stopped}

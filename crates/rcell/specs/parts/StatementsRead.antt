@@ -2,7 +2,7 @@
 use Rattle.std.specs.Prelude.{ℕ, ◌≡◌, List}
 use Rattle.cell_core_devices.specs.Device.{Coming}
 use Rattle.rcell_script.specs.declared.statement.Statement.{Statement}
-use Rattle.rcell_loading.specs.declared.run_fault.RunFault.{RunFault}
+use Rattle.rcell.specs.declared.run_fault.RunFault.{RunFault}
 use Rattle.rcell.specs.runs.Endings.{ReadsScript, IsScriptRefusal}
 
 -- the script denotes these statements, and no others

@@ -5,7 +5,7 @@ use Rattle.cell_core_devices.specs.Device.{Coming}
 use Rattle.cell_core_values.specs.Name.{AreDistinct}
 use Rattle.cell_core.specs.Shelf.{ShelfValue}
 use Rattle.cell_ascii_meaning.specs.GridText.{Denotes}
-use Rattle.rcell_loading.specs.Sources.{Named}
+use Rattle.rcell.specs.Sources.{Named}
 use Rattle.rcell_script.specs.Scripts.{IsScript}
 use Rattle.rcell_script.specs.declared.statement.Statement.{Statement}
 

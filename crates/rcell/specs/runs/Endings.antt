@@ -6,11 +6,11 @@ use Rattle.rcell_script.specs.ReadScripts.{IsScriptFault}
 use Rattle.rcell_script.specs.Scripts.{IsScript}
 use Rattle.rcell_script_commands.specs.declared.script_fault.ScriptFault.{ScriptFault}
 use Rattle.rcell_script.specs.declared.statement.Statement.{Statement}
-use Rattle.rcell_loading.specs.Loading.{shelf_of}
-use Rattle.rcell_loading.specs.ScriptText.{script_text}
-use Rattle.rcell_loading.specs.Sources.{Named}
-use Rattle.rcell_loading.specs.declared.run_fault.RunFault.{RunFault}
-use Rattle.rcell_loading.specs.declared.run_fault.RunFault.TheVariants.{GridTwice, GridRegion, Grid, ScriptRead, ScriptSize, Script, Memory, Write}
+use Rattle.rcell.specs.Loading.{shelf_of}
+use Rattle.rcell.specs.ScriptText.{script_text}
+use Rattle.rcell.specs.Sources.{Named}
+use Rattle.rcell.specs.declared.run_fault.RunFault.{RunFault}
+use Rattle.rcell.specs.declared.run_fault.RunFault.TheVariants.{GridTwice, GridRegion, Grid, ScriptRead, ScriptSize, Script, Memory, Write}
 use Rattle.rcell.specs.runs.Execution.{IsShelfBefore, IsWithin}
 use Rattle.rcell.specs.runs.Outcomes.{IsDone}
 

@@ -5,8 +5,8 @@ use Rattle.cell_core_devices.specs.Device.{Faults, after_put, after_flush, appen
 use Rattle.cell_core.specs.Shelf.{ShelfValue}
 use Rattle.rcell_script.specs.declared.statement.Statement.{Statement}
 use Rattle.rcell.specs.Output.{IsOutput}
-use Rattle.rcell_loading.specs.declared.run_fault.RunFault.{RunFault}
-use Rattle.rcell_loading.specs.declared.run_fault.RunFault.TheVariants.{Write}
+use Rattle.rcell.specs.declared.run_fault.RunFault.{RunFault}
+use Rattle.rcell.specs.declared.run_fault.RunFault.TheVariants.{Write}
 use Rattle.rcell.specs.declared.outcome.Outcome.{Outcome}
 
 -- the sink took exactly the output of the statements, and its length is told

@@ -1,7 +1,7 @@
 -- Which steps ask for the position.
 use Rattle.std.specs.Prelude.{ℕ, Bool, false}
-use Rattle.cell_calc_steps.specs.declared.step.Step.{Step}
-use Rattle.cell_calc_steps.specs.declared.step.Step.TheVariants.{Number, Map, Negated, Not, Binary, Call}
+use Rattle.cell_calc_grammar.specs.declared.step.Step.{Step}
+use Rattle.cell_calc_grammar.specs.declared.step.Step.TheVariants.{Number, Map, Negated, Not, Binary, Call}
 use Rattle.cell_calc_law.specs.LocalLaw.{asks_where}
 
 -- row() and col(), nrows() and ncols()

@@ -1,6 +1,6 @@
 -- What a reader answers, beside what it is to read.
 use Rattle.std.specs.Prelude.{Result}
-use Rattle.cell_core_text.specs.Answers.{Answers}
+use Rattle.cell_core_values.specs.Answers.{Answers}
 use Rattle.rcell_script_commands.specs.declared.script_fault.ScriptKind.{ScriptKind}
 use Rattle.rcell_script_commands.specs.declared.script_fault.ScriptKind.TheVariants.{Memory}
 

@@ -1,4 +1,4 @@
-use Rattle.cell_ascii_scanner.specs.Ahead.{bytes_to_come}
+use Rattle.cell_ascii_reading.specs.Ahead.{bytes_to_come}
 use Rattle.cell_ascii.proofs.DataLemmas.{open_fails, header_kind, header_told}
 use Rattle.cell_ascii.proofs.grid_reader.read_opening.Goals as goal
 

@@ -3,11 +3,11 @@ use Rattle.std.proofs.Common.{◌≡◌, ◌+◌, ◌-◌, ◌<◌, ◌≤◌, �
 use Rattle.std.proofs.lemmas.List.{take_more_set, drop-set-lt}
 use Rattle.std.proofs.lemmas.Grind.{drop_more_same}
 use Rattle.cell_core_devices.specs.Asking.{hears}
-use Rattle.cell_ascii_scanner.specs.Ahead.{bytes_to_come}
+use Rattle.cell_ascii_reading.specs.Ahead.{bytes_to_come}
 use Rattle.cell_ascii_meaning.specs.CellTexts.{cell_from}
 use Rattle.cell_ascii.specs.Reader.{at_place}
-use Rattle.cell_ascii_held.proofs.HeldRowLemmas.{filled, filled-length, part-front, part-rest}
-use Rattle.cell_ascii_held.proofs.ManyLemmas.{row_more, row_some}
+use Rattle.cell_ascii.proofs.HeldRowLemmas.{filled, filled-length, part-front, part-rest}
+use Rattle.cell_ascii.proofs.ManyLemmas.{row_more, row_some}
 use Rattle.cell_ascii.proofs.RowReadLemmas.{row_cut}
 use Rattle.cell_ascii.proofs.grid_reader.read_row.Goals as goal
 

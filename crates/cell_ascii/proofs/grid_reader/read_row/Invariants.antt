@@ -1,7 +1,7 @@
 use Rattle.std.proofs.Common.{◌≡◌, ◌+◌, ◌-◌, ◌*◌, ◌≤◌, false, Ok, length, take, drop}
 use Rattle.std.specs.Option.{option_map}
 use Rattle.cell_core_devices.specs.Asking.{hears}
-use Rattle.cell_ascii_scanner.specs.Ahead.{bytes_to_come}
+use Rattle.cell_ascii_reading.specs.Ahead.{bytes_to_come}
 use Rattle.cell_ascii_meaning.specs.CellTexts.{cell_from, many}
 use Rattle.cell_ascii.specs.Reader.{at_place}
 use Rattle.cell_ascii.proofs.grid_reader.read_row.Given as goal

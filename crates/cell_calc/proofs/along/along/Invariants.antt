@@ -1,7 +1,7 @@
 use Rattle.std.proofs.Common.{◌≡◌, ◌<◌, ℕ, [], length, drop}
 use Rattle.std.specs.Prelude.{All}
 use Rattle.cell_calc.specs.parts.Operands.{IsOperandReady, cells_at, seen_cell, spot_at}
-use Rattle.cell_calc_steps.specs.Postfix.{values_after, AreEnough}
+use Rattle.cell_calc_grammar.specs.Postfix.{values_after, AreEnough}
 use Rattle.cell_calc.proofs.along.along.Given as goal
 
 abbrev pub invariant-loop-step : goal.invariant-loop-step

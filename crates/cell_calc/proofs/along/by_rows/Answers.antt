@@ -1,8 +1,8 @@
 use Rattle.std.proofs.Common.{◌≡◌, ◌<◌, ◌≤◌, ◌+◌, length, map, sym, ap, ◌∙◌, subst, rules}
 use Rattle.std.proofs.lemmas.List.Elements.{All-same}
 use Rattle.std.proofs.lemmas.Result.{IfOk-from_err}
-use Rattle.cell_calc_operators.specs.Applied.{call_result}
-use Rattle.cell_calc_rows.specs.RowValues.{column}
+use Rattle.cell_calc_binding.specs.Applied.{call_result}
+use Rattle.cell_calc.specs.RowValues.{column}
 use Rattle.cell_calc.specs.parts.Operands.{spot_at}
 use Rattle.cell_calc.proofs.Written.{at_written, changed_width}
 use Rattle.cell_calc.proofs.along.by_rows.Goals as goal

@@ -1,7 +1,7 @@
 use Rattle.std.proofs.Common.{◌≡◌, ◌<◌, ◌-◌, ℕ, length, map, take, drop}
 use Rattle.std.specs.Prelude.{All, reverse}
 use Rattle.cell_calc.specs.parts.Operands.{cells_at}
-use Rattle.cell_calc_rows.specs.RowValues.{column}
+use Rattle.cell_calc.specs.RowValues.{column}
 use Rattle.cell_calc.proofs.along.gather_arguments.Given as goal
 
 abbrev pub invariant-operands : goal.invariant-operands

@@ -1,5 +1,5 @@
 use Rattle.std.proofs.Common.{◌<◌, ℕ, get_or}
-use Rattle.cell_calc_steps.specs.declared.step.Step.{Step}
+use Rattle.cell_calc_grammar.specs.declared.step.Step.{Step}
 use Rattle.cell_calc.specs.parts.InPlace.{IsInPlace}
 use Rattle.cell_calc.proofs.in_place.are_in_place.Given as goal
 

@@ -1,9 +1,9 @@
 use Rattle.std.proofs.Common.{◌≡◌, length, ap, ◌∙◌, rules}
 use Rattle.std.proofs.lemmas.Result.{IfOk-from_err}
-use Rattle.cell_calc_operators.specs.Applied.{operator_value}
-use Rattle.cell_calc_rows.specs.RowValues.{at}
+use Rattle.cell_calc_binding.specs.Applied.{operator_value}
+use Rattle.cell_calc.specs.RowValues.{at}
 use Rattle.cell_calc.specs.parts.Operands.{operand_at}
-use Rattle.cell_calc_windows.proofs.Rings.{written}
+use Rattle.cell_calc.proofs.Rings.{written}
 use Rattle.cell_calc.proofs.Written.{at_written}
 use Rattle.cell_calc.proofs.operand.binary_value.Goals as goal
 

@@ -1,6 +1,6 @@
 use Rattle.std.proofs.Common.{rules, w32, FitsSigned}
 use Rattle.std.proofs.lemmas.Int.{to_z-of_z}
-use Rattle.cell_calc_windows.proofs.Ready.{reach_at, row_at}
+use Rattle.cell_calc.proofs.Ready.{reach_at, row_at}
 use Rattle.cell_calc.proofs.operand.window_row.Goals as goal
 
 pub row-requires : goal.row-requires

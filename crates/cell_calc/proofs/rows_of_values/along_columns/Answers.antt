@@ -4,9 +4,9 @@ use Rattle.std.specs.Prelude.{nat_lt}
 use Rattle.std.proofs.lemmas.List.{get_or_append_left, get_or-append_right, length-append}
 use Rattle.std.proofs.lemmas.Result.{IfOk-from_err}
 use Rattle.cell_core.specs.Grid.{CellValue}
-use Rattle.cell_calc_operators.specs.Applied.{spot}
-use Rattle.cell_calc_steps.specs.Postfix.{values_after}
-use Rattle.cell_calc_rows.specs.RowValues.{at}
+use Rattle.cell_calc_binding.specs.Applied.{spot}
+use Rattle.cell_calc_grammar.specs.Postfix.{values_after}
+use Rattle.cell_calc.specs.RowValues.{at}
 use Rattle.cell_calc.specs.parts.Operands.{seen_cell}
 use Rattle.cell_calc.proofs.rows_of_values.along_columns.Goals as goal
 

@@ -1,8 +1,8 @@
 use Rattle.std.proofs.Common.{◌≡◌, ◌≤◌, ◌<◌, ◌-◌, ℕ, [], ◌∷◌, length}
-use Rattle.cell_calc_operators.specs.Applied.{spot}
+use Rattle.cell_calc_binding.specs.Applied.{spot}
 use Rattle.cell_calc.specs.parts.Operands.{seen_cell}
-use Rattle.cell_calc_steps.specs.Postfix.{values_after}
-use Rattle.cell_calc_rows.specs.RowValues.{at}
+use Rattle.cell_calc_grammar.specs.Postfix.{values_after}
+use Rattle.cell_calc.specs.RowValues.{at}
 use Rattle.cell_calc.proofs.rows_of_values.along_columns.Given as goal
 
 abbrev pub invariant-strips : goal.invariant-strips

@@ -1,9 +1,9 @@
 use Rattle.std.proofs.Common.{[], ap, ◌∙◌}
 use Rattle.std.proofs.lemmas.List.Elements.{All-same}
-use Rattle.cell_calc_operators.specs.Applied.{spot}
+use Rattle.cell_calc_binding.specs.Applied.{spot}
 use Rattle.cell_calc.specs.parts.Operands.{IsReadyStep, seen_cell}
-use Rattle.cell_calc_steps.specs.Postfix.{postfix, values_after}
-use Rattle.cell_calc_steps.proofs.PostfixLemmas.{enough_steps}
+use Rattle.cell_calc_grammar.specs.Postfix.{postfix, values_after}
+use Rattle.cell_calc_grammar.proofs.PostfixLemmas.{enough_steps}
 use Rattle.cell_calc.proofs.Values.{ready_steps, value_seen, only_value}
 use Rattle.cell_calc.proofs.rows_of_values.eval_row.Goals as goal
 

@@ -1,8 +1,8 @@
 use Rattle.std.proofs.Common.{◌<◌, ◌∷◌, [], ap, ◌∙◌, arith}
-use Rattle.cell_calc_rows.specs.RowValues.{at}
-use Rattle.cell_calc_windows.specs.CommonStretches.{total}
-use Rattle.cell_calc_windows.specs.parts.Columns.{owner}
-use Rattle.cell_calc_windows.proofs.StretchCells.{spread-at, owner-within, like_start}
+use Rattle.cell_calc.specs.RowValues.{at}
+use Rattle.cell_calc.specs.CommonStretches.{total}
+use Rattle.cell_calc.specs.parts.Columns.{owner}
+use Rattle.cell_calc.proofs.StretchCells.{spread-at, owner-within, like_start}
 use Rattle.cell_calc.proofs.rows_of_values.write_row.Goals as goal
 
 pub returns-in-Some-clause-each : goal.returns-in-Some-clause-each

@@ -1,8 +1,8 @@
 use Rattle.std.proofs.Common.{arith, ◌<◌, ◌^◌, length, map, ap, ◌∙◌}
 use Rattle.cell_calc_binding.specs.Binding.{with_places, place_in}
-use Rattle.cell_calc_steps.specs.Postfix.{step_over, tree_of}
+use Rattle.cell_calc_grammar.specs.Postfix.{step_over, tree_of}
 use Rattle.cell_calc_binding.proofs.Placing.{proper-placed, bound_by}
-use Rattle.cell_calc_steps.proofs.PostfixLemmas.{tree-postfix, postfix-over}
+use Rattle.cell_calc_grammar.proofs.PostfixLemmas.{tree-postfix, postfix-over}
 use Rattle.cell_calc_binding.proofs.binding.resolve.Goals as goal
 
 pub invariant_of-result : goal.invariant_of-result

@@ -3,7 +3,7 @@ use Rattle.std.proofs.lemmas.List.{map_more, take_all}
 use Rattle.std.proofs.lemmas.Result.{IfOk-from_err}
 use borrow.Author.Count.{falls}
 use Rattle.cell_calc_binding.specs.Binding.{place_in}
-use Rattle.cell_calc_steps.specs.Postfix.{step_over}
+use Rattle.cell_calc_grammar.specs.Postfix.{step_over}
 use Rattle.cell_calc_binding.proofs.binding.steps_over_places.Goals as goal
 
 one_more : {X Y : Type 0} (f : X → Y) (xs : List X) (i : ℕ) (x : X) (ys : List Y) (y : Y)

@@ -1,6 +1,6 @@
 use Rattle.std.proofs.Common.{◌≡◌, map, take}
 use Rattle.cell_calc_binding.specs.Binding.{place_in}
-use Rattle.cell_calc_steps.specs.Postfix.{step_over}
+use Rattle.cell_calc_grammar.specs.Postfix.{step_over}
 use Rattle.cell_calc_binding.proofs.binding.steps_over_places.Given as goal
 
 abbrev pub invariant-loop-step : goal.invariant-loop-step

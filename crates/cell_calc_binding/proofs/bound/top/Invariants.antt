@@ -1,6 +1,6 @@
 use Rattle.std.proofs.Common.{◌≡◌, take, max}
 use Rattle.cell_calc_binding.specs.Reach.{top_at}
-use Rattle.cell_calc_steps.specs.Postfix.{fold_steps}
+use Rattle.cell_calc_grammar.specs.Postfix.{fold_steps}
 use Rattle.cell_calc_binding.proofs.bound.top.Given as goal
 
 abbrev pub invariant-loop-step : goal.invariant-loop-step

@@ -6,8 +6,8 @@ use Rattle.cell_calc_binding.specs.Compact.{AreMapsRead, AreDistinctPlaces}
 use Rattle.cell_calc_binding.specs.Formula.{Formula}
 use Rattle.cell_calc_binding.specs.parts.TreeSteps.{index_in}
 use Rattle.cell_calc_binding.specs.Reach.{top_at}
-use Rattle.cell_calc_steps.specs.Postfix.{step_over, at_step}
-use Rattle.cell_calc_steps.proofs.PostfixLemmas.{fold-append}
+use Rattle.cell_calc_grammar.specs.Postfix.{step_over, at_step}
+use Rattle.cell_calc_grammar.proofs.PostfixLemmas.{fold-append}
 use Rattle.cell_calc_binding.proofs.Moved.{moved_more, listed_more}
 use Rattle.cell_calc_binding.proofs.Steps.{greatest}
 use Rattle.cell_calc_binding.proofs.compacting.steps_over_read_maps.Goals as goal

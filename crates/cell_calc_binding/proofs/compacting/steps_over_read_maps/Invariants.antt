@@ -4,7 +4,7 @@ use Rattle.cell_calc_binding.specs.Compact.{ReadsMap, AreMapsRead, AreDistinctPl
 use Rattle.cell_calc_binding.specs.Formula.{Formula}
 use Rattle.cell_calc_binding.specs.parts.TreeSteps.{index_in, IsListed, ReadsPlace}
 use Rattle.cell_calc_binding.specs.Reach.{top_at}
-use Rattle.cell_calc_steps.specs.Postfix.{step_over, fold_steps}
+use Rattle.cell_calc_grammar.specs.Postfix.{step_over, fold_steps}
 use Rattle.cell_calc_binding.proofs.compacting.steps_over_read_maps.Given as goal
 
 abbrev pub invariant-loop-step : goal.invariant-loop-step

@@ -2,7 +2,7 @@ use Rattle.std.proofs.Common.{Ok, sym, ap, ◌∙◌}
 use Rattle.cell_calc_language.proofs.Faults.{text_fault}
 use Rattle.std.proofs.Common.{sym, subst}
 use Rattle.cell_calc_language.proofs.Grammatical.{spelled_categories}
-use Rattle.cell_calc_tokens.specs.Token.{AreCategories}
+use Rattle.cell_calc_grammar.specs.Token.{AreCategories}
 use Rattle.cell_calc_language.proofs.assignment.parse.Goals as goal
 
 pub returns-clause-fault : goal.returns-clause-fault

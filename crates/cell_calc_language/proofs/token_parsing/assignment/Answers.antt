@@ -1,6 +1,6 @@
 use Rattle.std.proofs.Common.{sym, subst}
 use Rattle.cell_calc_language.specs.GrammarFault.{IsFaultOf}
-use Rattle.cell_calc_steps.specs.Postfix.{tree_of}
+use Rattle.cell_calc_grammar.specs.Postfix.{tree_of}
 use Rattle.cell_calc_language.proofs.Faults.{fault_nothing, fault_no_name, fault_no_assign, fault_stops, fault_goes_on, ends, ends_only}
 use Rattle.cell_calc_language.proofs.Grammatical.{read_grammatical}
 use Rattle.cell_calc_language.proofs.token_parsing.assignment.Goals as goal

@@ -1,6 +1,6 @@
 use Rattle.std.proofs.Common.{◌≡◌, drop, None}
 use Rattle.cell_calc_language.specs.Unknown.{unknown_at, first_column}
-use Rattle.cell_calc_steps.specs.Postfix.{fold_steps}
+use Rattle.cell_calc_grammar.specs.Postfix.{fold_steps}
 use Rattle.cell_calc_language.proofs.unknown.first_unplaced.Given as goal
 
 abbrev pub invariant-loop-step : goal.invariant-loop-step

@@ -1,5 +1,5 @@
 use Rattle.std.proofs.Common.{◌≡◌, ◌≤◌, ℕ}
-use Rattle.cell_calc_windows.specs.Window.{IsWindowOf}
+use Rattle.cell_calc.specs.Window.{IsWindowOf}
 use Rattle.cell_calc_tests.proofs.evaluation.moved.Given as goal
 
 abbrev pub invariant-loop : goal.invariant-loop

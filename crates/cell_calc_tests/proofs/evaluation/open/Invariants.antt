@@ -1,7 +1,7 @@
 use Rattle.std.proofs.Common.{◌≡◌, ◌<◌, ℕ, length}
 use Rattle.std.specs.Prelude.{slice_get}
 use Rattle.cell_calc_binding.specs.Reach.{up_of, down_of}
-use Rattle.cell_calc_windows.specs.Window.{HasReach}
+use Rattle.cell_calc.specs.Window.{HasReach}
 use Rattle.cell_calc_tests.proofs.evaluation.open.Given as goal
 
 abbrev pub invariant-loop-i : goal.invariant-loop-i

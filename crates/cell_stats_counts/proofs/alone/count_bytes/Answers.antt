@@ -1,9 +1,9 @@
 use Rattle.std.proofs.Common.{◌≡◌, ◌<◌, ◌+◌, ◌^◌, ℕ, List, length, drop, get_or, cond, Bool, arith, ap, sym, ◌∙◌, refl}
 use Rattle.cell_core_values.specs.SmallCells.{byte_cell}
-use Rattle.cell_stats_combinations.specs.Combinations.{Combination}
-use Rattle.cell_stats_combinations.specs.declared.skip.Skip.{Skip}
+use Rattle.cell_stats_counts.specs.Combinations.{Combination}
+use Rattle.cell_stats_counts.specs.declared.skip.Skip.{Skip}
 use Rattle.cell_core.specs.Grid.{CellValue}
-use Rattle.cell_stats_combinations.specs.LeftOut.{is_left_out}
+use Rattle.cell_stats_counts.specs.LeftOut.{is_left_out}
 use Rattle.cell_stats_counts.specs.parts.Alone.{alone}
 use Rattle.cell_stats_counts.specs.parts.ByteCounts.{sum_counted}
 use Rattle.cell_stats_counts.specs.declared.counting.CountPlace.{CountPlace}

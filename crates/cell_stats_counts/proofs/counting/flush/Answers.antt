@@ -1,5 +1,5 @@
 use Rattle.std.proofs.Common.{◌≡◌, ◌+◌, ◌<◌, ◌^◌, cond, take, rules, subst, sym}
-use Rattle.cell_stats_combinations.specs.Combinations.{Combination}
+use Rattle.cell_stats_counts.specs.Combinations.{Combination}
 use Rattle.cell_stats_counts.specs.parts.HeldPlaces.{is_same, gathered_of}
 use Rattle.cell_stats_counts.proofs.counting.flush.Goals as goal
 

@@ -1,9 +1,9 @@
 use Rattle.std.proofs.Common.{◌≡◌, length}
-use Rattle.cell_stats_combinations.specs.Combinations.{Combination, all_combinations}
+use Rattle.cell_stats_counts.specs.Combinations.{Combination, all_combinations}
 use Rattle.cell_stats_counts.specs.Counts.{count_of}
 use Rattle.cell_stats_counts.specs.parts.HeldPlaces.{IsCounting}
 use Rattle.cell_stats_counts.specs.parts.HeldPlaces.{total_of}
-use Rattle.cell_stats_combinations.specs.LeftOut.{kept_cells}
+use Rattle.cell_stats_counts.specs.LeftOut.{kept_cells}
 use Rattle.cell_stats_counts.proofs.counts.count_cells.Given as goal
 
 abbrev pub invariant-loop-row : goal.invariant-loop-row

@@ -1,5 +1,5 @@
 use Rattle.std.proofs.Common.{◌≡◌, ◌+◌, ◌<◌, ◌^◌, ℕ, [], Fits, w64, get_or, arith, sym, ap, ◌∙◌}
-use Rattle.cell_stats_combinations.specs.Combinations.{Combination}
+use Rattle.cell_stats_counts.specs.Combinations.{Combination}
 use Rattle.cell_stats_counts.specs.parts.HeldPlaces.{is_same}
 use Rattle.cell_stats_counts.proofs.HeldLemmas.{same-is}
 use Rattle.cell_stats_counts.proofs.JoinLemmas.{any, joined-same, joined-next}

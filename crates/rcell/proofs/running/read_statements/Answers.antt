@@ -6,10 +6,10 @@ use Rattle.rcell_script.specs.ScriptLaw.{OneScript, NoFaultOfAScript}
 use Rattle.rcell_script.specs.Scripts.{IsScript}
 use Rattle.rcell_script_commands.specs.declared.script_fault.ScriptFault.{ScriptFault}
 use Rattle.rcell_script.specs.declared.statement.Statement.{Statement}
-use Rattle.rcell_loading.specs.RunFaults.{IsOfInput}
-use Rattle.rcell_loading.specs.ScriptText.{script_text}
-use Rattle.rcell_loading.specs.declared.run_fault.RunFault.{RunFault}
-use Rattle.rcell_loading.specs.declared.run_fault.RunFault.TheVariants.{Script}
+use Rattle.rcell.specs.RunFaults.{IsOfInput}
+use Rattle.rcell.specs.ScriptText.{script_text}
+use Rattle.rcell.specs.declared.run_fault.RunFault.{RunFault}
+use Rattle.rcell.specs.declared.run_fault.RunFault.TheVariants.{Script}
 use Rattle.rcell.specs.runs.Endings.{ReadsScript, IsScriptRefusal}
 use Rattle.rcell.proofs.running.read_statements.Goals as goal
 

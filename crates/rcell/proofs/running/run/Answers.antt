@@ -1,8 +1,8 @@
 use Rattle.std.proofs.Common.{◌≡◌, ◌<◌, ℕ, Option, Some, None, Result, Ok, Err, length, refl, sym, ◌∙◌, arith}
 use Rattle.std.specs.Prelude.{IfSome, IsNone}
-use Rattle.rcell_loading.specs.RunFaults.{IsBeforeExecution, IsInExecution, IsOfInput, NamesItsGrid}
-use Rattle.rcell_loading.specs.declared.run_fault.RunFault.{RunFault}
-use Rattle.rcell_loading.specs.declared.run_fault.RunFault.TheVariants.{GridTwice, GridRegion, Grid, ScriptRead, ScriptSize, Script, Memory, Write}
+use Rattle.rcell.specs.RunFaults.{IsBeforeExecution, IsInExecution, IsOfInput, NamesItsGrid}
+use Rattle.rcell.specs.declared.run_fault.RunFault.{RunFault}
+use Rattle.rcell.specs.declared.run_fault.RunFault.TheVariants.{GridTwice, GridRegion, Grid, ScriptRead, ScriptSize, Script, Memory, Write}
 use Rattle.cell_ascii_meaning.specs.declared.grid_fault.GridKind.{GridKind}
 use Rattle.cell_ascii_meaning.specs.declared.grid_fault.GridKind.TheVariants as grid_kinds
 use Rattle.rcell_script_commands.specs.declared.script_fault.ScriptKind.{ScriptKind}

@@ -2,7 +2,7 @@ use Rattle.std.proofs.Common.{◌≡◌, ◌<◌, ◌≤◌, ◌+◌, ◌-◌, �
 use Rattle.std.proofs.lemmas.List.{length-map}
 use Rattle.cell_core_devices.proofs.BlockLemmas.{appends_none, appends_then}
 use Rattle.cell_core_values.specs.Region.{RegionValue}
-use Rattle.cell_stats_cursors.specs.Cursors.{CursorValue}
+use Rattle.cell_stats_counts.specs.Cursors.{CursorValue}
 use Rattle.cell_stats_counts.proofs.WalkLemmas.{alike, alive, passed-on}
 use Rattle.rcell_pipe_response.specs.parts.CellEntries.{entry_bytes}
 use Rattle.rcell_pipe_response.proofs.CellsLemmas.{stretch-more}

@@ -1,8 +1,8 @@
 use Rattle.std.proofs.Common.{◌≡◌, ◌+◌, ◌-◌, ◌<◌, ◌≤◌, length, map, drop, All}
 use Rattle.std.specs.List.{range_with_len}
 use Rattle.cell_core_devices.specs.Blocks.{Appends}
-use Rattle.cell_stats_combinations.specs.Combinations.{combination_at}
-use Rattle.cell_stats_cursors.specs.Cursors.{to_come, AreCursorsReady, row_in}
+use Rattle.cell_stats_counts.specs.Combinations.{combination_at}
+use Rattle.cell_stats_counts.specs.Cursors.{to_come, AreCursorsReady, row_in}
 use Rattle.rcell_pipe_response.specs.parts.CellEntries.{selected_bytes}
 use Rattle.rcell_pipe_response.proofs.cells_frame.push_row.Given as goal
 

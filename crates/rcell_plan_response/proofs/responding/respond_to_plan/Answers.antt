@@ -1,5 +1,5 @@
 use Rattle.std.proofs.Common.{◌≡◌, Ok, Some, ap, true}
-use Rattle.cell_core_text.specs.Answers.{◌>>=◌}
+use Rattle.cell_core_values.specs.Answers.{◌>>=◌}
 use Rattle.rcell_pipe_request.specs.Feeds.{left}
 use Rattle.rcell_pipe_response.proofs.EndLemmas.{ends_as}
 use Rattle.rcell_plan_response.specs.PlanRequests.{plan_at, plan_request_value}

@@ -1,11 +1,11 @@
 use Rattle.std.proofs.Common.{◌≡◌, ◌≢◌, ℕ, List, length, Option, Ok, Err, ap, sym, ◌∙◌}
 use Rattle.std.proofs.lemmas.Result.{err_from_is_err_and}
-use Rattle.cell_core_text.specs.Answers.{◌>>=◌}
-use Rattle.rcell_script_options.specs.Maps.{input_places}
-use Rattle.rcell_script_options.specs.OptionReading.{Given, texts, options_of}
-use Rattle.rcell_script_options.specs.declared.option_fault.OptionFault.{OptionFault}
-use Rattle.rcell_script_options.specs.declared.option_fault.OptionFault.TheVariants as option
-use Rattle.rcell_script_options.specs.declared.options.Form.TheVariants as form
+use Rattle.cell_core_values.specs.Answers.{◌>>=◌}
+use Rattle.rcell_script_commands.specs.Maps.{input_places}
+use Rattle.rcell_script_commands.specs.OptionReading.{Given, texts, options_of}
+use Rattle.rcell_script_commands.specs.declared.option_fault.OptionFault.{OptionFault}
+use Rattle.rcell_script_commands.specs.declared.option_fault.OptionFault.TheVariants as option
+use Rattle.rcell_script_commands.specs.declared.options.Form.TheVariants as form
 use Rattle.rcell_script_commands.specs.Commands.{after_of, printed_with, stats_of}
 use Rattle.rcell_script_commands.specs.ScriptFaults.{kind_of}
 use Rattle.rcell_script_commands.specs.declared.command.Command.TheVariants.{Stats}

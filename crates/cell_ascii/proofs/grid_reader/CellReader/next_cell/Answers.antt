@@ -1,6 +1,6 @@
 use Rattle.std.proofs.Common.{ap, arith}
 use Rattle.std.proofs.lemmas.Result.{err_from_is_err_and}
-use Rattle.cell_ascii_scanner.specs.Ahead.{bytes_to_come}
+use Rattle.cell_ascii_reading.specs.Ahead.{bytes_to_come}
 use Rattle.cell_ascii.proofs.CellLemmas.{cell_pending, cell_read, cell_fails, cell_faults}
 use Rattle.cell_ascii.proofs.grid_reader.CellReader.next_cell.Goals as goal
 

@@ -1,6 +1,6 @@
 use Rattle.std.proofs.Common.{◌≡◌, ◌∙◌, Bool, true, false, ap, sym, subst, rules}
 use Rattle.std.specs.Option.{IfSome}
-use Rattle.cell_ascii_scanner.specs.Ahead.{bytes_to_come}
+use Rattle.cell_ascii_reading.specs.Ahead.{bytes_to_come}
 use Rattle.cell_ascii.specs.Reader.{at_place}
 use Rattle.cell_ascii_meaning.specs.RowPlaces.{end_fault}
 use Rattle.cell_ascii.specs.GridReaders.{ReaderValue, reader_place, fault_of_reading}

@@ -2,7 +2,7 @@ use Rattle.std.proofs.Common.{◌≡◌, ◌-◌, ◌+◌, ◌<◌, ◌∙◌, �
 use Rattle.std.specs.Option.{IfSome}
 use Rattle.cell_core_devices.specs.Asking.{Heard, hears}
 use Rattle.cell_core_devices.specs.Device.{Coming}
-use Rattle.cell_ascii_scanner.specs.Ahead.{bytes_to_come}
+use Rattle.cell_ascii_reading.specs.Ahead.{bytes_to_come}
 use Rattle.cell_ascii.specs.Reader.{at_place}
 use Rattle.cell_ascii_meaning.specs.RowPlaces.{cells_fault}
 use Rattle.cell_ascii_meaning.specs.Kinds.{IsOfText, is_read}

@@ -1,7 +1,7 @@
 use Rattle.std.proofs.lemmas.Result.{err_from_is_err_and}
 use Rattle.std.proofs.Common.{◌≡◌, ap, Some, Err}
 use Rattle.cell_core_devices.specs.Asking.{Heard}
-use Rattle.cell_ascii_scanner.specs.Ahead.{bytes_to_come}
+use Rattle.cell_ascii_reading.specs.Ahead.{bytes_to_come}
 use Rattle.cell_ascii_meaning.specs.Header.{header_of_text}
 use Rattle.cell_ascii_meaning.specs.FaultPlaces.{opening_fault}
 use Rattle.cell_ascii.specs.Reader.{at_place}

@@ -5,7 +5,7 @@ use Rattle.std.proofs.lemmas.Int.{to_z-of_z}
 use Rattle.cell_core_values.specs.Region.{RegionValue, region_fault}
 use Rattle.cell_core_values.specs.declared.region.RegionFault.{RegionFault}
 use Rattle.cell_ascii_meaning.specs.Header.{KeyValues, header_of, header_of_keys}
-use Rattle.cell_ascii_header.specs.Given.{keys_judged as judged_parts}
+use Rattle.cell_ascii_reading.specs.Given.{keys_judged as judged_parts}
 use Rattle.cell_ascii_tests.proofs.definition.keys.header_of.Goals as goal
 
 parts_judged : (k : KeyValues) (r : Result RegionValue RegionFault)

@@ -3,14 +3,14 @@ use Rattle.std.proofs.lemmas.List.Elements.{All-same}
 use Rattle.cell_calc_binding.specs.Compact.{ReadsMap}
 use Rattle.cell_calc_binding.specs.Reach.{top_at, top_of}
 use Rattle.cell_calc_binding.specs.Value.{value}
-use Rattle.cell_calc_steps.specs.Postfix.{postfix, tree_of, step_over, fold_steps}
+use Rattle.cell_calc_grammar.specs.Postfix.{postfix, tree_of, step_over, fold_steps}
 use Rattle.cell_calc_binding.specs.parts.TreeSteps.{index_in, IsListed}
 use Rattle.cell_calc_binding.proofs.Compact.{read_below}
 use Rattle.cell_calc_binding.proofs.Index.{index_within}
 use Rattle.cell_calc_grammar.specs.Tree.{with_leaves}
 use Rattle.cell_calc_binding.proofs.Moved.{value-moved}
 use Rattle.cell_calc_binding.proofs.Placing.{proper-over, bound_by}
-use Rattle.cell_calc_steps.proofs.PostfixLemmas.{tree-postfix, postfix-over}
+use Rattle.cell_calc_grammar.proofs.PostfixLemmas.{tree-postfix, postfix-over}
 use Rattle.cell_calc_binding.proofs.Steps.{AreReads, reads_steps, top-postfix}
 use Rattle.cell_calc_binding.proofs.bound.Bound.over_read_maps.Goals as goal
 

@@ -1,6 +1,6 @@
 use Rattle.std.proofs.Common.{max, ap, ◌∙◌}
 use Rattle.std.proofs.lemmas.List.Elements.{All-same}
-use Rattle.cell_calc_steps.specs.Postfix.{postfix, tree_of, fold_steps}
+use Rattle.cell_calc_grammar.specs.Postfix.{postfix, tree_of, fold_steps}
 use Rattle.cell_calc_binding.specs.Reach.{up_at, down_at}
 use Rattle.cell_calc_binding.specs.parts.TreeSteps.{IsProperStep}
 use Rattle.cell_calc_binding.proofs.Steps.{up-postfix, down-postfix, proper_steps}

@@ -1,6 +1,6 @@
 use Rattle.std.proofs.Common.{None, ap, ◌∙◌}
 use Rattle.cell_calc_language.specs.Unknown.{unknown_at, first_column}
-use Rattle.cell_calc_steps.specs.Postfix.{fold_steps}
+use Rattle.cell_calc_grammar.specs.Postfix.{fold_steps}
 use Rattle.cell_calc_language.proofs.PostfixLemmas.{unplaced_is_unknown}
 use Rattle.cell_calc_language.proofs.expr.Expr.first_unknown.Goals as goal
 

@@ -1,5 +1,5 @@
 use Rattle.std.proofs.Common.{sym, ap, ◌∙◌}
-use Rattle.cell_calc_tokens.specs.Function.{function_of}
+use Rattle.cell_calc_grammar.specs.Function.{function_of}
 use Rattle.cell_calc_language.specs.parts.Waiting.{waiting}
 use Rattle.cell_calc_language.proofs.Steps.{unknown_call, empty_call, refused_empty, first_argument}
 use Rattle.cell_calc_language.proofs.expression_reader.Reader.read_call.Goals as goal

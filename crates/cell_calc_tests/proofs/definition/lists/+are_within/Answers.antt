@@ -1,6 +1,6 @@
 use Rattle.std.proofs.Common.{sym, ◌∙◌}
 use Rattle.std.specs.Prelude.{nat_le}
-use Rattle.cell_calc_operators.specs.CellOperators.{occurrences}
+use Rattle.cell_calc_binding.specs.CellOperators.{occurrences}
 use Rattle.cell_calc_tests.proofs.Lists.{first_passes, first_fails}
 use Rattle.cell_calc_tests.proofs.definition.lists.+are_within.Goals as goal
 

@@ -1,6 +1,6 @@
 use Rattle.std.proofs.Common.{ap, ◌∙◌, None}
 use Rattle.std.specs.Prelude.{slice_index_or}
-use Rattle.cell_calc_operators.specs.Applied.{spot}
+use Rattle.cell_calc_binding.specs.Applied.{spot}
 use Rattle.cell_calc_tests.specs.Steps.{step_value}
 use Rattle.cell_calc_tests.proofs.Steps.{after_all_steps, proper_at, value_after}
 use Rattle.cell_calc_tests.proofs.definition.value.value.Goals as goal

@@ -1,7 +1,7 @@
 use Rattle.std.proofs.Common.{◌≡◌, [], drop}
-use Rattle.cell_calc_operators.specs.Applied.{spot}
+use Rattle.cell_calc_binding.specs.Applied.{spot}
 use Rattle.cell_calc_tests.specs.Steps.{step_value}
-use Rattle.cell_calc_steps.specs.Postfix.{values_after}
+use Rattle.cell_calc_grammar.specs.Postfix.{values_after}
 use Rattle.cell_calc_tests.proofs.definition.value.value.Given as goal
 
 abbrev pub invariant-loop-step : goal.invariant-loop-step

@@ -2,10 +2,10 @@ use Rattle.std.proofs.Common.{◌≡◌, ℕ, ℤ, List, false, sym, ◌∙◌, 
 use Rattle.std.specs.Prelude.{bytes_eq}
 use Rattle.std.specs.Int.RustNames.{FitsSigned}
 use Rattle.std.proofs.lemmas.Int.{to_z-of_z}
-use Rattle.cell_core_text.specs.Capped.{capped_number}
+use Rattle.cell_core_values.specs.Capped.{capped_number}
 use Rattle.cell_ascii_meaning.specs.Header.{HeaderValue}
 use Rattle.cell_ascii_meaning.specs.CellTexts.{cell_of_word, cell_of_number}
-use Rattle.cell_ascii_header.proofs.NumberLemmas.{capped_cell}
+use Rattle.cell_ascii_reading.proofs.NumberLemmas.{capped_cell}
 use Rattle.cell_ascii_tests.proofs.definition.keys.Header.cell_of_word.Goals as goal
 
 -- a word that is not the null text is judged as a number

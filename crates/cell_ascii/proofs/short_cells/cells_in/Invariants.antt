@@ -1,0 +1,17 @@
+use Rattle.std.proofs.Common.{◌≡◌, ◌-◌, ◌≤◌, ◌*◌, length, take, drop}
+use Rattle.cell_ascii.specs.TableWords.{HoldsLines}
+use Rattle.cell_ascii.proofs.short_cells.cells_in.Given as goal
+
+abbrev pub invariant-parts : goal.invariant-parts
+invariant-parts l = record {
+  low : l.i ≤ length l.row;
+  within : l.passed ≤ length l.held;
+  cells : HoldsLines l.fn.words l.held (take l.i l.row) l.i l.passed l.lines;
+  same : l.words ≡ l.fn.words;
+  among : l.lines ≤ l.passed;
+  lines : l.lines ≤ l.i * 64;
+  rest : drop l.i l.row ≡ drop l.i l.fn.row;
+}
+
+abbrev pub decreases-parts : goal.decreases-parts
+decreases-parts l = length l.row - l.i

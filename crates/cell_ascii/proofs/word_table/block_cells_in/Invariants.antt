@@ -1,0 +1,23 @@
+use Rattle.std.proofs.Common.{◌≡◌, ◌≤◌, ◌-◌, length, take, drop, true}
+use Rattle.std.specs.List.{All, list_all}
+use Rattle.std.specs.Simd.Lanes.{mask_l}
+use Rattle.cell_ascii_meaning.specs.GridTokens.{is_space, newlines}
+use Rattle.cell_ascii.specs.TableWords.{HoldsLines, IsEntry, blanks, cleared_front}
+use Rattle.cell_ascii.proofs.word_table.block_cells_in.Given as goal
+
+abbrev pub invariant-words : goal.invariant-words
+invariant-words l = record {
+  within : l.at ≤ 64;
+  behind : l.last ≤ l.at;
+  inside : l.last ≤ 63;
+  low : l.i ≤ length l.row;
+  ends : l.ends ≡ mask_l (cleared_front l.at (blanks l.held));
+  gap : list_all is_space (take (l.at - l.last) (drop l.last l.held)) ≡ true;
+  cells : HoldsLines l.header l.held (take l.i l.row) l.i l.last (newlines (take l.last l.held));
+  rest : drop l.i l.row ≡ drop l.i l.fn.row;
+  room : length l.entries ≡ 4096;
+  known : All (IsEntry l.header) l.entries;
+}
+
+abbrev pub decreases-words : goal.decreases-words
+decreases-words l = 64 - l.at

@@ -1,0 +1,72 @@
+use Rattle.std.proofs.Common.{◌≡◌, ◌≤◌, ◌+◌, ◌-◌, ◌^◌, ◌∙◌, ap, sym, arith, length, take, drop, length-drop, length-take, ℕ, ◌%◌}
+use Rattle.std.proofs.lemmas.List.{take_rest}
+use Rattle.std.specs.Int.RustNames.{count_ones}
+use Rattle.cell_ascii_meaning.specs.GridTokens.{newlines}
+use Rattle.cell_ascii.proofs.BitLemmas.{feeds_before}
+use Rattle.cell_ascii.proofs.HeldRowLemmas.{filled, filled-length, part-front, part-none, part-rest}
+use Rattle.cell_ascii.proofs.WordLemmas.{HoldsLines-append, newlines-few}
+use Rattle.cell_ascii.proofs.word_table.table_cells_in.Goals as goal
+
+pub overflow_add-lines : goal.overflow_add-lines
+overflow_add-lines c =
+    let held = c.args.held.now in
+    let inside : c.blocks-2.passed ≤ length held = c.blocks-2.invariant.within in
+    record { fits = omega (arith, c.blocks-2.invariant.fewer, c.if-held-passed-ge-LEAST_HELD.true, c.ones_below-lines.ensures.few) }
+
+pub blocks-2-preserved : goal.blocks-2-preserved
+blocks-2-preserved c =
+    let held = c.args.held.now in
+    let old = c.args.row.now in
+    let row = c.blocks-2.row in
+    let i = c.blocks-2.i in
+    let passed = c.blocks-2.passed in
+    let found = c.block_cells_in-found in
+    let k = found.result.0 in
+    let n = found.result.1 in
+    let part = found.new.row in
+    let within : i ≤ length row = c.blocks-2.invariant.low in
+    let size : length part ≡ length row - i = omega (arith, found.auto.row, length-drop i row, length-take (length row - i) (drop i row)) in
+    let few : k ≤ length row - i = omega (arith, found.ensures.count, length-drop i row, length-take (length row - i) (drop i row)) in
+    let front = part-front i k row part old within size few in
+    let whole : length (filled i row part) ≡ length row = filled-length i k row part old within size few in
+    let here = take_rest held passed in
+    let rest = drop passed held in
+    let next = rw here at found.ensures.cells in
+    let below : n ≤ 64 = omega (arith, found.ensures.within) in
+    let lines : c.ones_below-lines.result ≡ newlines (take n rest) =
+    c.ones_below-lines.ensures.value ∙ ap (λ (m : ℕ). count_ones (m % 2 ^ n)) (rw here at c.feeds_in.ensures) ∙ feeds_before n rest below in
+    let fits : 72 ≤ length held - passed = omega (arith, c.if-held-passed-ge-LEAST_HELD.true) in
+    record {
+      low = omega (arith, few, within, whole);
+      within = omega (arith, fits, below);
+      cells = rw (front, lines) (HoldsLines-append c.args.header.now held (take i row) (take k part) i k passed n c.blocks-2.lines (newlines (take n rest)) c.blocks-2.invariant.cells next);
+      fewer = omega (arith, lines, newlines-few rest n, c.blocks-2.invariant.fewer);
+      few = omega (arith, c.ones_below-lines.ensures.few, c.blocks-2.invariant.few, c.if-found-eq0.false);
+      rest = part-rest i k row part old within size few found.ensures.rest c.blocks-2.invariant.rest;
+      room = found.auto.entries ∙ c.blocks-2.invariant.room;
+      known = found.ensures.known;
+    }
+
+pub returns-then-found-eq0-clause-cells : goal.returns-then-found-eq0-clause-cells
+returns-then-found-eq0-clause-cells c =
+    let old = c.args.row.now in
+    let row = c.blocks-2.row in
+    let i = c.blocks-2.i in
+    let inv = c.blocks-2.invariant in
+    let found = c.block_cells_in-found in
+    let k = found.result.0 in
+    let part = found.new.row in
+    let is = found.ensures in
+    let within : i ≤ length row = inv.low in
+    let size : length part ≡ length row - i = omega (arith, found.auto.row, length-drop i row, length-take (length row - i) (drop i row)) in
+    let few : k ≤ length row - i = omega (arith, is.count, length-drop i row, length-take (length row - i) (drop i row)) in
+    let none : i + k ≡ i = omega (arith, c.if-found-eq0.true) in
+    record {
+      cells = rw (part-none i k row part old within size few) inv.cells;
+      count = omega (arith, within, c.blocks-2.auto.row);
+      within = inv.within;
+      among = inv.fewer;
+      lines = inv.few;
+      rest = ap (λ n. drop n (filled i row part)) (sym none)
+          ∙ part-rest i k row part old within size few is.rest inv.rest ∙ ap (λ n. drop n old) none;
+    }

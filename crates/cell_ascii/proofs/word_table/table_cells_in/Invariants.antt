@@ -1,0 +1,19 @@
+use Rattle.std.proofs.Common.{◌≡◌, ◌≤◌, ◌-◌, ◌*◌, length, take, drop}
+use Rattle.std.specs.List.{All}
+use Rattle.cell_ascii.specs.TableWords.{HoldsLines, IsEntry}
+use Rattle.cell_ascii.proofs.word_table.table_cells_in.Given as goal
+
+abbrev pub invariant-blocks-2 : goal.invariant-blocks-2
+invariant-blocks-2 l = record {
+  low : l.i ≤ length l.row;
+  within : l.passed ≤ length l.held;
+  cells : HoldsLines l.header l.held (take l.i l.row) l.i l.passed l.lines;
+  fewer : l.lines ≤ l.passed;
+  few : l.lines ≤ l.i * 64;
+  rest : drop l.i l.row ≡ drop l.i l.fn.row;
+  room : length l.entries ≡ 4096;
+  known : All (IsEntry l.header) l.entries;
+}
+
+abbrev pub decreases-blocks-2 : goal.decreases-blocks-2
+decreases-blocks-2 l = length l.row - l.i

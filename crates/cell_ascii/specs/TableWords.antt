@@ -1,0 +1,52 @@
+-- Words that were read before, kept by their bytes; and blanks as bits.
+use Rattle.std.specs.Prelude.{ℕ, zero, suc, ◌+◌, ◌-◌, ◌*◌, ◌/◌, ◌^◌, ◌≡◌, ◌<◌, ◌≤◌, Bool, false, List, [], ◌∷◌, map, length, take, drop, slice_set, Ok}
+use Rattle.std.specs.Simd.Lanes.{digits_l}
+use Rattle.cell_core_devices.specs.Device.{Coming}
+use Rattle.cell_core.specs.Grid.{CellValue}
+use Rattle.cell_ascii_reading.specs.Ahead.{before_coming}
+use Rattle.cell_ascii_meaning.specs.GridTokens.{is_line_feed, is_space}
+use Rattle.cell_ascii_meaning.specs.Header.{HeaderValue}
+use Rattle.cell_ascii_meaning.specs.CellTexts.{cell_from, cell_of_word, at_of, many}
+use Rattle.cell_ascii.specs.declared.word_table.WordEntry.{WordEntry}
+
+-- the bytes that a number of 64 bits keeps at its upper end, so many of them
+abbrev pub kept_bytes : ℕ → ℕ → List ℕ
+kept_bytes key size = digits_l 256 size (key / 2 ^ (64 - 8 * size))
+
+-- an entry is free, or has the cell that the word of its bytes denotes
+abbrev pub IsEntry : HeaderValue → WordEntry → Type 0
+IsEntry h e = 0 < e.size → cell_of_word h (kept_bytes e.key e.size) ≡ Ok e.cell
+
+-- a row has the cell of a word at a place
+pub record IsCellPut (h : HeaderValue) (word : List ℕ) (i : ℕ) (old new : List CellValue) : Type 0 where
+  pub cell : CellValue
+  pub is : cell_of_word h word ≡ Ok cell
+  pub row : new ≡ slice_set old i cell
+
+-- which of the first 64 bytes are blanks or line feeds
+abbrev pub blanks : List ℕ → List Bool
+blanks bs = map is_space (take 64 bs)
+
+-- which of them are line feeds
+abbrev pub feeds : List ℕ → List Bool
+feeds bs = map is_line_feed (take 64 bs)
+
+-- the first n are false
+abbrev pub cleared_front : ℕ → List Bool → List Bool
+cleared_front zero ms = ms
+cleared_front (suc n) [] = []
+cleared_front (suc n) (m ∷ ms) = false ∷ cleared_front n ms
+
+-- whatever comes behind these bytes, the next cells are these, so many of them, and take the first n bytes and so many lines
+abbrev pub HoldsLines : HeaderValue → List ℕ → List CellValue → ℕ → ℕ → ℕ → Type 0
+HoldsLines h bs cells count n lines = (line : ℕ) (c : Coming)
+    → many (cell_from h) count (at_of line 0 (before_coming bs c)) ≡ Ok (cells, at_of (line + lines) 0 (before_coming (drop n bs) c))
+
+-- the front of a row has the next cells of these bytes: so many, which take so many bytes and so many lines; the others stay
+pub record AreCellsRead (h : HeaderValue) (bs : List ℕ) (old new : List CellValue) (read : ℕ × ℕ × ℕ) : Type 0 where
+  pub cells : HoldsLines h bs (take read.0 new) read.0 read.1 read.2
+  pub count : read.0 ≤ length old
+  pub within : read.1 ≤ length bs
+  pub among : read.2 ≤ read.1
+  pub lines : read.2 ≤ read.0 * 64
+  pub rest : drop read.0 new ≡ drop read.0 old

@@ -1,0 +1,12 @@
+-- Cells that were read where no line ends.
+use Rattle.std.specs.Prelude.{ℕ, ◌≡◌, ◌≤◌, List, drop, take, length}
+use Rattle.cell_core.specs.Grid.{CellValue}
+use Rattle.cell_ascii_meaning.specs.Header.{HeaderValue}
+use Rattle.cell_ascii.specs.HeldCells.{HoldsCells}
+
+-- the front of a row has the next cells of these bytes: so many, which take so many bytes; the others stay
+pub record AreCellsInLine (h : HeaderValue) (bs : List ℕ) (old new : List CellValue) (read : ℕ × ℕ) : Type 0 where
+  pub cells : HoldsCells h bs (take read.0 new) read.0 read.1
+  pub count : read.0 ≤ length old
+  pub within : read.1 ≤ length bs
+  pub rest : drop read.0 new ≡ drop read.0 old

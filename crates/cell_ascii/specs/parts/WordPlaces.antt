@@ -1,0 +1,15 @@
+-- What is needed to read the cell of a word to its place.
+use Rattle.std.specs.Prelude.{ℕ, ◌≡◌, ◌<◌, ◌≤◌, All, List, length}
+use Rattle.cell_core.specs.Grid.{CellValue}
+use Rattle.cell_ascii_meaning.specs.Header.{HeaderValue}
+use Rattle.cell_ascii.specs.declared.word_table.WordEntry.{WordEntry}
+use Rattle.cell_ascii.specs.TableWords.{IsEntry}
+
+-- the word is the first so many bytes, entries are kept, and the row has the place
+pub record CanPut (h : HeaderValue) (bytes : List ℕ) (size : ℕ) (entries : List WordEntry) (i : ℕ) (row : List CellValue) : Type 0 where
+  pub some : 0 < size
+  pub within : size ≤ length bytes
+  pub held : 8 ≤ length bytes
+  pub room : length entries ≡ 4096
+  pub known : All (IsEntry h) entries
+  pub place : i < length row

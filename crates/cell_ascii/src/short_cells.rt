@@ -1,0 +1,430 @@
+//! A cell whose bytes are held.
+
+ghost use Rattle.std.specs.Prelude.{◌≡◌, ℕ, List, ◌∷◌, ◌++◌, ◌+◌, ◌*◌, ◌/◌, ◌<◌, ◌≤◌, pos, neg_ℤ, length, take, drop, replicate, Some, IfSome};
+ghost use Rattle.cell_ascii.specs.HeldCells.{HoldsFront, HoldsWord, IsNumeral, ComesAgain, held_word};
+ghost use Rattle.cell_ascii.specs.TableWords.{AreCellsRead};
+ghost use Rattle.cell_ascii_meaning.specs.EdgeNumbers.{whole_number};
+ghost use Rattle.cell_ascii.specs.parts.InLine.{AreCellsInLine};
+
+use crate::pace::Pace;
+use crate::word_table::WordTable;
+use cell_ascii_reading::header::Header;
+use cell_ascii_reading::scanner::is_space;
+use cell_core::cell::Cell;
+use cell_core_values::whole_numbers::is_digit;
+use std::simd::prelude::*;
+
+// So many digits fit 32 bits, whatever they are.
+pub(crate) const MOST_DIGITS: usize = 9;
+
+// The most bytes of a word.
+const MOST_BYTES: usize = 64;
+
+// How many bytes are compared at once.
+const LANES: usize = 16;
+
+// Repeated words are looked for on credit: each word costs some, and each time that it comes again pays 1, up to the most.
+// When it is used up, cells are read one by one for a while.
+const MOST_CREDIT: usize = 8;
+
+const COST_OF_A_WORD: usize = 2;
+
+// One to three digits and a byte that ends them, at the front of four bytes, and how many digits there are.
+#[inline(always)]
+#[tactic(auto, using(crate::proofs::HeldLemmas::short_one, crate::proofs::HeldLemmas::short_two, crate::proofs::HeldLemmas::short_three))]
+fn short_digits(a: u8, b: u8, c: u8, d: u8) -> Option<(u32, usize)>
+    ensures { IfSome result (λ r. (bytes : List ℕ) → IsNumeral (a ∷ b ∷ c ∷ d ∷ bytes) r.0 r.1) }
+{
+    if !is_digit(a) {
+        return None;
+    }
+    let value = (a - b'0') as u32;
+    if is_space(b) {
+        return Some((value, 1));
+    }
+    if !is_digit(b) {
+        return None;
+    }
+    let value = value * 10 + (b - b'0') as u32;
+    if is_space(c) {
+        return Some((value, 2));
+    }
+    if !is_digit(c) || !is_space(d) {
+        return None;
+    }
+    Some((value * 10 + (c - b'0') as u32, 3))
+}
+
+// One to nine digits and a byte that ends them, and how many digits there are.
+#[inline(always)]
+fn more_digits(bytes: &[u8]) -> Option<(u32, usize)>
+    ensures { IfSome result (λ r. IsNumeral bytes.now r.0 r.1) }
+{
+    let mut value = 0u32;
+    for (i, b) in bytes.iter().enumerate() {
+        if is_digit(*b) {
+            if i >= MOST_DIGITS {
+                return None;
+            }
+            value = value * 10 + (*b - b'0') as u32;
+        } else if i > 0 && is_space(*b) {
+            return Some((value, i));
+        } else {
+            return None;
+        }
+    }
+    None
+}
+
+// The number of digits behind a minus.
+pub(crate) fn negative(value: u32) -> i64
+    ensures { result ≡ neg_ℤ (pos value) }
+{
+    -(value as i64)
+}
+
+// A space, a number of one to three digits and a byte that ends it, and how many bytes stand before that one. It looks at the
+// length once, so that there have to be as many bytes as the longest form takes.
+#[inline(always)]
+fn short_number_in(held: &[u8]) -> Option<(i64, usize)>
+    ensures word { IfSome result (λ r. HoldsWord held.now r.1) }
+    ensures number { IfSome result (λ r. whole_number (held_word held.now r.1) ≡ Some r.0) }
+    ensures within { IfSome result (λ r. (0 < r.1) × (r.1 ≤ length held.now)) }
+{
+    let [b' ', a, b, c, d, e, ..] = held else {
+        return None;
+    };
+    if *a == b'-' {
+        let (value, n) = short_digits(*b, *c, *d, *e)?;
+        return Some((negative(value), n + 2));
+    }
+    let (value, n) = short_digits(*a, *b, *c, *d)?;
+    Some((value as i64, n + 1))
+}
+
+// The same of one to nine digits.
+fn number_in(held: &[u8]) -> Option<(i64, usize)>
+    ensures word { IfSome result (λ r. HoldsWord held.now r.1) }
+    ensures number { IfSome result (λ r. whole_number (held_word held.now r.1) ≡ Some r.0) }
+    ensures within { IfSome result (λ r. (0 < r.1) × (r.1 ≤ length held.now)) }
+{
+    let [b' ', rest @ ..] = held else { return None };
+    if let [b'-', digits @ ..] = rest {
+        let (value, n) = more_digits(digits)?;
+        return Some((negative(value), n + 2));
+    }
+    let (value, n) = more_digits(rest)?;
+    Some((value as i64, n + 1))
+}
+
+// A space, a word and a byte that ends it, and how many bytes stand before that one.
+fn word_in(held: &[u8]) -> Option<usize>
+    ensures word { IfSome result (λ n. HoldsWord held.now n) }
+    ensures within { IfSome result (λ n. (0 < n) × (n ≤ length held.now)) }
+{
+    let [b' ', rest @ ..] = held else { return None };
+    for (i, b) in rest.iter().enumerate() {
+        if is_space(*b) {
+            return if 0 < i && i <= MOST_BYTES {
+                Some(i + 1)
+            } else {
+                None
+            };
+        }
+    }
+    None
+}
+
+// The cell of the number that stands before the byte at place n, and that place.
+#[inline(always)]
+fn held_number_cell(held: &[u8], header: &Header, number: i64, n: usize) -> Option<(Cell, usize)>
+    requires word { HoldsWord held.now n }
+    requires number { whole_number (held_word held.now n) ≡ Some number }
+    requires within { (0 < n) × (n ≤ length held.now) }
+    ensures cell { IfSome result (λ r. HoldsFront header.now held.now r.0 r.1) }
+    ensures within { IfSome result (λ r. (0 < r.1) × (r.1 ≤ length held.now)) }
+{
+    match header.cell_of_number(&held[1..n], number) {
+        Ok(cell) => Some((cell, n)),
+        Err(_) => None,
+    }
+}
+
+// The same as `held_cell`, where no short number stands.
+#[inline(never)]
+fn other_cell_in(held: &[u8], header: &Header) -> Option<(Cell, usize)>
+    ensures cell { IfSome result (λ r. HoldsFront header.now held.now r.0 r.1) }
+    ensures within { IfSome result (λ r. (0 < r.1) × (r.1 ≤ length held.now)) }
+{
+    if let Some((number, n)) = number_in(held) {
+        return held_number_cell(held, header, number, n);
+    }
+    let n = word_in(held)?;
+    match header.cell_of_word(&held[1..n]) {
+        Ok(cell) => Some((cell, n)),
+        Err(_) => None,
+    }
+}
+
+// The cell of a space and a word that ends among the bytes held, and how many of them it takes.
+// None where another form stands, or a word that is no cell.
+#[inline(always)]
+fn held_cell(held: &[u8], header: &Header) -> Option<(Cell, usize)>
+    ensures cell { IfSome result (λ r. HoldsFront header.now held.now r.0 r.1) }
+    ensures within { IfSome result (λ r. (0 < r.1) × (r.1 ≤ length held.now)) }
+{
+    match short_number_in(held) {
+        Some((number, n)) => held_number_cell(held, header, number, n),
+        None => other_cell_in(held, header),
+    }
+}
+
+// How many bytes two slices have in common at their front, of the first 16.
+#[inline(always)]
+fn front_alike(a: &[u8], b: &[u8]) -> usize
+    requires left { 16 ≤ length a.now }
+    requires right { 16 ≤ length b.now }
+    ensures alike { take result a.now ≡ take result b.now }
+    ensures few { result ≤ 16 }
+{
+    let differ = u8x16::from_slice(a)
+        .simd_ne(u8x16::from_slice(b))
+        .to_bitmask();
+    if differ == 0 {
+        LANES
+    } else {
+        differ.trailing_zeros() as usize
+    }
+}
+
+// How many bytes from place n on are those that stand n places before them. Of the last bytes held it may leave out some.
+#[inline(always)]
+fn bytes_again(held: &[u8], n: usize) -> usize
+    requires { n ≤ length held.now }
+    ensures alike { take result (drop n held.now) ≡ take result held.now }
+    ensures within { n + result ≤ length held.now }
+{
+    let later = &held[n..];
+    let mut count = 0;
+    'loads: while later.len() - count >= LANES {
+        let more = front_alike(&later[count..], &held[count..]);
+        if more < LANES {
+            return count + more;
+        }
+        // The next load does not wait for this comparison.
+        count += LANES;
+    }
+    count
+}
+
+// A quotient. The lengths of most words are divided by as constants.
+#[inline(always)]
+fn quotient(a: usize, n: usize) -> usize
+    requires { 0 < n }
+    ensures { result ≡ a / n }
+{
+    match n {
+        2 => a / 2,
+        3 => a / 3,
+        4 => a / 4,
+        5 => a / 5,
+        _ => a / n,
+    }
+}
+
+// How often the first n bytes and the one behind them come again, as far as that is seen.
+#[inline(always)]
+fn times_again(held: &[u8], n: usize) -> usize
+    requires some { 0 < n }
+    requires within { n ≤ length held.now }
+    ensures again { ComesAgain held.now n result }
+    ensures within { n + result * n ≤ length held.now }
+{
+    let bytes = bytes_again(held, n);
+    if bytes == 0 {
+        return 0;
+    }
+    quotient(bytes - 1, n)
+}
+
+// Writes a cell over so many cells of a row from a place on.
+#[inline(always)]
+fn fill_cells(row: &mut [Cell], at: usize, count: usize, cell: Cell)
+    requires { at + count ≤ length row.old }
+    ensures { row.new ≡ take at row.old ++ replicate count cell ++ drop (at + count) row.old }
+{
+    row[at..at + count].fill(cell);
+}
+
+// What is left of the credit for repeated words behind a word that came so many times more.
+#[inline(always)]
+fn next_credit(credit: usize, more: usize) -> usize {
+    credit
+        .saturating_add(more)
+        .min(MOST_CREDIT)
+        .saturating_sub(COST_OF_A_WORD)
+}
+
+// The same as `cells_in`, for a text in which words come again and again: each that does is read once. It ends where few do.
+#[inline(never)]
+fn repeated_cells_in(held: &[u8], header: &Header, row: &mut [Cell]) -> (usize, usize)
+    ensures { AreCellsInLine header.now held.now row.old row.new result }
+{
+    let mut i = 0;
+    let mut passed = 0;
+    let mut credit = MOST_CREDIT;
+    'words: while i < row.len() && credit > 0 {
+        let Some(found) = held_cell(&held[passed..], header) else {
+            return (i, passed);
+        };
+        let more = times_again(&held[passed..], found.1).min(row.len() - i - 1);
+        credit = next_credit(credit, more);
+        fill_cells(row, i, 1 + more, found.0);
+        i += 1 + more;
+        passed += found.1 + more * found.1;
+    }
+    (i, passed)
+}
+
+// The same as `cells_in`, each cell read by itself.
+//
+// It is not inlined: within a larger function, or with one parameter more, its loop would keep less in registers.
+#[inline(never)]
+fn single_cells_in(held: &[u8], header: &Header, row: &mut [Cell]) -> (usize, usize)
+    ensures { AreCellsInLine header.now held.now row.old row.new result }
+{
+    let mut passed = 0;
+    for i in 0..row.len() {
+        let Some(found) = held_cell(&held[passed..], header) else {
+            return (i, passed);
+        };
+        row[i] = found.0;
+        passed += found.1;
+    }
+    (row.len(), passed)
+}
+
+// The same as `cells_in`, by the words that were read before.
+fn sought_cells_in(
+    held: &[u8],
+    words: &mut WordTable,
+    row: &mut [Cell],
+    pace: &mut Pace,
+) -> (usize, usize, u64)
+    ensures cells { AreCellsRead words.old held.now row.old row.new result }
+    ensures same { words.new ≡ words.old }
+{
+    let end = pace.most_sought().min(row.len());
+    let mut missed = 0;
+    let found = words.cells_in(held, &mut row[..end], &mut missed);
+    pace.pass_sought(found.0, missed);
+    found
+}
+
+// The same as `single_cells_in`, as many as are to be read without a look-up.
+fn unsought_cells_in(
+    held: &[u8],
+    header: &Header,
+    row: &mut [Cell],
+    pace: &mut Pace,
+) -> (usize, usize)
+    ensures { AreCellsInLine header.now held.now row.old row.new result }
+{
+    let end = pace.unsought.min(row.len());
+    let found = single_cells_in(held, header, &mut row[..end]);
+    pace.pass_unsought(found.0);
+    found
+}
+
+// The same as `cells_in`, each cell by itself: by the words that were read before, and where that reads none, as at the last
+// bytes held, word by word.
+fn each_cell_in(
+    held: &[u8],
+    words: &mut WordTable,
+    row: &mut [Cell],
+    pace: &mut Pace,
+) -> (usize, usize, u64)
+    ensures cells { AreCellsRead words.old held.now row.old row.new result }
+    ensures same { words.new ≡ words.old }
+{
+    let found = unsought_cells_in(held, words.header(), row, pace);
+    if found.0 > 0 {
+        return (found.0, found.1, 0);
+    }
+    let found = sought_cells_in(held, words, row, pace);
+    if found.0 > 0 {
+        return found;
+    }
+    let found = single_cells_in(held, words.header(), row);
+    (found.0, found.1, 0)
+}
+
+// The same, as many as are to be read one by one.
+fn next_cells_in(
+    held: &[u8],
+    words: &mut WordTable,
+    row: &mut [Cell],
+    pace: &mut Pace,
+) -> (usize, usize, u64)
+    ensures cells { AreCellsRead words.old held.now row.old row.new result }
+    ensures same { words.new ≡ words.old }
+{
+    let end = pace.singles.min(row.len());
+    let found = each_cell_in(held, words, &mut row[..end], pace);
+    pace.pass_singles(found.0);
+    found
+}
+
+// The same as `cells_in`, in one of the two ways.
+//
+// Each way says the same of the cells, so nothing is proved of the pace.
+fn some_cells_in(
+    held: &[u8],
+    words: &mut WordTable,
+    row: &mut [Cell],
+    pace: &mut Pace,
+) -> (usize, usize, u64)
+    ensures cells { AreCellsRead words.old held.now row.old row.new result }
+    ensures same { words.new ≡ words.old }
+{
+    if pace.singles > 0 {
+        return next_cells_in(held, words, row, pace);
+    }
+    let found = repeated_cells_in(held, words.header(), row);
+    if found.0 == 0 {
+        pace.pass_none();
+        return next_cells_in(held, words, row, pace);
+    }
+    if found.0 < row.len() {
+        pace.pass_repeated(found.0);
+    } else {
+        pace.pass_row(found.0);
+    }
+    (found.0, found.1, 0)
+}
+
+/// The cells whose words are held one after another, apart by blanks and line feeds, up to the length of a row: they fill the
+/// front of the row. Returns how many they are, how many bytes they take, and how many of these are line feeds.
+pub fn cells_in(
+    held: &[u8],
+    words: &mut WordTable,
+    row: &mut [Cell],
+    pace: &mut Pace,
+) -> (usize, usize, u64)
+    ensures cells { AreCellsRead words.old held.now row.old row.new result }
+    ensures same { words.new ≡ words.old }
+{
+    let mut i = 0;
+    let mut passed = 0;
+    let mut lines = 0;
+    'parts: while i < row.len() {
+        let found = some_cells_in(&held[passed..], words, &mut row[i..], pace);
+        if found.0 == 0 {
+            return (i, passed, lines);
+        }
+        i += found.0;
+        passed += found.1;
+        lines += found.2;
+    }
+    (i, passed, lines)
+}

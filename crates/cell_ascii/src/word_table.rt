@@ -1,0 +1,368 @@
+//! Cells of words that were read before: each is read once, and then found by its bytes.
+
+ghost use Rattle.std.specs.Prelude.{ℕ, List, true, false, ◌≡◌, ◌+◌, ◌-◌, ◌*◌, ◌%◌, ◌^◌, ◌<◌, ◌≤◌, length, take, drop, Some, Ok, IfOk, IfSome};
+ghost use Rattle.std.specs.List.{All};
+ghost use Rattle.std.specs.Int.RustNames.{count_ones, bit_and};
+ghost use Rattle.std.specs.Simd.Lanes.{mask_l};
+ghost use Rattle.cell_ascii_meaning.specs.GridTokens.{newlines};
+ghost use Rattle.cell_ascii_meaning.specs.CellTexts.{cell_of_word};
+ghost use Rattle.cell_ascii_meaning.specs.EdgeNumbers.{digits_of, whole_number};
+ghost use Rattle.cell_ascii.specs.TableWords.{HoldsLines, IsEntry, IsCellPut, blanks, feeds, kept_bytes, AreCellsRead};
+ghost use Rattle.cell_ascii.specs.parts.WordPlaces.{CanPut};
+ghost use Rattle.cell_ascii.specs.parts.BlankRuns.{IsAtBlank, IsBehindBlanks};
+
+use crate::short_cells::{MOST_DIGITS, negative};
+use cell_ascii_reading::header::Header;
+use cell_core::cell::Cell;
+use cell_core::memory::Memory;
+use cell_core_values::whole_numbers::is_digit;
+use std::alloc::Global;
+use std::marker::Model;
+use std::simd::prelude::*;
+
+// How many words are kept. They take 64 KiB for each open reader.
+const ENTRIES: usize = 4096;
+
+// So many upper bits of a number below 2^64 are a place among them.
+const PLACE_BITS: u32 = 12;
+
+// The most bytes of a word that is kept.
+const MOST_KEPT: usize = 8;
+
+// So many bytes have to be held for that, and for a load at the last of them.
+const LEAST_HELD: usize = 72;
+
+// A word that was read, by its bytes, and its cell. It is free where it has no bytes.
+#[derive(Clone, Copy)]
+struct WordEntry {
+    key: u64,
+    size: u32,
+    cell: Cell,
+}
+
+// Which of the first 64 bytes are blanks or line feeds, from the lowest bit on.
+#[inline(always)]
+fn blanks_in(held: &[u8]) -> u64
+    requires { 64 ≤ length held.now }
+    ensures { result ≡ mask_l (blanks held.now) }
+{
+    let bytes = u8x64::from_slice(held);
+    let apart = bytes.simd_eq(u8x64::splat(b' ')) | bytes.simd_eq(u8x64::splat(b'\t'));
+    let ends = bytes.simd_eq(u8x64::splat(b'\r')) | bytes.simd_eq(u8x64::splat(b'\n'));
+    (apart | ends).to_bitmask()
+}
+
+// Which of them are line feeds.
+#[inline(always)]
+fn feeds_in(held: &[u8]) -> u64
+    requires { 64 ≤ length held.now }
+    ensures { result ≡ mask_l (feeds held.now) }
+{
+    u8x64::from_slice(held)
+        .simd_eq(u8x64::splat(b'\n'))
+        .to_bitmask()
+}
+
+// How many of the lowest n bits are set.
+#[inline(always)]
+fn ones_below(bits: u64, n: usize) -> u64
+    requires { n < 64 }
+    ensures value { result ≡ count_ones (bits % 2 ^ n) }
+    ensures few { result ≤ 64 }
+{
+    // As of the line feeds in most blocks.
+    if bits == 0 {
+        return 0;
+    }
+    (bits & ((1 << n) - 1)).count_ones() as u64
+}
+
+// Bits without the lowest that is set.
+#[inline(always)]
+fn next_bits(bits: u64) -> u64
+    requires { 0 < bits }
+    ensures { result ≡ bit_and bits (bits - 1) }
+{
+    bits & (bits - 1)
+}
+
+// The place behind the blanks that stand from a place on, one behind another, and the bits of those behind that.
+//
+// Bits for both ends of each word were faster for right-aligned columns, and slower for single blanks.
+#[inline(always)]
+fn pass_blanks(ends: u64, at: usize) -> (usize, u64)
+    requires { at < 64 }
+    ensures { (bytes : List ℕ) → IsAtBlank bytes ends at → IsBehindBlanks bytes at result }
+{
+    // What is added carries through the bits of the blanks, and sets the one behind them.
+    let carried = ends.wrapping_add(1 << at);
+    (carried.trailing_zeros() as usize, ends & carried)
+}
+
+// The first bytes of a word, as the upper bytes of a number.
+#[inline(always)]
+fn word_key(bytes: &[u8], size: usize) -> u64
+    requires some { 0 < size }
+    requires few { size ≤ 8 }
+    requires held { 8 ≤ length bytes.now }
+    ensures { kept_bytes result size ≡ take size bytes.now }
+{
+    let [all] = u64x1::from_le_bytes(u8x8::from_slice(bytes)).to_array();
+    all << (64 - 8 * size)
+}
+
+// The place of a word among those that are kept.
+#[inline(always)]
+fn word_place(key: u64) -> usize
+    ensures { result < 4096 }
+{
+    (key.wrapping_mul(0x9E37_79B9_7F4A_7C15) >> (64 - PLACE_BITS)) as usize
+}
+
+// The value of one to nine digits.
+#[inline(always)]
+fn value_of(digits: &[u8]) -> Option<u32>
+    ensures { IfSome result (λ value. digits_of digits.now ≡ Some value) }
+{
+    if digits.is_empty() || digits.len() > MOST_DIGITS {
+        return None;
+    }
+    let mut value = 0u32;
+    for (i, b) in digits.iter().enumerate() {
+        if !is_digit(*b) {
+            return None;
+        }
+        value = value * 10 + (*b - b'0') as u32;
+    }
+    Some(value)
+}
+
+// The number that a word of one to nine digits is, behind a minus or not.
+#[inline(always)]
+fn word_number(word: &[u8]) -> Option<i64>
+    ensures { IfSome result (λ number. whole_number word.now ≡ Some number) }
+{
+    if let [b'-', digits @ ..] = word {
+        return Some(negative(value_of(digits)?));
+    }
+    Some(value_of(word)? as i64)
+}
+
+// The cell of a word that is not kept.
+#[inline(always)]
+fn read_word(word: &[u8], header: &Header) -> Option<Cell>
+    ensures { IfSome result (λ v. cell_of_word header.now word.now ≡ Ok v) }
+{
+    let cell = match word_number(word) {
+        Some(number) => header.cell_of_number(word, number),
+        None => header.cell_of_word(word),
+    };
+    cell.ok()
+}
+
+// Keeps the cell of a word, in the place of another, where the word is short.
+fn keep_word(bytes: &[u8], size: usize, cell: Cell, header: &Header, entries: &mut [WordEntry])
+    requires some { 0 < size }
+    requires held { 8 ≤ length bytes.now }
+    requires cell { cell_of_word header.now (take size bytes.now) ≡ Ok cell }
+    requires room { length entries.old ≡ 4096 }
+    requires known { All (IsEntry header.now) entries.old }
+    ensures { All (IsEntry header.now) entries.new }
+{
+    if size > MOST_KEPT {
+        return;
+    }
+    let key = word_key(bytes, size);
+    entries[word_place(key)] = WordEntry {
+        key,
+        size: size as u32,
+        cell,
+    };
+}
+
+// Reads the cell of the word that the first bytes are, to a place of a row, and keeps it. Answers whether it is one. It is
+// counted as missed.
+#[inline(never)]
+fn read_cell(
+    bytes: &[u8],
+    size: usize,
+    header: &Header,
+    entries: &mut [WordEntry],
+    row: &mut [Cell],
+    i: usize,
+    missed: &mut usize,
+) -> bool
+    requires { CanPut header.now bytes.now size entries.old i row.old }
+    ensures cell { result ≡ true → IsCellPut header.now (take size bytes.now) i row.old row.new }
+    ensures none { result ≡ false → row.new ≡ row.old }
+    ensures known { All (IsEntry header.now) entries.new }
+{
+    *missed = missed.saturating_add(1);
+    let Some(cell) = read_word(&bytes[..size], header) else {
+        return false;
+    };
+    keep_word(bytes, size, cell, header, entries);
+    row[i] = cell;
+    true
+}
+
+// Writes the cell of the word that the first bytes are to a place of a row. Answers whether it is one.
+#[inline(always)]
+fn put_cell(
+    bytes: &[u8],
+    size: usize,
+    header: &Header,
+    entries: &mut [WordEntry],
+    row: &mut [Cell],
+    i: usize,
+    missed: &mut usize,
+) -> bool
+    requires { CanPut header.now bytes.now size entries.old i row.old }
+    ensures cell { result ≡ true → IsCellPut header.now (take size bytes.now) i row.old row.new }
+    ensures none { result ≡ false → row.new ≡ row.old }
+    ensures known { All (IsEntry header.now) entries.new }
+{
+    if size <= MOST_KEPT {
+        let key = word_key(bytes, size);
+        let entry = entries[word_place(key)];
+        if entry.key == key && entry.size as usize == size {
+            row[i] = entry.cell;
+            return true;
+        }
+    }
+    read_cell(bytes, size, header, entries, row, i, missed)
+}
+
+// The cells of the words that end among the first 64 bytes held, up to the length of a row: how many they are, and where the
+// last of them ends. It ends before a word that is no cell.
+#[inline(always)]
+fn block_cells_in(
+    held: &[u8],
+    header: &Header,
+    entries: &mut [WordEntry],
+    row: &mut [Cell],
+    missed: &mut usize,
+) -> (usize, usize)
+    requires held { 72 ≤ length held.now }
+    requires room { length entries.old ≡ 4096 }
+    requires known { All (IsEntry header.now) entries.old }
+    ensures cells { HoldsLines header.now held.now (take result.0 row.new) result.0 result.1
+        (newlines (take result.1 held.now)) }
+    ensures count { result.0 ≤ length row.old }
+    ensures within { result.1 < 64 }
+    ensures rest { drop result.0 row.new ≡ drop result.0 row.old }
+    ensures known { All (IsEntry header.now) entries.new }
+{
+    let mut ends = blanks_in(held);
+    let mut at = 0;
+    let mut last = 0;
+    let mut i = 0;
+    'words: while ends != 0 && i < row.len() {
+        let end = ends.trailing_zeros() as usize;
+        let size = end - at;
+        if size > 0 {
+            if !put_cell(&held[at..], size, header, entries, row, i, missed) {
+                return (i, last);
+            }
+            i += 1;
+            last = end;
+            at = end + 1;
+            ends = next_bits(ends);
+        } else {
+            let passed = pass_blanks(ends, at);
+            at = passed.0;
+            ends = passed.1;
+        }
+    }
+    (i, last)
+}
+
+/// What the header of a grid text says of its cells, and words that were read under it. It grows by no call.
+#[derive(Drop)]
+pub struct WordTable {
+    header: Header,
+    entries: Vec<WordEntry>,
+}
+
+impl Model for WordTable {
+    ghost use Rattle.std.specs.Prelude.{◌≡◌, length};
+    ghost use Rattle.std.specs.List.{All};
+    ghost use Rattle.cell_ascii_meaning.specs.Header.{HeaderValue};
+    ghost use Rattle.cell_ascii.specs.TableWords.{IsEntry};
+
+    ghost Value = { HeaderValue };
+
+    ghost view = { λ t. t.header };
+
+    ghost invariant = { λ t. (length t.entries.items ≡ 4096) × All (IsEntry t.header) t.entries.items };
+}
+
+// The cells whose words are held one after another, apart by blanks and line feeds, up to the length of a row: they fill its
+// front. Returns how many they are, how many bytes they take, and how many of these are line feeds. It leaves the last bytes
+// held out, words of 64 bytes and more, and a word that is no cell with all behind it. Words that are not kept are counted as
+// missed.
+#[inline(never)]
+fn table_cells_in(
+    held: &[u8],
+    header: &Header,
+    entries: &mut [WordEntry],
+    row: &mut [Cell],
+    missed: &mut usize,
+) -> (usize, usize, u64)
+    requires room { length entries.old ≡ 4096 }
+    requires known { All (IsEntry header.now) entries.old }
+    ensures cells { AreCellsRead header.now held.now row.old row.new result }
+    ensures known { All (IsEntry header.now) entries.new }
+{
+    let mut i = 0;
+    let mut passed = 0;
+    let mut lines = 0;
+    'blocks: while i < row.len() && held.len() - passed >= LEAST_HELD {
+        let block = &held[passed..];
+        let found = block_cells_in(block, header, entries, &mut row[i..], missed);
+        if found.0 == 0 {
+            return (i, passed, lines);
+        }
+        lines += ones_below(feeds_in(block), found.1);
+        i += found.0;
+        passed += found.1;
+    }
+    (i, passed, lines)
+}
+
+impl WordTable {
+    /// A table of no words yet.
+    pub fn new(alloc: Global, header: Header) -> Result<WordTable, Memory>
+        ensures { IfOk result (λ t. t ≡ header) }
+    {
+        let free = WordEntry {
+            key: 0,
+            size: 0,
+            cell: Cell::null(),
+        };
+        let entries = vec![in alloc; free; ENTRIES]?;
+        Ok(WordTable { header, entries })
+    }
+
+    /// The header by which words are read as cells.
+    pub fn header(&self) -> &Header
+        ensures { result.now ≡ self.now }
+    {
+        &self.header
+    }
+
+    /// The cells whose words are held one after another, apart by blanks and line feeds, up to the length of a row: they fill
+    /// its front. Returns how many they are, how many bytes they take, and how many of these are line feeds. Words that were
+    /// not read before, as far as is known, are counted as missed.
+    pub fn cells_in(
+        &mut self,
+        held: &[u8],
+        row: &mut [Cell],
+        missed: &mut usize,
+    ) -> (usize, usize, u64)
+        ensures cells { AreCellsRead self.old held.now row.old row.new result }
+        ensures same { self.new ≡ self.old }
+    {
+        table_cells_in(held, &self.header, self.entries.as_mut_slice(), row, missed)
+    }
+}

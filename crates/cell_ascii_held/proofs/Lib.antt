@@ -1,9 +1,0 @@
-pub mod ManyLemmas
-pub mod HeldLemmas
-pub mod HeldRowLemmas
-pub mod AgainLemmas
-pub mod LaneLemmas
-mod ByteLemmas
-pub mod BitLemmas
-pub mod RunLemmas
-pub mod WordLemmas

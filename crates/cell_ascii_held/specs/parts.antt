@@ -1,4 +1,0 @@
--- Cells that were read where no line ends, and what is needed to read the cell of a word.
-pub mod InLine
-pub mod WordPlaces
-pub mod BlankRuns

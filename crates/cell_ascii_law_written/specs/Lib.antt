@@ -1,2 +1,0 @@
--- What the law of written grid texts states.
-pub mod WrittenLaw

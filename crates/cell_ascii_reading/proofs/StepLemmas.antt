@@ -1,0 +1,150 @@
+-- What a step over blanks and line feeds tells of the next word, of the rest of the line, and of the line and the run.
+use Rattle.std.proofs.Common.{◌≡◌, ℕ, ◌+◌, ◌-◌, ◌<◌, ◌≤◌, ◌==◌, List, [], ◌∷◌, Option, Some, None, Bool, true, false, Result, Ok, Err, nat_lt, refl, ap, ◌∙◌, arith}
+use Rattle.std.specs.Option.{option_map}
+use Rattle.std.proofs.lemmas.Bool.Decides.{nat_tests}
+use Rattle.cell_core_devices.specs.Device.{Coming}
+use Rattle.cell_ascii_meaning.specs.GridTokens.{Start, is_space, grid_start, grid_fault}
+use Rattle.cell_ascii_meaning.specs.declared.grid_fault.GridKind.TheVariants.{Read}
+use Rattle.cell_ascii_meaning.specs.Header.{Gap, gap_of}
+use Rattle.cell_ascii_meaning.specs.declared.grid_fault.GridFault.{GridFault}
+use Rattle.cell_ascii_reading.specs.Ahead.{bytes_to_come, Agrees}
+use Rattle.cell_ascii_reading.specs.Scan.{Scan}
+use Rattle.cell_ascii_reading.specs.parts.ScanSteps.{step_at, step_of, IsStep, line_step, run_step, start_step, gap_step}
+use Rattle.cell_ascii_reading.specs.declared.scanner.ScanStep.{ScanStep}
+use Rattle.cell_ascii_reading.specs.declared.scanner.ScanStep.TheVariants.{Blank, Feed, Word, End}
+use Rattle.cell_ascii_reading.proofs.StartLemmas.{coming, start-ends, start-fails, start-begins, start-stuck, start-next}
+use Rattle.cell_ascii_reading.proofs.GapLemmas.{gap-ends, gap-fails, gap-begins, gap-stuck, gap-feed, gap-more}
+
+pub has_room : (run : ℕ) → run < 1048576 → nat_lt run 1048576 ≡ true
+has_room run low = grind (arith, nat_tests)
+
+pub no_room : (run : ℕ) → 1048576 ≤ run → nat_lt run 1048576 ≡ false
+no_room run full = grind (arith, nat_tests)
+
+room_of : (run : ℕ) → nat_lt run 1048576 ≡ true → run < 1048576
+room_of run e = grind (arith, nat_tests)
+
+full_of : (run : ℕ) → nat_lt run 1048576 ≡ false → 1048576 ≤ run
+full_of run e = grind (arith, nat_tests)
+
+-- a step at a byte of which these three are known
+pub step-byte : (line run b : ℕ) (bs : List ℕ) (f : Bool) {space room feed : Bool}
+    → is_space b ≡ space → nat_lt run 1048576 ≡ room → (b == 10) ≡ feed
+    → step_of line run (coming (b ∷ bs) f)
+    ≡ step_at space room feed line (coming (b ∷ bs) f) (coming bs f)
+unfolding step_of
+step-byte line run b bs f p q r = λ i. step_at (p i) (q i) (r i) line (coming (b ∷ bs) f) (coming bs f)
+
+pub step-ends : (line run : ℕ) → step_of line run (coming [] false) ≡ (Ok End, coming [] false)
+unfolding step_of
+step-ends line run = refl
+
+pub step-fails : (line run : ℕ) → step_of line run (coming [] true) ≡ (Err (grid_fault Read line), coming [] true)
+unfolding step_of
+step-fails line run = refl
+
+-- what a function says of what was to come goes by what another says of it
+agrees_after : {A B : Type 0} (F K : Coming → A) (H : Coming → B) (G : A → B) → ((c : Coming) → H c ≡ G (F c))
+    → (x y : Option Coming)
+    → option_map F x ≡ option_map K y → option_map H x ≡ option_map (λ c. G (K c)) y
+agrees_after F K H G same None None e = refl
+agrees_after F K H G same None (Some d) e = cc
+agrees_after F K H G same (Some c) None e = cc
+agrees_after F K H G same (Some c) (Some d) e = let inner : F c ≡ K d = cc in ap Some (same c ∙ ap G inner)
+
+-- what a step with what is to come behind it says of the next word, and of the rest of the line
+abbrev start_after : ℕ → ℕ → Result ScanStep GridFault × Coming → Start
+start_after line run p = start_step p.0 (line_step p.0 line) (run_step p.0 run) p.1
+
+abbrev gap_after : ℕ → ℕ → Result ScanStep GridFault × Coming → Gap
+gap_after line run p = gap_step p.0 (line_step p.0 line) (run_step p.0 run) p.1
+
+module _ (line run : ℕ) (low : run ≤ 1048576) where
+  module _ (b : ℕ) (bs : List ℕ) (f : Bool) where
+    start_byte : (space room feed : Bool) → is_space b ≡ space → nat_lt run 1048576 ≡ room → (b == 10) ≡ feed
+        → grid_start line run (coming (b ∷ bs) f)
+        ≡ start_after line run (step_at space room feed line (coming (b ∷ bs) f) (coming bs f))
+    start_byte false room feed p q r = start-begins line run low b bs f p
+    start_byte true false feed p q r = start-stuck line run low b bs f p (full_of run q)
+    start_byte true true true p q r = start-next line run low b (line + 1) bs f p (room_of run q) (rw r refl)
+    start_byte true true false p q r = start-next line run low b line bs f p (room_of run q) (rw r (omega arith))
+
+    gap_byte : (space room feed : Bool) → is_space b ≡ space → nat_lt run 1048576 ≡ room → (b == 10) ≡ feed
+        → gap_of line run (coming (b ∷ bs) f)
+        ≡ gap_after line run (step_at space room feed line (coming (b ∷ bs) f) (coming bs f))
+    gap_byte false room feed p q r = gap-begins line run low b bs f p
+    gap_byte true false feed p q r = gap-stuck line run low b bs f p (full_of run q)
+    gap_byte true true true p q r = gap-feed line run low b bs f r (room_of run q)
+    gap_byte true true false p q r = gap-more line run low b line bs f p r refl
+
+  start_is : (bs : List ℕ) (f : Bool) → grid_start line run (coming bs f)
+      ≡ start_after line run (step_of line run (coming bs f))
+  unfolding step_of
+  start_is [] false = start-ends line run low
+  start_is [] true = start-fails line run low
+  start_is (b ∷ bs) f = start_byte b bs f (is_space b) (nat_lt run 1048576) (b == 10) refl refl refl
+
+  gap_is : (bs : List ℕ) (f : Bool) → gap_of line run (coming bs f)
+      ≡ gap_after line run (step_of line run (coming bs f))
+  unfolding step_of
+  gap_is [] false = gap-ends line run low
+  gap_is [] true = gap-fails line run low
+  gap_is (b ∷ bs) f = gap_byte b bs f (is_space b) (nat_lt run 1048576) (b == 10) refl refl refl
+
+lines_by : (r : Result ScanStep GridFault) (line run : ℕ) → line_step r line + run ≤ line + run_step r run
+lines_by (Ok Blank) line run = omega arith
+lines_by (Ok Feed) line run = omega arith
+lines_by (Ok Word) line run = omega arith
+lines_by (Ok End) line run = omega arith
+lines_by (Err f) line run = omega arith
+
+-- what a step from one place to another tells
+pub record Tells (r : Result ScanStep GridFault) (s t : Scan) : Type 0 where
+  pub starts : Agrees (grid_start s.line s.run) s.ahead (start_step r t.line t.run) t.ahead
+  pub gap : Agrees (gap_of s.line s.run) s.ahead (gap_step r t.line t.run) t.ahead
+  pub line : t.line ≡ line_step r s.line
+  pub run : t.run ≡ run_step r s.run
+  pub lines : t.line + s.run ≤ s.line + t.run
+  pub word : t.word ≡ s.word
+
+pub step_tells : {r : Result ScanStep GridFault} {s t : Scan} → s.run ≤ 1048576 → IsStep r s t → Tells r s t
+step_tells {r = r} {s = s} {t = t} low step =
+    let line : t.line ≡ line_step r s.line = ap (λ (v : Scan). v.line) step.scan in
+    let run : t.run ≡ run_step r s.run = ap (λ (v : Scan). v.run) step.scan in
+    record {
+      starts = rw (line, run) (agrees_after (step_of s.line s.run) (λ c. (r, c)) _ (start_after s.line s.run)
+          (λ c. start_is s.line s.run low c.bytes c.fails) (bytes_to_come s.ahead) (bytes_to_come t.ahead) step.value);
+      gap = rw (line, run) (agrees_after (step_of s.line s.run) (λ c. (r, c)) _ (gap_after s.line s.run)
+          (λ c. gap_is s.line s.run low c.bytes c.fails) (bytes_to_come s.ahead) (bytes_to_come t.ahead) step.value);
+      line = line;
+      run = run;
+      lines = rw (line, run) (lines_by r s.line s.run);
+      word = ap (λ (v : Scan). v.word) step.scan;
+    }
+
+-- the line and the run after some steps and one more
+pub room_left : (old run line more most : ℕ) → line + run ≤ old + more → old + 1048576 < most → line + 1048576 < most + more
+room_left old run line more most lines room = omega arith
+
+pub room_still : (a b line more : ℕ) → line ≡ a → a + 1048576 < b → line + 1048576 < b + more
+room_still a b line more same room = omega arith
+
+pub smaller : (run more : ℕ) → more ≡ run + 1 → more ≤ 1048576 → 1048576 - more < 1048576 - run
+smaller run more next low = omega arith
+
+pub lines_still : (old run line some next more : ℕ)
+    → line + run ≤ old + some → next + some ≤ line + more → next + run ≤ old + more
+lines_still old run line some next more lines step = omega arith
+
+pub lines_end : (old run line some next more : ℕ)
+    → line + run ≤ old + some → next + some ≤ line + more → more ≤ 1048576 → next ≤ old + 1048576
+lines_end old run line some next more lines step low = omega arith
+
+pub further_still : (old run more : ℕ) → old ≤ run → more ≡ run + 1 → old ≤ more
+further_still old run more low next = omega arith
+
+pub further_same : (old run more : ℕ) → old ≤ run → more ≡ run → old ≤ more
+further_same old run more low same = omega arith
+
+pub same_line : (a : ℕ) → a ≤ a
+same_line a = omega arith

@@ -1,0 +1,29 @@
+-- Where a scanner stands at the value of a header line, and behind the line.
+use Rattle.std.specs.Prelude.{ℕ, ◌≡◌, ◌≤◌, ◌+◌, false, length}
+use Rattle.cell_ascii_reading.specs.Ahead.{bytes_to_come, IsAtEnd}
+use Rattle.cell_ascii_reading.specs.Scan.{Scan}
+use Rattle.cell_ascii_reading.specs.declared.header_reading.Ending.{Ending}
+use Rattle.cell_ascii_reading.specs.declared.header_reading.Ending.TheVariants.{Feed, Text}
+
+-- the value begins at a place of the word, which ends the blanks, in the line
+pub record IsAtValue (at here : ℕ) (s : Scan) : Type 0 where
+  pub line : s.line ≡ here
+  pub run : s.run ≡ 0
+  pub within : at ≤ length s.word
+
+-- the line behind one that has ended
+abbrev pub line_behind : Ending → ℕ → ℕ
+line_behind Feed line = line + 1
+line_behind Text line = line
+
+-- nothing comes behind a line that ends with the text
+abbrev pub LineEndsSo : Ending → Scan → Type 0
+LineEndsSo Feed s = Unit {0}
+LineEndsSo Text s = IsAtEnd false (bytes_to_come s.ahead)
+
+-- the line has ended
+pub record IsLineEnd (ending : Ending) (here : ℕ) (s : Scan) : Type 0 where
+  pub line : s.line ≡ line_behind ending here
+  pub lines : s.line ≤ here + 1
+  pub run : s.run ≤ 1048576
+  pub end : LineEndsSo ending s

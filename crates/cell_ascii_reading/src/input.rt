@@ -1,0 +1,134 @@
+//! Bytes of a source, one at a time.
+
+ghost use Rattle.std.specs.Prelude.{◌≡◌, ◌<◌, ◌≤◌, [], drop, length, OnErr, IfOk, IfSome, IfNone, Ok, Some, None, slice_get, true, false, is_err};
+ghost use Rattle.cell_core_devices.specs.Asking.{hears, heard_first};
+ghost use Rattle.cell_ascii_reading.specs.Ahead.{Ahead, bytes_to_come, IsAtEnd};
+
+use cell_core::device::DeviceFault;
+use cell_core::memory::Memory;
+use cell_core::source::Source;
+use std::alloc::Global;
+use std::marker::Model;
+
+// How many bytes are asked for at once.
+const BLOCK: usize = 65536;
+
+/// A source with a buffer.
+#[derive(Drop)]
+pub struct Input<R: Source> {
+    source: R,
+    buffer: Vec<u8>,
+    at: usize,
+    filled: usize,
+    ended: bool,
+    failed: bool,
+}
+
+impl<R: Source> Model for Input<R> {
+    ghost use Rattle.std.specs.Prelude.{take, drop, length, ◌≡◌, ◌<◌, ◌≤◌, true, false};
+    ghost use Rattle.cell_core_devices.specs.Asking.{is_at};
+    ghost use Rattle.cell_ascii_reading.specs.Ahead.{Ahead, IsAtEnd};
+
+    ghost Value = { Ahead };
+
+    ghost view = { λ i. record {
+      held = drop i.at (take i.filled i.buffer.items);
+      rest = R.coming i.source;
+      ended = i.ended;
+      heard = record { sure = is_at (R.asked i.source) i.ended i.failed; failed = i.failed };
+    } };
+
+    ghost invariant = { λ i. (i.at ≤ i.filled) × (i.filled ≤ length i.buffer.items) × (0 < length i.buffer.items)
+        × (i.ended ≡ true → (i.at ≡ i.filled) × IsAtEnd false (R.coming i.source))
+        × (i.failed ≡ true → (i.at ≡ i.filled) × IsAtEnd true (R.coming i.source) × (i.ended ≡ false)) };
+}
+
+impl<R: Source> Input<R> {
+    /// An input of which nothing was read. It takes the memory of a block.
+    ///
+    /// # Errors
+    ///
+    /// `Memory`, where memory is refused.
+    pub fn new(alloc: Global, source: R) -> Result<Input<R>, Memory>
+    where
+        R: Drop,
+        ensures { IfOk result (λ i. i ≡ record {
+          held = [];
+          rest = R.coming source;
+          ended = false;
+          heard = heard_first (R.asked source);
+        }) }
+    {
+        let buffer = vec![in alloc; 0u8; BLOCK]?;
+        Ok(Input {
+            source,
+            buffer,
+            at: 0,
+            filled: 0,
+            ended: false,
+            failed: false,
+        })
+    }
+
+    /// The next byte, or `None` at the end. The source is not asked again behind its end, nor after an `Err`, which is
+    /// told from then on.
+    pub fn peek(&mut self) -> Result<Option<u8>, DeviceFault>
+        ensures same { bytes_to_come self.new ≡ bytes_to_come self.old }
+        ensures byte { IfOk result (λ o. IfSome o (λ b. slice_get self.new.held 0 ≡ Some b)) }
+        ensures end { IfOk result (λ o. IfNone o (IsAtEnd false (bytes_to_come self.old))) }
+        ensures fault { OnErr result (IsAtEnd true (bytes_to_come self.old)) }
+        ensures told { IfOk result (λ o. IfNone o (self.new.ended ≡ true)) }
+        ensures again { self.old.ended ≡ true → (self.new ≡ self.old) × (result ≡ Ok None) }
+        ensures heard { self.new.heard ≡ hears (is_err result) self.old.heard }
+    {
+        if self.at < self.filled {
+            return Ok(Some(self.buffer[self.at]));
+        }
+        if self.ended {
+            return Ok(None);
+        }
+        if self.failed {
+            return Err(DeviceFault);
+        }
+        let n = match self.source.take(&mut self.buffer) {
+            Ok(n) => n,
+            Err(fault) => {
+                self.failed = true;
+                return Err(fault);
+            }
+        };
+        self.at = 0;
+        self.filled = n;
+        self.ended = n == 0;
+        if n == 0 {
+            return Ok(None);
+        }
+        Ok(Some(self.buffer[0]))
+    }
+
+    /// The bytes that are held.
+    pub fn held_bytes(&self) -> &[u8]
+        ensures { result.now ≡ self.now.held }
+    {
+        &self.buffer[self.at..self.filled]
+    }
+
+    /// Passes held bytes.
+    pub fn pass(&mut self, n: usize)
+        requires { n ≤ length self.old.held }
+        ensures { self.new ≡ record self.old { held = drop n self.old.held } }
+    {
+        self.at += n;
+    }
+
+    /// Passes the byte that `peek` gave.
+    pub fn pass_byte(&mut self)
+        requires { 0 < length self.old.held }
+        ensures held { self.new.held ≡ drop 1 self.old.held }
+        ensures rest { self.new.rest ≡ self.old.rest }
+        ensures ended { self.new.ended ≡ self.old.ended }
+        ensures heard { self.new.heard ≡ self.old.heard }
+    {
+        self.at += 1;
+    }
+}

@@ -1,0 +1,178 @@
+//! The keys of a header that stood so far.
+
+ghost use Rattle.std.specs.Prelude.{◌≡◌, ◌≤◌, length, Ok, Err, OnOk, IfErr, Option};
+ghost use Rattle.cell_ascii_meaning.specs.Header.{no_keys, with_header_key, header_of};
+ghost use Rattle.cell_ascii_reading.specs.Given.{given_value, given_null, given_type, keys_judged};
+
+use crate::header::Header;
+use crate::header_null::HeaderNull;
+use crate::number;
+use cell_ascii_meaning::grid_fault::GridKind;
+use cell_ascii_meaning::header_key::HeaderKey;
+use cell_core::region::{Region, RegionFault};
+use cell_core_values::whole_numbers;
+use std::marker::Model;
+
+/// The keys that stood so far, each with its value.
+#[derive(Drop)]
+pub struct HeaderKeys {
+    north: Option<i64>,
+    south: Option<i64>,
+    east: Option<i64>,
+    west: Option<i64>,
+    rows: Option<u32>,
+    cols: Option<u32>,
+    null: Option<HeaderNull>,
+    kind: bool,
+    multiplier: Option<i32>,
+}
+
+impl Model for HeaderKeys {
+    ghost use Rattle.cell_ascii_meaning.specs.Header.{KeyValues};
+
+    ghost Value = { KeyValues };
+
+    ghost view = { λ k. record { north = k.north; south = k.south; east = k.east; west = k.west; rows = k.rows; cols = k.cols; null = k.null; kind = k.kind; multiplier = k.multiplier } };
+}
+
+// A key is given once, and its value is a number.
+fn value_given<T: Copy>(old: Option<T>, value: Option<T>) -> Result<T, GridKind>
+    ensures { result ≡ given_value old value }
+{
+    match (old, value) {
+        (Some(_), _) => Err(GridKind::TwiceKey),
+        (None, None) => Err(GridKind::BadNumber),
+        (None, Some(value)) => Ok(value),
+    }
+}
+
+// A null text is given once, and has no colon.
+fn given_null(old: &Option<HeaderNull>, text: &[u8]) -> Result<HeaderNull, GridKind>
+    requires { length text.now ≤ 64 }
+    ensures { result ≡ given_null old.now text.now }
+{
+    if text.contains(&b':') {
+        return Err(GridKind::BadHeader);
+    }
+    match old {
+        Some(_) => Err(GridKind::TwiceKey),
+        None => Ok(HeaderNull::new(text)),
+    }
+}
+
+// The type is given once, and is that of whole numbers.
+fn given_type(old: bool, text: &[u8]) -> Result<bool, GridKind>
+    ensures { result ≡ given_type old text.now }
+{
+    if old {
+        return Err(GridKind::TwiceKey);
+    }
+    if text != b"int".as_slice() {
+        return Err(GridKind::BadType);
+    }
+    Ok(true)
+}
+
+// The header over a region, where there is one.
+fn header_of_region(
+    region: Result<Region, RegionFault>,
+    null: Option<HeaderNull>,
+    multiplier: Option<i32>,
+) -> Result<Header, GridKind>
+    ensures { result ≡ keys_judged region null multiplier }
+{
+    match region {
+        Ok(region) => Ok(Header::new(
+            region,
+            null.unwrap_or(HeaderNull::usual()),
+            multiplier.unwrap_or(1),
+        )),
+        Err(fault) => Err(GridKind::Region(fault)),
+    }
+}
+
+impl HeaderKeys {
+    /// Keys of which none was given.
+    pub fn new() -> HeaderKeys
+        ensures { result ≡ no_keys }
+    {
+        HeaderKeys {
+            north: None,
+            south: None,
+            east: None,
+            west: None,
+            rows: None,
+            cols: None,
+            null: None,
+            kind: false,
+            multiplier: None,
+        }
+    }
+
+    /// Adds a key, whose value is a text.
+    pub fn give(&mut self, key: Option<HeaderKey>, text: &[u8]) -> Result<(), GridKind>
+        requires { length text.now ≤ 64 }
+        ensures ok { OnOk result (with_header_key self.old key text.now ≡ Ok self.new) }
+        ensures err { IfErr result (λ kind. with_header_key self.old key text.now ≡ Err kind) }
+    {
+        match key {
+            None => return Err(GridKind::BadHeader),
+            Some(HeaderKey::North) => self.north = Some(value_given(
+                self.north,
+                number::coordinate(text),
+            )?),
+            Some(HeaderKey::South) => self.south = Some(value_given(
+                self.south,
+                number::coordinate(text),
+            )?),
+            Some(HeaderKey::East) => self.east = Some(value_given(
+                self.east,
+                number::coordinate(text),
+            )?),
+            Some(HeaderKey::West) => self.west = Some(value_given(
+                self.west,
+                number::coordinate(text),
+            )?),
+            Some(HeaderKey::Rows) => self.rows = Some(value_given(self.rows, number::side(text))?),
+            Some(HeaderKey::Cols) => self.cols = Some(value_given(self.cols, number::side(text))?),
+            Some(HeaderKey::Null) => self.null = Some(given_null(&self.null, text)?),
+            Some(HeaderKey::CellType) => self.kind = given_type(self.kind, text)?,
+            Some(HeaderKey::Multiplier) => {
+                self.multiplier = Some(value_given(
+                    self.multiplier,
+                    whole_numbers::whole_in_range(text),
+                )?)
+            }
+        }
+        Ok(())
+    }
+
+    /// The header that the keys give.
+    pub fn into_header(self) -> Result<Header, GridKind>
+        ensures { result ≡ header_of self }
+    {
+        let Some(north) = self.north else {
+            return Err(GridKind::MissingKey)
+        };
+        let Some(south) = self.south else {
+            return Err(GridKind::MissingKey)
+        };
+        let Some(east) = self.east else {
+            return Err(GridKind::MissingKey)
+        };
+        let Some(west) = self.west else {
+            return Err(GridKind::MissingKey)
+        };
+        let Some(rows) = self.rows else {
+            return Err(GridKind::MissingKey)
+        };
+        let Some(cols) = self.cols else {
+            return Err(GridKind::MissingKey)
+        };
+        header_of_region(
+            Region::new(north, south, east, west, rows, cols),
+            self.null,
+            self.multiplier,
+        )
+    }
+}

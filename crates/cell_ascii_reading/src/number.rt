@@ -1,0 +1,71 @@
+//! Sides and coordinates in decimal.
+
+ghost use Rattle.std.specs.Prelude.{◌≡◌, ◌&&◌, ◌==◌, ◌+◌, ◌<◌, ◌≤◌, nat_le, length, IfSome};
+ghost use Rattle.std.specs.List.{position_or_len};
+ghost use Rattle.cell_ascii_meaning.specs.EdgeNumbers.{in_units, unsigned_coordinate, coordinate, side};
+
+use cell_core_values::whole_numbers::{are_digits, value_of_digits, whole_in_range};
+
+// Greater than each coordinate in units.
+const UNITS_CAP: u64 = 1000000000000000000;
+
+/// A number of rows or columns: a whole number in range, where a negative one counts none.
+pub fn side(text: &[u8]) -> Option<u32>
+    ensures { result ≡ side text.now }
+{
+    whole_in_range(text).map(|n| n.max(0) as u32)
+}
+
+fn are_short(whole: usize, part: usize) -> bool
+    ensures { result ≡ ((nat_le whole 10 && nat_le part 8) && nat_le 1 (whole + part)) }
+{
+    whole <= 10 && part <= 8 && 1 <= whole + part
+}
+
+// In units of 10^-8.
+fn in_units(whole: &[u8], part: &[u8]) -> Option<u64>
+    ensures value { result ≡ in_units whole.now part.now }
+    ensures most { IfSome result (λ n. n < UNITS_CAP) }
+{
+    if !are_digits(whole) || !are_digits(part) || !are_short(whole.len(), part.len()) {
+        return None;
+    }
+    let scale = 10u64.pow(8 - part.len() as u32);
+    Some(value_of_digits(whole) * 100000000 + value_of_digits(part) * scale)
+}
+
+/// The place of the first such byte, or the length.
+pub fn byte_place(byte: u8, text: &[u8]) -> usize
+    ensures place { result ≡ position_or_len (λ b. b == byte) text.now }
+    ensures within { result ≤ length text.now }
+{
+    for (i, b) in text.iter().enumerate() {
+        if *b == byte {
+            return i;
+        }
+    }
+    text.len()
+}
+
+fn unsigned_coordinate(text: &[u8]) -> Option<u64>
+    ensures value { result ≡ unsigned_coordinate text.now }
+    ensures most { IfSome result (λ n. n < UNITS_CAP) }
+{
+    let point = byte_place(b'.', text);
+    if point < text.len() {
+        in_units(&text[..point], &text[point + 1..])
+    } else {
+        in_units(text, &[])
+    }
+}
+
+/// A coordinate in units of 10^-8: an optional sign, digits, and optionally a point with further digits.
+pub fn coordinate(text: &[u8]) -> Option<i64>
+    ensures { result ≡ coordinate text.now }
+{
+    match text {
+        [b'-', rest @ ..] => unsigned_coordinate(rest).map(|n| -(n as i64)),
+        [b'+', rest @ ..] => unsigned_coordinate(rest).map(|n| n as i64),
+        _ => unsigned_coordinate(text).map(|n| n as i64),
+    }
+}

@@ -1,0 +1,306 @@
+//! Words of a text, with their lines.
+
+ghost use Rattle.std.specs.Prelude.{true, false, ◌≡◌, ◌+◌, ◌-◌, ◌^◌, ◌<◌, ◌≤◌, [], length, drop, Ok, Some, IfOk, IfErr, OnErr, IfSome, IfNone, slice_get};
+ghost use Rattle.cell_core_devices.specs.Asking.{heard_first};
+ghost use Rattle.cell_ascii_reading.specs.Ahead.{bytes_to_come, IsAtEnd, Agrees};
+ghost use Rattle.cell_ascii_meaning.specs.GridTokens.{grid_fault, is_space, grid_start, word_from};
+ghost use Rattle.cell_ascii_meaning.specs.Header.{gap_of};
+ghost use Rattle.cell_ascii_reading.specs.Scan.{Hears, FailsInText};
+
+use crate::input::Input;
+use cell_ascii_meaning::grid_fault::{GridFault, GridKind};
+use cell_core::memory::Memory;
+use cell_core::source::Source;
+use std::alloc::Global;
+use std::marker::Model;
+
+/// A text that is read word by word.
+#[derive(Drop)]
+pub struct Scanner<R: Source> {
+    input: Input<R>,
+    line: u64,
+    run: u32,
+    word: [u8; 64],
+    len: usize,
+}
+
+impl<R: Source> Model for Scanner<R> {
+    ghost use Rattle.std.specs.Prelude.{take, ◌≤◌};
+    ghost use Rattle.cell_ascii_reading.specs.Scan.{Scan};
+
+    ghost Value = { Scan };
+
+    ghost view = { λ s. record { line = s.line; run = s.run; word = take s.len s.word; ahead = s.input } };
+
+    ghost invariant = { λ s. (s.run ≤ 1048576) × (s.len ≤ 64) };
+}
+
+/// A blank or a line feed.
+pub fn is_space(b: u8) -> bool
+    ensures { result ≡ is_space b }
+{
+    b == b' ' || b == b'\t' || b == b'\r' || b == b'\n'
+}
+
+// What a step came to.
+#[derive(Clone, Copy)]
+enum ScanStep {
+    Blank,
+    Feed,
+    Word,
+    End,
+}
+
+/// What comes after blanks and line feeds.
+#[derive(Clone, Copy)]
+pub enum Next {
+    Word,
+    End,
+}
+
+/// What comes after the blanks of a line.
+#[derive(Clone, Copy)]
+pub enum InLine {
+    Word,
+    Feed,
+    End,
+}
+
+impl<R: Source> Scanner<R> {
+    ghost use Rattle.cell_ascii_reading.specs.parts.ScanSteps.{IsStep};
+    ghost use Rattle.cell_ascii_reading.specs.Scan.{start_seen, gap_seen, line_count_seen, word_seen, part_seen};
+
+    // The next byte, or `None` at the end. A device that fails is a fault at the line.
+    #[inline(always)]
+    fn peek(&mut self) -> Result<Option<u8>, GridFault>
+        ensures same { bytes_to_come self.new.ahead ≡ bytes_to_come self.old.ahead }
+        ensures scan { self.new ≡ record self.old { ahead = self.new.ahead } }
+        ensures byte { IfOk result (λ o. IfSome o (λ b. slice_get self.new.ahead.held 0 ≡ Some b)) }
+        ensures end { IfOk result (λ o. IfNone o (IsAtEnd false (bytes_to_come self.old.ahead))) }
+        ensures failed { OnErr result (IsAtEnd true (bytes_to_come self.old.ahead)) }
+        ensures fault { IfErr result (λ f. f ≡ grid_fault GridKind.Read self.old.line) }
+        ensures heard { Hears result self.old.ahead self.new.ahead }
+    {
+        match self.input.peek() {
+            Ok(next) => Ok(next),
+            Err(_) => Err(GridFault {
+                kind: GridKind::Read,
+                line: self.line,
+            }),
+        }
+    }
+
+    // Passes one blank or line feed, where one comes.
+    fn step(&mut self) -> Result<ScanStep, GridFault>
+        requires room { self.old.line + 1048576 < 2 ^ 64 + self.old.run }
+        requires run { self.old.run ≤ 1048576 }
+        ensures step { IsStep result self.old self.new }
+        ensures kind { FailsInText result }
+        ensures heard { Hears result self.old.ahead self.new.ahead }
+    {
+        let Some(b) = self.peek()? else {
+            return Ok(ScanStep::End);
+        };
+        if !is_space(b) {
+            return Ok(ScanStep::Word);
+        }
+        if self.run >= 1048576 {
+            return Err(GridFault {
+                kind: GridKind::ReaderStuck,
+                line: self.line,
+            });
+        }
+        self.input.pass_byte();
+        self.run += 1;
+        if b == b'\n' {
+            self.line += 1;
+            return Ok(ScanStep::Feed);
+        }
+        Ok(ScanStep::Blank)
+    }
+
+    /// Passes blanks and line feeds.
+    pub fn skip_spaces(&mut self) -> Result<Next, GridFault>
+        requires room { self.old.line + 1048576 < 2 ^ 64 }
+        requires run { self.old.run ≤ 1048576 }
+        ensures starts { Agrees (grid_start self.old.line self.old.run) self.old.ahead
+            (start_seen result self.new.line) self.new.ahead }
+        ensures lines { self.new.line ≤ self.old.line + 1048576 }
+        ensures run { self.new.run ≤ 1048576 }
+        ensures further { self.old.run ≤ self.new.run }
+        ensures word { self.new.word ≡ self.old.word }
+        ensures end { result ≡ Ok Next.End → IsAtEnd false (bytes_to_come self.new.ahead) }
+        ensures kind { FailsInText result }
+        ensures heard { Hears result self.old.ahead self.new.ahead }
+    {
+        'spaces: loop {
+            match self.step() {
+                Ok(ScanStep::Blank) => {}
+                Ok(ScanStep::Feed) => {}
+                Ok(ScanStep::Word) => return Ok(Next::Word),
+                Ok(ScanStep::End) => return Ok(Next::End),
+                Err(fault) => return Err(fault),
+            }
+        }
+    }
+
+    /// Passes the blanks of a line, and the line feed where it ends them.
+    pub fn skip_blanks(&mut self) -> Result<InLine, GridFault>
+        requires room { self.old.line + 1048576 < 2 ^ 64 }
+        requires run { self.old.run ≤ 1048576 }
+        ensures gap { Agrees (gap_of self.old.line self.old.run) self.old.ahead
+            (gap_seen result self.new.run) self.new.ahead }
+        ensures line { self.new.line ≡ line_count_seen result self.old.line }
+        ensures run { self.new.run ≤ 1048576 }
+        ensures word { self.new.word ≡ self.old.word }
+        ensures end { result ≡ Ok InLine.End → IsAtEnd false (bytes_to_come self.new.ahead) }
+        ensures kind { FailsInText result }
+        ensures heard { Hears result self.old.ahead self.new.ahead }
+    {
+        'blanks: loop {
+            match self.step() {
+                Ok(ScanStep::Blank) => {}
+                Ok(ScanStep::Feed) => return Ok(InLine::Feed),
+                Ok(ScanStep::Word) => return Ok(InLine::Word),
+                Ok(ScanStep::End) => return Ok(InLine::End),
+                Err(fault) => return Err(fault),
+            }
+        }
+    }
+
+    // Takes one byte of a word, where one comes.
+    fn grow(&mut self) -> Result<bool, GridFault>
+        requires { length self.old.word ≤ 64 }
+        ensures word { Agrees (word_from self.old.line self.old.word) self.old.ahead
+            (part_seen result self.new.line self.new.word) self.new.ahead }
+        ensures line { self.new.line ≡ self.old.line }
+        ensures run { self.new.run ≡ self.old.run }
+        ensures short { length self.new.word ≤ 64 }
+        ensures further { result ≡ Ok true → length self.new.word ≡ length self.old.word + 1 }
+        ensures kind { FailsInText result }
+        ensures heard { Hears result self.old.ahead self.new.ahead }
+    {
+        let Some(b) = self.peek()? else {
+            return Ok(false);
+        };
+        if is_space(b) {
+            return Ok(false);
+        }
+        if self.len >= 64 {
+            return Err(GridFault {
+                kind: GridKind::LongToken,
+                line: self.line,
+            });
+        }
+        self.input.pass_byte();
+        self.word[self.len] = b;
+        self.len += 1;
+        Ok(true)
+    }
+
+    /// Reads the word that comes. No space comes first.
+    pub fn read_word(&mut self) -> Result<(), GridFault>
+        ensures word { Agrees (word_from self.old.line []) self.old.ahead
+            (word_seen result self.new.word) self.new.ahead }
+        ensures line { self.new.line ≡ self.old.line }
+        ensures run { self.new.run ≡ 0 }
+        ensures kind { FailsInText result }
+        ensures heard { Hears result self.old.ahead self.new.ahead }
+    {
+        self.len = 0;
+        self.run = 0;
+        'word: loop {
+            match self.grow() {
+                Ok(true) => {}
+                Ok(false) => return Ok(()),
+                Err(fault) => return Err(fault),
+            }
+        }
+    }
+
+    /// Begins a new run of blanks and line feeds.
+    pub fn end_run(&mut self)
+        ensures { self.new ≡ record self.old { run = 0 } }
+    {
+        self.run = 0;
+    }
+
+    /// The bytes that are held.
+    pub fn held_bytes(&self) -> &[u8]
+        ensures { result.now ≡ self.now.ahead.held }
+    {
+        self.input.held_bytes()
+    }
+
+    /// Whether no blank was passed since the last word.
+    pub fn is_behind_word(&self) -> bool
+        ensures { result ≡ true → self.now.run ≡ 0 }
+    {
+        self.run == 0
+    }
+
+    /// Counts line feeds among bytes that are passed.
+    pub fn count_lines(&mut self, count: u64)
+        requires { self.old.line + count < 2 ^ 64 }
+        ensures { self.new ≡ record self.old { line = self.old.line + count } }
+    {
+        self.line += count;
+    }
+
+    /// Passes held bytes that end with a word.
+    pub fn pass(&mut self, n: usize)
+        requires { n ≤ length self.old.ahead.held }
+        ensures { self.new ≡ record self.old {
+          run = 0;
+          ahead = record self.old.ahead { held = drop n self.old.ahead.held };
+        } }
+    {
+        self.run = 0;
+        self.input.pass(n);
+    }
+
+    /// The line at which the scanner stands, from 1.
+    pub fn line(&self) -> u64
+        ensures { result ≡ self.now.line }
+    {
+        self.line
+    }
+
+    /// The word that was read.
+    pub fn word(&self) -> &[u8]
+        ensures value { result.now ≡ self.now.word }
+        ensures short { length result.now ≤ 64 }
+    {
+        &self.word[..self.len]
+    }
+
+    /// A scanner at the first byte of a source.
+    ///
+    /// # Errors
+    ///
+    /// `Memory`, where memory is refused.
+    pub fn new(alloc: Global, source: R) -> Result<Scanner<R>, Memory>
+    where
+        R: Drop,
+        ensures { IfOk result (λ s. s ≡ record {
+          line = 1;
+          run = 0;
+          word = [];
+          ahead = record {
+            held = [];
+            rest = R.coming source;
+            ended = false;
+            heard = heard_first (R.asked source);
+          };
+        }) }
+    {
+        let input = Input::new(alloc, source)?;
+        Ok(Scanner {
+            input,
+            line: 1,
+            run: 0,
+            word: [0; 64],
+            len: 0,
+        })
+    }
+}

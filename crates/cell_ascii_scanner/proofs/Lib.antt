@@ -1,3 +1,0 @@
-pub mod StartLemmas
-pub mod GapLemmas
-pub mod StepLemmas

@@ -1,0 +1,119 @@
+-- Cells spread over stretches.
+use Rattle.std.proofs.Common.{◌≡◌, ◌<◌, ◌≤◌, ◌+◌, ◌-◌, ℕ, zero, suc, List, [], ◌∷◌, ◌++◌, length, take, drop, get_or}
+use Rattle.std.proofs.Common.{refl, sym, ap, ◌∙◌, arith, append_assoc, append-nil, None, Bool, true, false}
+use Rattle.std.specs.Prelude.{All, nat_lt, if◌then◌else◌, replicate}
+use Rattle.std.proofs.Math.Seq.{take-add}
+use Rattle.std.proofs.lemmas.List.{get_or-drop, get_or_append_left, get_or-append_right, get_or-replicate}
+use Rattle.std.proofs.lemmas.List.{length-replicate, length-map, length-drop, take_more}
+use Rattle.cell_core.specs.Grid.{CellValue}
+use Rattle.cell_calc.specs.RowValues.{at}
+use Rattle.cell_calc.specs.Window.{Window}
+use Rattle.cell_calc.specs.CommonStretches.{centre_row, total, spread, start_cells, GoesBy, AreShort}
+use Rattle.cell_calc.specs.parts.Columns.{owner, IsLikeStart}
+
+-- one more stretch at the end
+pub spread-push : (xs : List CellValue) (ws : List ℕ) (x : CellValue) (w : ℕ) → length xs ≡ length ws
+    → spread (xs ++ x ∷ []) (ws ++ w ∷ []) ≡ spread xs ws ++ replicate w x
+spread-push [] [] x w e = append-nil (replicate w x)
+spread-push [] (v ∷ ws) x w e = absurd (let no : ⊥ = omega (arith, e) in no)
+spread-push (y ∷ xs) [] x w e = absurd (let no : ⊥ = omega (arith, e) in no)
+spread-push (y ∷ xs) (v ∷ ws) x w e =
+    ap (λ l. replicate v y ++ l) (spread-push xs ws x w (omega (arith, e)))
+    ∙ sym (append_assoc (replicate v y) (spread xs ws) (replicate w x))
+
+pub starts-push : (row : List CellValue) (ws : List ℕ) (w : ℕ)
+    → start_cells row (ws ++ w ∷ []) ≡ start_cells row ws ++ at row (total ws) ∷ []
+starts-push row [] w = refl
+starts-push row (v ∷ ws) w =
+    ap (λ l. at row 0 ∷ l) (starts-push (drop v row) ws w
+    ∙ ap (λ x. start_cells (drop v row) ws ++ x ∷ []) (get_or-drop v row (total ws) None))
+
+pub total-push : (ws : List ℕ) (w : ℕ) → total (ws ++ w ∷ []) ≡ total ws + w
+total-push [] w = omega arith
+total-push (v ∷ ws) w = omega (arith, total-push ws w)
+
+-- one more stretch of a list of widths
+pub starts_next : (row : List CellValue) (ws : List ℕ) (i d : ℕ) → i < length ws
+    → start_cells row (take (i + 1) ws) ≡ start_cells row (take i ws) ++ at row (total (take i ws)) ∷ []
+starts_next row ws i d lt = ap (λ l. start_cells row l) (take_more ws i d lt)
+    ∙ starts-push row (take i ws) (get_or ws i d)
+
+pub total_next : (ws : List ℕ) (i d : ℕ) → i < length ws → total (take (i + 1) ws) ≡ total (take i ws) + get_or ws i d
+total_next ws i d lt = ap total (take_more ws i d lt) ∙ total-push (take i ws) (get_or ws i d)
+
+pub total_within : (ws : List ℕ) (i : ℕ) → total (take i ws) ≤ total ws
+total_within ws zero = omega arith
+total_within [] (suc i) = omega arith
+total_within (w ∷ ws) (suc i) = omega (arith, total_within ws i)
+
+pub length-starts : (row : List CellValue) (ws : List ℕ) → length (start_cells row ws) ≡ length ws
+length-starts row [] = refl
+length-starts row (w ∷ ws) = ap suc (length-starts (drop w row) ws)
+
+-- cells that are alike
+alike_taken : (xs : List CellValue) (n : ℕ) (x : CellValue) → n ≤ length xs → ((k : ℕ) → k < n → at xs k ≡ x)
+    → take n xs ≡ replicate n x
+alike_taken xs zero x le alike = refl
+alike_taken [] (suc n) x le alike = absurd (let no : ⊥ = omega (arith, le) in no)
+alike_taken (y ∷ xs) (suc n) x le alike =
+    ap (λ l. y ∷ l) (alike_taken xs n x (omega (arith, le)) (λ k lt. alike (suc k) (omega (arith, lt))))
+    ∙ ap (λ v. v ∷ replicate n x) (alike zero (omega arith))
+
+-- a row that goes by stretches up to a column, and by one more
+pub goes_more : (row : List CellValue) (ws : List ℕ) (from width : ℕ) → total ws ≡ from → from + width ≤ length row
+    → spread (start_cells row ws) ws ≡ take from row → ((k : ℕ) → k < width → at row (from + k) ≡ at row from)
+    → spread (start_cells row (ws ++ width ∷ [])) (ws ++ width ∷ []) ≡ take (from + width) row
+goes_more row ws from width all le so_far alike =
+    let next : take width (drop from row) ≡ replicate width (at row from) =
+    alike_taken (drop from row) width (at row from) (omega (arith, length-drop from row, le))
+    (λ k lt. get_or-drop from row k None ∙ alike k lt) in
+    ap (λ l. spread l (ws ++ width ∷ [])) (starts-push row ws width)
+    ∙ spread-push (start_cells row ws) ws (at row (total ws)) width (length-starts row ws)
+    ∙ ap (λ l. l ++ replicate width (at row (total ws))) so_far
+    ∙ ap (λ n. take from row ++ replicate width (at row n)) all
+    ∙ ap (λ l. take from row ++ l) (sym next)
+    ∙ sym (take-add from width row)
+
+-- the cell of a column is that of its stretch
+pub spread-at : (xs : List CellValue) (ws : List ℕ) (c : ℕ) → length xs ≡ length ws → c < total ws
+    → at (spread xs ws) c ≡ at xs (owner ws c)
+spread-at [] [] c e lt = absurd (let no : ⊥ = omega (arith, lt) in no)
+spread-at [] (w ∷ ws) c e lt = absurd (let no : ⊥ = omega (arith, e) in no)
+spread-at (x ∷ xs) [] c e lt = absurd (let no : ⊥ = omega (arith, e) in no)
+spread-at (x ∷ xs) (w ∷ ws) c e lt = by_case (λ more. spread-at xs ws (c - w) (omega (arith, e)) more) (nat_lt c w) refl
+  where
+    by_case : (c - w < total ws → at (spread xs ws) (c - w) ≡ at xs (owner ws (c - w))) → (b : Bool) → nat_lt c w ≡ b
+        → at (replicate w x ++ spread xs ws) c ≡ at (x ∷ xs) (if b then 0 else owner ws (c - w) + 1)
+    by_case after true h =
+        let below : c < w = grind arith in
+        get_or_append_left (replicate w x) (spread xs ws) None c (rw (length-replicate w x) below)
+        ∙ get_or-replicate w c x None below
+    by_case after false h =
+        let above : w ≤ c = grind arith in
+        let one_on : owner ws (c - w) + 1 ≡ suc (owner ws (c - w)) = omega arith in
+        let next : at (x ∷ xs) (owner ws (c - w) + 1) ≡ at xs (owner ws (c - w)) = ap (λ n. at (x ∷ xs) n) one_on in
+        get_or-append_right (replicate w x) (spread xs ws) w c None (length-replicate w x) above
+        ∙ after (omega (arith, lt, above)) ∙ sym next
+
+pub owner-within : (ws : List ℕ) (c : ℕ) → c < total ws → owner ws c < length ws
+owner-within [] c lt = absurd (let no : ⊥ = omega (arith, lt) in no)
+owner-within (w ∷ ws) c lt = by_case (λ more. owner-within ws (c - w) more) (nat_lt c w) refl
+  where
+    by_case : (c - w < total ws → owner ws (c - w) < length ws) → (b : Bool) → nat_lt c w ≡ b
+        → (if b then 0 else owner ws (c - w) + 1) < length (w ∷ ws)
+    by_case after true h = omega arith
+    by_case after false h =
+        let above : w ≤ c = grind arith in
+        omega (arith, after (omega (arith, lt, above)))
+
+-- at a column the rows have the cells where its stretch begins
+pub like_start : (windows : List Window) (ws : List ℕ) (c : ℕ) → All (GoesBy ws) windows → c < total ws
+    → IsLikeStart ws windows (owner ws c) c
+like_start windows ws c go lt = λ i d within.
+    let row = centre_row (get_or windows i d) in
+    sym (spread-at (start_cells row ws) ws c (length-starts row ws) lt) ∙ ap (λ l. at l c) (go i d within)
+
+-- there are as many windows over the cells where stretches begin
+pub same_count : (windows short : List Window) (ws : List ℕ) → AreShort ws windows short → length short ≡ length windows
+same_count windows short ws is =
+    sym (length-map short centre_row) ∙ ap (λ l. length l) is ∙ length-map windows (λ w. start_cells (centre_row w) ws)

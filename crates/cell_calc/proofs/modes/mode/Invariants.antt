@@ -1,0 +1,11 @@
+use Rattle.std.proofs.Common.{◌≡◌, ◌<◌, ℕ, length, map}
+use Rattle.cell_calc.specs.RowValues.{at, column}
+use Rattle.cell_calc_binding.specs.CellOperators.{mode}
+use Rattle.cell_calc.proofs.modes.mode.Given as goal
+
+abbrev pub invariant-loop-c : goal.invariant-loop-c
+invariant-loop-c l =
+    record {
+      room : length l.cells ≡ length l.arguments;
+      done : (k : ℕ) → k < l.c → at l.row k ≡ mode (column k (map (λ cells. cells.items) l.arguments));
+    }

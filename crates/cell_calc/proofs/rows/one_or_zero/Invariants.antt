@@ -1,0 +1,11 @@
+use Rattle.std.proofs.Common.{◌≡◌, ◌<◌, ◌≤◌, ℕ}
+use Rattle.cell_calc.specs.RowValues.{at}
+use Rattle.cell_calc_binding.specs.CellOperators.{chosen_cell}
+use Rattle.cell_calc.proofs.rows.one_or_zero.Given as goal
+
+abbrev pub invariant-loop-i : goal.invariant-loop-i
+invariant-loop-i l =
+    record {
+      done : (c : ℕ) → c < l.i → at l.row c ≡ chosen_cell (at l.initial.row c) l.yes l.no;
+      rest : (c : ℕ) → l.i ≤ c → at l.row c ≡ at l.initial.row c;
+    }

@@ -1,0 +1,350 @@
+//! Rows of cells.
+
+ghost use Rattle.std.specs.Prelude.{◌≡◌, ◌≤◌, ◌<◌, ◌≤ℤ◌, ◌<ℤ◌, ℕ, pos, length, None, Some, IfSome, ◌+ℤ◌, ◌+◌};
+ghost use Rattle.cell_calc_binding.specs.CellOperators.{chosen_cell, truth, is_null, lesser, greater};
+ghost use Rattle.cell_calc_binding.specs.Applied.{operator_value, size_of, negated_cell, inverted_cell};
+ghost use Rattle.cell_calc_binding.specs.Offsets.{item_at};
+ghost use Rattle.cell_calc_binding.specs.Joins.{known_lesser, known_greater};
+ghost use Rattle.cell_calc.specs.RowValues.{at, Becomes};
+
+use cell_calc_binding::cell_operators;
+use cell_calc_grammar::operator::Operator;
+use cell_core::cell::Cell;
+
+/// Writes a cell into each place of a row.
+pub fn fill(row: &mut [Cell], cell: Cell)
+    ensures { Becomes row.old row.new (λ c. cell) }
+{
+    for i in 0..row.len() {
+        row[i] = cell;
+    }
+}
+
+/// Changes each cell of a row.
+pub(crate) fn each<F: Fn(Cell) -> Cell>(row: &mut [Cell], f: F)
+    requires callable { F.IsAlwaysCallable f }
+    ensures { (c : ℕ) → c < length row.old → F.post f (at row.old c) (at row.new c) }
+{
+    for i in 0..row.len() {
+        row[i] = f(row[i]);
+    }
+}
+
+/// Changes each cell of a row by that of another.
+///
+/// Callers pass named functions, since a closure would be proved by itself at each place.
+pub(crate) fn combine<F: Fn(Cell, Cell) -> Cell>(row: &mut [Cell], other: &[Cell], f: F)
+    requires callable { F.IsAlwaysCallable f }
+    requires width { length other.now ≡ length row.old }
+    ensures { (c : ℕ) → c < length row.old
+        → F.post f (at row.old c) (at other.now c) (at row.new c) }
+{
+    for i in 0..row.len() {
+        row[i] = f(row[i], other[i]);
+    }
+}
+
+/// Changes each cell of a row by one and the same other.
+pub(crate) fn combine_one<F: Fn(Cell, Cell) -> Cell>(row: &mut [Cell], other: Cell, f: F)
+    requires callable { F.IsAlwaysCallable f }
+    ensures { (c : ℕ) → c < length row.old → F.post f (at row.old c) other (at row.new c) }
+{
+    for i in 0..row.len() {
+        row[i] = f(row[i], other);
+    }
+}
+
+/// Puts the cells of another row where conditions hold, and null where they are null.
+pub fn choose(row: &mut [Cell], conditions: &[Cell], yes: &[Cell])
+    requires width_conditions { length conditions.now ≡ length row.old }
+    requires width_yes { length yes.now ≡ length row.old }
+    ensures { Becomes row.old row.new
+        (λ c. chosen_cell (at conditions.now c) (at yes.now c) (at row.old c)) }
+{
+    for i in 0..row.len() {
+        row[i] = cell_operators::chosen_cell(conditions[i], yes[i], row[i]);
+    }
+}
+
+/// The same with one cell for a row.
+pub fn choose_one(row: &mut [Cell], conditions: &[Cell], yes: Cell)
+    requires width { length conditions.now ≡ length row.old }
+    ensures { Becomes row.old row.new
+        (λ c. chosen_cell (at conditions.now c) yes (at row.old c)) }
+{
+    for i in 0..row.len() {
+        row[i] = cell_operators::chosen_cell(conditions[i], yes, row[i]);
+    }
+}
+
+/// The columns' numbers, from 1, of a strip that begins at a column from 0.
+pub(crate) fn number(row: &mut [Cell], from: usize)
+    requires { from + length row.old ≤ 65535 }
+    ensures { Becomes row.old row.new (λ c. Some (pos (from + c + 1))) }
+{
+    for i in 0..row.len() {
+        row[i] = cell_operators::number((from + i) as u32 + 1);
+    }
+}
+
+/// Moves a row's cells to the left.
+fn from_right(source: &[Cell], skip: usize, row: &mut [Cell])
+    requires { (c : ℕ) → c < length row.old → at row.old c ≡ None }
+    ensures { Becomes row.old row.new (λ c. at source.now (c + skip)) }
+{
+    if skip < source.len() {
+        let count = (source.len() - skip).min(row.len());
+        for i in 0..count {
+            row[i] = source[i + skip];
+        }
+    }
+}
+
+/// Moves a row's cells to the right.
+fn from_left(source: &[Cell], skip: usize, row: &mut [Cell])
+    requires { (c : ℕ) → c < length row.old → at row.old c ≡ None }
+    ensures before { (c : ℕ) → c < skip → c < length row.old → at row.new c ≡ None }
+    ensures each { (c : ℕ) → c + skip < length row.old → at row.new (c + skip) ≡ at source.now c }
+{
+    if skip < row.len() {
+        let count = (row.len() - skip).min(source.len());
+        for i in 0..count {
+            row[i + skip] = source[i];
+        }
+    }
+}
+
+// The column that is so many columns to the right of another; below 0 it lies before the row.
+fn shifted_column(from: usize, right: i32) -> i64
+    requires { from ≤ 65535 }
+    ensures { result ≡ pos from +ℤ right }
+{
+    from as i64 + right as i64
+}
+
+/// The part of a row that lies so many columns to the right of a strip, if all of it lies inside.
+pub fn inside<'a>(source: &'a [Cell], from: usize, right: i32, width: usize) -> Option<&'a [Cell]>
+    requires { from ≤ 65535 }
+    ensures width { IfSome result (λ part. length part.now ≡ width) }
+    ensures each { IfSome result (λ part. (c : ℕ) → c < width
+        → at part.now c ≡ item_at None source.now (pos (from + c) +ℤ right)) }
+{
+    let skip = shifted_column(from, right);
+    if skip < 0 {
+        return None;
+    }
+    let first = skip as usize;
+    if source.len() < first || source.len() - first < width {
+        return None;
+    }
+    Some(&source[first..first + width])
+}
+
+/// The cells of a row so many columns to the right, null outside, of a strip that begins at a column.
+pub fn shift(source: &[Cell], from: usize, right: i32, row: &mut [Cell])
+    requires { from ≤ 65535 }
+    ensures { Becomes row.old row.new
+        (λ c. item_at None source.now (pos (from + c) +ℤ right)) }
+{
+    match inside(source, from, right, row.len()) {
+        Some(part) => row.copy_from_slice(part),
+        None => shift_over_the_edge(source, from, right, row),
+    }
+}
+
+// The same where some of them are outside.
+fn shift_over_the_edge(source: &[Cell], from: usize, right: i32, row: &mut [Cell])
+    requires { from ≤ 65535 }
+    ensures { Becomes row.old row.new
+        (λ c. item_at None source.now (pos (from + c) +ℤ right)) }
+{
+    fill(row, Cell::null());
+    let skip = shifted_column(from, right);
+    if skip >= 0 {
+        from_right(source, skip as usize, row);
+    } else {
+        from_left(source, -skip as usize, row);
+    }
+}
+
+/// `isnull` of each cell of a row, in place.
+pub fn nullness(row: &mut [Cell])
+    ensures { Becomes row.old row.new (λ c. truth (is_null (at row.old c))) }
+{
+    each(row, cell_operators::nullness);
+}
+
+/// `abs` of each cell of a row, in place.
+pub fn size(row: &mut [Cell])
+    ensures { Becomes row.old row.new (λ c. size_of (at row.old c)) }
+{
+    each(row, cell_operators::size);
+}
+
+/// `-` of each cell of a row, in place.
+pub fn negate(row: &mut [Cell])
+    ensures { Becomes row.old row.new (λ c. negated_cell (at row.old c)) }
+{
+    each(row, cell_operators::negated_cell);
+}
+
+/// `!` of each cell of a row, in place.
+pub fn invert(row: &mut [Cell])
+    ensures { Becomes row.old row.new (λ c. inverted_cell (at row.old c)) }
+{
+    each(row, cell_operators::inverted_cell);
+}
+
+/// `if(a)` of each cell of a row, in place: 1 where it is neither null nor 0.
+pub fn one_or_zero(row: &mut [Cell])
+    ensures { Becomes row.old row.new
+        (λ c. chosen_cell (at row.old c) (Some (pos 1)) (Some (pos 0))) }
+{
+    let (yes, no) = (cell_operators::truth(true), cell_operators::truth(false));
+    for i in 0..row.len() {
+        row[i] = cell_operators::chosen_cell(row[i], yes, no);
+    }
+}
+
+pub(crate) fn lesser(row: &mut [Cell], other: &[Cell])
+    requires width { length other.now ≡ length row.old }
+    ensures { Becomes row.old row.new (λ c. lesser (at row.old c) (at other.now c)) }
+{
+    combine(row, other, cell_operators::lesser);
+}
+
+pub(crate) fn larger(row: &mut [Cell], other: &[Cell])
+    requires width { length other.now ≡ length row.old }
+    ensures { Becomes row.old row.new (λ c. greater (at row.old c) (at other.now c)) }
+{
+    combine(row, other, cell_operators::larger);
+}
+
+pub(crate) fn known_lesser(row: &mut [Cell], other: &[Cell])
+    requires width { length other.now ≡ length row.old }
+    ensures { Becomes row.old row.new (λ c. known_lesser (at row.old c) (at other.now c)) }
+{
+    combine(row, other, cell_operators::known_lesser);
+}
+
+pub(crate) fn known_larger(row: &mut [Cell], other: &[Cell])
+    requires width { length other.now ≡ length row.old }
+    ensures { Becomes row.old row.new (λ c. known_greater (at row.old c) (at other.now c)) }
+{
+    combine(row, other, cell_operators::known_larger);
+}
+
+pub(crate) fn choose_or_zero(row: &mut [Cell], other: &[Cell])
+    requires width { length other.now ≡ length row.old }
+    ensures { Becomes row.old row.new
+        (λ c. chosen_cell (at row.old c) (at other.now c) (Some (pos 0))) }
+{
+    let no = cell_operators::truth(false);
+    for i in 0..row.len() {
+        row[i] = cell_operators::chosen_cell(row[i], other[i], no);
+    }
+}
+
+/// The values of an operator along a row, which holds its left operands.
+pub fn apply_operator(operator: Operator, row: &mut [Cell], other: &[Cell])
+    requires width { length other.now ≡ length row.old }
+    ensures { Becomes row.old row.new
+        (λ c. operator_value operator (at row.old c) (at other.now c)) }
+{
+    match operator {
+        Operator::Times => combine(row, other, cell_operators::product),
+        Operator::Divide => combine(row, other, cell_operators::quotient),
+        Operator::Modulo => combine(row, other, cell_operators::remainder),
+        Operator::Plus => combine(row, other, cell_operators::sum),
+        Operator::Minus => combine(row, other, cell_operators::difference),
+        Operator::Less => combine(row, other, cell_operators::less),
+        Operator::LessEqual => combine(row, other, cell_operators::less_equal),
+        Operator::Greater => combine(row, other, cell_operators::greater),
+        Operator::GreaterEqual => combine(row, other, cell_operators::greater_equal),
+        Operator::Equal => combine(row, other, cell_operators::equal),
+        Operator::NotEqual => combine(row, other, cell_operators::not_equal),
+        Operator::And => combine(row, other, cell_operators::and),
+        Operator::Or => combine(row, other, cell_operators::or),
+        Operator::KnownAnd => combine(row, other, cell_operators::known_and),
+        Operator::KnownOr => combine(row, other, cell_operators::known_or),
+    }
+}
+
+/// The values of an operator along a row, which holds its left operands; the right one is the same cell everywhere.
+pub fn apply_one(operator: Operator, row: &mut [Cell], b: Cell)
+    ensures { Becomes row.old row.new (λ c. operator_value operator (at row.old c) b) }
+{
+    match operator {
+        Operator::Times => combine_one(row, b, cell_operators::product),
+        Operator::Divide => combine_one(row, b, cell_operators::quotient),
+        Operator::Modulo => combine_one(row, b, cell_operators::remainder),
+        Operator::Plus => combine_one(row, b, cell_operators::sum),
+        Operator::Minus => combine_one(row, b, cell_operators::difference),
+        Operator::Less => combine_one(row, b, cell_operators::less),
+        Operator::LessEqual => combine_one(row, b, cell_operators::less_equal),
+        Operator::Greater => combine_one(row, b, cell_operators::greater),
+        Operator::GreaterEqual => combine_one(row, b, cell_operators::greater_equal),
+        Operator::Equal => combine_one(row, b, cell_operators::equal),
+        Operator::NotEqual => combine_one(row, b, cell_operators::not_equal),
+        Operator::And => combine_one(row, b, cell_operators::and),
+        Operator::Or => combine_one(row, b, cell_operators::or),
+        Operator::KnownAnd => combine_one(row, b, cell_operators::known_and),
+        Operator::KnownOr => combine_one(row, b, cell_operators::known_or),
+    }
+}
+
+// Where a row lies under a strip: its first cell there, the column of the strip that stands over that cell, and how many
+// cells they share.
+#[derive(Clone, Copy)]
+struct Overlap {
+    first: usize,
+    before: usize,
+    count: usize,
+}
+
+// That of a row of so many cells, moved to the left, under a strip of a width that begins at a column.
+fn overlap_of(cells: usize, right: i32, from: usize, width: usize) -> Overlap
+    requires { from ≤ 65535 }
+    ensures strip { result.before + result.count ≤ width }
+    ensures row { result.first + result.count ≤ cells }
+    ensures before { (c : ℕ) → c < result.before → (pos (from + c) +ℤ right) <ℤ pos 0 }
+    ensures first { 0 < result.count → pos result.first ≡ pos (from + result.before) +ℤ right }
+    ensures after { (c : ℕ) → result.before + result.count ≤ c → c < width
+        → pos cells ≤ℤ (pos (from + c) +ℤ right) }
+{
+    let skip = shifted_column(from, right);
+    if skip < 0 {
+        let before = (-skip as usize).min(width);
+        let count = cells.min(width - before);
+        Overlap {
+            first: 0,
+            before,
+            count,
+        }
+    } else {
+        let first = (skip as usize).min(cells);
+        let count = (cells - first).min(width);
+        Overlap {
+            first,
+            before: 0,
+            count,
+        }
+    }
+}
+
+/// The values of an operator along a strip, which holds its left operands and begins at a column; the right ones are the
+/// cells of another row so many columns to the right, null outside.
+pub fn apply_shifted(operator: Operator, row: &mut [Cell], source: &[Cell], right: i32, from: usize)
+    requires { from ≤ 65535 }
+    ensures { Becomes row.old row.new
+        (λ c. operator_value operator (at row.old c)
+        (item_at None source.now (pos (from + c) +ℤ right))) }
+{
+    let overlap = overlap_of(source.len(), right, from, row.len());
+    let part = &source[overlap.first..overlap.first + overlap.count];
+    let (left, others) = row.split_at_mut(overlap.before);
+    let (middle, after) = others.split_at_mut(overlap.count);
+    apply_one(operator, left, Cell::null());
+    apply_operator(operator, middle, part);
+    apply_one(operator, after, Cell::null());
+}

@@ -1,0 +1,178 @@
+//! Windows of rows that move down a map.
+
+ghost use Rattle.std.specs.Prelude.{◌≡◌, ◌≤◌, ◌<◌, ◌+◌, ◌+ℤ◌, ℤ, pos, length, None, Some, IfOk, IfSome, IfNone, ◌<ℤ◌};
+ghost use Rattle.cell_core.specs.Grid.{Grid};
+ghost use Rattle.cell_calc_binding.specs.Offsets.{row_of, cell_at_offset, item_at};
+ghost use Rattle.cell_calc.specs.Window.{IsWindowOf, Reaches};
+ghost use Rattle.cell_calc.specs.CommonStretches.{centre_row};
+ghost use Rattle.cell_calc.specs.WindowsOver.{row_below};
+
+use crate::window_rows::WindowRows;
+use cell_core::cell::Cell;
+use cell_core::map::CellMap;
+use cell_core::memory::Memory;
+use std::alloc::Global;
+use std::marker::Model;
+
+/// The rows of a map from some above a centre row to some below it. The centre moves down.
+#[derive(Drop)]
+pub struct RowWindow {
+    above: u32,
+    below: u32,
+    centre: u32,
+    rows: u32,
+    held: WindowRows,
+}
+
+impl Model for RowWindow {
+    ghost use Rattle.std.specs.Prelude.{length, ◌≡◌, ◌≤◌, ◌<◌, ◌+◌};
+    ghost use Rattle.cell_calc.specs.Window.{Window};
+    ghost use Rattle.cell_calc.specs.parts.WindowRows.{window_code};
+
+    ghost Value = { Window };
+
+    ghost coded = { window_code };
+
+    ghost view = { λ w. record { above = w.above; below = w.below; centre = w.centre; rows = w.rows; cols = w.held.cols; held = w.held.rows } };
+
+    ghost invariant = { λ w. record {
+      above : w.above ≤ 255;
+      below : w.below ≤ 255;
+      centre : w.centre < w.rows;
+      count : length w.held.rows + w.held.free ≡ w.above + w.below + 1;
+    } };
+}
+
+impl RowWindow {
+    /// A window that stands at the first row of a map. Takes all memory that it will need.
+    ///
+    /// # Errors
+    ///
+    /// [`Memory`] where memory was refused.
+    pub fn new(alloc: Global, map: &CellMap, above: u32, below: u32) -> Result<RowWindow, Memory>
+        requires above { above ≤ 255 }
+        requires below { below ≤ 255 }
+        ensures window { IfOk result (λ w. IsWindowOf w map.now) }
+        ensures reach { IfOk result (λ w. (w.above ≡ above) × (w.below ≡ below)) }
+        ensures centre { IfOk result (λ w. w.centre ≡ 0) }
+    {
+        let region = map.region();
+        let capacity = above as usize + below as usize + 1;
+        let mut held = WindowRows::new(alloc, capacity, region.cols())?;
+        for r in 0..below + 1 {
+            held.take_in(map, r as u64);
+        }
+        Ok(RowWindow {
+            above,
+            below,
+            centre: 0,
+            rows: region.rows(),
+            held,
+        })
+    }
+
+    /// The row that it stands at, from 0.
+    pub fn centre(&self) -> u32
+        ensures value { result ≡ self.now.centre }
+        ensures within { self.now.centre < self.now.rows }
+    {
+        self.centre
+    }
+
+    /// The most rows that it holds at a time.
+    pub fn capacity(&self) -> usize
+        ensures value { result ≡ self.now.above + self.now.below + 1 }
+        ensures held { length self.now.held ≤ result }
+    {
+        self.above as usize + self.below as usize + 1
+    }
+
+    /// Moves the centre down by one row of the same map. Takes no memory.
+    pub fn advance(&mut self, map: &CellMap)
+        requires window { IsWindowOf self.old map.now }
+        requires left { self.old.centre + 1 < self.old.rows }
+        ensures window { IsWindowOf self.new map.now }
+        ensures reach { (self.new.above ≡ self.old.above) × (self.new.below ≡ self.old.below) }
+        ensures centre { self.new.centre ≡ self.old.centre + 1 }
+    {
+        let _region = map.region();
+        let next = self.centre as u64 + self.below as u64 + 1;
+        self.held.release(self.above, self.centre);
+        self.held.take_in(map, next);
+        self.centre += 1;
+    }
+
+    /// The map's cell so many rows below the centre and at a column, null outside its region.
+    pub fn cell(&self, dr: i32, c: i64) -> Cell
+        requires { Reaches self.now dr }
+        ensures { (m : Grid) → IsWindowOf self.now m
+            → result ≡ cell_at_offset m (pos self.now.centre +ℤ dr) c }
+    {
+        cell_at(self.row(dr), c)
+    }
+
+    /// A window that stands at these cells, and reaches no other row.
+    ///
+    /// # Errors
+    ///
+    /// [`Memory`] where memory was refused.
+    pub fn of_row(alloc: Global, cells: Vec<Cell>) -> Result<RowWindow, Memory>
+        requires { length cells.items ≤ 65535 }
+        ensures { IfOk result (λ w. centre_row w ≡ cells.items) }
+    {
+        let held = WindowRows::of_row(alloc, cells)?;
+        Ok(RowWindow {
+            above: 0,
+            below: 0,
+            centre: 0,
+            rows: 1,
+            held,
+        })
+    }
+
+    /// The cells of the row that it stands at.
+    pub fn centre_row(&self) -> &[Cell]
+        ensures { result.now ≡ centre_row self.now }
+    {
+        self.row(0)
+    }
+
+    /// The cells of the row so many below the centre, none outside the map.
+    pub fn row(&self, down: i32) -> &[Cell]
+        requires { Reaches self.now down }
+        ensures held { result.now ≡ row_below down (Some self.now) }
+        ensures map { (m : Grid) → IsWindowOf self.now m
+            → result.now ≡ row_of m (pos self.now.centre +ℤ down) }
+    {
+        let first = self.centre.saturating_sub(self.above);
+        match row_place(self.centre, first, down) {
+            Some(i) => self.held.row(i),
+            None => &[],
+        }
+    }
+}
+
+// The place of the row so many below a centre, from a first row on.
+fn row_place(centre: u32, first: u32, down: i32) -> Option<usize>
+    ensures some { IfSome result (λ i. pos (first + i) ≡ pos centre +ℤ down) }
+    ensures none { IfNone result ((pos centre +ℤ down) <ℤ pos first) }
+{
+    let wanted = centre as i64 + down as i64;
+    let least = first as i64;
+    if wanted < least {
+        return None;
+    }
+    Some((wanted - least) as usize)
+}
+
+fn cell_at(cells: &[Cell], c: i64) -> Cell
+    ensures { result ≡ item_at None cells.now c }
+{
+    if c < 0 {
+        return Cell::null();
+    }
+    match cells.get(c as usize) {
+        Some(cell) => *cell,
+        None => Cell::null(),
+    }
+}

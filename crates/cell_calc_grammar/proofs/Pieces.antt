@@ -1,0 +1,107 @@
+-- How the pieces of a text follow from its front, and its tokens from those before.
+use Rattle.std.proofs.Common.{◌≡◌, ℕ, zero, suc, ◌+◌, ◌-◌, true, false, List, [], ◌∷◌, ◌++◌, length, take, drop, refl, ap, sym, ◌∙◌, arith, append_assoc, append-nil, Result, Ok, Err, inl, inr, ◌<◌}
+use Rattle.cell_core_values.specs.Blanks.{is_blank}
+use Rattle.cell_calc_grammar.specs.Tokens.{Piece, pieces, piece_length, tokens_of, next_token, before, token_list, IsTokenFault}
+use Rattle.cell_calc_grammar.specs.declared.calc_fault.CalcFault.{CalcFault}
+use Rattle.cell_calc_grammar.specs.declared.token.Placed.{Placed}
+
+-- tokens put before those of what follows
+abbrev pub prefixed : List Placed → Result (List Placed) CalcFault → Result (List Placed) CalcFault
+prefixed ts (Ok us) = Ok (ts ++ us)
+prefixed ts (Err f) = Err f
+
+pub pieces-begun : (k c : ℕ) (bs : List ℕ) → pieces k c bs ≡ pieces zero (c + k) (drop k bs)
+unfolding pieces
+pieces-begun zero c [] = refl
+pieces-begun zero c (b ∷ bs) = ap (λ n. pieces zero n (b ∷ bs)) (omega arith)
+pieces-begun (suc k) c [] = refl
+pieces-begun (suc k) c (b ∷ bs) =
+    let e : c + 1 + k ≡ c + suc k = omega arith in
+    pieces-begun k (c + 1) bs ∙ ap (λ n. pieces zero n (drop k bs)) e
+
+pub pieces-blank : (c b : ℕ) (bs : List ℕ) → is_blank b ≡ true → pieces zero c (b ∷ bs) ≡ pieces zero (c + 1) bs
+unfolding pieces
+pieces-blank c b bs h = rw h refl
+
+pub pieces-opened : (c b : ℕ) (bs : List ℕ) (n : ℕ) → is_blank b ≡ false → piece_length (b ∷ bs) ≡ suc n →
+    pieces zero c (b ∷ bs) ≡ record { column = c; bytes = take (suc n) (b ∷ bs) } ∷ pieces n (c + 1) bs
+unfolding pieces
+pieces-opened c b bs n h e =
+    let after : pieces (piece_length (b ∷ bs) - 1) (c + 1) bs ≡ pieces n (c + 1) bs = ap (λ k. pieces k (c + 1) bs) (omega arith) in
+    rw (h, after, e) refl
+
+pieces-piece : (c b : ℕ) (bs : List ℕ) (n : ℕ) → is_blank b ≡ false → piece_length (b ∷ bs) ≡ suc n →
+    pieces zero c (b ∷ bs) ≡ record { column = c; bytes = take (suc n) (b ∷ bs) } ∷ pieces zero (c + suc n) (drop (suc n) (b ∷ bs))
+pieces-piece c b bs n h e =
+    let after : pieces n (c + 1) bs ≡ pieces zero (c + suc n) (drop n bs) =
+    pieces-begun n (c + 1) bs ∙ ap (λ m. pieces zero m (drop n bs)) (omega arith) in
+    pieces-opened c b bs n h e ∙ ap (λ ps. record { column = c; bytes = take (suc n) (b ∷ bs) } ∷ ps) after
+
+-- what is left to read gives the same list after a blank
+pub after_blank : (found : List Placed) (n c b : ℕ) (rest others : List ℕ) (w : Result (List Placed) CalcFault) →
+    rest ≡ b ∷ others → is_blank b ≡ true → prefixed found (tokens_of n (pieces zero c rest)) ≡ w →
+    prefixed found (tokens_of n (pieces zero (c + 1) others)) ≡ w
+after_blank found n c b rest others w split blank kept = rw (← pieces-blank c b others blank, ← split) kept
+
+prefixed-none : (r : Result (List Placed) CalcFault) → prefixed [] r ≡ r
+prefixed-none (Ok ts) = refl
+prefixed-none (Err f) = refl
+
+prefixed-before : (found : List Placed) (t : Placed) (r : Result (List Placed) CalcFault) →
+    prefixed (found ++ t ∷ []) r ≡ prefixed found (before (Ok t) r)
+prefixed-before found t (Ok ts) = ap Ok (append_assoc found (t ∷ []) ts)
+prefixed-before found t (Err f) = refl
+
+pub pieces-first : (c b : ℕ) (rest others : List ℕ) (n : ℕ) → rest ≡ b ∷ others → is_blank b ≡ false → piece_length rest ≡ n → 0 < n →
+    pieces zero c rest ≡ record { column = c; bytes = take n rest } ∷ pieces zero (c + n) (drop n rest)
+pieces-first c b rest others zero split word length some = absurd (omega arith)
+pieces-first c b rest others (suc n) split word length some =
+    let at : piece_length (b ∷ others) ≡ suc n = rw (← split) length in
+    rw split (pieces-piece c b others n word at)
+
+pub tokens_of-cons : (count : ℕ) (p : Piece) (ps : List Piece) → tokens_of count (p ∷ ps) ≡ before (next_token count p) (tokens_of (count + 1) ps)
+unfolding tokens_of
+tokens_of-cons count p ps = refl
+
+-- the list by its next token and what follows it
+next_first : (found : List Placed) (count c b n : ℕ) (rest others piece after : List ℕ) (w : Result (List Placed) CalcFault) →
+    rest ≡ b ∷ others → is_blank b ≡ false → piece_length rest ≡ n → 0 < n → piece ≡ take n rest → after ≡ drop n rest →
+    prefixed found (tokens_of count (pieces zero c rest)) ≡ w →
+    prefixed found (before (next_token count (record { column = c; bytes = piece })) (tokens_of (count + 1) (pieces zero (c + n) after))) ≡ w
+next_first found count c b n rest others piece after w split word length some front back kept =
+    let first : pieces zero c rest ≡ record { column = c; bytes = piece } ∷ pieces zero (c + n) after =
+    rw (front, back) (pieces-first c b rest others n split word length some) in
+    sym (ap (prefixed found) (ap (tokens_of count) first ∙ tokens_of-cons count (record { column = c; bytes = piece }) (pieces zero (c + n) after))) ∙ kept
+
+-- what is left to read gives the same list after a token
+pub after_token : (found : List Placed) (t : Placed) (count c b n : ℕ) (rest others piece after : List ℕ) (w : Result (List Placed) CalcFault) →
+    rest ≡ b ∷ others → is_blank b ≡ false → piece_length rest ≡ n → 0 < n → piece ≡ take n rest → after ≡ drop n rest →
+    next_token count (record { column = c; bytes = piece }) ≡ Ok t →
+    prefixed found (tokens_of count (pieces zero c rest)) ≡ w →
+    prefixed (found ++ t ∷ []) (tokens_of (count + 1) (pieces zero (c + n) after)) ≡ w
+after_token found t count c b n rest others piece after w split word length some front back is kept =
+    let first = next_first found count c b n rest others piece after w split word length some front back kept in
+    prefixed-before found t (tokens_of (count + 1) (pieces zero (c + n) after)) ∙ rw is at first
+
+-- a fault of the next token is the text's
+pub at_fault : (found : List Placed) (told : CalcFault) (count c b n : ℕ) (rest others piece : List ℕ) (w : Result (List Placed) CalcFault) →
+    rest ≡ b ∷ others → is_blank b ≡ false → piece_length rest ≡ n → 0 < n → piece ≡ take n rest →
+    prefixed found (tokens_of count (pieces zero c rest)) ≡ w →
+    IsTokenFault (next_token count (record { column = c; bytes = piece })) told → IsTokenFault w told
+at_fault found told count c b n rest others piece w split word length some front kept (inl none) = inl none
+at_fault found told count c b n rest others piece w split word length some front kept (inr is) =
+    let first = next_first found count c b n rest others piece (drop n rest) w split word length some front refl kept in
+    inr (sym (rw is at first))
+
+-- at the end of the text the tokens found are its list
+pub at_end : (found : List Placed) (count c : ℕ) (rest : List ℕ) (w : Result (List Placed) CalcFault) →
+    length rest ≡ 0 → prefixed found (tokens_of count (pieces zero c rest)) ≡ w → w ≡ Ok found
+unfolding tokens_of pieces
+at_end found count c [] w ends kept = sym kept ∙ ap Ok (append-nil found)
+at_end found count c (b ∷ bs) w ends kept = absurd (omega (arith, ends))
+
+-- nothing is found before the text is read
+pub at_start : (text : List ℕ) (found : List Placed) (count : ℕ) → found ≡ [] → count ≡ 0 →
+    prefixed found (tokens_of count (pieces zero 1 text)) ≡ token_list text
+unfolding token_list
+at_start text found count none zero_count = rw (none, zero_count) (prefixed-none (tokens_of 0 (pieces zero 1 text)))

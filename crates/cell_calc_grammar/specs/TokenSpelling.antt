@@ -1,0 +1,38 @@
+-- How a text spells its tokens (r.mapcalc manual; the limits are the profile's).
+use Rattle.std.specs.Prelude.{◌≡◌, ℕ, ◌+◌, ◌<◌, ◌≤◌, Bool, false, ◌||◌, IsTrue, List, [], ◌∷◌, ◌++◌, length, Some, Ok, ◌↔◌}
+use Rattle.std.specs.List.{list_all}
+use Rattle.std.specs.Option.{is_some}
+use Rattle.cell_core_values.specs.Name.{is_name, is_name_byte}
+use Rattle.cell_core_values.specs.Blanks.{is_blank}
+use Rattle.cell_core_values.specs.Digits.{is_digit, value_of_digits}
+use Rattle.cell_calc_grammar.specs.Tokens.{sign_of, token_list}
+use Rattle.cell_calc_grammar.specs.declared.token.Placed.{Placed}
+use Rattle.cell_calc_grammar.specs.declared.token.Token.{Token}
+use Rattle.cell_calc_grammar.specs.declared.token.Token.TheVariants.{Number, Name, Sign}
+
+-- these bytes spell a token: a number in digits, zeros before it or not, a name as it is, a sign by its own bytes
+abbrev pub SpellsToken : List ℕ → Token → Type 0
+SpellsToken bytes (Number n) = (0 < length bytes) × IsTrue (list_all is_digit bytes) × (value_of_digits bytes ≡ n) × (n ≤ 2147483647)
+SpellsToken bytes (Name name) = (bytes ≡ name) × IsTrue (is_name name)
+SpellsToken bytes (Sign s) = sign_of bytes ≡ Some s
+
+-- a word (letters, digits, underscores and points), or the bytes of a sign
+abbrev pub is_piece : List ℕ → Bool
+is_piece bytes = list_all is_name_byte bytes || is_some (sign_of bytes)
+
+-- whatever follows, the bytes make no longer word or sign with it
+abbrev pub IsLongestToken : (bytes text : List ℕ) → Type 0
+IsLongestToken bytes text = (more rest : List ℕ) → text ≡ more ++ rest → 0 < length more → is_piece (bytes ++ more) ≡ false
+
+-- a text that begins at a column spells tokens, each at its own column and as long as can be, blanks alone between them
+pub data AreSpelled : ℕ → List ℕ → List Placed → Type 0 where
+  ends : {column : ℕ} → AreSpelled column [] []
+  blank : {column b : ℕ} {text : List ℕ} {tokens : List Placed} →
+      IsTrue (is_blank b) → AreSpelled (column + 1) text tokens → AreSpelled column (b ∷ text) tokens
+  token : {column : ℕ} {text : List ℕ} {tokens : List Placed} (t : Token) (bytes : List ℕ) →
+      SpellsToken bytes t → IsLongestToken bytes text → AreSpelled (column + length bytes) text tokens →
+      AreSpelled column (bytes ++ text) (record { token = t; column = column } ∷ tokens)
+
+-- the list of a text is the one list of at most 1000 tokens that the text spells
+abbrev pub ListIsSpelled : Type 0
+ListIsSpelled = (text : List ℕ) (ts : List Placed) → (token_list text ≡ Ok ts) ↔ (AreSpelled 1 text ts × (length ts ≤ 1000))

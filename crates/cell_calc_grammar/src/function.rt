@@ -1,0 +1,73 @@
+//! The functions of expressions.
+
+ghost use Rattle.std.specs.Prelude.{◌≡◌};
+ghost use Rattle.cell_calc_grammar.specs.Function.{function_of, accepts};
+
+/// A function of expressions (r.mapcalc manual, "Functions").
+#[derive(Clone, Copy, Debug, PartialEq, Eq)]
+pub enum Function {
+    If,
+    IsNull,
+    Null,
+    Abs,
+    Min,
+    Max,
+    Mode,
+    Row,
+    Column,
+    RowCount,
+    ColumnCount,
+    Eval,
+    /// `nmin`: the least of the arguments that are not null.
+    KnownMin,
+    /// `nmax`: the greatest of the arguments that are not null.
+    KnownMax,
+    /// `nmode`: the most frequent of the arguments that are not null.
+    KnownMode,
+}
+
+// The functions with their names.
+const NAMES: [(&[u8], Function); 15] = [
+    (b"if", Function::If),
+    (b"isnull", Function::IsNull),
+    (b"null", Function::Null),
+    (b"abs", Function::Abs),
+    (b"min", Function::Min),
+    (b"max", Function::Max),
+    (b"mode", Function::Mode),
+    (b"row", Function::Row),
+    (b"col", Function::Column),
+    (b"nrows", Function::RowCount),
+    (b"ncols", Function::ColumnCount),
+    (b"eval", Function::Eval),
+    (b"nmin", Function::KnownMin),
+    (b"nmax", Function::KnownMax),
+    (b"nmode", Function::KnownMode),
+];
+
+/// The function of a name, if there is one.
+pub fn function_of(name: &[u8]) -> Option<Function>
+    ensures { result ≡ function_of name.now }
+{
+    for (text, function) in &NAMES {
+        if name == *text {
+            return Some(*function);
+        }
+    }
+    None
+}
+
+/// Whether a function takes so many arguments.
+pub fn accepts(function: Function, count: usize) -> bool
+    ensures { result ≡ accepts function count }
+{
+    match function {
+        Function::If => 1 <= count && count <= 3,
+        Function::IsNull | Function::Abs => count == 1,
+        Function::Min | Function::Max | Function::Mode => 2 <= count,
+        Function::KnownMin | Function::KnownMax | Function::KnownMode => 2 <= count,
+        Function::Eval => 1 <= count,
+        Function::Null | Function::Row | Function::Column => count == 0,
+        Function::RowCount | Function::ColumnCount => count == 0,
+    }
+}

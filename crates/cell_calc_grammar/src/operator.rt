@@ -1,0 +1,73 @@
+//! The operators between two operands.
+
+ghost use Rattle.std.specs.Prelude.{◌≡◌};
+ghost use Rattle.cell_calc_grammar.specs.Operator.{operator_of, level_of};
+
+use crate::token::{Sign, Token};
+
+/// An operator between two operands (r.mapcalc manual, "Operators and order of precedence").
+#[derive(Clone, Copy, Debug, PartialEq, Eq)]
+pub enum Operator {
+    Times,
+    Divide,
+    Modulo,
+    Plus,
+    Minus,
+    Less,
+    LessEqual,
+    Greater,
+    GreaterEqual,
+    Equal,
+    NotEqual,
+    And,
+    Or,
+    /// `&&&`: 0 where one operand is 0, whatever the other one is.
+    KnownAnd,
+    /// `|||`: 1 where one operand is a number other than 0, whatever the other one is.
+    KnownOr,
+}
+
+/// The operator that a token is, if it stands between two operands.
+pub fn operator_of(token: &Token) -> Option<Operator>
+    ensures { result ≡ operator_of token.now }
+{
+    let Token::Sign(sign) = token else {
+        return None;
+    };
+    match sign {
+        Sign::Star => Some(Operator::Times),
+        Sign::Slash => Some(Operator::Divide),
+        Sign::Percent => Some(Operator::Modulo),
+        Sign::Plus => Some(Operator::Plus),
+        Sign::Minus => Some(Operator::Minus),
+        Sign::Less => Some(Operator::Less),
+        Sign::LessEqual => Some(Operator::LessEqual),
+        Sign::Greater => Some(Operator::Greater),
+        Sign::GreaterEqual => Some(Operator::GreaterEqual),
+        Sign::Equal => Some(Operator::Equal),
+        Sign::NotEqual => Some(Operator::NotEqual),
+        Sign::And => Some(Operator::And),
+        Sign::Or => Some(Operator::Or),
+        Sign::KnownAnd => Some(Operator::KnownAnd),
+        Sign::KnownOr => Some(Operator::KnownOr),
+        _ => None,
+    }
+}
+
+/// The level of what may have any operator between operands.
+pub const TOP_LEVEL: u32 = 6;
+
+/// The level of an operator's right operand, which is one below its own: 0 binds tightest.
+pub fn level_of(operator: Operator) -> u32
+    ensures { result ≡ level_of operator }
+{
+    match operator {
+        Operator::Times | Operator::Divide | Operator::Modulo => 0,
+        Operator::Plus | Operator::Minus => 1,
+        Operator::Less | Operator::LessEqual => 2,
+        Operator::Greater | Operator::GreaterEqual => 2,
+        Operator::Equal | Operator::NotEqual => 3,
+        Operator::And | Operator::KnownAnd => 4,
+        Operator::Or | Operator::KnownOr => 5,
+    }
+}

@@ -1,0 +1,146 @@
+-- A list of tokens has one first fault at most, and stands for an assignment or has one.
+use Rattle.std.proofs.Common.{◌≡◌, ℕ, List, [], ◌∷◌, ◌++◌, refl, sym, ap, ◌∙◌, subst, append_assoc, append-nil, ◌⊎◌, inl, inr}
+use Rattle.cell_calc_language.specs.declared.assignment.Assignment.{Assignment}
+use Rattle.cell_calc_grammar.specs.declared.calc_fault.CalcFault.{CalcFault}
+use Rattle.cell_calc_grammar.specs.declared.calc_fault.CalcKind.{CalcKind}
+use Rattle.cell_calc_grammar.specs.declared.calc_fault.CalcKind.TheVariants.{Expected, UnknownFunction, Arguments as BadArguments, BadOffset}
+use Rattle.cell_calc_grammar.specs.declared.token.Placed.{Placed}
+use Rattle.cell_calc_grammar.specs.declared.token.Sign.TheVariants.{OpenParenthesis, CloseParenthesis, Assign}
+use Rattle.cell_calc_grammar.specs.declared.token.Token.{Token}
+use Rattle.cell_calc_grammar.specs.declared.token.Token.TheVariants as token
+use Rattle.cell_calc_language.specs.Assignment.{IsAssignment}
+use Rattle.cell_calc_grammar.specs.Grammar.{AreCalled}
+use Rattle.cell_calc_language.specs.GrammarFault.{CanGoOn, column_of, IsUnknown, IsMiscounted, IsFar, Tells, IsGrammarFault}
+use Rattle.cell_calc_grammar.specs.TokensRead.{ReadOutcome, Got, GotAll, Stops, Expression, GrammarReads}
+use Rattle.cell_calc_grammar.specs.Term.{Terms}
+use Rattle.cell_calc_grammar.specs.Token.{token_number_at, name_at, sign_at}
+use Rattle.cell_calc_grammar.specs.Tokens.{token_fault}
+use Rattle.cell_calc_language.proofs.Bad.{Bad, bad_call, called_end, none_inside}
+use Rattle.cell_calc_language.proofs.Faults.{no_name, no_assign, nothing_at_all, stops, goes_on}
+use Rattle.cell_calc_grammar.proofs.Sound.{Looks, NoToken, ANumber, AName, ASign, look, sound, sound_all}
+use Rattle.cell_calc_grammar.proofs.Splits.{Cuts, same, before, behind, cuts, same_ends}
+use Rattle.cell_calc_language.proofs.Total.{read_somehow}
+
+same_fault : (f g : CalcFault) → f.kind ≡ g.kind → f.column ≡ g.column → f ≡ g
+same_fault f g e h =
+    let kind : f ≡ record f { kind = g.kind } = ap (λ k. let x : CalcFault = record f { kind = k } in x) e in
+    kind ∙ ap (λ c. let x : CalcFault = record { kind = g.kind; column = c } in x) h
+
+same_column : (s t : Placed) → s ≡ t → s.column ≡ t.column
+same_column s t e = ap (λ (x : Placed). x.column) e
+
+same_token : (s t : Placed) → s ≡ t → s.token ≡ t.token
+same_token s t e = ap (λ (x : Placed). x.token) e
+
+unknown_last : (column : ℕ) (b : List Placed) (n : Placed) → IsUnknown column (b ++ n ∷ []) → n.token ≡ token.Sign OpenParenthesis
+unknown_last column b n (front, name, d, e, u) =
+    same_token n (sign_at OpenParenthesis d) (same_ends b n (front ++ name_at name column ∷ []) (sign_at OpenParenthesis d) (e ∙ sym (append_assoc front (name_at name column ∷ []) (sign_at OpenParenthesis d ∷ [])))).1
+
+miscounted_last : (column : ℕ) (b : List Placed) (n : Placed) → IsMiscounted column (b ++ n ∷ []) → n.token ≡ token.Sign CloseParenthesis
+miscounted_last column b n (front, inside, name, d, f, xs, e, u, h, a) =
+    let z = called_end h in
+    let call : List Placed = name_at name column ∷ sign_at OpenParenthesis d ∷ z.0 in
+    same_token n (sign_at CloseParenthesis z.1) (same_ends b n (front ++ call) (sign_at CloseParenthesis z.1)
+    (e ∙ ap (λ l. front ++ name_at name column ∷ sign_at OpenParenthesis d ∷ l) z.2 ∙ sym (append_assoc front call (sign_at CloseParenthesis z.1 ∷ [])))).1
+
+far_last : (column : ℕ) (b : List Placed) (n : Placed) → IsFar column (b ++ n ∷ []) → (m : ℕ) × (n ≡ token_number_at m column)
+far_last column b n (front, m, e, far, inside) = (m, (same_ends b n front (token_number_at m column) e).1)
+
+one_unknown : (c c' : ℕ) (read : List Placed) → IsUnknown c read → IsUnknown c' read → c ≡ c'
+one_unknown c c' read (front, name, d, e, u) (front', name', d', e', u') =
+    let last = same_ends (front ++ name_at name c ∷ []) (sign_at OpenParenthesis d) (front' ++ name_at name' c' ∷ []) (sign_at OpenParenthesis d')
+    (append_assoc front (name_at name c ∷ []) (sign_at OpenParenthesis d ∷ []) ∙ sym e ∙ e'
+    ∙ sym (append_assoc front' (name_at name' c' ∷ []) (sign_at OpenParenthesis d' ∷ []))) in
+    same_column (name_at name c) (name_at name' c') (same_ends front (name_at name c) front' (name_at name' c') last.0).1
+
+-- no call that ends there begins within another
+not_within : (c d : ℕ) (inside : List Placed) (xs : Terms) → AreCalled inside xs → (ts : List Placed) (bad : Bad BadArguments ts) (m : List Placed) → sign_at OpenParenthesis d ∷ inside ≡ m ++ name_at bad.name bad.column ∷ bad.ends → ⊥
+not_within c d inside xs h ts bad [] e =
+    let f : sign_at OpenParenthesis d ≡ name_at bad.name bad.column = cc in
+    let g = same_token (sign_at OpenParenthesis d) (name_at bad.name bad.column) f in
+    cc
+not_within c d inside xs h ts bad (x ∷ m) e =
+    let f : inside ≡ m ++ name_at bad.name bad.column ∷ bad.ends = cc in
+    none_inside inside xs h BadArguments ts bad m [] (f ∙ ap (λ l. m ++ name_at bad.name bad.column ∷ l) (sym (append-nil bad.ends)))
+
+one_miscounted : (c c' : ℕ) (b : List Placed) (n : Placed) → Tells BadArguments c b n → Tells BadArguments c' b n → c ≡ c'
+one_miscounted c c' b n ((front, inside, name, d, f, xs, e, u, h, a), can) ((front', inside', name', d', f', xs', e', u', h', a'), can') =
+    go (cuts front (name_at name c) (sign_at OpenParenthesis d ∷ inside) front' (name_at name' c') (sign_at OpenParenthesis d' ∷ inside') (sym e ∙ e'))
+  where
+    go : Cuts front (name_at name c) (sign_at OpenParenthesis d ∷ inside) front' (name_at name' c') (sign_at OpenParenthesis d' ∷ inside') → c ≡ c'
+    go (same i j k) = same_column (name_at name c) (name_at name' c') j
+    go (before m i j) = absurd (not_within c d inside xs h (b ++ n ∷ []) (bad_call (b ++ n ∷ []) front' inside' name' c' d' f' xs' e' u' h' a') m j)
+    go (behind m i j) = absurd (not_within c' d' inside' xs' h' (b ++ n ∷ []) (bad_call (b ++ n ∷ []) front inside name c d f xs e u h a) m j)
+
+-- the kind that a token tells where all up to it can go on
+abbrev told_by : Token → CalcKind
+told_by (token.Sign OpenParenthesis) = UnknownFunction
+told_by (token.Sign _) = BadArguments
+told_by _ = BadOffset
+
+told_so : (k : CalcKind) (c : ℕ) (b : List Placed) (n : Placed) → Tells k c b n
+    → ((k ≡ Expected) × (CanGoOn (b ++ n ∷ []) → ⊥)) ⊎ ((k ≡ told_by n.token) × CanGoOn (b ++ n ∷ []))
+told_so Expected c b n t = inl (refl, t.2)
+told_so UnknownFunction c b n t = inr (sym (ap told_by (unknown_last c b n t.0)), t.1)
+told_so BadArguments c b n t = inr (sym (ap told_by (miscounted_last c b n t.0)), t.1)
+told_so BadOffset c b n t = inr (sym (ap (λ (x : Placed). told_by x.token) (far_last c b n t.0).1), t.1)
+told_so _ c b n t = absurd t
+
+one_kind : (k k' : CalcKind) (c c' : ℕ) (b : List Placed) (n : Placed) → Tells k c b n → Tells k' c' b n → k ≡ k'
+one_kind k k' c c' b n t t' = go (told_so k c b n t) (told_so k' c' b n t')
+  where
+    go : ((k ≡ Expected) × (CanGoOn (b ++ n ∷ []) → ⊥)) ⊎ ((k ≡ told_by n.token) × CanGoOn (b ++ n ∷ []))
+        → ((k' ≡ Expected) × (CanGoOn (b ++ n ∷ []) → ⊥)) ⊎ ((k' ≡ told_by n.token) × CanGoOn (b ++ n ∷ [])) → k ≡ k'
+    go (inl x) (inl y) = x.0 ∙ sym y.0
+    go (inl x) (inr y) = absurd (x.1 y.1)
+    go (inr x) (inl y) = absurd (y.1 x.1)
+    go (inr x) (inr y) = x.0 ∙ sym y.0
+
+one_place : (k : CalcKind) (c c' : ℕ) (b : List Placed) (n : Placed) → Tells k c b n → Tells k c' b n → c ≡ c'
+one_place Expected c c' b n t t' = sym t.0 ∙ t'.0
+one_place UnknownFunction c c' b n t t' = one_unknown c c' (b ++ n ∷ []) t.0 t'.0
+one_place BadArguments c c' b n t t' = one_miscounted c c' b n t t'
+one_place BadOffset c c' b n t t' =
+    let f = far_last c b n t.0 in
+    let g = far_last c' b n t'.0 in
+    sym (same_column n (token_number_at f.0 c) f.1) ∙ same_column n (token_number_at g.0 c') g.1
+one_place _ c c' b n t t' = absurd t
+
+pub one_fault : (end : ℕ) (ts : List Placed) (f g : CalcFault) → IsGrammarFault end ts f → IsGrammarFault end ts g → f ≡ g
+one_fault end ts f g (inl (b, r, n, e, t, none), _) (inl (b', r', n', e', t', none'), _) = go (cuts b n r b' n' r' (sym e ∙ e'))
+  where
+    go : Cuts b n r b' n' r' → f ≡ g
+    go (same h i j) =
+        let s = subst (λ x. Tells f.kind f.column b' x) i (subst (λ l. Tells f.kind f.column l n) h t) in
+        let kind = one_kind f.kind g.kind f.column g.column b' n' s t' in
+        same_fault f g kind (one_place g.kind f.column g.column b' n' (subst (λ k. Tells k f.column b' n') kind s) t')
+    go (before m h i) = absurd (none' b m n f.kind f.column h t)
+    go (behind m h i) = absurd (none b' m n' g.kind g.column h t')
+one_fault end ts f g (inl (b, r, n, e, t, none), _) (inr (e', can, none'), _) = absurd (none' b r n f.kind f.column e t)
+one_fault end ts f g (inr (e, can, none), _) (inl (b', r', n', e', t', none'), _) = absurd (none b' r' n' g.kind g.column e' t')
+one_fault end ts f g (inr (e, can, none), _) (inr (e', can', none'), _) = e ∙ sym e'
+
+-- the list stands for an assignment, or has a fault
+abbrev pub IsJudged : ℕ → List Placed → Type 0
+IsJudged end ts = ((a : Assignment) × IsAssignment ts a) ⊎ ((told : CalcFault) × IsGrammarFault end ts told)
+
+judged_read : (end : ℕ) (name : List ℕ) (c d : ℕ) (us : List Placed) (o : ReadOutcome) → GrammarReads (Expression us) o → IsJudged end (name_at name c ∷ sign_at Assign d ∷ us)
+judged_read end name c d us (Got a []) r =
+    let x : Assignment = record { target = name; expr = a } in
+    inl (x, (c, d, us, refl, sound_all us a r))
+judged_read end name c d us (Got a (u ∷ rest)) r = inr (token_fault Expected u.column, goes_on end name c d us a u rest r)
+judged_read end name c d us (GotAll xs rest) r = absurd (sound r)
+judged_read end name c d us (Stops kind rest) r = inr (token_fault kind (column_of end rest), stops end name c d us kind rest r)
+
+judged_named : (end : ℕ) (name : List ℕ) (c : ℕ) {ts : List Placed} → Looks ts → IsJudged end (name_at name c ∷ ts)
+judged_named end name c (ASign Assign d us) = let x = read_somehow us in judged_read end name c d us x.0 x.1
+judged_named end name c {ts = ts} _ = inr (token_fault Expected (column_of end ts), no_assign end name c ts (λ k. cc))
+
+pub each_judged : (end : ℕ) (ts : List Placed) → IsJudged end ts
+each_judged end ts = go (look ts)
+  where
+    go : {us : List Placed} → Looks us → IsJudged end us
+    go NoToken = inr (token_fault Expected end, nothing_at_all end)
+    go (AName name c us) = judged_named end name c (look us)
+    go (ANumber m c us) = inr (token_fault Expected c, no_name end (token_number_at m c) us (λ name k. cc))
+    go (ASign s c us) = inr (token_fault Expected c, no_name end (sign_at s c) us (λ name k. cc))

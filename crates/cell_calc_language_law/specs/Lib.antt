@@ -1,2 +1,0 @@
--- Laws of the faults of the grammar.
-pub mod GrammarLaw

@@ -1,5 +1,0 @@
--- What several proofs share.
-pub mod Columns
-pub mod Frequent
-pub mod Strips
-pub mod Places

@@ -1,3 +1,0 @@
--- Rows of cells, column by column.
-pub mod RowValues
-pub mod parts

@@ -1,2 +1,0 @@
--- Expressions as lists of steps.
-pub mod Postfix

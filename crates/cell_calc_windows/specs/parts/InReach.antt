@@ -1,8 +1,0 @@
--- Windows that reach an offset.
-use Rattle.std.specs.Prelude.{ℤ, Option, Some, None}
-use Rattle.cell_calc_windows.specs.Window.{Window, Reaches}
-
--- there is a window that reaches an offset
-abbrev pub IsInReach : ℤ → Option Window → Type 0
-IsInReach down None = ⊥
-IsInReach down (Some w) = Reaches w down

@@ -1,5 +1,0 @@
-pub mod MadeLemmas
-pub mod LeadLemmas
-pub mod LinkLemmas
-pub mod FirstLemmas
-pub mod ExistsLemmas

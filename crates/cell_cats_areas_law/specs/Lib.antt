@@ -1,2 +1,0 @@
--- What the law of clumpings states.
-pub mod ExistsLaw

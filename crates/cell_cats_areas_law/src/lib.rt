@@ -1,4 +1,0 @@
-//! The law that each map has a clumping.
-#![tactic(auto)]
-
-pub mod law;

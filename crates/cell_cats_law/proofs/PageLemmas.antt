@@ -1,0 +1,125 @@
+-- Pages of a table in order.
+use Rattle.std.proofs.Common.{◌≡◌, ℕ, zero, [], ◌∷◌, ◌++◌, Bool, true, false, IsTrue, refl, ap, sym, ◌∙◌, arith}
+use Rattle.std.specs.declared.cmp.Ordering.{Ordering}
+use Rattle.std.specs.declared.cmp.Ordering.TheVariants.{Less, Equal, Greater}
+use Rattle.std.specs.FinMap.Entries.{is_sorted, below_all}
+use Rattle.std.specs.Cmp.{tied_itself}
+use Rattle.std.specs.Ordering.{is_lt, is_le, ordering_reverse}
+use Rattle.cell_stats_counts.specs.Combinations.{Combination, combination_cmp, combination_cmp_total}
+use Rattle.cell_stats.specs.CategoryTables.{Pairs, rest_after}
+use Rattle.cell_stats.proofs.SortedLemmas.{both_true, is_less}
+use Rattle.cell_stats.proofs.RestLemmas.{rest-behind}
+use Rattle.cell_stats.proofs.TableLemmas.{ascending_to}
+use Rattle.cell_cats_law.specs.PageLaw.{up_to, PagesJoin, RestFollows, RestOfRest}
+
+-- an entry that is greater is in the rest, and one that is not is not
+rest-in : (k : Combination) (e : Combination × ℕ) (es : Pairs) → combination_cmp k e.0 ≡ Less →
+    rest_after k (e ∷ es) ≡ e ∷ rest_after k es
+rest-in k e es l = rw l refl
+
+rest-out : (k : Combination) (e : Combination × ℕ) (es : Pairs) → is_lt (combination_cmp k e.0) ≡ false →
+    rest_after k (e ∷ es) ≡ rest_after k es
+rest-out k e es l = rw l refl
+
+up_to-in : (k : Combination) (e : Combination × ℕ) (es : Pairs) → is_le (combination_cmp e.0 k) ≡ true →
+    up_to k (e ∷ es) ≡ e ∷ up_to k es
+up_to-in k e es l = rw l refl
+
+up_to-out : (k : Combination) (e : Combination × ℕ) (es : Pairs) → is_le (combination_cmp e.0 k) ≡ false →
+    up_to k (e ∷ es) ≡ up_to k es
+up_to-out k e es l = rw l refl
+
+turned : (k x : Combination) (o : Ordering) → combination_cmp k x ≡ o → combination_cmp x k ≡ ordering_reverse o
+turned k x o e = combination_cmp_total.antisymm x k ∙ ap ordering_reverse e
+
+-- above a greater combination there is no entry up to it
+none-up_to : (k x : Combination) (es : Pairs) → combination_cmp k x ≡ Less → IsTrue (below_all combination_cmp x es) →
+    up_to k es ≡ []
+none-up_to k x [] l b = refl
+none-up_to k x (e ∷ es) l b =
+    let both = both_true _ _ b in
+    let here : combination_cmp k e.0 ≡ Less = combination_cmp_total.trans k x e.0 l (is_less _ both.0) in
+    up_to-out k e es (ap is_le (turned k e.0 Less here)) ∙ none-up_to k x es l both.1
+
+-- one entry more, where the entries behind it are joined
+pages-more : (k : Combination) (e : Combination × ℕ) (es : Pairs) → IsTrue (is_sorted combination_cmp (e ∷ es)) →
+    up_to k es ++ rest_after k es ≡ es → (o : Ordering) → combination_cmp k e.0 ≡ o →
+    up_to k (e ∷ es) ++ rest_after k (e ∷ es) ≡ e ∷ es
+pages-more k e es s join o is = by o is
+  where
+    more : (o : Ordering) → combination_cmp k e.0 ≡ o → is_lt o ≡ false → is_le (ordering_reverse o) ≡ true →
+        up_to k (e ∷ es) ++ rest_after k (e ∷ es) ≡ e ∷ es
+    more o is not_lt le =
+        ap (λ (r : Pairs). up_to k (e ∷ es) ++ r) (rest-out k e es (ap is_lt is ∙ not_lt))
+        ∙ ap (λ (r : Pairs). r ++ rest_after k es) (up_to-in k e es (ap is_le (turned k e.0 o is) ∙ le))
+        ∙ ap (λ (r : Pairs). e ∷ r) join
+
+    by : (o : Ordering) → combination_cmp k e.0 ≡ o → up_to k (e ∷ es) ++ rest_after k (e ∷ es) ≡ e ∷ es
+    by Less is =
+        ap (λ (r : Pairs). r ++ rest_after k (e ∷ es))
+        (up_to-out k e es (ap is_le (turned k e.0 Less is)) ∙ none-up_to k e.0 es is (both_true _ _ s).0)
+        ∙ rest-behind k (e ∷ es) zero e s (omega arith) is
+    by Equal is = more Equal is refl refl
+    by Greater is = more Greater is refl refl
+
+pages : (k : Combination) (es : Pairs) → IsTrue (is_sorted combination_cmp es) → up_to k es ++ rest_after k es ≡ es
+pages k [] s = refl
+pages k (e ∷ es) s = pages-more k e es s (pages k es (both_true _ _ s).1) (combination_cmp k e.0) refl
+
+pub pages-join : PagesJoin
+pages-join skip cells table is k = pages k table (ascending_to table is.ascending)
+
+-- above an entry all are greater than it
+all-above : (x : Combination) (es : Pairs) → IsTrue (below_all combination_cmp x es) → rest_after x es ≡ es
+all-above x [] b = refl
+all-above x (e ∷ es) b =
+    let both = both_true _ _ b in
+    rest-in x e es (is_less _ both.0) ∙ ap (λ (r : Pairs). e ∷ r) (all-above x es both.1)
+
+below-middle : (x : Combination) (page rest : Pairs) (last : Combination × ℕ) →
+    IsTrue (below_all combination_cmp x (page ++ last ∷ rest)) → combination_cmp x last.0 ≡ Less
+below-middle x [] rest last b = is_less _ (both_true _ _ b).0
+below-middle x (e ∷ page) rest last b = below-middle x page rest last (both_true _ _ b).1
+
+follows : (page rest : Pairs) (last : Combination × ℕ) → IsTrue (is_sorted combination_cmp (page ++ last ∷ rest)) →
+    rest_after last.0 (page ++ last ∷ rest) ≡ rest
+follows [] rest last s = rest-out last.0 last rest (ap is_lt (tied_itself combination_cmp_total last.0))
+    ∙ all-above last.0 rest (both_true _ _ s).0
+follows (e ∷ page) rest last s =
+    let both = both_true _ _ s in
+    let less = below-middle e.0 page rest last both.0 in
+    rest-out last.0 e (page ++ last ∷ rest) (ap is_lt (turned e.0 last.0 Less less)) ∙ follows page rest last both.1
+
+pub rest-follows : RestFollows
+rest-follows skip cells page rest last is = follows page rest last (ascending_to (page ++ last ∷ rest) is.ascending)
+
+-- what is greater than the later is greater than the earlier
+greater-too : (j k x : Combination) (o : Ordering) → combination_cmp j k ≡ o → is_le o ≡ true →
+    combination_cmp k x ≡ Less → combination_cmp j x ≡ Less
+greater-too j k x Less is le less = combination_cmp_total.trans j k x is less
+greater-too j k x Equal is le less = combination_cmp_total.congr j k x is ∙ less
+greater-too j k x Greater is le less = cc
+
+-- one entry more
+rest-more : (e : Combination × ℕ) (es : Pairs) (j k : Combination) → is_le (combination_cmp j k) ≡ true →
+    rest_after k (rest_after j es) ≡ rest_after k es → rest_after k (rest_after j (e ∷ es)) ≡ rest_after k (e ∷ es)
+rest-more e es j k le later = by (combination_cmp k e.0) (is_lt (combination_cmp j e.0)) refl refl
+  where
+    past : (b : Bool) → is_lt (combination_cmp k e.0) ≡ false → is_lt (combination_cmp j e.0) ≡ b →
+        rest_after k (rest_after j (e ∷ es)) ≡ rest_after k (e ∷ es)
+    past true out first = ap (rest_after k) (rest-in j e es (is_less _ first)) ∙ rest-out k e (rest_after j es) out
+        ∙ later ∙ sym (rest-out k e es out)
+    past false out first = ap (rest_after k) (rest-out j e es first) ∙ later ∙ sym (rest-out k e es out)
+
+    by : (o : Ordering) (b : Bool) → combination_cmp k e.0 ≡ o → is_lt (combination_cmp j e.0) ≡ b →
+        rest_after k (rest_after j (e ∷ es)) ≡ rest_after k (e ∷ es)
+    by Less b is first =
+        ap (rest_after k) (rest-in j e es (greater-too j k e.0 (combination_cmp j k) refl le is))
+        ∙ rest-in k e (rest_after j es) is
+        ∙ ap (λ (r : Pairs). e ∷ r) later ∙ sym (rest-in k e es is)
+    by Equal b is first = past b (ap is_lt is) first
+    by Greater b is first = past b (ap is_lt is) first
+
+pub rest-of-rest : RestOfRest
+rest-of-rest [] j k le = refl
+rest-of-rest (e ∷ es) j k le = rest-more e es j k le (rest-of-rest es j k le)

@@ -1,0 +1,211 @@
+-- The cells of a map by rules, and what is counted of them.
+use Rattle.std.proofs.Common.{
+  ◌≡◌,
+  ℕ,
+  zero,
+  suc,
+  ◌<◌,
+  map,
+  [],
+  ◌∷◌,
+  List,
+  get_or,
+  Some,
+  None,
+  Bool,
+  true,
+  false,
+  ◌&&◌,
+  not,
+  refl,
+  ap,
+  sym,
+  ◌∙◌,
+  arith,
+  subst,
+}
+use Rattle.std.specs.Prelude.{count_by, Contains, All, if◌then◌else◌}
+use Rattle.std.proofs.lemmas.List.Elements.{Contains-get_or, All-head, All-tail}
+use Rattle.std.specs.Cmp.{tied_itself}
+use Rattle.std.specs.Option.{option_map_or, option_map, option_or}
+use Rattle.std.specs.Ordering.{eq_by_cmp, is_eq}
+use Rattle.cell_core.specs.Grid.{Grid, CellValue, cell_at}
+use Rattle.cell_cats.specs.Rule.{RuleValue, lists, is_star_rule, last_such, outcome, new_category}
+use Rattle.cell_cats.specs.Reclass.{reclassed_map, new_row}
+use Rattle.cell_stats_counts.specs.declared.skip.Skip.{Skip}
+use Rattle.cell_stats_counts.specs.declared.skip.Skip.TheVariants.{Nothing, AnyNull, AllNull}
+use Rattle.cell_stats_counts.specs.Combinations.{
+  Combination,
+  combination_cmp,
+  combination_cmp_total,
+  cell_of_map,
+  combination_at,
+  all_combinations,
+}
+use Rattle.cell_stats_counts.specs.LeftOut.{is_left_out}
+use Rattle.cell_stats_counts.proofs.OrderLemmas.{combination_cmp-exact, is_equal}
+use Rattle.cell_stats_counts.specs.Counts.{count_of}
+use Rattle.cell_stats.specs.CategoryTables.{Pairs, IsTable}
+use Rattle.cell_cats_law.specs.ReclassLaw.{
+  sent,
+  IsReclassed,
+  AreSentApart,
+  ReclassKeepsCells,
+  RenamingKeepsCounts,
+  UnnamedIsNull,
+}
+use Rattle.cell_cats_law.proofs.CountLemmas.{counts-same, count-alike, counted-in, entry-of, table-sums}
+
+-- ---- what no rule names
+
+last-none : (p : RuleValue → Bool) (rules : List RuleValue) → All (λ rule. p rule ≡ false) rules →
+    last_such p rules ≡ None
+last-none p [] all = refl
+last-none p (rule ∷ rules) all =
+    ap (λ o. option_or o (if p rule then Some rule else None))
+    (last-none p rules (All-tail (λ rule. p rule ≡ false) rule rules all))
+    ∙ ap (λ b. if b then Some rule else None) (All-head (λ rule. p rule ≡ false) rule rules all)
+
+pub unnamed-is-null : UnnamedIsNull
+unnamed-is-null rules = (
+  refl,
+  λ x unlisted unstarred.
+      let listed = last-none (lists x) rules unlisted in
+      let starred = last-none is_star_rule rules unstarred in
+      λ i. outcome x (option_or (option_map (λ rule. rule.output) (listed i))
+      (option_map (λ rule. rule.output) (starred i))),
+)
+
+-- ---- the cells of a map by rules
+
+-- what stands at a place of a mapped list, also past its end
+map-at : {X Y : Type 0} (f : X → Y) (xs : List X) (i : ℕ) (d : X) → get_or (map f xs) i (f d) ≡ f (get_or xs i d)
+map-at f [] i d = refl
+map-at f (x ∷ xs) zero d = refl
+map-at f (x ∷ xs) (suc i) d = map-at f xs i d
+
+cell-reclassed : (rules : List RuleValue) (given : Grid) (row col : ℕ) →
+    cell_at (reclassed_map rules given) row col ≡ new_category rules (cell_at given row col)
+cell-reclassed rules given row col =
+    ap (λ (l : List CellValue). get_or l col None) (map-at (new_row rules) given.rows row [])
+    ∙ map-at (new_category rules) (get_or given.rows row []) col None
+
+module _ (rules : List RuleValue) (maps : List Grid) (old new : ℕ) (is : IsReclassed rules maps old new) where
+  cell-sent : (row col : ℕ) → cell_of_map maps row col new ≡ new_category rules (cell_of_map maps row col old)
+  cell-sent row col =
+      ap (λ o. option_map_or (λ m. cell_at m row col) o None) is.second
+      ∙ cell-reclassed rules is.given row col
+      ∙ ap (new_category rules) (sym (ap (λ o. option_map_or (λ m. cell_at m row col) o None) is.first))
+
+  pub combination-sent : (others : List ℕ) (row col : ℕ) →
+      combination_at maps (new ∷ others) row col ≡ sent rules (combination_at maps (old ∷ others) row col)
+  combination-sent others row col = ap (λ (c : CellValue). c ∷ combination_at maps others row col) (cell-sent row col)
+
+  -- what is counted of the new map, counted of the old
+  pub count-sent : (others : List ℕ) (rows cols : ℕ) (to : Combination) →
+      count_of to (all_combinations maps (new ∷ others) rows cols)
+      ≡ count_by (λ k. eq_by_cmp combination_cmp to (sent rules k)) (all_combinations maps (old ∷ others) rows cols)
+  count-sent others rows cols to =
+      counts-same maps maps (new ∷ others) (old ∷ others) (eq_by_cmp combination_cmp to)
+      (λ k. eq_by_cmp combination_cmp to (sent rules k))
+      (λ row col. ap (eq_by_cmp combination_cmp to) (combination-sent others row col)) rows cols
+
+-- what the rules send to a combination that is not left out is not left out
+kept-before : (skip : Skip) (rules : List RuleValue) (k : Combination) → is_left_out skip (sent rules k) ≡ false →
+    is_left_out skip k ≡ false
+kept-before Nothing rules k kept = refl
+kept-before AnyNull rules [] kept = refl
+kept-before AnyNull rules (None ∷ k) kept = kept
+kept-before AnyNull rules (Some v ∷ k) kept = later (new_category rules (Some v)) kept
+  where
+    later : (c : CellValue) → is_left_out AnyNull (c ∷ k) ≡ false → is_left_out AnyNull (Some v ∷ k) ≡ false
+    later None kept = cc
+    later (Some w) kept = kept
+kept-before AllNull rules [] kept = kept
+kept-before AllNull rules (None ∷ k) kept = kept
+kept-before AllNull rules (Some v ∷ k) kept = refl
+
+kept-sent : (skip : Skip) (rules : List RuleValue) (to k : Combination) → is_left_out skip to ≡ false → (b : Bool) →
+    eq_by_cmp combination_cmp to (sent rules k) ≡ b → b ≡ (not (is_left_out skip k) && b)
+kept-sent skip rules to k kept true same =
+    let is : to ≡ sent rules k = combination_cmp-exact to (sent rules k) (is_equal _ same) in
+    let before : is_left_out skip k ≡ false = kept-before skip rules k (ap (is_left_out skip) (sym is) ∙ kept) in
+    ap (λ b. not b && true) (sym before)
+kept-sent skip rules to k kept false same = by (is_left_out skip k)
+  where
+    by : (b : Bool) → false ≡ (not b && false)
+    by true = refl
+    by false = refl
+
+pub reclass-keeps-cells : ReclassKeepsCells
+reclass-keeps-cells rules maps old new is others rows cols skip table is_table to kept =
+    let cells = all_combinations maps (old ∷ others) rows cols in
+    let t = λ (k : Combination). eq_by_cmp combination_cmp to (sent rules k) in
+    count-sent rules maps old new is others rows cols to
+    ∙ count-alike t (λ k. not (is_left_out skip k) && t k) cells (λ i d within.
+    kept-sent skip rules to (get_or cells i d) kept (t (get_or cells i d)) refl)
+    ∙ sym (table-sums skip cells table is_table t)
+
+-- ---- rules that only rename
+
+module _ (rules : List RuleValue) (cells : List Combination) (table : Pairs) (is_table : IsTable Nothing cells table)
+    (apart : AreSentApart rules table) (to : Combination) where
+  abbrev goes : Combination → Bool
+  goes k = eq_by_cmp combination_cmp to (sent rules k)
+
+  goes-alone : (from x : Combination) → Contains cells from → Contains cells x → sent rules from ≡ to → (b : Bool) →
+      eq_by_cmp combination_cmp from x ≡ b → goes x ≡ b
+  goes-alone from x stands also is true same =
+      let one : from ≡ x = combination_cmp-exact from x (is_equal _ same) in
+      let there : sent rules x ≡ to = ap (sent rules) (sym one) ∙ is in
+      ap (eq_by_cmp combination_cmp to) there ∙ ap is_eq (tied_itself combination_cmp_total to)
+  goes-alone from x stands also is false same = by (goes x) refl
+    where
+      by : (b : Bool) → goes x ≡ b → b ≡ false
+      by false e = refl
+      by true e =
+          let there : to ≡ sent rules x = combination_cmp-exact to (sent rules x) (is_equal _ e) in
+          let one : from ≡ x = apart (from, count_of from cells) (x, count_of x cells)
+          (entry-of cells table is_table from stands) (entry-of cells table is_table x also) (is ∙ there) in
+          let itself : eq_by_cmp combination_cmp from x ≡ true = ap (eq_by_cmp combination_cmp from) (sym one)
+          ∙ ap is_eq (tied_itself combination_cmp_total from) in
+          cc
+
+  -- as many are sent there as have the one combination that is
+  goes-count : (from : Combination) → Contains cells from → sent rules from ≡ to →
+      count_by goes cells ≡ count_of from cells
+  goes-count from stands is =
+      count-alike goes (eq_by_cmp combination_cmp from) cells (λ i d within.
+      let x = get_or cells i d in
+      goes-alone from x stands (Contains-get_or cells i d within) is (eq_by_cmp combination_cmp from x) refl)
+
+  renamed-from : (n : ℕ) → 0 < n → n ≡ count_by goes cells →
+      (from : Combination) × (sent rules from ≡ to) × Contains table (from, n)
+  renamed-from n some is =
+      let one = counted-in goes cells (omega (arith, some, is)) in
+      let there : sent rules one.0 ≡ to = sym (combination_cmp-exact to (sent rules one.0) (is_equal _ one.2)) in
+      let same : count_of one.0 cells ≡ n = sym (is ∙ goes-count one.0 one.1 there) in
+      (one.0, there, subst (λ (m : ℕ). Contains table (one.0, m)) same (entry-of cells table is_table one.0 one.1))
+
+  renamed-to : (n : ℕ) (from : Combination) → sent rules from ≡ to → Contains table (from, n) →
+      (0 < n) × (n ≡ count_by goes cells)
+  renamed-to n from is stands =
+      let counted = (is_table.counted from n).0 stands in
+      let one = counted-in (eq_by_cmp combination_cmp from) cells (omega (arith, counted.1.0, counted.1.1)) in
+      let same : from ≡ one.0 = combination_cmp-exact from one.0 (is_equal _ one.2) in (
+        counted.1.0,
+        counted.1.1
+            ∙ sym (goes-count from (subst (λ (k : Combination). Contains cells k) (sym same) one.1) is),
+      )
+
+pub renaming-keeps-counts : RenamingKeepsCounts
+renaming-keeps-counts rules maps old new is others rows cols table renamed is_table is_renamed apart to n =
+    let cells = all_combinations maps (old ∷ others) rows cols in
+    let counts = count-sent rules maps old new is others rows cols to in (
+      λ stands.
+          let counted = (is_renamed.counted to n).0 stands in
+          renamed-from rules cells table is_table apart to n counted.1.0 (counted.1.1 ∙ counts),
+      λ from.
+          let both = renamed-to rules cells table is_table apart to n from.0 from.1 from.2 in
+          (is_renamed.counted to n).1 (refl, (both.0, both.1 ∙ sym counts)),
+    )

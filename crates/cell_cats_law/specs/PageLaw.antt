@@ -1,0 +1,25 @@
+-- Pages of a table: its entries up to a combination, and its rest after it.
+use Rattle.std.specs.Prelude.{ℕ, ◌≡◌, true, List, ◌∷◌, ◌++◌, filter}
+use Rattle.std.specs.Ordering.{is_le}
+use Rattle.cell_stats_counts.specs.declared.skip.Skip.{Skip}
+use Rattle.cell_stats_counts.specs.Combinations.{Combination, combination_cmp}
+use Rattle.cell_stats.specs.CategoryTables.{Pairs, IsTable, rest_after}
+
+-- the entries up to a combination: those of it, or of a lesser one
+abbrev pub up_to : Combination → Pairs → Pairs
+up_to k pairs = filter (λ pair. is_le (combination_cmp pair.0 k)) pairs
+
+-- the entries of a table up to a combination, and then its rest after it, are the table
+abbrev pub PagesJoin : Type 0
+PagesJoin = (skip : Skip) (cells : List Combination) (table : Pairs) → IsTable skip cells table
+    → (k : Combination) → up_to k table ++ rest_after k table ≡ table
+
+-- the rest after the combination of an entry is what follows the entry
+abbrev pub RestFollows : Type 0
+RestFollows = (skip : Skip) (cells : List Combination) (page rest : Pairs) (last : Combination × ℕ)
+    → IsTable skip cells (page ++ last ∷ rest) → rest_after last.0 (page ++ last ∷ rest) ≡ rest
+
+-- the rest of a rest, after a combination that comes no earlier, is the rest of the whole after it
+abbrev pub RestOfRest : Type 0
+RestOfRest = (table : Pairs) (j k : Combination) → is_le (combination_cmp j k) ≡ true
+    → rest_after k (rest_after j table) ≡ rest_after k table

@@ -1,0 +1,57 @@
+-- What rules make of a table: the cells that they send to one category are counted together, and none is lost.
+use Rattle.std.specs.Prelude.{ℕ, ℤ, ◌≡◌, ◌↔◌, false, List, [], ◌∷◌, Some, None, All, Contains, filter, sum_by, slice_get}
+use Rattle.std.specs.Ordering.{eq_by_cmp}
+use Rattle.cell_core.specs.Grid.{Grid}
+use Rattle.cell_cats.specs.Rule.{RuleValue, lists, is_star_rule, new_category}
+use Rattle.cell_cats.specs.Reclass.{reclassed_map}
+use Rattle.cell_stats_counts.specs.declared.skip.Skip.{Skip}
+use Rattle.cell_stats_counts.specs.declared.skip.Skip.TheVariants.{Nothing}
+use Rattle.cell_stats_counts.specs.Combinations.{Combination, combination_cmp, all_combinations}
+use Rattle.cell_stats_counts.specs.LeftOut.{is_left_out}
+use Rattle.cell_stats_counts.specs.Counts.{count_of}
+use Rattle.cell_stats.specs.CategoryTables.{Pairs, IsTable}
+
+-- null stays null, and so is a category that no rule lists, where no rule is one of `*`
+abbrev pub UnnamedIsNull : Type 0
+UnnamedIsNull = (rules : List RuleValue)
+    → (new_category rules None ≡ None)
+    × ((x : ℤ) → All (λ rule. lists x rule ≡ false) rules → All (λ rule. is_star_rule rule ≡ false) rules
+    → new_category rules (Some x) ≡ None)
+
+-- where the rules send a combination whose first cell they reclass
+abbrev pub sent : List RuleValue → Combination → Combination
+sent rules [] = []
+sent rules (cell ∷ others) = new_category rules cell ∷ others
+
+-- the entries of a table that the rules send to a combination
+abbrev pub sent_to : List RuleValue → Combination → Pairs → Pairs
+sent_to rules to table = filter (λ pair. eq_by_cmp combination_cmp to (sent rules pair.0)) table
+
+-- a map on the shelf, and beside it the map by rules
+pub record IsReclassed (rules : List RuleValue) (maps : List Grid) (old new : ℕ) : Type 0 where
+  pub given : Grid
+  pub first : slice_get maps old ≡ Some given
+  pub second : slice_get maps new ≡ Some (reclassed_map rules given)
+
+-- beside any maps, a combination of the new map has as many cells as those together that the rules send there
+abbrev pub ReclassKeepsCells : Type 0
+ReclassKeepsCells = (rules : List RuleValue) (maps : List Grid) (old new : ℕ) → IsReclassed rules maps old new
+    → (others : List ℕ) (rows cols : ℕ) (skip : Skip) (table : Pairs)
+    → IsTable skip (all_combinations maps (old ∷ others) rows cols) table → (to : Combination)
+    → is_left_out skip to ≡ false
+    → count_of to (all_combinations maps (new ∷ others) rows cols)
+    ≡ sum_by (λ pair. pair.1) (sent_to rules to table)
+
+-- no two entries are sent to one combination
+abbrev pub AreSentApart : List RuleValue → Pairs → Type 0
+AreSentApart rules table = (a b : Combination × ℕ) → Contains table a → Contains table b
+    → sent rules a.0 ≡ sent rules b.0 → a.0 ≡ b.0
+
+-- rules that send no two entries to one only rename them: each count stands in the new table under the new name
+abbrev pub RenamingKeepsCounts : Type 0
+RenamingKeepsCounts = (rules : List RuleValue) (maps : List Grid) (old new : ℕ) → IsReclassed rules maps old new
+    → (others : List ℕ) (rows cols : ℕ) (table renamed : Pairs)
+    → IsTable Nothing (all_combinations maps (old ∷ others) rows cols) table
+    → IsTable Nothing (all_combinations maps (new ∷ others) rows cols) renamed → AreSentApart rules table
+    → (to : Combination) (n : ℕ)
+    → Contains renamed (to, n) ↔ ((from : Combination) × (sent rules from ≡ to) × Contains table (from, n))

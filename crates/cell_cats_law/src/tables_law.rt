@@ -1,0 +1,36 @@
+//! What tables say of each other.
+
+ghost use Rattle.cell_cats_law.specs.PageLaw.{PagesJoin, RestFollows, RestOfRest};
+ghost use Rattle.cell_cats_law.specs.ReclassLaw.{ReclassKeepsCells, RenamingKeepsCounts, UnnamedIsNull};
+
+/// The entries of a table up to a combination, and then its rest after it, are the table.
+pub fn pages_join()
+    ensures { PagesJoin }
+{}
+
+/// The rest after the combination of an entry is what follows the entry.
+pub fn rest_follows()
+    ensures { RestFollows }
+{}
+
+/// The rest of a rest, after a combination that comes no earlier, is the rest of the whole after it.
+pub fn rest_of_rest()
+    ensures { RestOfRest }
+{}
+
+/// Null stays null, and so is a category that no rule lists, where no rule is one of `*`.
+pub fn unnamed_is_null()
+    ensures { UnnamedIsNull }
+{}
+
+/// Reclassing loses no cell and counts none twice: for each new category the count is the sum of the counts of the old ones
+/// that the rules send there, null and what no rule names included.
+pub fn reclass_keeps_cells()
+    ensures { ReclassKeepsCells }
+{}
+
+/// Rules that send no two combinations of a table to one only rename them: each count stands in the table of the new map under
+/// the new name, and no other count does.
+pub fn renaming_keeps_counts()
+    ensures { RenamingKeepsCounts }
+{}

@@ -1,0 +1,85 @@
+//! Digits and whole numbers.
+
+use crate::assertions::{assert_holds, assert_same};
+use cell_core_values::whole_numbers::{
+    WholeFault, are_digits, is_digit, is_in_range, read_whole, value_of_digits, whole_in_range,
+    whole_number,
+};
+use std::test::Fail;
+
+const NUMBERS: [(&[u8], Result<i32, WholeFault>); 22] = [
+    (b"0", Ok(0)),
+    (b"-0", Ok(0)),
+    (b"+7", Ok(7)),
+    (b"007", Ok(7)),
+    (b"0000000000000000000000000000000001", Ok(1)),
+    (b"2147483647", Ok(2147483647)),
+    (b"-2147483647", Ok(-2147483647)),
+    (b"2147483648", Err(WholeFault::OutOfRange)),
+    (b"-2147483648", Err(WholeFault::OutOfRange)),
+    (b"18446744073709551616", Err(WholeFault::OutOfRange)),
+    (b"-18446744073709551615", Err(WholeFault::OutOfRange)),
+    (
+        b"340282366920938463463374607431768211457",
+        Err(WholeFault::OutOfRange),
+    ),
+    (b"", Err(WholeFault::NotWhole)),
+    (b"-", Err(WholeFault::NotWhole)),
+    (b"+", Err(WholeFault::NotWhole)),
+    (b"+-1", Err(WholeFault::NotWhole)),
+    (b"1-", Err(WholeFault::NotWhole)),
+    (b"1.0", Err(WholeFault::NotWhole)),
+    (b" 1", Err(WholeFault::NotWhole)),
+    (b"1 ", Err(WholeFault::NotWhole)),
+    (b"0x1", Err(WholeFault::NotWhole)),
+    (b"1\0", Err(WholeFault::NotWhole)),
+];
+
+#[test]
+fn reads_whole_numbers(rt: HostRuntime) -> Result<(), Fail> {
+    for (text, wanted) in &NUMBERS {
+        assert_holds!(rt; read_whole(*text) == *wanted, "the text {text:?}");
+        assert_same!(rt; whole_in_range(*text), wanted.ok(), "the text {text:?}");
+        assert_same!(rt;
+            whole_number(*text).is_some(),
+            *wanted != Err(WholeFault::NotWhole),
+            "the text {text:?}"
+        );
+    }
+    Ok(())
+}
+
+#[test]
+fn ten_bytes_are_digits(rt: HostRuntime) {
+    for byte in 0..=255u8 {
+        assert_same!(rt;
+            is_digit(byte),
+            b"0123456789".contains(&byte),
+            "the byte {byte}"
+        );
+    }
+}
+
+#[test]
+fn values_stop_at_a_bound(rt: HostRuntime) -> Result<(), Fail> {
+    let table: [(&[u8], u64); 6] = [
+        (b"", 0),
+        (b"0", 0),
+        (b"0042", 42),
+        (b"999999999999999999", 999999999999999999),
+        (b"1000000000000000000", 1000000000000000000),
+        (b"18446744073709551617", 1000000000000000000),
+    ];
+    for &(digits, wanted) in &table {
+        assert_holds!(rt; are_digits(digits), "the text {digits:?}");
+        assert_same!(rt; value_of_digits(digits), wanted, "the text {digits:?}");
+    }
+    assert_holds!(rt; !are_digits(b"12a"));
+    assert_same!(rt;
+        whole_number(b"-18446744073709551617"),
+        Some(-1000000000000000000)
+    );
+    assert_holds!(rt; is_in_range(-2147483647) && is_in_range(2147483647));
+    assert_holds!(rt; !is_in_range(-2147483648) && !is_in_range(2147483648));
+    Ok(())
+}

@@ -1,4 +1,0 @@
--- Lemmas on blanks, words and the parts around a byte.
-pub mod BlankLemmas
-pub mod PartLemmas
-pub mod WordLemmas

@@ -1,7 +1,0 @@
-use Rattle.std.proofs.Common.{◌≡◌, take}
-use Rattle.cell_core_text.specs.Digits.{value_of_digits}
-use Rattle.cell_core_text.specs.Capped.{at_most}
-use Rattle.cell_core_text.proofs.whole_numbers.value_of_digits.Given as goal
-
-abbrev pub invariant-loop-b : goal.invariant-loop-b
-invariant-loop-b l = l.value ≡ at_most (value_of_digits (take l.b-index l.text))

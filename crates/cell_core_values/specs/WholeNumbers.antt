@@ -1,0 +1,39 @@
+-- Whole numbers, and those in the range of categories (GRASS: CELL values; leading zeros and a plus sign are the profile's).
+use Rattle.std.specs.Prelude.{ℕ, ℤ, pos, neg_ℤ, int_le, Bool, ◌&&◌, ◌==◌, List, [], ◌∷◌, Option, Some, None, Result, Ok, Err, if◌then◌else◌, codes}
+use Rattle.std.specs.Option.{option_map}
+use Rattle.cell_core_values.specs.Letters.{byte}
+use Rattle.cell_core_values.specs.Digits.{digits_of}
+use Rattle.cell_core_values.specs.declared.whole_numbers.TheConstants.{LEAST, GREATEST}
+use Rattle.cell_core_values.specs.declared.whole_numbers.WholeFault.{WholeFault}
+use Rattle.cell_core_values.specs.declared.whole_numbers.WholeFault.TheVariants.{NotWhole, OutOfRange}
+
+-- what comes after an optional sign, read by `unsigned`
+abbrev pub signed_number : (List ℕ → Option ℕ) → List ℕ → Option ℤ
+signed_number unsigned [] = None
+signed_number unsigned (b ∷ bs) =
+    if b == byte (codes "-") then option_map (λ n. neg_ℤ (pos n)) (unsigned bs)
+    else (if b == byte (codes "+") then option_map pos (unsigned bs) else option_map pos (unsigned (b ∷ bs)))
+
+-- an optional sign and one or more digits
+abbrev pub whole_number : List ℕ → Option ℤ
+whole_number bs = signed_number digits_of bs
+
+-- from -2147483647 to 2147483647
+abbrev pub is_in_range : ℤ → Bool
+is_in_range n = int_le LEAST n && int_le n GREATEST
+
+-- a whole number in range, or why it is none
+abbrev pub read_whole : List ℕ → Result ℤ WholeFault
+read_whole bs = within (whole_number bs)
+  where
+    within : Option ℤ → Result ℤ WholeFault
+    within None = Err NotWhole
+    within (Some n) = if is_in_range n then Ok n else Err OutOfRange
+
+-- a whole number in range
+abbrev pub whole_in_range : List ℕ → Option ℤ
+whole_in_range bs = within (whole_number bs)
+  where
+    within : Option ℤ → Option ℤ
+    within None = None
+    within (Some n) = if is_in_range n then Some n else None

@@ -1,0 +1,58 @@
+//! Blanks, and texts without the blanks at their ends.
+
+ghost use Rattle.std.specs.Prelude.{◌≡◌, ◌≤◌, length};
+ghost use Rattle.std.specs.List.{before_first, after_first};
+ghost use Rattle.cell_core_values.specs.Blanks.{is_blank, after_blanks, before_blanks, trimmed_text};
+
+/// Whether a byte is a space, a tab or a carriage return. Takes no memory.
+pub fn is_blank(b: u8) -> bool
+    ensures { result ≡ is_blank b }
+{
+    b == b' ' || b == b'\t' || b == b'\r'
+}
+
+/// The text without the blanks at its start. Takes no memory.
+pub fn after_blanks<'a>(text: &'a [u8]) -> &'a [u8]
+    ensures text { result.now ≡ after_blanks text.now }
+    ensures shorter { length result.now ≤ length text.now }
+{
+    let mut rest = text;
+    while let [b' ' | b'\t' | b'\r', others @ ..] = rest {
+        rest = others;
+    }
+    rest
+}
+
+fn before_blanks<'a>(text: &'a [u8]) -> &'a [u8]
+    ensures { result.now ≡ before_blanks text.now }
+{
+    let mut end = text.len();
+    while end > 0 {
+        if !is_blank(text[end - 1]) {
+            return &text[..end];
+        }
+        end -= 1;
+    }
+    &text[..0]
+}
+
+/// The text without the blanks at its ends. Takes no memory.
+pub fn trimmed_text<'a>(text: &'a [u8]) -> &'a [u8]
+    ensures { result.now ≡ trimmed_text text.now }
+{
+    before_blanks(after_blanks(text))
+}
+
+/// What stands before the first blank, and what stands after it: the whole text and nothing where it has none.
+/// Takes no memory.
+pub fn around_blank<'a>(text: &'a [u8]) -> (&'a [u8], &'a [u8])
+    ensures before { result.0.now ≡ before_first is_blank text.now }
+    ensures after { result.1.now ≡ after_first is_blank text.now }
+{
+    for (i, b) in text.iter().enumerate() {
+        if is_blank(*b) {
+            return (&text[..i], &text[i + 1..]);
+        }
+    }
+    (text, &text[text.len()..])
+}

@@ -1,0 +1,106 @@
+//! Whole numbers in decimal.
+
+ghost use Rattle.std.specs.Prelude.{◌≡◌, ◌≤◌, IfSome};
+ghost use Rattle.std.specs.List.{list_all};
+ghost use Rattle.cell_core_values.specs.Digits.{is_digit, value_of_digits};
+ghost use Rattle.cell_core_values.specs.WholeNumbers.{is_in_range, read_whole, whole_in_range};
+ghost use Rattle.cell_core_values.specs.Capped.{at_most, capped_digits, capped_number};
+
+/// The least whole number in range (GRASS: the least category).
+pub const LEAST: i32 = -2147483647;
+
+/// The greatest whole number in range (GRASS: the greatest category).
+pub const GREATEST: i32 = 2147483647;
+
+// What greater numbers count as. It is out of every range.
+const CAP: u64 = 1000000000000000000;
+
+/// Why a text is no whole number in range.
+#[derive(Clone, Copy, Debug, PartialEq, Eq)]
+pub enum WholeFault {
+    /// It is not an optional sign and one or more digits.
+    NotWhole,
+    /// It is a whole number below [`LEAST`] or above [`GREATEST`].
+    OutOfRange,
+}
+
+/// Whether a byte is a decimal digit. Takes no memory.
+pub fn is_digit(b: u8) -> bool
+    ensures { result ≡ is_digit b }
+{
+    b'0' <= b && b <= b'9'
+}
+
+/// Whether each byte is a decimal digit. Takes no memory.
+pub fn are_digits(text: &[u8]) -> bool
+    ensures { result ≡ list_all is_digit text.now }
+{
+    text.iter().all(|b| is_digit(*b))
+}
+
+/// The value of decimal digits, or 10^18 where it is greater. Takes no memory.
+pub fn value_of_digits(text: &[u8]) -> u64
+    ensures value { result ≡ at_most (value_of_digits text.now) }
+    ensures most { result ≤ 1000000000000000000 }
+{
+    let mut value = 0u64;
+    for b in text {
+        value = (value * 10 + (*b).saturating_sub(b'0') as u64).min(CAP);
+    }
+    value
+}
+
+// The value of one or more digits, capped.
+fn digits_of(text: &[u8]) -> Option<u64>
+    ensures value { result ≡ capped_digits text.now }
+    ensures most { IfSome result (λ n. n ≤ CAP) }
+{
+    if text.is_empty() || !are_digits(text) {
+        return None;
+    }
+    Some(value_of_digits(text))
+}
+
+/// The whole number that a text spells: an optional sign and one or more digits. One below -10^18 or above 10^18 comes as
+/// that bound. Takes no memory.
+pub fn whole_number(text: &[u8]) -> Option<i64>
+    ensures { result ≡ capped_number text.now }
+{
+    match text {
+        [b'-', digits @ ..] => digits_of(digits).map(|n| -(n as i64)),
+        [b'+', digits @ ..] => digits_of(digits).map(|n| n as i64),
+        _ => digits_of(text).map(|n| n as i64),
+    }
+}
+
+/// Whether a number is from [`LEAST`] to [`GREATEST`]. Takes no memory.
+pub fn is_in_range(n: i64) -> bool
+    ensures { result ≡ is_in_range n }
+{
+    LEAST as i64 <= n && n <= GREATEST as i64
+}
+
+/// The whole number in range that a text spells: an optional sign and one or more digits. Takes no memory.
+///
+/// # Errors
+///
+/// [`WholeFault::NotWhole`] where it spells none, [`WholeFault::OutOfRange`] where it spells one out of range.
+pub fn read_whole(text: &[u8]) -> Result<i32, WholeFault>
+    ensures { result ≡ read_whole text.now }
+{
+    match whole_number(text) {
+        Some(n) if is_in_range(n) => Ok(n as i32),
+        Some(_) => Err(WholeFault::OutOfRange),
+        None => Err(WholeFault::NotWhole),
+    }
+}
+
+/// The whole number in range that a text spells, or None where it spells none. Takes no memory.
+pub fn whole_in_range(text: &[u8]) -> Option<i32>
+    ensures { result ≡ whole_in_range text.now }
+{
+    match whole_number(text) {
+        Some(n) if is_in_range(n) => Some(n as i32),
+        _ => None,
+    }
+}

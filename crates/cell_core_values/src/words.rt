@@ -1,0 +1,102 @@
+//! The words of a line, and the parts of a word.
+
+ghost use Rattle.std.specs.Prelude.{◌≡◌, IfOk, map};
+ghost use Rattle.std.specs.List.{filter, slice_split};
+ghost use Rattle.std.specs.Option.{option_map};
+ghost use Rattle.cell_core_values.specs.Blanks.{is_blank};
+ghost use Rattle.cell_core_values.specs.Words.{is_word, words_of, is_list_gap, list_words_of, parts_of, pair_of};
+
+use crate::blanks::is_blank;
+use crate::memory::Memory;
+use std::alloc::{AllocError, Global};
+
+// The pieces between blanks, empty ones too.
+fn pieces_of<'a>(alloc: Global, line: &'a [u8]) -> Result<Vec<&'a [u8]>, AllocError>
+    ensures { IfOk result (λ pieces. map (λ w. w.now) pieces.items
+        ≡ slice_split is_blank line.now) }
+{
+    line.split(|b| is_blank(*b)).collect(alloc)
+}
+
+fn is_list_gap(b: u8) -> bool
+    ensures { result ≡ is_list_gap b }
+{
+    is_blank(b) || b == b','
+}
+
+// The pieces between blanks and commas, empty ones too.
+fn list_pieces_of<'a>(alloc: Global, line: &'a [u8]) -> Result<Vec<&'a [u8]>, AllocError>
+    ensures { IfOk result (λ pieces. map (λ w. w.now) pieces.items
+        ≡ slice_split is_list_gap line.now) }
+{
+    line.split(|b| is_list_gap(*b)).collect(alloc)
+}
+
+// The pieces that are not empty.
+fn words_among<'a>(alloc: Global, pieces: &[&'a [u8]]) -> Result<Vec<&'a [u8]>, Memory>
+    ensures { IfOk result (λ words. map (λ w. w.now) words.items
+        ≡ filter is_word (map (λ w. w.now) pieces.now)) }
+{
+    let mut words = Vec::new(alloc);
+    for piece in pieces {
+        if !piece.is_empty() {
+            words.push(*piece)?;
+        }
+    }
+    Ok(words)
+}
+
+/// The words of a line: the longest runs of bytes that are no blanks, in order.
+///
+/// # Errors
+///
+/// [`Memory`] where memory was refused.
+pub fn words_of<'a>(alloc: Global, line: &'a [u8]) -> Result<Vec<&'a [u8]>, Memory>
+    ensures { IfOk result (λ words. map (λ w. w.now) words.items ≡ words_of line.now) }
+{
+    let pieces = pieces_of(alloc, line)?;
+    words_among(alloc, &pieces)
+}
+
+/// The words of a list in which commas count as blanks, in order.
+///
+/// # Errors
+///
+/// [`Memory`] where memory was refused.
+pub fn list_words_of<'a>(alloc: Global, line: &'a [u8]) -> Result<Vec<&'a [u8]>, Memory>
+    ensures { IfOk result (λ words. map (λ w. w.now) words.items ≡ list_words_of line.now) }
+{
+    let pieces = list_pieces_of(alloc, line)?;
+    words_among(alloc, &pieces)
+}
+
+// The parts between commas, with std's error.
+fn comma_parts_of<'a>(alloc: Global, text: &'a [u8]) -> Result<Vec<&'a [u8]>, AllocError>
+    ensures { IfOk result (λ parts. map (λ w. w.now) parts.items ≡ parts_of text.now) }
+{
+    text.split(|b| *b == b',').collect(alloc)
+}
+
+/// The parts of a text between commas, empty ones too, in order.
+///
+/// # Errors
+///
+/// [`Memory`] where memory was refused.
+pub fn parts_of<'a>(alloc: Global, text: &'a [u8]) -> Result<Vec<&'a [u8]>, Memory>
+    ensures { IfOk result (λ parts. map (λ w. w.now) parts.items ≡ parts_of text.now) }
+{
+    let parts = comma_parts_of(alloc, text)?;
+    Ok(parts)
+}
+
+/// What stands before and after the first equals sign, or None where there is none. Takes no memory.
+pub fn pair_of<'a>(text: &'a [u8]) -> Option<(&'a [u8], &'a [u8])>
+    ensures { option_map (λ pair. (pair.0.now, pair.1.now)) result ≡ pair_of text.now }
+{
+    for (i, b) in text.iter().enumerate() {
+        if *b == b'=' {
+            return Some((&text[..i], &text[i + 1..]));
+        }
+    }
+    None
+}

@@ -1,0 +1,70 @@
+-- Sizes, and tables of the numbers, of the clumps of tiles that have each cell of a map once.
+use Rattle.std.specs.Prelude.{ℕ, pos, ◌-◌, ◌≡◌, ◌↔◌, List, [], ◌∷◌, map, flat_map, length, All, Some, None, sum_by}
+use Rattle.std.specs.Prelude.{slice_index}
+use Rattle.std.specs.List.{AllZip}
+use Rattle.cell_core.specs.Grid.{Grid, IsFilled}
+use Rattle.cell_cats_areas.specs.declared.clump.Joining.{Joining}
+use Rattle.cell_cats_areas.specs.Areas.{Position, cell_at_spot, HasNumber, IsClumping}
+use Rattle.cell_stats_counts.specs.declared.skip.Skip.{Skip}
+use Rattle.cell_stats.specs.CategoryTables.{Pairs, IsTable}
+use Rattle.cell_cats_law.specs.AreaLaw.{cells_of}
+use Rattle.cell_parts.specs.Parts.{Rectangle, AreTiling}
+use Rattle.cell_parts.specs.AreaParts.{IsTile, Numbered, moved_position}
+use Rattle.cell_parts.specs.TableParts.{count_in}
+use Rattle.cell_join_numbers.specs.Labelled.{HasAreas}
+use Rattle.cell_join_sizes.specs.Sizes.{AddUp}
+use Rattle.cell_join_law.specs.SizeLaw.{sizes_of_areas}
+use Rattle.cell_join_law.specs.NumberTables.{number_table, listed_sizes}
+
+-- a tile with the numbers of its clumps, and the number in the whole of each of them
+pub record JoinedTile : Type 0 where
+  pub numbered : Numbered
+  pub there : List ℕ
+
+abbrev pub place_of_tile : JoinedTile → Rectangle
+place_of_tile t = t.numbered.tile.place
+
+-- so many clumps, and each cell has in the whole the number that stands there for its own
+pub record IsJoinedTile (j : Joining) (whole : Grid) (t : JoinedTile) : Type 0 where
+  pub cells : IsTile whole t.numbered.tile
+  pub clumping : IsClumping j t.numbered.tile.map t.numbered.numbers
+  pub areas : HasAreas j t.numbered.tile.map (length t.there)
+  pub tells : (p : Position) (k : ℕ) → cell_at_spot t.numbered.numbers p ≡ Some (pos k)
+      → HasNumber j whole (moved_position (place_of_tile t) p) (slice_index t.there (k - 1))
+
+-- tiles that have each cell of so many rows and columns once
+pub record AreJoinedTiles (j : Joining) (whole : Grid) (rows cols : ℕ) (tiles : List JoinedTile) : Type 0 where
+  pub tiling : AreTiling rows cols (map place_of_tile tiles)
+  pub joined : All (IsJoinedTile j whole) tiles
+
+-- the numbers of all tiles, one tile after the other
+abbrev pub numbers_of_tiles : List JoinedTile → List ℕ
+numbers_of_tiles tiles = flat_map (λ t. t.there) tiles
+
+-- the sizes of the clumps of a tile
+abbrev pub sizes_of_tile : JoinedTile → List ℕ
+sizes_of_tile t =
+    sizes_of_areas (length t.there) t.numbered.numbers (place_of_tile t).rows (place_of_tile t).cols
+
+-- added up, they are the sizes of the clumps of the whole
+abbrev pub TileSizesCountCells : Type 0
+TileSizesCountCells = (j : Joining) (whole : Grid) (rows cols : ℕ) (tiles : List JoinedTile)
+    → AreJoinedTiles j whole rows cols tiles → (numbered : Grid) → IsClumping j whole numbered
+    → (areas : ℕ) (sizes : List ℕ) → AddUp (numbers_of_tiles tiles) (flat_map sizes_of_tile tiles) areas sizes
+    → sizes ≡ sizes_of_areas areas numbered rows cols
+
+-- the table of the numbers of a tile
+abbrev pub IsTileTable : Skip → JoinedTile → Pairs → Type 0
+IsTileTable skip t table =
+    IsTable skip (cells_of t.numbered.numbers (place_of_tile t).rows (place_of_tile t).cols) table
+
+-- the sizes that the tables of tiles list, joined, are the table of the numbers of the undivided map
+abbrev pub TileTablesGiveTheWhole : Type 0
+TileTablesGiveTheWhole = (j : Joining) (whole : Grid) (tiles : List JoinedTile)
+    → AreJoinedTiles j whole whole.region.rows whole.region.cols tiles → IsFilled whole.region whole.rows
+    → (skip : Skip) (tables : List Pairs) → AllZip (IsTileTable skip) tiles tables
+    → (areas : ℕ) → HasAreas j whole areas → (sizes : List ℕ)
+    → AddUp (numbers_of_tiles tiles) (flat_map listed_sizes tables) areas sizes
+    → (numbered : Grid) → IsClumping j whole numbered
+    → (table : Pairs) → IsTable skip (cells_of numbered whole.region.rows whole.region.cols) table
+    ↔ (table ≡ number_table skip sizes (sum_by (count_in (None ∷ [])) tables))

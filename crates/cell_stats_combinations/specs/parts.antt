@@ -1,2 +1,0 @@
--- How combinations are kept.
-pub mod Few

@@ -1,2 +1,0 @@
--- Walks along the rows of several maps together.
-pub mod Cursors

@@ -1,0 +1,44 @@
+-- The shelf that grids give, in their order, or the first fault (profile).
+use Rattle.std.specs.Prelude.{ℕ, ◌+◌, List, [], ◌∷◌, ◌++◌, Option, Some, None, Result, Ok, Err, if◌then◌else◌}
+use Rattle.cell_core.specs.Grid.{Grid}
+use Rattle.cell_core_values.specs.Name.{place_of}
+use Rattle.cell_core_values.specs.SameRegion.{is_same_region}
+use Rattle.cell_core.specs.Shelf.{ShelfValue}
+use Rattle.cell_ascii_meaning.specs.CellTexts.{grid_of}
+use Rattle.cell_ascii_meaning.specs.declared.grid_fault.GridFault.{GridFault}
+use Rattle.rcell.specs.Sources.{Named}
+use Rattle.rcell.specs.declared.run_fault.RunFault.{RunFault}
+use Rattle.rcell.specs.declared.run_fault.RunFault.TheVariants as faults
+
+-- the first grid's region is the region of the shelf
+abbrev pub shelf_of_one : List ℕ → Grid → ShelfValue
+shelf_of_one name map = record { region = map.region; names = name ∷ []; maps = map ∷ [] }
+
+-- a name that stands already is told before another region
+abbrev pub shelf_with_map : ℕ → ShelfValue → List ℕ → Grid → Option ℕ → Result ShelfValue RunFault
+shelf_with_map grid shelf name map (Some place) = Err (faults.GridTwice grid)
+shelf_with_map grid shelf name map None = if is_same_region map.region shelf.region then Ok (record shelf { names = shelf.names ++ name ∷ []; maps = shelf.maps ++ map ∷ [] }) else Err (faults.GridRegion grid)
+
+-- the shelf with one more map, where there is a shelf
+abbrev pub shelf_placed : ℕ → Option ShelfValue → List ℕ → Grid → Result ShelfValue RunFault
+shelf_placed grid None name map = Ok (shelf_of_one name map)
+shelf_placed grid (Some shelf) name map = shelf_with_map grid shelf name map (place_of name shelf.names)
+
+-- the shelf with the grid in place `grid`
+abbrev pub with_grid : ℕ → Option ShelfValue → List ℕ → Result Grid GridFault → Result ShelfValue RunFault
+with_grid grid shelf name (Ok map) = shelf_placed grid shelf name map
+with_grid grid shelf name (Err fault) = Err (faults.Grid grid fault)
+
+-- what the grids that are left give, unless there was a fault
+abbrev pub then_grids : (ShelfValue → Result (Option ShelfValue) RunFault) → Result ShelfValue RunFault → Result (Option ShelfValue) RunFault
+then_grids rest (Ok shelf) = rest shelf
+then_grids rest (Err fault) = Err fault
+
+-- the shelf with the grids that are left, from place `grid` on
+unfoldable pub shelf_from : ℕ → Option ShelfValue → List Named → Result (Option ShelfValue) RunFault
+shelf_from grid shelf [] = Ok shelf
+shelf_from grid shelf (g ∷ gs) = then_grids (λ s. shelf_from (grid + 1) (Some s) gs) (with_grid grid shelf g.0 (grid_of g.1))
+
+-- the shelf of grids: each is read whole, in order
+abbrev pub shelf_of : List Named → Result (Option ShelfValue) RunFault
+shelf_of grids = shelf_from 0 None grids

@@ -1,0 +1,71 @@
+-- The faults of a run: which of them come when, and what they tell (profile).
+use Rattle.std.specs.Prelude.{ℕ, ◌≡◌, ◌≢◌, ◌<◌, ⊤, Result, Ok, Err}
+use Rattle.cell_ascii_meaning.specs.declared.grid_fault.GridKind.TheVariants as grid_kinds
+use Rattle.rcell_script_commands.specs.declared.script_fault.ScriptKind.TheVariants as script_kinds
+use Rattle.rcell.specs.declared.run_fault.RunFault.{RunFault}
+use Rattle.rcell.specs.declared.run_fault.RunFault.TheVariants.{GridTwice, GridRegion, Grid, ScriptRead, ScriptSize, Script, Memory, Write}
+
+-- a fault that is neither being out of memory nor a failing writer: what the texts and their readers have wrong
+abbrev pub IsOfInput : RunFault → Type 0
+IsOfInput (GridTwice grid) = ⊤
+IsOfInput (GridRegion grid) = ⊤
+IsOfInput (Grid grid fault) = fault.kind ≢ grid_kinds.Memory
+IsOfInput ScriptRead = ⊤
+IsOfInput ScriptSize = ⊤
+IsOfInput (Script fault) = fault.kind ≢ script_kinds.Memory
+IsOfInput (Memory line) = ⊥
+IsOfInput Write = ⊥
+
+-- a fault that names a grid names this one
+abbrev pub IsOfGrid : ℕ → RunFault → Type 0
+IsOfGrid grid (GridTwice named) = named ≡ grid
+IsOfGrid grid (GridRegion named) = named ≡ grid
+IsOfGrid grid (Grid named fault) = named ≡ grid
+IsOfGrid grid ScriptRead = ⊤
+IsOfGrid grid ScriptSize = ⊤
+IsOfGrid grid (Script fault) = ⊤
+IsOfGrid grid (Memory line) = ⊤
+IsOfGrid grid Write = ⊤
+
+-- a fault that is told before the script was accepted
+abbrev pub IsBeforeExecution : RunFault → Type 0
+IsBeforeExecution (GridTwice grid) = ⊤
+IsBeforeExecution (GridRegion grid) = ⊤
+IsBeforeExecution (Grid grid fault) = ⊤
+IsBeforeExecution ScriptRead = ⊤
+IsBeforeExecution ScriptSize = ⊤
+IsBeforeExecution (Script fault) = ⊤
+IsBeforeExecution (Memory line) = line ≡ 0
+IsBeforeExecution Write = ⊥
+
+-- a fault that is told once the script was accepted
+abbrev pub IsInExecution : RunFault → Type 0
+IsInExecution (GridTwice grid) = ⊥
+IsInExecution (GridRegion grid) = ⊥
+IsInExecution (Grid grid fault) = ⊥
+IsInExecution ScriptRead = ⊥
+IsInExecution ScriptSize = ⊥
+IsInExecution (Script fault) = ⊥
+IsInExecution (Memory line) = 0 < line
+IsInExecution Write = ⊤
+
+-- a fault names one of so many grids, and being out of memory for a grid or for the script is told at line 0
+abbrev pub NamesItsGrid : ℕ → RunFault → Type 0
+NamesItsGrid grids (GridTwice grid) = grid < grids
+NamesItsGrid grids (GridRegion grid) = grid < grids
+NamesItsGrid grids (Grid grid fault) = (grid < grids) × (fault.kind ≢ grid_kinds.Failed) × (fault.kind ≡ grid_kinds.Memory → fault.line ≡ 0)
+NamesItsGrid grids ScriptRead = ⊤
+NamesItsGrid grids ScriptSize = ⊤
+NamesItsGrid grids (Script fault) = fault.kind ≡ script_kinds.Memory → fault.line ≡ 0
+NamesItsGrid grids (Memory line) = ⊤
+NamesItsGrid grids Write = ⊤
+
+-- a fault of the script is told before execution, and names no grid
+pub record IsOfScript (fault : RunFault) : Type 0 where
+  pub early : IsBeforeExecution fault
+  pub told : (grids : ℕ) → NamesItsGrid grids fault
+
+-- what is answered, seen by `view`, is what the reading gives, and a fault of the input is that of the reading
+abbrev pub AnswersInput : {A B : Type 0} → (A → B) → Result A RunFault → Result B RunFault → Type 0
+AnswersInput view (Ok x) reading = reading ≡ Ok (view x)
+AnswersInput view (Err fault) reading = IsOfInput fault → reading ≡ Err fault

@@ -1,0 +1,9 @@
+-- The text of a script (its limit is the profile's).
+use Rattle.std.specs.Prelude.{ℕ, nat_lt, List, length, Result, Ok, Err, if◌then◌else◌}
+use Rattle.cell_core_devices.specs.Device.{Coming}
+use Rattle.rcell.specs.declared.run_fault.RunFault.{RunFault}
+use Rattle.rcell.specs.declared.run_fault.RunFault.TheVariants.{ScriptRead, ScriptSize}
+
+-- a script has at most 1048576 bytes, and its reader ends
+abbrev pub script_text : Coming → Result (List ℕ) RunFault
+script_text c = if nat_lt 1048576 (length c.bytes) then Err ScriptSize else (if c.fails then Err ScriptRead else Ok c.bytes)

@@ -1,0 +1,19 @@
+-- The fault of a grid that the shelf refuses.
+use Rattle.std.specs.Prelude.{ℕ, ◌<◌}
+use Rattle.cell_core.specs.declared.shelf.ShelfFault.{ShelfFault}
+use Rattle.cell_core.specs.declared.shelf.ShelfFault.TheVariants as refusals
+use Rattle.rcell.specs.RunFaults.{IsOfGrid, IsBeforeExecution, NamesItsGrid}
+use Rattle.rcell.specs.declared.run_fault.RunFault.{RunFault}
+use Rattle.rcell.specs.declared.run_fault.RunFault.TheVariants as faults
+
+-- of the grid in this place
+abbrev pub of_shelf : ℕ → ShelfFault → RunFault
+of_shelf grid refusals.Exists = faults.GridTwice grid
+of_shelf grid refusals.OtherRegion = faults.GridRegion grid
+of_shelf grid refusals.Memory = faults.Memory 0
+
+-- a fault of this grid, told before execution
+pub record IsGridFault (grid : ℕ) (fault : RunFault) : Type 0 where
+  pub early : IsBeforeExecution fault
+  pub told : (count : ℕ) → grid < count → NamesItsGrid count fault
+  pub whose : IsOfGrid grid fault

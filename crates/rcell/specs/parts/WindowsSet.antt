@@ -1,0 +1,40 @@
+-- Windows of the maps that an expression reads.
+use Rattle.std.specs.Prelude.{◌≡◌, ◌<◌, ℕ, List, [], ◌∷◌, length, All, Option, Some, None, slice_get}
+use Rattle.cell_core.specs.Grid.{Grid, cell_at, no_labels}
+use Rattle.cell_core.specs.Shelf.{ShelfValue}
+use Rattle.cell_core_values.specs.Region.{RegionValue}
+use Rattle.cell_calc_binding.specs.Applied.{spot}
+use Rattle.cell_calc_binding.specs.Value.{value}
+use Rattle.cell_calc_binding.specs.Formula.{Formula}
+use Rattle.cell_calc_binding.specs.Reach.{up_of, down_of}
+use Rattle.cell_calc.specs.Window.{Window, IsWindowOf}
+
+-- each place is that of a map of the shelf
+abbrev pub AreMapPlaces : ShelfValue → List ℕ → Type 0
+AreMapPlaces shelf places = All (λ place. place < length shelf.maps) places
+
+-- a window of a map that stands at a row and reaches so far
+abbrev pub IsSet : (row up down : ℕ) → Option Window → Option Grid → Type 0
+IsSet row up down None m = ⊥
+IsSet row up down (Some w) None = ⊥
+IsSet row up down (Some w) (Some m) = (w.centre ≡ row) × ((w.above ≡ up) × ((w.below ≡ down) × IsWindowOf w m))
+
+-- so many first maps have such windows
+abbrev pub AreSet : Formula → (count row : ℕ) → List Window → List Grid → Type 0
+AreSet f count row windows maps = (i : ℕ) → i < count → IsSet row (up_of i f) (down_of i f) (slice_get windows i) (slice_get maps i)
+
+-- a map before others, where there is one
+abbrev pub then_maps : Option Grid → List Grid → List Grid
+then_maps None maps = maps
+then_maps (Some m) maps = m ∷ maps
+
+-- the maps at places, in the order of the places
+abbrev pub picked_maps : List ℕ → List Grid → List Grid
+picked_maps [] maps = []
+picked_maps (i ∷ places) maps = then_maps (slice_get maps i) (picked_maps places maps)
+
+-- a map of a region without labels, with the value of an expression over maps at each cell
+pub record HasValues (f : Formula) (r : RegionValue) (maps : List Grid) (m : Grid) : Type 0 where
+  pub region : m.region ≡ r
+  pub labels : m.labels ≡ no_labels
+  pub cells : (row col : ℕ) → row < r.rows → col < r.cols → cell_at m row col ≡ value f maps (spot r row col)

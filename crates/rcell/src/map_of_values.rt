@@ -1,0 +1,118 @@
+//! Maps of values.
+
+ghost use Rattle.std.specs.Prelude.{◌≡◌, ◌<◌, ◌≤◌, ◌+◌, length, slice_get, Some, IfOk};
+ghost use Rattle.cell_calc_binding.specs.Reach.{top_of};
+ghost use Rattle.rcell.specs.Making.{AreValues};
+ghost use Rattle.rcell.specs.parts.WindowsSet.{AreMapPlaces, AreSet, HasValues, picked_maps};
+
+use cell_calc::rows_of_values::eval_row;
+use cell_calc::window::RowWindow;
+use cell_calc_binding::bound::Bound;
+use cell_core::cell::Cell;
+use cell_core::map::{CellMap, MapBuilder};
+use cell_core::memory::Memory;
+use cell_core::shelf::Shelf;
+use std::alloc::Global;
+
+// The map that stands at a place of a list of places.
+fn map_at<'a>(shelf: &'a Shelf, places: &[usize], i: usize) -> &'a CellMap
+    requires place { i < length places.now }
+    requires within { AreMapPlaces shelf.now places.now }
+    ensures value { slice_get (picked_maps places.now shelf.now.maps) i ≡ Some result.now }
+    ensures region { result.now.region ≡ shelf.now.region }
+{
+    shelf.map(places[i])
+}
+
+// A window for each map that is read, at the first row.
+fn open_windows(
+    alloc: Global,
+    bound: &Bound,
+    places: &[usize],
+    shelf: &Shelf,
+) -> Result<Vec<RowWindow>, Memory>
+    requires places { top_of bound.now ≡ length places.now }
+    requires within { AreMapPlaces shelf.now places.now }
+    ensures set { IfOk result (λ windows. AreSet bound.now (length places.now) 0 windows.items
+        (picked_maps places.now shelf.now.maps)) }
+    ensures count { IfOk result (λ windows. length windows.items ≡ length places.now) }
+{
+    let mut windows = Vec::new(alloc);
+    for i in 0..places.len() {
+        let (up, down) = bound.reach(i);
+        windows.push(RowWindow::new(alloc, map_at(shelf, places, i), up, down)?)?;
+    }
+    Ok(windows)
+}
+
+// Moves each window down by one row, if there is one.
+fn advance_windows(
+    bound: &Bound,
+    places: &[usize],
+    shelf: &Shelf,
+    row: u32,
+    windows: &mut [RowWindow],
+)
+    requires count { length windows.old ≡ length places.now }
+    requires within { AreMapPlaces shelf.now places.now }
+    requires set { AreSet bound.now (length windows.old) row windows.old
+        (picked_maps places.now shelf.now.maps) }
+    ensures { row + 1 < shelf.now.region.rows
+        → AreSet bound.now (length windows.old) (row + 1) windows.new
+        (picked_maps places.now shelf.now.maps) }
+{
+    let _ = bound;
+    if row as u64 + 1 >= shelf.region().rows() as u64 {
+        return;
+    }
+    for i in 0..windows.len() {
+        windows[i].advance(map_at(shelf, places, i));
+    }
+}
+
+// The map of an expression's values over the maps at places, without labels.
+fn evaluate_over(
+    alloc: Global,
+    bound: &Bound,
+    places: &[usize],
+    shelf: &Shelf,
+) -> Result<CellMap, Memory>
+    requires places { top_of bound.now ≡ length places.now }
+    requires within { AreMapPlaces shelf.now places.now }
+    ensures { IfOk result (HasValues bound.now shelf.now.region
+        (picked_maps places.now shelf.now.maps)) }
+{
+    let region = shelf.region();
+    let mut windows = open_windows(alloc, bound, places, shelf)?;
+    let mut builder = MapBuilder::new(alloc, region);
+    let mut cells = Vec::from_elem(alloc, Cell::null(), region.cols() as usize)?;
+    for row in 0..region.rows() {
+        eval_row(
+            alloc,
+            bound,
+            &region,
+            row,
+            windows.as_slice(),
+            cells.as_mut_slice(),
+        )?;
+        builder.push_row(cells.as_slice())?;
+        advance_windows(bound, places, shelf, row, windows.as_mut_slice());
+    }
+    Ok(builder.finish())
+}
+
+/// The map of an expression's values over a shelf's maps, without labels.
+///
+/// # Errors
+///
+/// [`Memory`] where memory was refused.
+pub fn evaluate(alloc: Global, bound: &Bound, shelf: &Shelf) -> Result<CellMap, Memory>
+    requires { top_of bound.now ≤ length shelf.now.maps }
+    ensures { IfOk result (AreValues bound.now shelf.now) }
+{
+    // Only the maps that are read have windows.
+    let (compact, places) = bound.over_read_maps(alloc)?;
+    let map = evaluate_over(alloc, &compact, places.as_slice(), shelf)?;
+    let _region = map.region();
+    Ok(map)
+}

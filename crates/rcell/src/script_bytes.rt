@@ -1,0 +1,56 @@
+//! The text of a script.
+
+ghost use Rattle.std.specs.Prelude.{◌≡◌, IfErr, IfSome};
+ghost use Rattle.rcell.specs.RunFaults.{AnswersInput, IsOfScript};
+ghost use Rattle.rcell.specs.ScriptText.{script_text};
+ghost use Rattle.rcell.specs.parts.Asked.{asked_by};
+
+use crate::run_fault::RunFault;
+use cell_core::source::{Asked, Source};
+use std::alloc::Global;
+
+/// The most bytes of a script.
+const MOST_BYTES: usize = 1048576;
+
+/// Reads a script whole, up to one byte more than its limit.
+///
+/// # Errors
+///
+/// [`RunFault::ScriptSize`] where it has over 1,048,576 bytes, [`RunFault::ScriptRead`] where its reader fails before,
+/// or [`RunFault::Memory`] with line 0 where memory was refused.
+pub fn read_script<R: Source + Drop>(alloc: Global, mut source: R) -> Result<Vec<u8>, RunFault>
+    ensures answer { IfSome (R.coming source)
+        (λ c. AnswersInput (λ text. text.items) result (script_text c)) }
+    ensures whose { IfErr result IsOfScript }
+{
+    read_text(alloc, &mut source)
+}
+
+// Reads a source to its end, up to one byte more than the limit of a script.
+fn read_text<R: Source>(alloc: Global, source: &mut R) -> Result<Vec<u8>, RunFault>
+    ensures answer { IfSome (R.coming source.old)
+        (λ c. AnswersInput (λ text. text.items) result (script_text c)) }
+    ensures whose { IfErr result IsOfScript }
+    // Its end and an `Err` are told as such, and it is not asked after them.
+    ensures asked { R.asked source.old ≡ Asked.Going → R.asked source.new ≡ asked_by result }
+{
+    let mut text = Vec::new(alloc);
+    let mut block = [0u8; 4096];
+    'pieces: loop {
+        let room = (MOST_BYTES - text.len() + 1).min(4096);
+        let count = match source.take(&mut block[..room]) {
+            Ok(count) => count,
+            Err(_) => return Err(RunFault::ScriptRead),
+        };
+        if count == 0 {
+            return Ok(text);
+        }
+        if count > MOST_BYTES - text.len() {
+            return Err(RunFault::ScriptSize);
+        }
+        match text.extend_from_slice(&block[..count]) {
+            Ok(()) => {}
+            Err(_) => return Err(RunFault::Memory { line: 0 }),
+        }
+    }
+}

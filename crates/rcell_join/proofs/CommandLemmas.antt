@@ -1,0 +1,54 @@
+-- What words ask for, by what is found among them.
+use Rattle.std.proofs.Common.{Bor, Bool, ◌≡◌, ◌≤◌, ◌∷◌, ◌==◌, [], List, Ok, Err, true, false, length, refl, arith}
+use Rattle.std.proofs.lemmas.Bool.{eqb-true}
+use Rattle.std.specs.List.{remove, slice_index_or}
+use Rattle.clap.specs.Walk.{Text, texts}
+use Rattle.cell_core_values.specs.Answers.{◌>>=◌}
+use Rattle.rcell_join.specs.CommandLine.{Sizes, Tables}
+use Rattle.rcell_join.specs.CommandLine.{asked_labelled, asked_sizes, joined_tiles, tile_paths}
+use Rattle.rcell_join.specs.CommandLine.{format_in, has_hyphen_word, joining_in, paths_in}
+use Rattle.rcell_join.specs.declared.refusal.Refusal.TheVariants as refusals
+use Rattle.rcell_join.specs.declared.refusal.Usage.{Usage}
+
+apart : {X : Type 0} → true ≡ false → X
+apart bad = cc
+
+-- one table or more, in the format of the words
+pub tables_read : (labels : Bool) (words : List Text) (found : List (Bor Text)) → has_hyphen_word words ≡ false
+    → texts found ≡ paths_in words → (length found == 0) ≡ false
+    → asked_labelled labels words ≡ (format_in labels words >>= λ format. Ok (Tables format (texts found)))
+tables_read labels words [] plain are some = apart some
+tables_read labels words (table ∷ tables) plain are some = rw (plain, ← are) refl
+
+-- a numbering, and one table or more
+pub sizes_read : (words : List Text) (found : List (Bor Text)) (numbering : Bor Text) (tables : List (Bor Text))
+    → has_hyphen_word words ≡ false → texts found ≡ paths_in words → 2 ≤ length found
+    → numbering ≡ slice_index_or found 0 numbering → tables ≡ remove found 0
+    → asked_sizes words ≡ (format_in false words >>= λ format. Ok (Sizes format numbering.now (texts tables)))
+sizes_read words [] numbering tables plain are some first others = absurd (omega (arith, some))
+sizes_read words (one ∷ []) numbering tables plain are some first others = absurd (omega (arith, some))
+sizes_read words (one ∷ two ∷ rest) numbering tables plain are some first others =
+    let is : numbering ≡ one = first in
+    let those : tables ≡ two ∷ rest = others in
+    rw (plain, ← are, is, those) refl
+
+-- tiles, by the flag or without it
+pub tiles_read : (usage : Usage) (words : List Text) (found : List (Bor Text))
+    → has_hyphen_word (tile_paths words) ≡ false
+    → texts found ≡ tile_paths words → (length found == 0) ≡ false
+    → joined_tiles usage words ≡ Ok (joining_in words, texts found)
+tiles_read usage words [] plain are some = apart some
+tiles_read usage words (tile ∷ tiles) plain are some = rw (plain, ← are) refl
+
+-- none
+pub tiles_lack : (usage : Usage) (words : List Text) (found : List (Bor Text)) → texts found ≡ tile_paths words
+    → (length found == 0) ≡ true → joined_tiles usage words ≡ Err (refusals.Usage usage)
+tiles_lack usage words [] are none = rw (← are) refl
+tiles_lack usage words (tile ∷ tiles) are none =
+    let bad : length (tile ∷ tiles) ≡ 0 = eqb-true _ _ none in
+    absurd (omega (arith, bad))
+
+-- a word with a hyphen in front
+pub tiles_misused : (usage : Usage) (words : List Text) → has_hyphen_word (tile_paths words) ≡ true
+    → joined_tiles usage words ≡ Err (refusals.Usage usage)
+tiles_misused usage words flagged = rw flagged refl

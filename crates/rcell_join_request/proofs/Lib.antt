@@ -1,4 +1,0 @@
--- What several proofs share.
-pub mod CommandLemmas
-pub mod ParseLemmas
-pub mod WordLemmas

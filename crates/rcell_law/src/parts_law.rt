@@ -1,0 +1,105 @@
+//! The laws of runs over the parts of maps.
+
+ghost use Rattle.rcell_law.specs.ClumpRuns.{OneRunHasTheseNumbers, ScriptsOfTilesNumber};
+ghost use Rattle.rcell_law.specs.GridSizes.{GridSizesExist, NoNumberOfTilesIsLeftOut, SizesOfTheGrid};
+ghost use Rattle.rcell_law.specs.LabelledRuns.{JoinedLabelledRunsAreOneRun, LabelledRunsOfPartsJoin};
+ghost use Rattle.rcell_law.specs.PartRuns.{JoinedRunsAreOneRun, RunsOfPartsJoin};
+ghost use Rattle.rcell_law.specs.ScriptRuns.{ScriptRunsAreOneRun, ScriptsOfPartsJoin};
+ghost use Rattle.rcell_law.specs.SizedRuns.{SizesAreThoseOfTheGrid, TablesOfTilesAreAddedUp};
+ghost use Rattle.rcell_law.specs.TileRuns.{RunsHaveBorders};
+
+use cell_cats_law::numbering_law::clumping_exists;
+use rcell_script::law::one_script;
+
+/// Maps are cut in any way into parts that have each cell once: the outputs of `r.stats -c` over the parts join to its output
+/// over the full maps.
+pub fn runs_of_parts_join()
+    ensures { RunsOfPartsJoin }
+{}
+
+/// If these outputs are joined without an error, the result is the output over the full maps, byte for byte.
+pub fn joined_runs_are_one_run()
+    ensures { JoinedRunsAreOneRun }
+{}
+
+/// The same of `r.stats -c -l`, if the parts have the labels of the full maps.
+pub fn labelled_runs_of_parts_join()
+    ensures { LabelledRunsOfPartsJoin }
+{}
+
+/// If these outputs are joined without an error, the result is the output over the full maps, byte for byte.
+pub fn joined_labelled_runs_are_one_run()
+    ensures { JoinedLabelledRunsAreOneRun }
+{}
+
+/// The same of scripts: a script of one statement `r.stats -c` is run over the grids of each part, and the outputs join to the
+/// output of the script over the full maps, also if these are too large for a run.
+pub fn scripts_of_parts_join()
+    ensures { ScriptsOfPartsJoin }
+{
+    one_script();
+}
+
+/// They join to the output of `run` over the full grids, if there is such a run.
+pub fn script_runs_are_one_run()
+    ensures { ScriptRunsAreOneRun }
+{
+    one_script();
+}
+
+/// `write_border` rejects the map of a run for nothing but memory and the sink.
+pub fn runs_have_borders()
+    ensures { RunsHaveBorders }
+{}
+
+/// A script of `r.clump` and `r.out.ascii` is run over the grids of each tile of a map: it writes the numbers of the clumps of the
+/// tile. The borders that `write_border` wrote of the tiles are joined, but for memory and the sink, to the numbering of the full
+/// map, also if that map is too large for a run.
+pub fn scripts_of_tiles_number()
+    ensures { ScriptsOfTilesNumber }
+{
+    one_script();
+}
+
+/// If the script was run over the full map too, its numbers there are those of the numbering.
+pub fn one_run_has_these_numbers()
+    ensures { OneRunHasTheseNumbers }
+{
+    one_script();
+}
+
+/// A script of `r.clump` and `r.stats -c` is run over the tiles of a grid: the sizes that `join_table_sizes` writes of the numbering
+/// and these tables are the output of such a script over the full map, without null.
+pub fn sizes_are_those_of_the_grid()
+    ensures { SizesAreThoseOfTheGrid }
+{
+    one_script();
+}
+
+/// `join_table_sizes` rejects the numbering and the tables of fewer than 2^31 tiles for nothing but memory and the sink.
+pub fn tables_of_tiles_are_added_up()
+    ensures { TablesOfTilesAreAddedUp }
+{
+    clumping_exists();
+    one_script();
+}
+
+/// The numbering of the tiles of a map has each number from 1 to the count of the clumps of the map.
+pub fn no_number_of_tiles_is_left_out()
+    ensures { NoNumberOfTilesIsLeftOut }
+{
+    clumping_exists();
+}
+
+/// The tiles of a map are clumped and counted: the sizes that are added up with the numbering, listed by their numbers, are the
+/// table of the clump map of the full map without null.
+pub fn sizes_of_the_grid()
+    ensures { SizesOfTheGrid }
+{}
+
+/// There are such sizes, and none is of more cells than the map has.
+pub fn grid_sizes_exist()
+    ensures { GridSizesExist }
+{
+    clumping_exists();
+}

@@ -1,0 +1,8 @@
+//! What is so of every text of a script.
+
+ghost use Rattle.rcell_law.specs.JudgedLaw.{ScriptTextsAreJudged};
+
+/// Each text is a script over known maps, and has no fault, or has a first fault, and is no script (profile).
+pub fn script_texts_are_judged()
+    ensures { ScriptTextsAreJudged }
+{}

@@ -1,3 +1,0 @@
--- What several proofs share.
-pub mod LoadingLemmas
-pub mod TextLemmas

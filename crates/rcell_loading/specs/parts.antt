@@ -1,3 +1,0 @@
--- What only private functions and proofs cite.
-pub mod Asked
-pub mod Refused

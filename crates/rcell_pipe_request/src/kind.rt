@@ -1,0 +1,116 @@
+//! The types of numbers.
+
+ghost use Rattle.std.specs.Prelude.{◌≡◌, ◌+◌, ◌*◌, ◌<◌, ◌≤◌, length, take, drop};
+ghost use Rattle.rcell_pipe_request.specs.Numbers.{type_of_code, byte_size, raw_number, has_number};
+
+/// How a number is kept as bytes: its size in bits and whether it has a sign.
+#[derive(Clone, Copy, Debug, PartialEq, Eq)]
+pub enum CellType {
+    U8,
+    I8,
+    U16,
+    I16,
+    U32,
+    I32,
+    I64,
+}
+
+impl CellType {
+    /// The type of a code from 1 to 7.
+    pub fn of_code(code: u8) -> Option<CellType>
+        ensures { result ≡ type_of_code code }
+    {
+        match code {
+            1 => Some(CellType::U8),
+            2 => Some(CellType::I8),
+            3 => Some(CellType::U16),
+            4 => Some(CellType::I16),
+            5 => Some(CellType::U32),
+            6 => Some(CellType::I32),
+            7 => Some(CellType::I64),
+            _ => None,
+        }
+    }
+
+    /// How many bytes a number has.
+    pub fn size(self) -> usize
+        ensures value { result ≡ byte_size self }
+        ensures some { 0 < result }
+        ensures most { result ≤ 8 }
+    {
+        match self {
+            CellType::U8 | CellType::I8 => 1,
+            CellType::U16 | CellType::I16 => 2,
+            CellType::U32 | CellType::I32 => 4,
+            CellType::I64 => 8,
+        }
+    }
+
+    /// Whether the type has a number.
+    pub fn has(self, number: i64) -> bool
+        ensures { result ≡ has_number self number }
+    {
+        match self {
+            CellType::U8 => 0 <= number && number <= 255,
+            CellType::I8 => -128 <= number && number <= 127,
+            CellType::U16 => 0 <= number && number <= 65535,
+            CellType::I16 => -32768 <= number && number <= 32767,
+            CellType::U32 => 0 <= number && number <= 4294967295,
+            CellType::I32 => -2147483648 <= number && number <= 2147483647,
+            CellType::I64 => true,
+        }
+    }
+}
+
+// The number of two bytes from a place on.
+#[inline(always)]
+fn two(bytes: &[u8], at: usize) -> [u8; 2]
+    requires { at + 2 ≤ length bytes.now }
+    ensures { result ≡ take 2 (drop at bytes.now) }
+{
+    [bytes[at], bytes[at + 1]]
+}
+
+// Four bytes from a place on.
+#[inline(always)]
+fn four(bytes: &[u8], at: usize) -> [u8; 4]
+    requires { at + 4 ≤ length bytes.now }
+    ensures { result ≡ take 4 (drop at bytes.now) }
+{
+    [bytes[at], bytes[at + 1], bytes[at + 2], bytes[at + 3]]
+}
+
+// Eight bytes from a place on.
+#[inline(always)]
+fn eight(bytes: &[u8], at: usize) -> [u8; 8]
+    requires { at + 8 ≤ length bytes.now }
+    ensures { result ≡ take 8 (drop at bytes.now) }
+{
+    [
+        bytes[at],
+        bytes[at + 1],
+        bytes[at + 2],
+        bytes[at + 3],
+        bytes[at + 4],
+        bytes[at + 5],
+        bytes[at + 6],
+        bytes[at + 7],
+    ]
+}
+
+/// The number in a place of a row, counted from 0.
+#[inline(always)]
+pub fn raw_number(kind: CellType, bytes: &[u8], place: usize) -> i64
+    requires { (place + 1) * byte_size kind ≤ length bytes.now }
+    ensures { result ≡ raw_number kind bytes.now place }
+{
+    match kind {
+        CellType::U8 => i64::from(bytes[place]),
+        CellType::I8 => i64::from(i8::from_le_bytes([bytes[place]])),
+        CellType::U16 => i64::from(u16::from_le_bytes(two(bytes, 2 * place))),
+        CellType::I16 => i64::from(i16::from_le_bytes(two(bytes, 2 * place))),
+        CellType::U32 => i64::from(u32::from_le_bytes(four(bytes, 4 * place))),
+        CellType::I32 => i64::from(i32::from_le_bytes(four(bytes, 4 * place))),
+        CellType::I64 => i64::from_le_bytes(eight(bytes, 8 * place)),
+    }
+}

@@ -1,0 +1,140 @@
+//! Rows of `u8` numbers, packed into the bytes in which maps keep small cells.
+
+ghost use Rattle.std.specs.Prelude.{◌≡◌, ◌≢◌, ◌<◌, ◌*◌, ℕ, pos, ◌==◌, true, false, length, map, slice_get, slice_index_or, Ok, IfOk};
+ghost use Rattle.cell_core_values.specs.SmallCells.{cells_of_bytes};
+ghost use Rattle.rcell_pipe_request.specs.declared.kind.CellType.TheVariants.{U8};
+ghost use Rattle.rcell_pipe_request.specs.Numbers.{byte_size};
+ghost use Rattle.rcell_pipe_request.specs.RawRows.{is_hiding, is_nodata, places, raw_cells, has_outside, row_error, error_of};
+ghost use Rattle.rcell_pipe_request.specs.PackedRows.{cells_in};
+ghost use Rattle.rcell_pipe_request.specs.parts.PackedBytes.{packed_byte};
+
+use crate::kind::CellType;
+use crate::raw_row::{RowError, is_bad_mask, is_hidden, is_nodata, read_row};
+use cell_core_values::cell::Cell;
+
+// The byte that stands for null in a packed row.
+const NULL: u8 = 255;
+
+// The number below 255 that stands for null, or 255 if none does.
+fn null_byte(nodata: Option<i64>) -> u8
+    ensures { (number : ℕ) → number < 255
+        → (number == result) ≡ is_nodata nodata (pos number) }
+{
+    match nodata {
+        Some(number) => {
+            if 0 <= number && number <= 254 {
+                number as u8
+            } else {
+                NULL
+            }
+        }
+        None => NULL,
+    }
+}
+
+// Whether a number that no mask hides is 255.
+#[inline(always)]
+fn has_255(mask: &[u8], bytes: &[u8]) -> bool
+    ensures { result ≡ false → (place : ℕ) → place < length bytes.now
+        → is_hiding (slice_get mask.now place) ≡ false → slice_index_or bytes.now place 0 ≢ 255 }
+{
+    let mut found = false;
+    for i in 0..bytes.len() {
+        found = found | (bytes[i] == NULL && !is_hidden(mask, i));
+    }
+    found
+}
+
+// The number in a place, packed.
+#[inline(always)]
+fn packed_byte(mask: &[u8], null: u8, bytes: &[u8], place: usize) -> u8
+    requires { place < length bytes.now }
+    ensures { result ≡ packed_byte mask.now null bytes.now place }
+{
+    if is_hidden(mask, place) {
+        return NULL;
+    }
+    if bytes[place] == null {
+        return NULL;
+    }
+    bytes[place]
+}
+
+// Packs each number.
+#[inline(always)]
+fn pack_all(mask: &[u8], null: u8, bytes: &mut [u8])
+    ensures { bytes.new
+        ≡ map (packed_byte mask.now null bytes.old) (places (length bytes.old)) }
+{
+    for i in 0..bytes.len() {
+        bytes[i] = packed_byte(mask, null, bytes, i);
+    }
+}
+
+// The same as pack_row, with a mask that the compiler may know to be empty.
+#[inline(always)]
+fn pack_hidden(nodata: Option<i64>, mask: &[u8], bytes: &mut [u8]) -> bool
+    ensures packed { result ≡ true → cells_of_bytes bytes.new
+        ≡ raw_cells U8 nodata mask.now bytes.old (length bytes.old) }
+    ensures inside { result ≡ true
+        → has_outside U8 nodata mask.now bytes.old (length bytes.old) ≡ false }
+    ensures left { result ≡ false → bytes.new ≡ bytes.old }
+    ensures width { length bytes.new ≡ length bytes.old }
+{
+    if !is_nodata(nodata, 255) && has_255(mask, bytes) {
+        return false;
+    }
+    pack_all(mask, null_byte(nodata), bytes);
+    true
+}
+
+/// Packs a row of `u8` numbers into the bytes that stand for its cells, 255 for null. An empty mask hides nothing.
+/// Returns false, and leaves the row, if one of the cells is the category 255, for which no byte stands.
+pub fn pack_row(nodata: Option<i64>, mask: &[u8], bytes: &mut [u8]) -> bool
+    ensures packed { result ≡ true → cells_of_bytes bytes.new
+        ≡ raw_cells U8 nodata mask.now bytes.old (length bytes.old) }
+    ensures inside { result ≡ true
+        → has_outside U8 nodata mask.now bytes.old (length bytes.old) ≡ false }
+    ensures left { result ≡ false → bytes.new ≡ bytes.old }
+    ensures width { length bytes.new ≡ length bytes.old }
+{
+    if mask.is_empty() {
+        pack_hidden(nodata, &[], bytes)
+    } else {
+        pack_hidden(nodata, mask, bytes)
+    }
+}
+
+/// Reads a row of numbers: packs it, if bytes stand for all of its cells, and returns true, or else reads it into a slice of
+/// as many cells and returns false. An empty mask hides nothing.
+///
+/// # Errors
+///
+/// The first [`RowError`] in the order that its variants have.
+pub fn read_or_pack_row(
+    kind: CellType,
+    nodata: Option<i64>,
+    mask: &[u8],
+    bytes: &mut [u8],
+    cells: &mut [Cell],
+) -> Result<bool, RowError>
+    requires { length bytes.old ≡ length cells.old * byte_size kind }
+    ensures ok { IfOk result (λ packed. cells_in packed bytes.new cells.new
+        ≡ raw_cells kind nodata mask.now bytes.old (length cells.old)) }
+    ensures error { error_of result
+        ≡ row_error kind nodata mask.now bytes.old (length cells.old) }
+    ensures packed { result ≡ Ok true → length bytes.new ≡ length cells.old }
+    ensures width { length cells.new ≡ length cells.old }
+    ensures size { length bytes.new ≡ length bytes.old }
+{
+    if is_bad_mask(mask) {
+        return Err(RowError::BadMask);
+    }
+    if kind == CellType::U8 && pack_row(nodata, mask, bytes) {
+        return Ok(true);
+    }
+    match read_row(kind, nodata, mask, bytes, cells) {
+        Ok(()) => Ok(false),
+        Err(error) => Err(error),
+    }
+}

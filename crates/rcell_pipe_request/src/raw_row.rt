@@ -1,0 +1,184 @@
+//! Rows of bytes are read as rows of cells.
+
+ghost use Rattle.std.specs.Prelude.{◌≡◌, ◌≤◌, ◌+◌, ◌*◌, length, slice_get, OnOk};
+ghost use Rattle.cell_core_values.specs.Cell.{is_category};
+ghost use Rattle.rcell_pipe_request.specs.Numbers.{byte_size, raw_number};
+ghost use Rattle.rcell_pipe_request.specs.RawRows.{is_hiding, is_nodata, is_outside, cell_of_raw, raw_cell, is_raw_outside, raw_cells, has_outside, is_bad_mask, row_error, error_of};
+
+use crate::kind::{CellType, raw_number};
+use cell_core_values::cell::Cell;
+
+/// Why a row of bytes is no row of cells: the first reason in this order.
+#[derive(Clone, Copy, Debug, PartialEq, Eq)]
+pub enum RowError {
+    /// A byte of the mask is neither 0 nor 1.
+    BadMask,
+    /// A number that the mask does not hide is neither null nor a category.
+    OutOfRange,
+}
+
+// Whether the mask hides the cell in a place.
+#[inline(always)]
+pub(crate) fn is_hidden(mask: &[u8], place: usize) -> bool
+    ensures { result ≡ is_hiding (slice_get mask.now place) }
+{
+    match mask.get(place) {
+        Some(byte) => *byte != 0,
+        None => false,
+    }
+}
+
+// Whether a number stands for null.
+#[inline(always)]
+pub(crate) fn is_nodata(nodata: Option<i64>, number: i64) -> bool
+    ensures { result ≡ is_nodata nodata number }
+{
+    match nodata {
+        Some(null) => number == null,
+        None => false,
+    }
+}
+
+// Whether a number is a category.
+#[inline(always)]
+fn is_category(number: i64) -> bool
+    ensures { result ≡ is_category number }
+{
+    -2147483647 <= number && number <= 2147483647
+}
+
+// The cell of a number; null for one that is no category.
+#[inline(always)]
+fn cell_of_raw(nodata: Option<i64>, number: i64) -> Cell
+    ensures { result ≡ cell_of_raw nodata number }
+{
+    if is_nodata(nodata, number) {
+        return Cell::null();
+    }
+    if !is_category(number) {
+        return Cell::null();
+    }
+    match Cell::value(number as i32) {
+        Some(cell) => cell,
+        None => Cell::null(),
+    }
+}
+
+// Whether a number is neither null nor a category.
+#[inline(always)]
+fn is_outside(nodata: Option<i64>, number: i64) -> bool
+    ensures { result ≡ is_outside nodata number }
+{
+    !is_nodata(nodata, number) && !is_category(number)
+}
+
+// The cell in a place of a row.
+#[inline(always)]
+fn raw_cell(kind: CellType, nodata: Option<i64>, mask: &[u8], bytes: &[u8], place: usize) -> Cell
+    requires { (place + 1) * byte_size kind ≤ length bytes.now }
+    ensures { result ≡ raw_cell kind nodata mask.now bytes.now place }
+{
+    if is_hidden(mask, place) {
+        return Cell::null();
+    }
+    cell_of_raw(nodata, raw_number(kind, bytes, place))
+}
+
+// Whether the number in a place of a row is none of a cell.
+#[inline(always)]
+fn is_raw_outside(
+    kind: CellType,
+    nodata: Option<i64>,
+    mask: &[u8],
+    bytes: &[u8],
+    place: usize,
+) -> bool
+    requires { (place + 1) * byte_size kind ≤ length bytes.now }
+    ensures { result ≡ is_raw_outside kind nodata mask.now bytes.now place }
+{
+    !is_hidden(mask, place) && is_outside(nodata, raw_number(kind, bytes, place))
+}
+
+// The cells of a row, and whether a number is none of a cell.
+#[inline(always)]
+fn fill_row(
+    kind: CellType,
+    nodata: Option<i64>,
+    mask: &[u8],
+    bytes: &[u8],
+    cells: &mut [Cell],
+) -> bool
+    requires { length cells.old * byte_size kind ≤ length bytes.now }
+    ensures cells { cells.new ≡ raw_cells kind nodata mask.now bytes.now (length cells.old) }
+    ensures outside { result ≡ has_outside kind nodata mask.now bytes.now (length cells.old) }
+{
+    let mut outside = false;
+    for i in 0..cells.len() {
+        outside = outside | is_raw_outside(kind, nodata, mask, bytes, i);
+        cells[i] = raw_cell(kind, nodata, mask, bytes, i);
+    }
+    outside
+}
+
+// The same, with the type known to the compiler in each loop.
+fn fill_row_of(
+    kind: CellType,
+    nodata: Option<i64>,
+    mask: &[u8],
+    bytes: &[u8],
+    cells: &mut [Cell],
+) -> bool
+    requires { length cells.old * byte_size kind ≤ length bytes.now }
+    ensures cells { cells.new ≡ raw_cells kind nodata mask.now bytes.now (length cells.old) }
+    ensures outside { result ≡ has_outside kind nodata mask.now bytes.now (length cells.old) }
+{
+    match kind {
+        CellType::U8 => fill_row(CellType::U8, nodata, mask, bytes, cells),
+        CellType::I8 => fill_row(CellType::I8, nodata, mask, bytes, cells),
+        CellType::U16 => fill_row(CellType::U16, nodata, mask, bytes, cells),
+        CellType::I16 => fill_row(CellType::I16, nodata, mask, bytes, cells),
+        CellType::U32 => fill_row(CellType::U32, nodata, mask, bytes, cells),
+        CellType::I32 => fill_row(CellType::I32, nodata, mask, bytes, cells),
+        CellType::I64 => fill_row(CellType::I64, nodata, mask, bytes, cells),
+    }
+}
+
+// Whether a mask has a byte other than 0 and 1.
+pub(crate) fn is_bad_mask(mask: &[u8]) -> bool
+    ensures { result ≡ is_bad_mask mask.now }
+{
+    mask.iter().any(|byte| 1 < *byte)
+}
+
+/// Reads a row of numbers into a slice of as many cells. An empty mask hides nothing.
+///
+/// # Errors
+///
+/// The first [`RowError`] in the order that its variants have.
+pub fn read_row(
+    kind: CellType,
+    nodata: Option<i64>,
+    mask: &[u8],
+    bytes: &[u8],
+    cells: &mut [Cell],
+) -> Result<(), RowError>
+    requires { length cells.old * byte_size kind ≤ length bytes.now }
+    ensures ok { OnOk result
+        (cells.new ≡ raw_cells kind nodata mask.now bytes.now (length cells.old)) }
+    ensures width { length cells.new ≡ length cells.old }
+    ensures error { error_of result
+        ≡ row_error kind nodata mask.now bytes.now (length cells.old) }
+{
+    if is_bad_mask(mask) {
+        return Err(RowError::BadMask);
+    }
+    let outside = if mask.is_empty() {
+        fill_row_of(kind, nodata, &[], bytes, cells)
+    } else {
+        fill_row_of(kind, nodata, mask, bytes, cells)
+    };
+    if outside {
+        return Err(RowError::OutOfRange);
+    }
+    Ok(())
+}

@@ -1,0 +1,39 @@
+-- What the words of a command line ask for: rcell SCRIPT NAME=PATH... (profile).
+use Rattle.std.specs.Prelude.{ℕ, Bool, false, List, [], ◌∷◌, ◌++◌, ◌==◌, ◌≡◌, ◌≢◌, ◌+◌, ◌&&◌, ◌||◌, drop, if◌then◌else◌, length, nat_lt, None, Option, Some, Result, Ok, Err, option_map, codes}
+use Rattle.std.specs.List.{after_first, before_first, list_any}
+use Rattle.cell_core_values.specs.Letters.{byte}
+use Rattle.cell_core_values.specs.Name.{is_name}
+use Rattle.rcell_program.specs.declared.refusal.Refusal.{Refusal}
+use Rattle.rcell_program.specs.declared.refusal.Refusal.TheVariants.{GridWord, Memory, Usage}
+
+-- a word that begins with a hyphen
+abbrev pub begins_with_hyphen : List ℕ → Bool
+begins_with_hyphen [] = false
+begins_with_hyphen (b ∷ rest) = b == byte (codes "-")
+
+-- each name and the path of its grid, with an equals sign between them
+abbrev pub grid_words : List (List ℕ) → List (List ℕ) → List (List ℕ)
+grid_words (name ∷ names) (path ∷ paths) = (name ++ byte (codes "=") ∷ path) ∷ grid_words names paths
+grid_words _ _ = []
+
+-- NAME=PATH: a name stands before the first equals sign, and something after it
+abbrev pub is_grid_argument : List ℕ → Bool
+is_grid_argument word = is_name (before_first (λ b. b == byte (codes "=")) word) && nat_lt 0 (length (after_first (λ b. b == byte (codes "=")) word))
+
+-- the place of the first of these words that is not NAME=PATH, if there is one, where they are counted from this place
+abbrev pub first_bad : ℕ → List (List ℕ) → Option ℕ
+first_bad place [] = None
+first_bad place (word ∷ words) = if is_grid_argument word then first_bad (place + 1) words else Some place
+
+-- one of the words begins with a hyphen, or they are fewer than two, a script and a grid
+abbrev pub is_misuse : List (List ℕ) → Bool
+is_misuse words = list_any begins_with_hyphen words || nat_lt (length words) 2
+
+-- why these words, which follow the program's own name, are refused; None where they ask for a run
+abbrev pub refusal_of : List (List ℕ) → Option Refusal
+refusal_of words = if is_misuse words then Some Usage else option_map (λ place. GridWord place) (first_bad 2 (drop 1 words))
+
+-- words are refused for this reason, or for none, unless memory ran out
+abbrev pub IsRefusedFor : {A : Type 0} → Option Refusal → Result A Refusal → Type 0
+IsRefusedFor reason (Ok request) = reason ≡ None
+IsRefusedFor reason (Err refusal) = refusal ≢ Memory → reason ≡ Some refusal

@@ -1,0 +1,105 @@
+//! The files that a request names.
+
+ghost use Rattle.std.specs.Prelude.{◌≡◌, ◌≢◌, ◌<◌, IfErr, IfOk, vec_len};
+ghost use Rattle.cell_core_devices.specs.declared.source.Asked.{Asked};
+ghost use Rattle.rcell_program.specs.OpenedGrids.{AreOpened};
+ghost use Rattle.rcell_program.specs.Refusals.{IsOfOpening};
+
+use crate::command_words::Request;
+use crate::refusal::Refusal;
+use cell_core::name::Name;
+use cell_core::source::ReadSource;
+use std::fs;
+use std::io::{ErrorKind, Read};
+use std::rt::Files;
+
+/// The sources of a script and of its grids.
+#[derive(Drop)]
+pub struct OpenedFiles<F: Read> {
+    /// The source of the script.
+    pub script: ReadSource<F>,
+    /// The name of each grid and its source, in order; at least one.
+    pub grids: Vec<(Name, ReadSource<F>)>,
+    ghost has_grid: { 0 < vec_len grids },
+}
+
+// Out of memory is reported as such, and any other fault of an opening as that of the file.
+fn of_opening(kind: ErrorKind, of_file: Refusal) -> Refusal
+    ensures { result ≢ Refusal.Memory → result ≡ of_file }
+{
+    match kind {
+        ErrorKind::OutOfMemory => Refusal::Memory,
+        _ => of_file,
+    }
+}
+
+// The file of a path; where it can't be opened, the refusal of the file is returned, or out of memory.
+fn open_file<R: Files>(rt: &R, path: &str, of_file: Refusal) -> Result<ReadSource<R::File>, Refusal>
+    ensures asked { IfOk result (λ source. source.1 ≡ Asked.Going) }
+    ensures told { IfErr result (λ refusal. refusal ≢ Refusal.Memory → refusal ≡ of_file) }
+{
+    match fs::open(rt, path) {
+        Ok(file) => Ok(ReadSource::new(file)),
+        Err(fault) => Err(of_opening(fault.kind(), of_file)),
+    }
+}
+
+// A grid of a name, with the source of its path.
+fn open_grid<R: Files + AllocGlobal>(
+    rt: &R,
+    grid: usize,
+    name: &Name,
+    path: &str,
+) -> Result<(Name, ReadSource<R::File>), Refusal>
+    ensures name { IfOk result (λ opened. opened.0 ≡ name.now) }
+    ensures asked { IfOk result (λ opened. opened.1.1 ≡ Asked.Going) }
+    ensures told { IfErr result (λ refusal. refusal ≢ Refusal.Memory
+        → refusal ≡ Refusal.GridFile grid) }
+{
+    let source = open_file(rt, path, Refusal::GridFile { grid })?;
+    match name.copy(rt.alloc()) {
+        Ok(name) => Ok((name, source)),
+        Err(_) => Err(Refusal::Memory),
+    }
+}
+
+// The names and the sources of the grids, in order.
+fn open_grids<R: Files + AllocGlobal>(
+    rt: &R,
+    request: &Request<'_>,
+) -> Result<Vec<(Name, ReadSource<R::File>)>, Refusal>
+    ensures opened { IfOk result (λ grids. AreOpened request.now.names.items grids.items) }
+    ensures told { IfErr result (IsOfOpening (vec_len request.now.names)) }
+{
+    let mut grids = Vec::new(rt.alloc());
+    for grid in 0..request.names.len() {
+        let opened = open_grid(rt, grid, &request.names[grid], request.paths[grid])?;
+        grids.push(opened).map_err(|_| Refusal::Memory)?;
+    }
+    Ok(grids)
+}
+
+/// Opens the script and then each grid in order.
+///
+/// No clause says that a source has the bytes of the file at its path, since nothing is assumed about files.
+///
+/// # Errors
+///
+/// [`Refusal::ScriptFile`] or [`Refusal::GridFile`] of the first that can't be opened; [`Refusal::Usage`] where the request
+/// names no grid; [`Refusal::Memory`].
+pub fn open_files<R: Files + AllocGlobal>(
+    rt: &R,
+    request: &Request<'_>,
+) -> Result<OpenedFiles<R::File>, Refusal>
+    // Nothing is read yet: no source was asked, so none has ended or failed.
+    ensures script { IfOk result (λ opened. opened.script.1 ≡ Asked.Going) }
+    ensures grids { IfOk result (λ opened. AreOpened request.now.names.items opened.grids.items) }
+    ensures told { IfErr result (IsOfOpening (vec_len request.now.names)) }
+{
+    let script = open_file(rt, request.script, Refusal::ScriptFile)?;
+    let grids = open_grids(rt, request)?;
+    if grids.is_empty() {
+        return Err(Refusal::Usage);
+    }
+    Ok(OpenedFiles { script, grids })
+}

@@ -1,0 +1,162 @@
+//! The texts that stand for null.
+
+ghost use Rattle.std.specs.Prelude.{◌≡◌, IfOk, true};
+ghost use Rattle.std.specs.List.{list_all};
+ghost use Rattle.cell_ascii_meaning.specs.Header.{usual_null};
+ghost use Rattle.cell_ascii_meaning.specs.Writing.{IsNullText};
+ghost use Rattle.rcell_script_commands.specs.NullText.{is_printed, is_null_byte, is_null_text, is_table_null_text};
+ghost use Rattle.rcell_script_commands.specs.OptionReading.{GivesOption, null_text_of, table_null_text_of};
+
+use crate::option_fault::OptionFault;
+use cell_core::memory::Memory;
+use std::alloc::Global;
+use std::marker::Model;
+
+/// The most bytes of a text that stands for null.
+const MOST_BYTES: usize = 64;
+
+/// What stands for null in a grid text that is written: 1 to 64 bytes from `!` to `~`, none of them a colon (profile).
+#[derive(Drop)]
+pub struct NullText {
+    bytes: Vec<u8>,
+}
+
+impl Model for NullText {
+    ghost use Rattle.std.specs.Prelude.{List, ℕ, ◌≡◌, true};
+    ghost use Rattle.rcell_script_commands.specs.NullText.{is_null_text};
+
+    ghost Value = { List ℕ };
+
+    ghost view = { λ t. t.bytes.items };
+
+    ghost invariant = { λ t. is_null_text t.bytes.items ≡ true };
+}
+
+/// What stands for null in a table: 1 to 64 bytes from `!` to `~` (profile).
+#[derive(Drop)]
+pub struct TableNullText {
+    bytes: Vec<u8>,
+}
+
+impl Model for TableNullText {
+    ghost use Rattle.std.specs.Prelude.{List, ℕ, ◌≡◌, true};
+    ghost use Rattle.rcell_script_commands.specs.NullText.{is_table_null_text};
+
+    ghost Value = { List ℕ };
+
+    ghost view = { λ t. t.bytes.items };
+
+    ghost invariant = { λ t. is_table_null_text t.bytes.items ≡ true };
+}
+
+fn is_printed(b: u8) -> bool
+    ensures { result ≡ is_printed b }
+{
+    b'!' <= b && b <= b'~'
+}
+
+fn is_null_byte(b: u8) -> bool
+    ensures { result ≡ is_null_byte b }
+{
+    is_printed(b) && b != b':'
+}
+
+fn are_null_bytes(bytes: &[u8]) -> bool
+    ensures { result ≡ list_all is_null_byte bytes.now }
+{
+    bytes.iter().all(|b| is_null_byte(*b))
+}
+
+fn are_printed(bytes: &[u8]) -> bool
+    ensures { result ≡ list_all is_printed bytes.now }
+{
+    bytes.iter().all(|b| is_printed(*b))
+}
+
+fn is_null_text(bytes: &[u8]) -> bool
+    ensures { result ≡ is_null_text bytes.now }
+{
+    bytes.len() >= 1 && bytes.len() <= MOST_BYTES && are_null_bytes(bytes)
+}
+
+fn is_table_null_text(bytes: &[u8]) -> bool
+    ensures { result ≡ is_table_null_text bytes.now }
+{
+    bytes.len() >= 1 && bytes.len() <= MOST_BYTES && are_printed(bytes)
+}
+
+impl NullText {
+    /// The null text that a value spells.
+    ///
+    /// # Errors
+    ///
+    /// [`OptionFault::BadOption`] exactly where it spells none, else [`OptionFault::Memory`] where
+    /// memory for a copy was refused.
+    pub(crate) fn read(alloc: Global, value: &[u8]) -> Result<NullText, OptionFault>
+        ensures { GivesOption result (null_text_of value.now) }
+    {
+        if !is_null_text(value) {
+            return Err(OptionFault::BadOption);
+        }
+        let bytes = Vec::from_slice(alloc, value)?;
+        Ok(NullText { bytes })
+    }
+
+    /// An asterisk, which stands for null where no other text is given.
+    ///
+    /// # Errors
+    ///
+    /// [`Memory`] where memory for it was refused.
+    pub(crate) fn usual(alloc: Global) -> Result<NullText, Memory>
+        ensures { IfOk result (λ text. text ≡ usual_null) }
+    {
+        let bytes = Vec::from_slice(alloc, b"*")?;
+        Ok(NullText { bytes })
+    }
+
+    /// Its bytes.
+    pub fn bytes(&self) -> &[u8]
+        ensures value { result.now ≡ self.now }
+        ensures text { IsNullText self.now }
+    {
+        self.bytes.as_slice()
+    }
+}
+
+impl TableNullText {
+    /// The null text that a value spells.
+    ///
+    /// # Errors
+    ///
+    /// [`OptionFault::BadOption`] exactly where it spells none, else [`OptionFault::Memory`] where
+    /// memory for a copy was refused.
+    pub(crate) fn read(alloc: Global, value: &[u8]) -> Result<TableNullText, OptionFault>
+        ensures { GivesOption result (table_null_text_of value.now) }
+    {
+        if !is_table_null_text(value) {
+            return Err(OptionFault::BadOption);
+        }
+        let bytes = Vec::from_slice(alloc, value)?;
+        Ok(TableNullText { bytes })
+    }
+
+    /// An asterisk, which stands for null where no other text is given.
+    ///
+    /// # Errors
+    ///
+    /// [`Memory`] where memory for it was refused.
+    pub(crate) fn usual(alloc: Global) -> Result<TableNullText, Memory>
+        ensures { IfOk result (λ text. text ≡ usual_null) }
+    {
+        let bytes = Vec::from_slice(alloc, b"*")?;
+        Ok(TableNullText { bytes })
+    }
+
+    /// Its bytes.
+    pub fn bytes(&self) -> &[u8]
+        ensures value { result.now ≡ self.now }
+        ensures text { is_table_null_text self.now ≡ true }
+    {
+        &self.bytes
+    }
+}

@@ -1,0 +1,70 @@
+//! Why words give no options.
+
+use cell_core::memory::Memory;
+use cell_core::name::NameFault;
+use std::alloc::{AllocError, AllocFailed};
+
+/// What is wrong with the options of a command, or with the maps that they name.
+#[derive(Clone, Copy, Debug, PartialEq, Eq)]
+pub enum OptionFault {
+    /// An unknown flag or key, a word without `=`, a key twice, more than 16 maps, a bad separator or null text, or
+    /// flags that do not go together.
+    BadOption,
+    /// A command without an option that it needs.
+    MissingOption,
+    /// A map that is read and not known.
+    UnknownMap,
+    /// A map that is made and known before.
+    MapExists,
+    /// An input or output that is no name.
+    BadName,
+    /// Memory was refused.
+    Memory,
+}
+
+impl From<NameFault> for OptionFault {
+    ghost use Rattle.std.specs.Prelude.{◌≡◌};
+    ghost use Rattle.rcell_script_commands.specs.parts.Faults.{of_name};
+
+    ghost from_gives = { λ fault option. option ≡ of_name fault };
+
+    fn from(fault: NameFault) -> OptionFault {
+        match fault {
+            NameFault::BadName => OptionFault::BadName,
+            NameFault::Memory => OptionFault::Memory,
+        }
+    }
+}
+
+impl From<Memory> for OptionFault {
+    ghost use Rattle.std.specs.Prelude.{◌≡◌};
+    ghost use Rattle.rcell_script_commands.specs.declared.option_fault.OptionFault.TheVariants.{Memory};
+
+    ghost from_gives = { λ _ fault. fault ≡ Memory };
+
+    fn from(_e: Memory) -> OptionFault {
+        OptionFault::Memory
+    }
+}
+
+impl From<AllocError> for OptionFault {
+    ghost use Rattle.std.specs.Prelude.{◌≡◌};
+    ghost use Rattle.rcell_script_commands.specs.declared.option_fault.OptionFault.TheVariants.{Memory};
+
+    ghost from_gives = { λ _ fault. fault ≡ Memory };
+
+    fn from(_e: AllocError) -> OptionFault {
+        OptionFault::Memory
+    }
+}
+
+impl<T: Drop> From<AllocFailed<T>> for OptionFault {
+    ghost use Rattle.std.specs.Prelude.{◌≡◌};
+    ghost use Rattle.rcell_script_commands.specs.declared.option_fault.OptionFault.TheVariants.{Memory};
+
+    ghost from_gives = { λ _ fault. fault ≡ Memory };
+
+    fn from(_e: AllocFailed<T>) -> OptionFault {
+        OptionFault::Memory
+    }
+}

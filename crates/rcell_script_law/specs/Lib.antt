@@ -1,2 +1,0 @@
--- The law that each text of a script is judged.
-pub mod JudgedLaw

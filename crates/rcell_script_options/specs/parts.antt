@@ -1,3 +1,0 @@
--- What only private functions and proofs speak of.
-pub mod Keys
-pub mod Faults

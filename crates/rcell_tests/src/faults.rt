@@ -1,0 +1,174 @@
+//! Which fault of a script is told, and where.
+
+use crate::assertions::assert_same;
+use cell_calc_language::calc_fault::{CalcFault, CalcKind};
+use cell_cats::rules::RuleFault;
+use cell_core::name::{Name, Names};
+use cell_stats_counts::combination_text::ComboFault;
+use rcell_script::script_fault::{ScriptFault, ScriptKind};
+use rcell_script::script_parsing::parse_script;
+use std::alloc::Global;
+use std::test::Fail;
+
+// The names of one grid, g.
+pub(crate) fn one_grid(alloc: Global) -> Result<Names, Fail> {
+    let mut known = Names::new(alloc);
+    let name = Name::read(alloc, b"g")?;
+    known.push(name)?;
+    Ok(known)
+}
+
+// Scripts, and the kind and the line of the first fault of each.
+const FAULTS: [(&str, ScriptKind, u64); 31] = [
+    (
+        "r.stats -c input=g\n# note\nr.clump input=h output=c",
+        ScriptKind::UnknownMap,
+        3,
+    ),
+    ("end", ScriptKind::UnknownCommand, 1),
+    ("r.stats -c input=h after=x", ScriptKind::UnknownMap, 1),
+    ("r.stats -c -1", ScriptKind::MissingOption, 1),
+    ("r.stats -1 -c input=g", ScriptKind::BadOption, 1),
+    ("r.stats -1 input=h after=1", ScriptKind::BadOption, 1),
+    ("\nr.stats -c input=g input=1a", ScriptKind::BadOption, 2),
+    ("r.stats input=", ScriptKind::BadName, 1),
+    ("r.stats input=g -", ScriptKind::BadOption, 1),
+    ("r.stats input=g -cd", ScriptKind::BadOption, 1),
+    ("r.stats input=g c", ScriptKind::BadOption, 1),
+    ("r.stats input=g output=c", ScriptKind::BadOption, 1),
+    ("r.stats input=g separator=ab", ScriptKind::BadOption, 1),
+    (
+        "r.stats input=g after=1x",
+        ScriptKind::Combo(ComboFault::BadCombo),
+        1,
+    ),
+    (
+        "r.stats input=g after=",
+        ScriptKind::Combo(ComboFault::BadCombo),
+        1,
+    ),
+    (
+        "r.stats input=g after=1,2",
+        ScriptKind::Combo(ComboFault::BadWidth),
+        1,
+    ),
+    (
+        "r.stats -c input=g,g after=1",
+        ScriptKind::Combo(ComboFault::BadWidth),
+        1,
+    ),
+    (
+        "r.out.ascii input=1a null_value=a:b",
+        ScriptKind::BadName,
+        1,
+    ),
+    (
+        "r.out.ascii null_value=a:b input=1a",
+        ScriptKind::BadOption,
+        1,
+    ),
+    ("r.out.ascii -c input=g", ScriptKind::BadOption, 1),
+    ("r.clump input=h output=g", ScriptKind::UnknownMap, 1),
+    ("r.clump input=g output=g", ScriptKind::MapExists, 1),
+    ("r.clump input=c output=c", ScriptKind::UnknownMap, 1),
+    ("r.clump input=g,g output=c", ScriptKind::BadName, 1),
+    ("r.clump input=g", ScriptKind::MissingOption, 1),
+    (
+        "r.clump input=g output=c\nr.clump -d input=g output=c",
+        ScriptKind::MapExists,
+        2,
+    ),
+    (
+        "r.reclass input=g output=r\n1 = 2",
+        ScriptKind::MissingEnd,
+        1,
+    ),
+    (
+        "r.reclass input=g output=r\nx = 2",
+        ScriptKind::Rule(RuleFault::BadNumber),
+        2,
+    ),
+    (
+        "r.reclass input=g output=r\n1 = 99999999999\nend",
+        ScriptKind::Rule(RuleFault::BadNumber),
+        2,
+    ),
+    (
+        "r.reclass input=g output=r\n1 thru = 3\nend",
+        ScriptKind::Rule(RuleFault::BadRule),
+        2,
+    ),
+    (
+        "r.reclass input=g output=r\n# x\n\nr.stats input=g\nend",
+        ScriptKind::Rule(RuleFault::BadNumber),
+        4,
+    ),
+];
+
+#[test]
+fn tells_the_first_fault(rt: HostRuntime) -> Result<(), Fail> {
+    let known = one_grid(rt.alloc())?;
+    for &(text, kind, line) in &FAULTS {
+        let told = parse_script(rt.alloc(), text.as_bytes(), &known).err();
+        assert_same!(rt; told, Some(ScriptFault { kind, line }), "{text}");
+    }
+    Ok(())
+}
+
+// Scripts of an assignment, and the kind and the column of the fault of its expression.
+const EXPRESSIONS: [(&str, CalcKind, u32); 6] = [
+    ("r.mapcalc x = 2147483648", CalcKind::BadNumber, 15),
+    ("r.mapcalc x = h", CalcKind::UnknownMap, 15),
+    ("r.mapcalc g = g + h", CalcKind::UnknownMap, 19),
+    ("r.mapcalc x = x", CalcKind::UnknownMap, 15),
+    (" \tr.mapcalc", CalcKind::Expected, 12),
+    ("r.mapcalc x = 1 + ", CalcKind::Expected, 19),
+];
+
+// Scripts of assignments, and the kind and the line of the fault of each.
+const ASSIGNMENTS: [(&str, ScriptKind, u64); 3] = [
+    ("r.mapcalc x = 1\nr.mapcalc x = 2", ScriptKind::MapExists, 2),
+    ("r.mapcalc g = g", ScriptKind::MapExists, 1),
+    ("r.mapcalcx = 1", ScriptKind::UnknownCommand, 1),
+];
+
+#[test]
+fn tells_faults_of_assignments(rt: HostRuntime) -> Result<(), Fail> {
+    let known = one_grid(rt.alloc())?;
+    for &(text, kind, column) in &EXPRESSIONS {
+        let told = parse_script(rt.alloc(), text.as_bytes(), &known).err();
+        let kind = ScriptKind::Calc(CalcFault { kind, column });
+        assert_same!(rt; told, Some(ScriptFault { kind, line: 1 }), "{text}");
+    }
+    for &(text, kind, line) in &ASSIGNMENTS {
+        let told = parse_script(rt.alloc(), text.as_bytes(), &known).err();
+        assert_same!(rt; told, Some(ScriptFault { kind, line }), "{text}");
+    }
+    Ok(())
+}
+
+#[test]
+fn takes_16_inputs(rt: HostRuntime) -> Result<(), Fail> {
+    let known = one_grid(rt.alloc())?;
+    let sixteen = b"r.stats -c input=g,g,g,g,g,g,g,g,g,g,g,g,g,g,g,g";
+    assert_same!(rt; parse_script(rt.alloc(), sixteen, &known).err(), None);
+    let seventeen = b"r.stats -c input=g,g,g,g,g,g,g,g,g,g,g,g,g,g,g,g,1";
+    let told = parse_script(rt.alloc(), seventeen, &known).err();
+    let kind = ScriptKind::BadOption;
+    assert_same!(rt; told, Some(ScriptFault { kind, line: 1 }));
+    Ok(())
+}
+
+#[test]
+fn takes_lines_of_65535_bytes(rt: HostRuntime) -> Result<(), Fail> {
+    let known = one_grid(rt.alloc())?;
+    let mut text = vec![in rt.alloc(); b'#'; 65535]?;
+    text.extend_from_slice(b"\r\n")?;
+    assert_same!(rt; parse_script(rt.alloc(), text.as_slice(), &known).err(), None);
+    let mut text = vec![in rt.alloc(); b'#'; 65536]?;
+    text.extend_from_slice(b"\r\n")?;
+    let told = parse_script(rt.alloc(), text.as_slice(), &known).err();
+    let kind = ScriptKind::LongLine;
+    assert_same!(rt; told, Some(ScriptFault { kind, line: 1 }));
+    Ok(())
+}
