@@ -6,8 +6,8 @@ use Rattle.cell_core.specs.Grid.{CellValue}
 use Rattle.cell_ascii_reading.specs.Ahead.{before_coming}
 use Rattle.cell_ascii_meaning.specs.Header.{HeaderValue}
 use Rattle.cell_ascii_meaning.specs.CellTexts.{cell_from, at_of}
-use Rattle.cell_ascii.specs.HeldCells.{HoldsCell, HoldsCells, HoldsFront, ComesAgain}
-use Rattle.cell_ascii.proofs.HeldRowLemmas.{HoldsCells-more}
+use Rattle.cell_ascii.specs.BufferedCells.{HoldsCell, HoldsCells, HoldsFront, ComesAgain}
+use Rattle.cell_ascii.proofs.BufferedRowLemmas.{HoldsCells-more}
 
 -- lists that are alike in front are alike in each part of it
 alike_part : (all i m : ℕ) (xs ys : List ℕ) → take all xs ≡ take all ys → i + m ≤ all → take m (drop i xs) ≡ take m (drop i ys)
@@ -64,14 +64,14 @@ module _ (h : HeaderValue) (bs : List ℕ) where
   many_times : (cells : List CellValue) (count m : ℕ) (v : CellValue) (n times : ℕ) → HoldsCells h bs cells count m
       → ((i : ℕ) → i ≤ times → HoldsCell h (drop (i * n) (drop m bs)) v n)
       → HoldsCells h bs (cells ++ replicate (1 + times) v) (count + (1 + times)) (m + (n + times * n))
-  many_times cells count m v n zero held each =
+  many_times cells count m v n zero buffered each =
       let none : 0 * n ≡ 0 = omega arith in
       let first : HoldsCell h (drop m bs) v n = subst (λ (k : ℕ). HoldsCell h (drop k (drop m bs)) v n) none (each 0 (omega arith)) in
       let one : 1 + 0 ≡ 1 = omega arith in
       let bytes : n + 0 * n ≡ n = omega arith in
-      rw (one, bytes) (HoldsCells-more h bs cells count m v n held first)
-  many_times cells count m v n (suc times) held each =
-      let before = many_times cells count m v n times held (λ i few. each i (omega arith)) in
+      rw (one, bytes) (HoldsCells-more h bs cells count m v n buffered first)
+  many_times cells count m v n (suc times) buffered each =
+      let before = many_times cells count m v n times buffered (λ i few. each i (omega arith)) in
       let at : n + times * n ≡ suc times * n = omega arith in
       let place : drop (suc times * n) (drop m bs) ≡ drop (m + (n + times * n)) bs = drop-drop (suc times * n) m bs ∙ ap (λ (k : ℕ). drop (m + k) bs) (sym at) in
       let last : HoldsCell h (drop (m + (n + times * n)) bs) v n = subst (λ (l : List ℕ). HoldsCell h l v n) place (each (suc times) (omega arith)) in
@@ -86,7 +86,7 @@ module _ (h : HeaderValue) (bs : List ℕ) where
   pub HoldsCells-again : (cells : List CellValue) (count m : ℕ) (v : CellValue) (n times : ℕ) → n + times * n ≤ length (drop m bs) → HoldsCells h bs cells count m
       → HoldsFront h (drop m bs) v n → ComesAgain (drop m bs) n times
       → HoldsCells h bs (cells ++ replicate (1 + times) v) (count + (1 + times)) (m + (n + times * n))
-  HoldsCells-again cells count m v n times within held front again = many_times cells count m v n times held (again_holds h (drop m bs) v n times within front again)
+  HoldsCells-again cells count m v n times within buffered front again = many_times cells count m v n times buffered (again_holds h (drop m bs) v n times within front again)
 
 -- a row whose cells from a place on were written over
 module _ (i k : ℕ) (row old : List CellValue) (v : CellValue) (within : i + k ≤ length row) where

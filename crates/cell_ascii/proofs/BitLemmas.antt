@@ -130,7 +130,7 @@ four-hits xs long =
     ap (λ (n : ℕ). mask_l (map (top 7) (zip2 bit_or (zip2 bit_or (hits n 32 xs) (hits n 9 xs)) (zip2 bit_or (hits n 13 xs) (hits n 10 xs)))) % 2 ^ 64) (sym long)
     ∙ ap (λ (l : List Bool). mask_l l % 2 ^ 64) (spaces xs) ∙ mask_l-mod (map is_space xs) 64 few
 
-module _ (bs : List ℕ) (held : 64 ≤ length bs) (at : ℕ) where
+module _ (bs : List ℕ) (buffered : 64 ≤ length bs) (at : ℕ) where
   abbrev ends : ℕ
   ends = mask_l (cleared_front at (blanks bs))
 
@@ -177,10 +177,10 @@ pub record NextEnd (bs : List ℕ) (at ends : ℕ) : Type 0 where
 
 pub next_end : (bs : List ℕ) (at e : ℕ) → 64 ≤ length bs → 0 < e → e ≡ mask_l (cleared_front at (blanks bs))
     → NextEnd bs at e
-next_end bs at e held some is =
+next_end bs at e buffered some is =
     let set : 0 < mask_l (cleared_front at (blanks bs)) = omega (arith, is, some) in
     let k = count_trailing_zeros 64 (mask_l (cleared_front at (blanks bs))) in
-    let ahead = blank_ahead bs held at set in
+    let ahead = blank_ahead bs buffered at set in
     let within : at ≤ 64 = omega (arith, ahead.0, ahead.1.behind) in
     let all : 64 ≡ at + (64 - at) = omega arith in
     let less : k - at ≤ 64 - at = omega (arith, ahead.0) in
@@ -191,7 +191,7 @@ next_end bs at e held some is =
       few = ahead.0;
       word = ap (list_all is_word_byte) (sym front) ∙ ahead.1.word;
       blank = ap is_space (sym (get_or-take 64 bs k 0 ahead.0)) ∙ ahead.1.blank;
-      next = next_ends bs held at set;
+      next = next_ends bs buffered at set;
     })
 
 -- the lower bits of a mask
@@ -227,7 +227,7 @@ feeds_before n bs few =
 -- a number kept at the upper end
 pub kept : (bytes : List ℕ) (size : ℕ) → 0 < size → size ≤ 8 → 8 ≤ length bytes → ((k : ℕ) → get_or bytes k 0 < 256)
     → kept_bytes (number_l 256 (take 8 bytes) % 18446744073709551616 * 2 ^ (64 - 8 * size) % 18446744073709551616) size ≡ take size bytes
-kept bytes size some few held below =
+kept bytes size some few buffered below =
     let k = 64 - 8 * size in
     let n = number_l 256 (take 8 bytes) in
     let all : 64 ≡ 8 * size + k = omega arith in
@@ -237,4 +237,4 @@ kept bytes size some few held below =
     ∙ ap (λ (m : ℕ). m % 2 ^ (8 * size)) (shl-shr (n % 2 ^ 64) k))
     ∙ digits-mod size size (n % 2 ^ 64) (omega arith)
     ∙ digits-mod size 8 n few
-    ∙ digits-number size 8 bytes few held (λ k _. below k)
+    ∙ digits-number size 8 bytes few buffered (λ k _. below k)

@@ -16,10 +16,10 @@ digits-mod (suc size) (suc all) n le =
 
 -- bytes as a number, and back
 pub digits-number : (size all : ℕ) (bytes : List ℕ) → size ≤ all → all ≤ length bytes → ((k : ℕ) → k < size → get_or bytes k 0 < 256) → digits_l 256 size (number_l 256 (take all bytes)) ≡ take size bytes
-digits-number zero all bytes le held below = refl
-digits-number (suc size) zero bytes le held below = absurd (omega arith)
-digits-number (suc size) (suc all) [] le held below = absurd (omega arith)
-digits-number (suc size) (suc all) (b ∷ bytes) le held below =
+digits-number zero all bytes le buffered below = refl
+digits-number (suc size) zero bytes le buffered below = absurd (omega arith)
+digits-number (suc size) (suc all) [] le buffered below = absurd (omega arith)
+digits-number (suc size) (suc all) (b ∷ bytes) le buffered below =
     let here : 0 < suc size = omega arith in
     let least : b < 256 = below 0 here in
     let n = number_l 256 (take all bytes) in

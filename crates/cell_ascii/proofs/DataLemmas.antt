@@ -26,9 +26,9 @@ use Rattle.cell_ascii.proofs.RowReadLemmas.{implied, rows_kept, end_is}
 abbrev then_end : Reading (List (List CellValue)) → Result (List (List CellValue)) GridFault
 then_end r = r >>= (λ x. end_of (grid_start x.1.line x.1.run x.1.coming) >>= (λ _. Ok x.0))
 
-told_map : {X : Type 0} (F : Coming → X) (v : X) (b : Option Coming) → IfSome b (λ c. F c ≡ v) → option_map F b ≡ option_map (λ c. v) b
-told_map F v None e = refl
-told_map F v (Some c) e = ap Some e
+reported_map : {X : Type 0} (F : Coming → X) (v : X) (b : Option Coming) → IfSome b (λ c. F c ≡ v) → option_map F b ≡ option_map (λ c. v) b
+reported_map F v None e = refl
+reported_map F v (Some c) e = ap Some e
 
 -- one of some rows fails
 pub rows_fail : (h : HeaderValue) (F : Coming → Reading (List (List CellValue))) (a b : Option Coming) (front : List (List CellValue)) (n i : ℕ) (here : Coming → At) (f : GridFault) → i < n
@@ -36,7 +36,7 @@ pub rows_fail : (h : HeaderValue) (F : Coming → Reading (List (List CellValue)
     → IfSome b (λ c. many (cell_from h) h.region.cols (here c) ≡ Err f) → IfSome a (λ c. F c ≡ Err f)
 rows_fail h F a b front n i here f lower so_far fails =
     known F (λ c. Err f) a b (Err f)
-    (more_fails (many (cell_from h) h.region.cols) F a b b front n i here lower so_far f (told_map (λ c. many (cell_from h) h.region.cols (here c)) (Err f) b fails)) (λ c. refl)
+    (more_fails (many (cell_from h) h.region.cols) F a b b front n i here lower so_far f (reported_map (λ c. many (cell_from h) h.region.cols (here c)) (Err f) b fails)) (λ c. refl)
 
 module _ (h : HeaderValue) (here : Coming → At) where
   -- a row fails
@@ -47,12 +47,12 @@ module _ (h : HeaderValue) (here : Coming → At) where
   pub data_ends : (there : Coming → At) (a b : Option Coming) (all : List (List CellValue)) (end : Result (Unit {0}) GridFault) (v : Result (List (List CellValue)) GridFault)
       → 0 < h.region.cols → 0 < h.region.rows → IfSome a (λ c. IsPlaceOf (here c)) → option_map (λ c. rows_from h (here c)) a ≡ option_map (λ d. Ok (all, there d)) b
       → IfSome b (λ d. fault_of_reading end ≡ end_fault (there d)) → (end >>= (λ _. Ok all)) ≡ v → IfSome a (λ c. data_from h (here c) ≡ v)
-  data_ends there None b all end v wide high placed e told is = tt
-  data_ends there (Some c) None all end v wide high placed e told is = cc
-  data_ends there (Some c) (Some d) all end v wide high placed e told is =
+  data_ends there None b all end v wide high placed e reported is = tt
+  data_ends there (Some c) None all end v wide high placed e reported is = cc
+  data_ends there (Some c) (Some d) all end v wide high placed e reported is =
       let rows : rows_from h (here c) ≡ Ok (all, there d) = cc in
       let kept = rows_kept h h.region.cols wide h.region.rows (here c) (all, there d) placed rows in
-      ap then_end rows ∙ ap (λ (r : Result (Unit {0}) GridFault). r >>= (λ _. Ok all)) (end_is (there d) end kept.0 (kept.1 high) told) ∙ is
+      ap then_end rows ∙ ap (λ (r : Result (Unit {0}) GridFault). r >>= (λ _. Ok all)) (end_is (there d) end kept.0 (kept.1 high) reported) ∙ is
 
 -- the text of a header and a data that are known
 text_step : (p : ReaderValue) (v : Result (List (List CellValue)) GridFault) (w : Result Grid GridFault) (x y : Coming)
@@ -85,17 +85,17 @@ module _ (p s : ReaderValue) (a : Option Coming) (opened : option_map header_of_
   ends : (end : Result (Unit {0}) GridFault) (v : Result (List (List CellValue)) GridFault)
       → IfSome s.coming (λ d. fault_of_reading end ≡ end_fault (reader_place s d)) → (end >>= (λ _. Ok m.rows)) ≡ v
       → IfSome p.coming (λ c. data_from p.header (reader_place p c) ≡ v)
-  ends end v told same =
+  ends end v reported same =
       data_ends p.header (reader_place p) (reader_place s) p.coming s.coming m.rows end v is.wide is.high
-      (opened_places p a p.coming opened) is.rows told same
+      (opened_places p a p.coming opened) is.rows reported same
 
   -- the map whose rows they are
   pub whole_read : IfSome s.coming (λ d. fault_of_reading {X = Unit {0}} (Ok tt) ≡ end_fault (reader_place s d)) → IfSome a (λ c. grid_of c ≡ Ok m)
-  whole_read told = text_map p a p.coming opened m (is.region, is.labels) (ends (Ok tt) (Ok m.rows) told refl)
+  whole_read reported = text_map p a p.coming opened m (is.region, is.labels) (ends (Ok tt) (Ok m.rows) reported refl)
 
   -- behind the rows a fault
   pub end_fails : (f : GridFault) → IfSome s.coming (λ d. fault_of_reading {X = Unit {0}} (Err f) ≡ end_fault (reader_place s d)) → IfSome a (λ c. grid_of c ≡ Err f)
-  end_fails f told = text_fails p a p.coming opened f (ends (Err f) (Err f) told refl)
+  end_fails f reported = text_fails p a p.coming opened f (ends (Err f) (Err f) reported refl)
 
 -- a fault of the header is the text's
 header_faults : (a : Option Coming) (f : GridFault) → IfSome a (λ c. header_of_text c ≡ Err f) → IfSome a (λ c. grid_of c ≡ Err f)
@@ -105,7 +105,7 @@ header_faults (Some x) f h = rw h refl
 
 -- a fault that the opening tells is the text's
 pub opening_fails : (a : Option Coming) (f : GridFault) → IfSome a (λ c. opening_fault c ≡ Some f) → IfSome a (λ c. grid_of c ≡ Err f)
-opening_fails a f told = header_faults a f (implied (λ c. opening_fault c ≡ Some f) (λ c. header_of_text c ≡ Err f) a (λ c. (opening_agrees c f).1) told)
+opening_fails a f reported = header_faults a f (implied (λ c. opening_fault c ≡ Some f) (λ c. header_of_text c ≡ Err f) a (λ c. (opening_agrees c f).1) reported)
 
 -- the keys give no header
 pub open_fails : (keys : KeyValues) (word : List ℕ) (line : ℕ) (waiting : Bool) (a b : Option Coming) (f : GridFault)
@@ -151,6 +151,6 @@ module _ (P : GridKind → Type 0) (missing : P MissingKey) (region : (f : Regio
 pub header_kind : (k : KeyValues) (line : ℕ) (f : GridFault) → Err f ≡ at_line line (header_of k) → IsOfText f.kind
 header_kind = header_has IsOfText tt (λ f. tt)
 
-pub header_told : (k : KeyValues) (line : ℕ) (f : GridFault) → Err f ≡ at_line line (header_of k)
+pub header_reported : (k : KeyValues) (line : ℕ) (f : GridFault) → Err f ≡ at_line line (header_of k)
     → is_read f.kind ≡ false
-header_told = header_has (λ kind. is_read kind ≡ false) refl (λ f. refl)
+header_reported = header_has (λ kind. is_read kind ≡ false) refl (λ f. refl)

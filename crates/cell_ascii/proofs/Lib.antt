@@ -1,6 +1,6 @@
 pub mod ManyLemmas
-pub mod HeldLemmas
-pub mod HeldRowLemmas
+pub mod BufferedLemmas
+pub mod BufferedRowLemmas
 pub mod AgainLemmas
 pub mod LaneLemmas
 mod ByteLemmas

@@ -11,7 +11,7 @@ use Rattle.cell_ascii.specs.Reader.{always}
 use Rattle.cell_ascii.specs.GridReaders.{fault_of_reading, IsCutRow}
 use Rattle.cell_ascii_meaning.specs.declared.grid_fault.GridFault.{GridFault}
 use Rattle.cell_ascii_law_faults.proofs.PlaceDataLemmas.{fault_in}
-use Rattle.cell_ascii_law_faults.proofs.RowPlaceLemmas.{cells_told, end_told}
+use Rattle.cell_ascii_law_faults.proofs.RowPlaceLemmas.{cells_reported, end_reported}
 use Rattle.cell_ascii_law_faults.proofs.PlaceKeptLemmas.{cells_kept}
 use Rattle.cell_ascii_law_faults.proofs.GridFaultLemmas.{opening_keeps_places}
 use Rattle.cell_ascii.proofs.ManyLemmas.{many_cut, many_snoc, with_last}
@@ -23,8 +23,8 @@ implied P Q (Some c) go h = go c h
 
 -- what holds of it under a premise
 pub premised : {A Q : Type 0} (P : A → Type 0) (a : Option A) → (Q → IfSome a P) → IfSome a (λ c. Q → P c)
-premised P None told = tt
-premised P (Some c) told = told
+premised P None reported = tt
+premised P (Some c) reported = reported
 
 -- a row that was cut off there
 pub row_cut : (h : HeaderValue) (here mid : Coming → At) (a b d : Option Coming) (i : ℕ) (f : GridFault) (old row : List CellValue) → i < length old → drop i row ≡ drop i old
@@ -44,23 +44,23 @@ cut_fails h at f old row cut = many_cut (cell_from h) cut.count (length old) at 
 
 module _ (h : HeaderValue) (here : Coming → At) (Q : Coming → Type 0) (a : Option Coming) (placed : IfSome a (λ c. IsPlaceOf (here c) × Q c)) where
   -- a row that was read tells no fault
-  pub row_told : (n : ℕ) (there : Coming → At) (b : Option Coming) (row : List CellValue) → option_map (λ c. many (cell_from h) n (here c)) a ≡ option_map (λ d. Ok (row, there d)) b
+  pub row_reported : (n : ℕ) (there : Coming → At) (b : Option Coming) (row : List CellValue) → option_map (λ c. many (cell_from h) n (here c)) a ≡ option_map (λ d. Ok (row, there d)) b
       → IfSome a (λ c. None ≡ cells_fault h n (here c))
-  row_told n there b row e = by a b placed e
+  row_reported n there b row e = by a b placed e
     where
       by : (a b : Option Coming) → IfSome a (λ c. IsPlaceOf (here c) × Q c) → option_map (λ c. many (cell_from h) n (here c)) a ≡ option_map (λ d. Ok (row, there d)) b
           → IfSome a (λ c. None ≡ cells_fault h n (here c))
       by None b placed e = tt
       by (Some c) None placed e = cc
-      by (Some c) (Some d) placed e = let o : many (cell_from h) n (here c) ≡ Ok (row, there d) = cc in sym (ap fault_in o) ∙ cells_told h n (here c) placed.0
+      by (Some c) (Some d) placed e = let o : many (cell_from h) n (here c) ≡ Ok (row, there d) = cc in sym (ap fault_in o) ∙ cells_reported h n (here c) placed.0
 
   -- and one that was cut off its fault
-  pub cut_told : (f : GridFault) (old row : List CellValue) → IfSome a (λ c. IsCutRow h (here c) f old row) → IfSome a (λ c. Some f ≡ cells_fault h (length old) (here c))
-  cut_told f old row cut = by a placed cut
+  pub cut_reported : (f : GridFault) (old row : List CellValue) → IfSome a (λ c. IsCutRow h (here c) f old row) → IfSome a (λ c. Some f ≡ cells_fault h (length old) (here c))
+  cut_reported f old row cut = by a placed cut
     where
       by : (a : Option Coming) → IfSome a (λ c. IsPlaceOf (here c) × Q c) → IfSome a (λ c. IsCutRow h (here c) f old row) → IfSome a (λ c. Some f ≡ cells_fault h (length old) (here c))
       by None placed cut = tt
-      by (Some c) placed cut = sym (ap fault_in (cut_fails h (here c) f old row cut)) ∙ cells_told h (length old) (here c) placed.0
+      by (Some c) placed cut = sym (ap fault_in (cut_fails h (here c) f old row cut)) ∙ cells_reported h (length old) (here c) placed.0
 
   -- behind a row is a place where no token waits
   pub row_placed : (n left : ℕ) (there : Coming → At) (b : Option Coming) (row : List CellValue) → 0 < n → option_map (λ c. many (cell_from h) n (here c)) a ≡ option_map (λ d. Ok (row, there d)) b
@@ -97,11 +97,11 @@ end_answers here left None b r none placed e = tt
 end_answers here left (Some c) None r none placed e = cc
 end_answers here left (Some c) (Some d) r none placed e =
     let o : end_of (grid_start (here c).line (here c).run (here c).coming) ≡ r = cc in
-    same_fault r ∙ sym (ap fault_in o) ∙ end_told (here c) (placed.1 none) placed.0.low
+    same_fault r ∙ sym (ap fault_in o) ∙ end_reported (here c) (placed.1 none) placed.0.low
 
 -- and what it tells is what it answers
 pub end_is : (at : At) (r : Result (Unit {0}) GridFault) → IsPlaceOf at → at.pending ≡ None → fault_of_reading r ≡ end_fault at → end_of (grid_start at.line at.run at.coming) ≡ r
-end_is at r is none told = by (end_of (grid_start at.line at.run at.coming)) r (end_told at none is.low ∙ sym told ∙ same_fault r)
+end_is at r is none reported = by (end_of (grid_start at.line at.run at.coming)) r (end_reported at none is.low ∙ sym reported ∙ same_fault r)
   where
     by : (q r : Result (Unit {0}) GridFault) → fault_in q ≡ fault_in r → q ≡ r
     by (Ok x) (Ok y) e = refl

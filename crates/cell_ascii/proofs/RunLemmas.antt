@@ -127,7 +127,7 @@ all-blanks (x ∷ xs) = by (is_space x) refl (all-blanks xs)
 pub behind-blanks : (bs : List ℕ) (ends at bit : ℕ) → at < 64 → bit ≡ 2 ^ at → IsAtBlank bs ends at
     → IsBehindBlanks bs at (count_trailing_zeros 64 ((ends + bit) % 2 ^ 64), bit_and ends ((ends + bit) % 2 ^ 64))
 behind-blanks bs ends at bit few power is =
-    let held = is.held in
+    let buffered = is.buffered in
     let ms = blanks bs in
     let k = run (drop at ms) in
     let wide : length (take 64 bs) ≡ 64 = omega (arith, length-take 64 bs) in

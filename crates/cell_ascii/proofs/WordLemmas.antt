@@ -12,12 +12,12 @@ use Rattle.cell_ascii_reading.specs.Ahead.{before_coming}
 use Rattle.cell_ascii_meaning.specs.GridTokens.{is_space, is_word_byte, newlines, grid_start}
 use Rattle.cell_ascii_meaning.specs.Header.{◌>>=◌, HeaderValue}
 use Rattle.cell_ascii_meaning.specs.CellTexts.{Reading, cell_from, cell_of_word, after_start, cell_after_word, after_cell, at_of, many}
-use Rattle.cell_ascii.specs.HeldCells.{HoldsCells, run_after}
+use Rattle.cell_ascii.specs.BufferedCells.{HoldsCells, run_after}
 use Rattle.cell_ascii.specs.TableWords.{HoldsLines, AreCellsRead}
-use Rattle.cell_ascii.proofs.HeldLemmas.{both, no_space, word_ahead}
+use Rattle.cell_ascii.proofs.BufferedLemmas.{both, no_space, word_ahead}
 use Rattle.cell_ascii.proofs.ManyLemmas.{many_more, many_add, snoc, with_last, glue, and_then}
 use Rattle.cell_ascii_reading.proofs.StartLemmas.{start-next, start-begins}
-use Rattle.cell_ascii.proofs.HeldRowLemmas.{lent_rest}
+use Rattle.cell_ascii.proofs.BufferedRowLemmas.{lent_rest}
 use Rattle.cell_ascii.specs.parts.InLine.{AreCellsInLine}
 
 newlines-append : (xs ys : List ℕ) → newlines (xs ++ ys) ≡ newlines xs + newlines ys
@@ -87,10 +87,10 @@ module _ (h : HeaderValue) (bs : List ℕ) where
   lines-more : (cells : List CellValue) (count n lines : ℕ) (v : CellValue) (m k : ℕ) → HoldsLines h bs cells count n lines
       → ((line : ℕ) (c : Coming) → cell_from h (at_of line 0 (before_coming (drop n bs) c)) ≡ Ok (v, at_of (line + k) 0 (before_coming (drop m (drop n bs)) c)))
       → HoldsLines h bs (cells ++ v ∷ []) (count + 1) (n + m) (lines + k)
-  lines-more cells count n lines v m k held next = λ line c.
+  lines-more cells count n lines v m k buffered next = λ line c.
       let all : line + lines + k ≡ line + (lines + k) = omega arith in
       many_more (cell_from h) count (at_of line 0 (before_coming bs c))
-      ∙ ap (λ (r : Reading (List CellValue)). r >>= with_last (cell_from h)) (held line c)
+      ∙ ap (λ (r : Reading (List CellValue)). r >>= with_last (cell_from h)) (buffered line c)
       ∙ ap (λ (r : Reading CellValue). r >>= snoc (cell_from h) cells) (next (line + lines) c)
       ∙ ap (λ (l : ℕ). Ok (cells ++ v ∷ [], at_of l 0 (before_coming (drop m (drop n bs)) c))) all
       ∙ ap (λ (rest : List ℕ). Ok (cells ++ v ∷ [], at_of (line + (lines + k)) 0 (before_coming rest c))) (drop-drop m n bs)
@@ -98,10 +98,10 @@ module _ (h : HeaderValue) (bs : List ℕ) where
   -- some more
   pub HoldsLines-append : (cells others : List CellValue) (count more n m lines k : ℕ) → HoldsLines h bs cells count n lines → HoldsLines h (drop n bs) others more m k
       → HoldsLines h bs (cells ++ others) (count + more) (n + m) (lines + k)
-  HoldsLines-append cells others count more n m lines k held next = λ line c.
+  HoldsLines-append cells others count more n m lines k buffered next = λ line c.
       let all : line + lines + k ≡ line + (lines + k) = omega arith in
       many_add (cell_from h) count more (at_of line 0 (before_coming bs c))
-      ∙ ap (λ (r : Reading (List CellValue)). r >>= and_then (cell_from h) more) (held line c)
+      ∙ ap (λ (r : Reading (List CellValue)). r >>= and_then (cell_from h) more) (buffered line c)
       ∙ ap (λ (r : Reading (List CellValue)). r >>= glue (cell_from h) cells) (next (line + lines) c)
       ∙ ap (λ (l : ℕ). Ok (cells ++ others, at_of l 0 (before_coming (drop m (drop n bs)) c))) all
       ∙ ap (λ (rest : List ℕ). Ok (cells ++ others, at_of (line + (lines + k)) 0 (before_coming rest c))) (drop-drop m n bs)
@@ -112,10 +112,10 @@ module _ (h : HeaderValue) (bs : List ℕ) where
 
   -- cells that are apart by single spaces
   pub on_one_line : (cells : List CellValue) (count n : ℕ) → HoldsCells h bs cells count n → HoldsLines h bs cells count n 0
-  on_one_line cells count n held = λ line c.
+  on_one_line cells count n buffered = λ line c.
       let low : 0 < 1048576 = omega arith in
       let same : line ≡ line + 0 = omega arith in
-      held line 0 low c ∙ ap₂ (λ (l : ℕ) (r : ℕ). Ok (cells, at_of l r (before_coming (drop n bs) c))) same (run-none count)
+      buffered line 0 low c ∙ ap₂ (λ (l : ℕ) (r : ℕ). Ok (cells, at_of l r (before_coming (drop n bs) c))) same (run-none count)
 
 -- no line feed stands in a word
 word_feeds : (word : List ℕ) → list_all is_word_byte word ≡ true → newlines word ≡ 0
@@ -164,7 +164,7 @@ pub word-more : (h : HeaderValue) (bs : List ℕ) (cells : List CellValue) (coun
     → last ≤ at → at < end → end < 64 → end < length bs → list_all is_space (take (at - last) (drop last bs)) ≡ true → list_all is_word_byte (take (end - at) (drop at bs)) ≡ true
     → is_space (get_or bs end 0) ≡ true → cell_of_word h (take (end - at) (drop at bs)) ≡ Ok v → HoldsLines h bs cells count last (newlines (take last bs))
     → HoldsLines h bs (cells ++ v ∷ []) (count + 1) end (newlines (take end bs))
-word-more h bs cells count last at end v le lower few within gap word blank cell held =
+word-more h bs cells count last at end v le lower few within gap word blank cell buffered =
     let g = at - last in
     let n = end - at in
     let rest = drop last bs in
@@ -183,13 +183,13 @@ word-more h bs cells count last at end v le lower few within gap word blank cell
     ap (λ (k : ℕ). take k bs) (sym sum) ∙ take-add last (g + n) bs ∙ ap (λ (l : List ℕ). take last bs ++ l) (take-add g n rest) in
     let lines : newlines (take last bs) + newlines (take g rest) ≡ newlines (take end bs) =
     omega (arith, ap newlines parts, newlines-append (take last bs) (take g rest ++ take n (drop g rest)), newlines-append (take g rest) (take n (drop g rest)), word_feeds (take n (drop g rest)) w) in
-    rw (sum, lines) at (lines-more h bs cells count last (newlines (take last bs)) v (g + n) (newlines (take g rest)) held next)
+    rw (sum, lines) at (lines-more h bs cells count last (newlines (take last bs)) v (g + n) (newlines (take g rest)) buffered next)
 
 -- what the next cells say of all that is to come
-pub lines_held : (h : HeaderValue) (line lines : ℕ) (bs : List ℕ) (rest : Option Coming) (cells : List CellValue) (count n : ℕ) → HoldsLines h bs cells count n lines
+pub lines_buffered : (h : HeaderValue) (line lines : ℕ) (bs : List ℕ) (rest : Option Coming) (cells : List CellValue) (count n : ℕ) → HoldsLines h bs cells count n lines
     → option_map (λ c. many (cell_from h) count (at_of line 0 c)) (option_map (before_coming bs) rest) ≡ option_map (λ d. Ok (cells, at_of (line + lines) 0 d)) (option_map (before_coming (drop n bs)) rest)
-lines_held h line lines bs None cells count n held = refl
-lines_held h line lines bs (Some c) cells count n held = ap Some (held line c)
+lines_buffered h line lines bs None cells count n buffered = refl
+lines_buffered h line lines bs (Some c) cells count n buffered = ap Some (buffered line c)
 
 -- line feeds are bytes
 pub newlines-few : (bs : List ℕ) (n : ℕ) → newlines (take n bs) ≤ n

@@ -37,7 +37,7 @@ opened_in r c = record { header = r.header; at = reader_place r c }
 abbrev pub IsOpened : Option Coming → ReaderValue → Type 0
 IsOpened text r = option_map header_of_text text ≡ option_map (λ c. Ok (opened_in r c)) r.coming
 
--- the fault of a reading: out of memory is told at line 0, and that an earlier call was refused never
+-- the fault of a reading: out of memory is reported at line 0, and that an earlier call was refused never
 pub record IsOfReading (f : GridFault) : Type 0 where
   pub memory : f.kind ≡ Memory → f.line ≡ 0
   pub kinds : f.kind ≢ Failed
@@ -72,8 +72,8 @@ pub record IsChangedInFront (old new : List CellValue) : Type 0 where
   pub kept : drop count new ≡ drop count old
 
 -- what the end of a text answers: its fault, and the same one from a first refusal on
-pub record TellsEnd (r : ReaderValue) (answer : Result (Unit {0}) GridFault) : Type 0 where
+pub record ReportsEnd (r : ReaderValue) (answer : Result (Unit {0}) GridFault) : Type 0 where
   pub failed : r.failed ≡ true → answer ≡ Err reader_has_failed
-  pub told : r.failed ≡ false → IfSome r.coming (λ c. fault_of_reading answer ≡ end_fault (reader_place r c))
+  pub reported : r.failed ≡ false → IfSome r.coming (λ c. fault_of_reading answer ≡ end_fault (reader_place r c))
   pub memory : IfErr answer (λ f. f.kind ≢ Memory)
   pub kinds : r.failed ≡ false → FailsInText answer

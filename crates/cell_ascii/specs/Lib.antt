@@ -1,6 +1,6 @@
 -- Cells whose bytes are held.
 -- Open readers of grid texts.
-pub mod HeldCells
+pub mod BufferedCells
 pub mod TableWords
 pub mod GridReaders
 pub mod Reader

@@ -5,7 +5,7 @@ ghost use Rattle.std.specs.Option.{option_map};
 ghost use Rattle.std.specs.Result.{is_err};
 ghost use Rattle.cell_core_devices.specs.Device.{Coming};
 ghost use Rattle.cell_core_devices.specs.Asking.{hears, heard_first};
-ghost use Rattle.cell_ascii_meaning.specs.Kinds.{tells_read};
+ghost use Rattle.cell_ascii_meaning.specs.Kinds.{reports_read};
 ghost use Rattle.cell_ascii_reading.specs.Ahead.{bytes_to_come, Agrees};
 ghost use Rattle.cell_ascii_meaning.specs.GridTokens.{grid_start};
 ghost use Rattle.cell_ascii_meaning.specs.Header.{at_line, header_of, header_of_text};
@@ -14,7 +14,7 @@ ghost use Rattle.cell_ascii_meaning.specs.GridText.{Denotes};
 ghost use Rattle.cell_ascii_meaning.specs.FaultPlaces.{opening_fault, text_fault};
 ghost use Rattle.cell_ascii_meaning.specs.RowPlaces.{cells_fault};
 ghost use Rattle.cell_ascii.specs.Reader.{ReaderPlace, at_place, token_read, token_seen, reading_seen, always, rows_from};
-ghost use Rattle.cell_ascii.specs.GridReaders.{reader_place, IsOpened, fault_of_reading, reader_has_failed, AnswersGrid, IsCutRow, IsChangedInFront, IsOfReading, TellsEnd};
+ghost use Rattle.cell_ascii.specs.GridReaders.{reader_place, IsOpened, fault_of_reading, reader_has_failed, AnswersGrid, IsCutRow, IsChangedInFront, IsOfReading, ReportsEnd};
 ghost use Rattle.cell_ascii_reading.specs.Scan.{Hears, FailsInText};
 ghost use Rattle.cell_ascii.specs.parts.Unread.{IsUnread, IsAtData, IsBehindHeader, HasRows};
 
@@ -158,8 +158,8 @@ impl<R: Source> CellReader<R> {
     }
 
     // Reads the cells whose bytes are held into the front of a row, and returns how many they are.
-    #[tactic(auto, using(crate::proofs::WordLemmas::lines_held))]
-    fn held_cells(&mut self, row: &mut [Cell]) -> usize
+    #[tactic(auto, using(crate::proofs::WordLemmas::lines_buffered))]
+    fn buffered_cells(&mut self, row: &mut [Cell]) -> usize
         requires room { self.old.line + length row.old * 64 < 2 ^ 64 }
         ensures cells { Agrees (λ c. many (cell_from self.old.header) result (at_place self.old c))
             self.old.ahead (λ d. Ok (take result row.new, at_place self.new d)) self.new.ahead }
@@ -173,7 +173,7 @@ impl<R: Source> CellReader<R> {
             return 0;
         }
         let (count, n, lines) = cells_in(
-            self.scanner.held_bytes(),
+            self.scanner.buffered_bytes(),
             &mut self.words,
             row,
             &mut self.pace,
@@ -241,7 +241,7 @@ fn read_row<R: Source>(cells: &mut CellReader<R>, row: &mut [Cell]) -> Result<()
 {
     let mut i = 0;
     'cells: loop {
-        i += cells.held_cells(&mut row[i..]);
+        i += cells.buffered_cells(&mut row[i..]);
         if i == row.len() {
             return Ok(());
         }
@@ -291,7 +291,7 @@ impl<R: Source> GridReader<R> {
         ensures fault { IfErr result (λ f. f.kind ≢ GridKind.Memory
             → IfSome (R.coming source) (λ c. opening_fault c ≡ Some f)) }
         ensures kinds { IfErr result IsOfReading }
-        // The source is asked only while it goes on, and an `Err` of it is told as Read: so far none was.
+        // The source is asked only while it goes on, and an `Err` of it is reported as Read: so far none was.
         ensures heard { IfOk result (λ r. r.heard ≡ heard_first (R.asked source)) }
     {
         let cells = CellReader::open(alloc, source)?;
@@ -331,7 +331,7 @@ impl<R: Source> GridReader<R> {
             → (result ≡ Err reader_has_failed) × (row.new ≡ row.old) × (self.new ≡ self.old) }
         ensures none { self.old.failed ≡ false → self.old.rows_left ≡ 0
             → (result ≡ Ok false) × (row.new ≡ row.old) × (self.new ≡ self.old) }
-        ensures told { self.old.failed ≡ false → 0 < self.old.rows_left
+        ensures reported { self.old.failed ≡ false → 0 < self.old.rows_left
             → IfSome self.old.coming (λ c. fault_of_reading result
             ≡ cells_fault self.old.header (length row.old) (reader_place self.old c)) }
         ensures row { result ≡ Ok true
@@ -350,9 +350,9 @@ impl<R: Source> GridReader<R> {
         ensures fails { self.new.failed ≡ (self.old.failed || is_err result) }
         ensures memory { IfErr result (λ f. f.kind ≢ GridKind.Memory) }
         ensures kinds { self.old.failed ≡ false → FailsInText result }
-        // The source is asked only while it goes on, and an `Err` of it is told as Read.
+        // The source is asked only while it goes on, and an `Err` of it is reported as Read.
         ensures heard { self.old.failed ≡ false
-            → self.new.heard ≡ hears (tells_read result) self.old.heard }
+            → self.new.heard ≡ hears (reports_read result) self.old.heard }
     {
         if self.failed {
             return Err(HAS_FAILED);
@@ -383,7 +383,7 @@ impl<R: Source> GridReader<R> {
     where
         R: Drop,
         requires done { self.failed ≡ false → self.rows_left ≡ 0 }
-        ensures { TellsEnd self result }
+        ensures { ReportsEnd self result }
     {
         let mut reader = self;
         reader.end()
@@ -392,9 +392,9 @@ impl<R: Source> GridReader<R> {
     // Reads to the end of the text behind the last row. It has failed from then on.
     fn end(&mut self) -> Result<(), GridFault>
         requires done { self.old.failed ≡ false → self.old.rows_left ≡ 0 }
-        ensures end { TellsEnd self.old result }
+        ensures end { ReportsEnd self.old result }
         ensures heard { self.old.failed ≡ false
-            → self.new.heard ≡ hears (tells_read result) self.old.heard }
+            → self.new.heard ≡ hears (reports_read result) self.old.heard }
     {
         if self.failed {
             return Err(HAS_FAILED);
@@ -411,7 +411,7 @@ fn read_rows<R: Source>(alloc: Global, reader: &mut GridReader<R>) -> Result<Cel
     ensures fault { IfErr result (λ f. f.kind ≢ GridKind.Memory → IfSome reader.old.coming
         (λ c. rows_from reader.old.header (reader_place reader.old c) ≡ Err f)) }
     ensures kinds { IfErr result IsOfReading }
-    ensures heard { reader.new.heard ≡ hears (tells_read result) reader.old.heard }
+    ensures heard { reader.new.heard ≡ hears (reports_read result) reader.old.heard }
 {
     let region = reader.region();
     let Ok(mut buffer) = vec![in alloc; Cell::null(); region.cols() as usize] else {
@@ -434,8 +434,8 @@ fn read_whole<R: Source>(alloc: Global, reader: &mut GridReader<R>) -> Result<Ce
     ensures reading { (text : Option Coming) → IsOpened text reader.old
         → IfSome text (λ c. AnswersGrid result (grid_of c)) }
     ensures kinds { IfErr result IsOfReading }
-    // The source is asked only while it goes on, and an `Err` of it is told as Read.
-    ensures heard { reader.new.heard ≡ hears (tells_read result) reader.old.heard }
+    // The source is asked only while it goes on, and an `Err` of it is reported as Read.
+    ensures heard { reader.new.heard ≡ hears (reports_read result) reader.old.heard }
 {
     let map = match read_rows(alloc, reader) {
         Ok(map) => map,

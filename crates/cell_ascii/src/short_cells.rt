@@ -1,7 +1,7 @@
 //! A cell whose bytes are held.
 
 ghost use Rattle.std.specs.Prelude.{◌≡◌, ℕ, List, ◌∷◌, ◌++◌, ◌+◌, ◌*◌, ◌/◌, ◌<◌, ◌≤◌, pos, neg_ℤ, length, take, drop, replicate, Some, IfSome};
-ghost use Rattle.cell_ascii.specs.HeldCells.{HoldsFront, HoldsWord, IsNumeral, ComesAgain, held_word};
+ghost use Rattle.cell_ascii.specs.BufferedCells.{HoldsFront, HoldsWord, IsNumeral, ComesAgain, buffered_word};
 ghost use Rattle.cell_ascii.specs.TableWords.{AreCellsRead};
 ghost use Rattle.cell_ascii_meaning.specs.EdgeNumbers.{whole_number};
 ghost use Rattle.cell_ascii.specs.parts.InLine.{AreCellsInLine};
@@ -31,7 +31,7 @@ const COST_OF_A_WORD: usize = 2;
 
 // One to three digits and a byte that ends them, at the front of four bytes, and how many digits there are.
 #[inline(always)]
-#[tactic(auto, using(crate::proofs::HeldLemmas::short_one, crate::proofs::HeldLemmas::short_two, crate::proofs::HeldLemmas::short_three))]
+#[tactic(auto, using(crate::proofs::BufferedLemmas::short_one, crate::proofs::BufferedLemmas::short_two, crate::proofs::BufferedLemmas::short_three))]
 fn short_digits(a: u8, b: u8, c: u8, d: u8) -> Option<(u32, usize)>
     ensures { IfSome result (λ r. (bytes : List ℕ) → IsNumeral (a ∷ b ∷ c ∷ d ∷ bytes) r.0 r.1) }
 {
@@ -86,12 +86,12 @@ pub(crate) fn negative(value: u32) -> i64
 // A space, a number of one to three digits and a byte that ends it, and how many bytes stand before that one. It looks at the
 // length once, so that there have to be as many bytes as the longest form takes.
 #[inline(always)]
-fn short_number_in(held: &[u8]) -> Option<(i64, usize)>
-    ensures word { IfSome result (λ r. HoldsWord held.now r.1) }
-    ensures number { IfSome result (λ r. whole_number (held_word held.now r.1) ≡ Some r.0) }
-    ensures within { IfSome result (λ r. (0 < r.1) × (r.1 ≤ length held.now)) }
+fn short_number_in(buffered: &[u8]) -> Option<(i64, usize)>
+    ensures word { IfSome result (λ r. HoldsWord buffered.now r.1) }
+    ensures number { IfSome result (λ r. whole_number (buffered_word buffered.now r.1) ≡ Some r.0) }
+    ensures within { IfSome result (λ r. (0 < r.1) × (r.1 ≤ length buffered.now)) }
 {
-    let [b' ', a, b, c, d, e, ..] = held else {
+    let [b' ', a, b, c, d, e, ..] = buffered else {
         return None;
     };
     if *a == b'-' {
@@ -103,12 +103,14 @@ fn short_number_in(held: &[u8]) -> Option<(i64, usize)>
 }
 
 // The same of one to nine digits.
-fn number_in(held: &[u8]) -> Option<(i64, usize)>
-    ensures word { IfSome result (λ r. HoldsWord held.now r.1) }
-    ensures number { IfSome result (λ r. whole_number (held_word held.now r.1) ≡ Some r.0) }
-    ensures within { IfSome result (λ r. (0 < r.1) × (r.1 ≤ length held.now)) }
+fn number_in(buffered: &[u8]) -> Option<(i64, usize)>
+    ensures word { IfSome result (λ r. HoldsWord buffered.now r.1) }
+    ensures number { IfSome result (λ r. whole_number (buffered_word buffered.now r.1) ≡ Some r.0) }
+    ensures within { IfSome result (λ r. (0 < r.1) × (r.1 ≤ length buffered.now)) }
 {
-    let [b' ', rest @ ..] = held else { return None };
+    let [b' ', rest @ ..] = buffered else {
+        return None
+    };
     if let [b'-', digits @ ..] = rest {
         let (value, n) = more_digits(digits)?;
         return Some((negative(value), n + 2));
@@ -118,11 +120,13 @@ fn number_in(held: &[u8]) -> Option<(i64, usize)>
 }
 
 // A space, a word and a byte that ends it, and how many bytes stand before that one.
-fn word_in(held: &[u8]) -> Option<usize>
-    ensures word { IfSome result (λ n. HoldsWord held.now n) }
-    ensures within { IfSome result (λ n. (0 < n) × (n ≤ length held.now)) }
+fn word_in(buffered: &[u8]) -> Option<usize>
+    ensures word { IfSome result (λ n. HoldsWord buffered.now n) }
+    ensures within { IfSome result (λ n. (0 < n) × (n ≤ length buffered.now)) }
 {
-    let [b' ', rest @ ..] = held else { return None };
+    let [b' ', rest @ ..] = buffered else {
+        return None
+    };
     for (i, b) in rest.iter().enumerate() {
         if is_space(*b) {
             return if 0 < i && i <= MOST_BYTES {
@@ -137,30 +141,35 @@ fn word_in(held: &[u8]) -> Option<usize>
 
 // The cell of the number that stands before the byte at place n, and that place.
 #[inline(always)]
-fn held_number_cell(held: &[u8], header: &Header, number: i64, n: usize) -> Option<(Cell, usize)>
-    requires word { HoldsWord held.now n }
-    requires number { whole_number (held_word held.now n) ≡ Some number }
-    requires within { (0 < n) × (n ≤ length held.now) }
-    ensures cell { IfSome result (λ r. HoldsFront header.now held.now r.0 r.1) }
-    ensures within { IfSome result (λ r. (0 < r.1) × (r.1 ≤ length held.now)) }
+fn buffered_number_cell(
+    buffered: &[u8],
+    header: &Header,
+    number: i64,
+    n: usize,
+) -> Option<(Cell, usize)>
+    requires word { HoldsWord buffered.now n }
+    requires number { whole_number (buffered_word buffered.now n) ≡ Some number }
+    requires within { (0 < n) × (n ≤ length buffered.now) }
+    ensures cell { IfSome result (λ r. HoldsFront header.now buffered.now r.0 r.1) }
+    ensures within { IfSome result (λ r. (0 < r.1) × (r.1 ≤ length buffered.now)) }
 {
-    match header.cell_of_number(&held[1..n], number) {
+    match header.cell_of_number(&buffered[1..n], number) {
         Ok(cell) => Some((cell, n)),
         Err(_) => None,
     }
 }
 
-// The same as `held_cell`, where no short number stands.
+// The same as `buffered_cell`, where no short number stands.
 #[inline(never)]
-fn other_cell_in(held: &[u8], header: &Header) -> Option<(Cell, usize)>
-    ensures cell { IfSome result (λ r. HoldsFront header.now held.now r.0 r.1) }
-    ensures within { IfSome result (λ r. (0 < r.1) × (r.1 ≤ length held.now)) }
+fn other_cell_in(buffered: &[u8], header: &Header) -> Option<(Cell, usize)>
+    ensures cell { IfSome result (λ r. HoldsFront header.now buffered.now r.0 r.1) }
+    ensures within { IfSome result (λ r. (0 < r.1) × (r.1 ≤ length buffered.now)) }
 {
-    if let Some((number, n)) = number_in(held) {
-        return held_number_cell(held, header, number, n);
+    if let Some((number, n)) = number_in(buffered) {
+        return buffered_number_cell(buffered, header, number, n);
     }
-    let n = word_in(held)?;
-    match header.cell_of_word(&held[1..n]) {
+    let n = word_in(buffered)?;
+    match header.cell_of_word(&buffered[1..n]) {
         Ok(cell) => Some((cell, n)),
         Err(_) => None,
     }
@@ -169,13 +178,13 @@ fn other_cell_in(held: &[u8], header: &Header) -> Option<(Cell, usize)>
 // The cell of a space and a word that ends among the bytes held, and how many of them it takes.
 // None where another form stands, or a word that is no cell.
 #[inline(always)]
-fn held_cell(held: &[u8], header: &Header) -> Option<(Cell, usize)>
-    ensures cell { IfSome result (λ r. HoldsFront header.now held.now r.0 r.1) }
-    ensures within { IfSome result (λ r. (0 < r.1) × (r.1 ≤ length held.now)) }
+fn buffered_cell(buffered: &[u8], header: &Header) -> Option<(Cell, usize)>
+    ensures cell { IfSome result (λ r. HoldsFront header.now buffered.now r.0 r.1) }
+    ensures within { IfSome result (λ r. (0 < r.1) × (r.1 ≤ length buffered.now)) }
 {
-    match short_number_in(held) {
-        Some((number, n)) => held_number_cell(held, header, number, n),
-        None => other_cell_in(held, header),
+    match short_number_in(buffered) {
+        Some((number, n)) => buffered_number_cell(buffered, header, number, n),
+        None => other_cell_in(buffered, header),
     }
 }
 
@@ -199,15 +208,15 @@ fn front_alike(a: &[u8], b: &[u8]) -> usize
 
 // How many bytes from place n on are those that stand n places before them. Of the last bytes held it may leave out some.
 #[inline(always)]
-fn bytes_again(held: &[u8], n: usize) -> usize
-    requires { n ≤ length held.now }
-    ensures alike { take result (drop n held.now) ≡ take result held.now }
-    ensures within { n + result ≤ length held.now }
+fn bytes_again(buffered: &[u8], n: usize) -> usize
+    requires { n ≤ length buffered.now }
+    ensures alike { take result (drop n buffered.now) ≡ take result buffered.now }
+    ensures within { n + result ≤ length buffered.now }
 {
-    let later = &held[n..];
+    let later = &buffered[n..];
     let mut count = 0;
     'loads: while later.len() - count >= LANES {
-        let more = front_alike(&later[count..], &held[count..]);
+        let more = front_alike(&later[count..], &buffered[count..]);
         if more < LANES {
             return count + more;
         }
@@ -234,13 +243,13 @@ fn quotient(a: usize, n: usize) -> usize
 
 // How often the first n bytes and the one behind them come again, as far as that is seen.
 #[inline(always)]
-fn times_again(held: &[u8], n: usize) -> usize
+fn times_again(buffered: &[u8], n: usize) -> usize
     requires some { 0 < n }
-    requires within { n ≤ length held.now }
-    ensures again { ComesAgain held.now n result }
-    ensures within { n + result * n ≤ length held.now }
+    requires within { n ≤ length buffered.now }
+    ensures again { ComesAgain buffered.now n result }
+    ensures within { n + result * n ≤ length buffered.now }
 {
-    let bytes = bytes_again(held, n);
+    let bytes = bytes_again(buffered, n);
     if bytes == 0 {
         return 0;
     }
@@ -267,17 +276,17 @@ fn next_credit(credit: usize, more: usize) -> usize {
 
 // The same as `cells_in`, for a text in which words come again and again: each that does is read once. It ends where few do.
 #[inline(never)]
-fn repeated_cells_in(held: &[u8], header: &Header, row: &mut [Cell]) -> (usize, usize)
-    ensures { AreCellsInLine header.now held.now row.old row.new result }
+fn repeated_cells_in(buffered: &[u8], header: &Header, row: &mut [Cell]) -> (usize, usize)
+    ensures { AreCellsInLine header.now buffered.now row.old row.new result }
 {
     let mut i = 0;
     let mut passed = 0;
     let mut credit = MOST_CREDIT;
     'words: while i < row.len() && credit > 0 {
-        let Some(found) = held_cell(&held[passed..], header) else {
+        let Some(found) = buffered_cell(&buffered[passed..], header) else {
             return (i, passed);
         };
-        let more = times_again(&held[passed..], found.1).min(row.len() - i - 1);
+        let more = times_again(&buffered[passed..], found.1).min(row.len() - i - 1);
         credit = next_credit(credit, more);
         fill_cells(row, i, 1 + more, found.0);
         i += 1 + more;
@@ -290,12 +299,12 @@ fn repeated_cells_in(held: &[u8], header: &Header, row: &mut [Cell]) -> (usize, 
 //
 // It is not inlined: within a larger function, or with one parameter more, its loop would keep less in registers.
 #[inline(never)]
-fn single_cells_in(held: &[u8], header: &Header, row: &mut [Cell]) -> (usize, usize)
-    ensures { AreCellsInLine header.now held.now row.old row.new result }
+fn single_cells_in(buffered: &[u8], header: &Header, row: &mut [Cell]) -> (usize, usize)
+    ensures { AreCellsInLine header.now buffered.now row.old row.new result }
 {
     let mut passed = 0;
     for i in 0..row.len() {
-        let Some(found) = held_cell(&held[passed..], header) else {
+        let Some(found) = buffered_cell(&buffered[passed..], header) else {
             return (i, passed);
         };
         row[i] = found.0;
@@ -306,32 +315,32 @@ fn single_cells_in(held: &[u8], header: &Header, row: &mut [Cell]) -> (usize, us
 
 // The same as `cells_in`, by the words that were read before.
 fn sought_cells_in(
-    held: &[u8],
+    buffered: &[u8],
     words: &mut WordTable,
     row: &mut [Cell],
     pace: &mut Pace,
 ) -> (usize, usize, u64)
-    ensures cells { AreCellsRead words.old held.now row.old row.new result }
+    ensures cells { AreCellsRead words.old buffered.now row.old row.new result }
     ensures same { words.new ≡ words.old }
 {
     let end = pace.most_sought().min(row.len());
     let mut missed = 0;
-    let found = words.cells_in(held, &mut row[..end], &mut missed);
+    let found = words.cells_in(buffered, &mut row[..end], &mut missed);
     pace.pass_sought(found.0, missed);
     found
 }
 
 // The same as `single_cells_in`, as many as are to be read without a look-up.
 fn unsought_cells_in(
-    held: &[u8],
+    buffered: &[u8],
     header: &Header,
     row: &mut [Cell],
     pace: &mut Pace,
 ) -> (usize, usize)
-    ensures { AreCellsInLine header.now held.now row.old row.new result }
+    ensures { AreCellsInLine header.now buffered.now row.old row.new result }
 {
     let end = pace.unsought.min(row.len());
-    let found = single_cells_in(held, header, &mut row[..end]);
+    let found = single_cells_in(buffered, header, &mut row[..end]);
     pace.pass_unsought(found.0);
     found
 }
@@ -339,38 +348,38 @@ fn unsought_cells_in(
 // The same as `cells_in`, each cell by itself: by the words that were read before, and where that reads none, as at the last
 // bytes held, word by word.
 fn each_cell_in(
-    held: &[u8],
+    buffered: &[u8],
     words: &mut WordTable,
     row: &mut [Cell],
     pace: &mut Pace,
 ) -> (usize, usize, u64)
-    ensures cells { AreCellsRead words.old held.now row.old row.new result }
+    ensures cells { AreCellsRead words.old buffered.now row.old row.new result }
     ensures same { words.new ≡ words.old }
 {
-    let found = unsought_cells_in(held, words.header(), row, pace);
+    let found = unsought_cells_in(buffered, words.header(), row, pace);
     if found.0 > 0 {
         return (found.0, found.1, 0);
     }
-    let found = sought_cells_in(held, words, row, pace);
+    let found = sought_cells_in(buffered, words, row, pace);
     if found.0 > 0 {
         return found;
     }
-    let found = single_cells_in(held, words.header(), row);
+    let found = single_cells_in(buffered, words.header(), row);
     (found.0, found.1, 0)
 }
 
 // The same, as many as are to be read one by one.
 fn next_cells_in(
-    held: &[u8],
+    buffered: &[u8],
     words: &mut WordTable,
     row: &mut [Cell],
     pace: &mut Pace,
 ) -> (usize, usize, u64)
-    ensures cells { AreCellsRead words.old held.now row.old row.new result }
+    ensures cells { AreCellsRead words.old buffered.now row.old row.new result }
     ensures same { words.new ≡ words.old }
 {
     let end = pace.singles.min(row.len());
-    let found = each_cell_in(held, words, &mut row[..end], pace);
+    let found = each_cell_in(buffered, words, &mut row[..end], pace);
     pace.pass_singles(found.0);
     found
 }
@@ -379,21 +388,21 @@ fn next_cells_in(
 //
 // Each way says the same of the cells, so nothing is proved of the pace.
 fn some_cells_in(
-    held: &[u8],
+    buffered: &[u8],
     words: &mut WordTable,
     row: &mut [Cell],
     pace: &mut Pace,
 ) -> (usize, usize, u64)
-    ensures cells { AreCellsRead words.old held.now row.old row.new result }
+    ensures cells { AreCellsRead words.old buffered.now row.old row.new result }
     ensures same { words.new ≡ words.old }
 {
     if pace.singles > 0 {
-        return next_cells_in(held, words, row, pace);
+        return next_cells_in(buffered, words, row, pace);
     }
-    let found = repeated_cells_in(held, words.header(), row);
+    let found = repeated_cells_in(buffered, words.header(), row);
     if found.0 == 0 {
         pace.pass_none();
-        return next_cells_in(held, words, row, pace);
+        return next_cells_in(buffered, words, row, pace);
     }
     if found.0 < row.len() {
         pace.pass_repeated(found.0);
@@ -406,19 +415,19 @@ fn some_cells_in(
 /// The cells whose words are held one after another, apart by blanks and line feeds, up to the length of a row: they fill the
 /// front of the row. Returns how many they are, how many bytes they take, and how many of these are line feeds.
 pub fn cells_in(
-    held: &[u8],
+    buffered: &[u8],
     words: &mut WordTable,
     row: &mut [Cell],
     pace: &mut Pace,
 ) -> (usize, usize, u64)
-    ensures cells { AreCellsRead words.old held.now row.old row.new result }
+    ensures cells { AreCellsRead words.old buffered.now row.old row.new result }
     ensures same { words.new ≡ words.old }
 {
     let mut i = 0;
     let mut passed = 0;
     let mut lines = 0;
     'parts: while i < row.len() {
-        let found = some_cells_in(&held[passed..], words, &mut row[i..], pace);
+        let found = some_cells_in(&buffered[passed..], words, &mut row[i..], pace);
         if found.0 == 0 {
             return (i, passed, lines);
         }

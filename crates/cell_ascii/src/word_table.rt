@@ -30,7 +30,7 @@ const PLACE_BITS: u32 = 12;
 const MOST_KEPT: usize = 8;
 
 // So many bytes have to be held for that, and for a load at the last of them.
-const LEAST_HELD: usize = 72;
+const LEAST_BUFFERED: usize = 72;
 
 // A word that was read, by its bytes, and its cell. It is free where it has no bytes.
 #[derive(Clone, Copy)]
@@ -42,11 +42,11 @@ struct WordEntry {
 
 // Which of the first 64 bytes are blanks or line feeds, from the lowest bit on.
 #[inline(always)]
-fn blanks_in(held: &[u8]) -> u64
-    requires { 64 ≤ length held.now }
-    ensures { result ≡ mask_l (blanks held.now) }
+fn blanks_in(buffered: &[u8]) -> u64
+    requires { 64 ≤ length buffered.now }
+    ensures { result ≡ mask_l (blanks buffered.now) }
 {
-    let bytes = u8x64::from_slice(held);
+    let bytes = u8x64::from_slice(buffered);
     let apart = bytes.simd_eq(u8x64::splat(b' ')) | bytes.simd_eq(u8x64::splat(b'\t'));
     let ends = bytes.simd_eq(u8x64::splat(b'\r')) | bytes.simd_eq(u8x64::splat(b'\n'));
     (apart | ends).to_bitmask()
@@ -54,11 +54,11 @@ fn blanks_in(held: &[u8]) -> u64
 
 // Which of them are line feeds.
 #[inline(always)]
-fn feeds_in(held: &[u8]) -> u64
-    requires { 64 ≤ length held.now }
-    ensures { result ≡ mask_l (feeds held.now) }
+fn feeds_in(buffered: &[u8]) -> u64
+    requires { 64 ≤ length buffered.now }
+    ensures { result ≡ mask_l (feeds buffered.now) }
 {
-    u8x64::from_slice(held)
+    u8x64::from_slice(buffered)
         .simd_eq(u8x64::splat(b'\n'))
         .to_bitmask()
 }
@@ -104,7 +104,7 @@ fn pass_blanks(ends: u64, at: usize) -> (usize, u64)
 fn word_key(bytes: &[u8], size: usize) -> u64
     requires some { 0 < size }
     requires few { size ≤ 8 }
-    requires held { 8 ≤ length bytes.now }
+    requires buffered { 8 ≤ length bytes.now }
     ensures { kept_bytes result size ≡ take size bytes.now }
 {
     let [all] = u64x1::from_le_bytes(u8x8::from_slice(bytes)).to_array();
@@ -163,7 +163,7 @@ fn read_word(word: &[u8], header: &Header) -> Option<Cell>
 // Keeps the cell of a word, in the place of another, where the word is short.
 fn keep_word(bytes: &[u8], size: usize, cell: Cell, header: &Header, entries: &mut [WordEntry])
     requires some { 0 < size }
-    requires held { 8 ≤ length bytes.now }
+    requires buffered { 8 ≤ length bytes.now }
     requires cell { cell_of_word header.now (take size bytes.now) ≡ Ok cell }
     requires room { length entries.old ≡ 4096 }
     requires known { All (IsEntry header.now) entries.old }
@@ -237,23 +237,23 @@ fn put_cell(
 // last of them ends. It ends before a word that is no cell.
 #[inline(always)]
 fn block_cells_in(
-    held: &[u8],
+    buffered: &[u8],
     header: &Header,
     entries: &mut [WordEntry],
     row: &mut [Cell],
     missed: &mut usize,
 ) -> (usize, usize)
-    requires held { 72 ≤ length held.now }
+    requires buffered { 72 ≤ length buffered.now }
     requires room { length entries.old ≡ 4096 }
     requires known { All (IsEntry header.now) entries.old }
-    ensures cells { HoldsLines header.now held.now (take result.0 row.new) result.0 result.1
-        (newlines (take result.1 held.now)) }
+    ensures cells { HoldsLines header.now buffered.now (take result.0 row.new) result.0 result.1
+        (newlines (take result.1 buffered.now)) }
     ensures count { result.0 ≤ length row.old }
     ensures within { result.1 < 64 }
     ensures rest { drop result.0 row.new ≡ drop result.0 row.old }
     ensures known { All (IsEntry header.now) entries.new }
 {
-    let mut ends = blanks_in(held);
+    let mut ends = blanks_in(buffered);
     let mut at = 0;
     let mut last = 0;
     let mut i = 0;
@@ -261,7 +261,7 @@ fn block_cells_in(
         let end = ends.trailing_zeros() as usize;
         let size = end - at;
         if size > 0 {
-            if !put_cell(&held[at..], size, header, entries, row, i, missed) {
+            if !put_cell(&buffered[at..], size, header, entries, row, i, missed) {
                 return (i, last);
             }
             i += 1;
@@ -303,7 +303,7 @@ impl Model for WordTable {
 // missed.
 #[inline(never)]
 fn table_cells_in(
-    held: &[u8],
+    buffered: &[u8],
     header: &Header,
     entries: &mut [WordEntry],
     row: &mut [Cell],
@@ -311,14 +311,14 @@ fn table_cells_in(
 ) -> (usize, usize, u64)
     requires room { length entries.old ≡ 4096 }
     requires known { All (IsEntry header.now) entries.old }
-    ensures cells { AreCellsRead header.now held.now row.old row.new result }
+    ensures cells { AreCellsRead header.now buffered.now row.old row.new result }
     ensures known { All (IsEntry header.now) entries.new }
 {
     let mut i = 0;
     let mut passed = 0;
     let mut lines = 0;
-    'blocks: while i < row.len() && held.len() - passed >= LEAST_HELD {
-        let block = &held[passed..];
+    'blocks: while i < row.len() && buffered.len() - passed >= LEAST_BUFFERED {
+        let block = &buffered[passed..];
         let found = block_cells_in(block, header, entries, &mut row[i..], missed);
         if found.0 == 0 {
             return (i, passed, lines);
@@ -356,13 +356,19 @@ impl WordTable {
     /// not read before, as far as is known, are counted as missed.
     pub fn cells_in(
         &mut self,
-        held: &[u8],
+        buffered: &[u8],
         row: &mut [Cell],
         missed: &mut usize,
     ) -> (usize, usize, u64)
-        ensures cells { AreCellsRead self.old held.now row.old row.new result }
+        ensures cells { AreCellsRead self.old buffered.now row.old row.new result }
         ensures same { self.new ≡ self.old }
     {
-        table_cells_in(held, &self.header, self.entries.as_mut_slice(), row, missed)
+        table_cells_in(
+            buffered,
+            &self.header,
+            self.entries.as_mut_slice(),
+            row,
+            missed,
+        )
     }
 }

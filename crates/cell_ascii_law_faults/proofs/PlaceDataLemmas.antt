@@ -17,8 +17,8 @@ use Rattle.cell_ascii_meaning.specs.declared.grid_fault.GridKind.TheVariants.{Ba
 use Rattle.cell_ascii_meaning.specs.declared.grid_fault.GridFault.{GridFault}
 use Rattle.cell_ascii_law.proofs.LexemeLemmas.{coming, Lines}
 use Rattle.cell_ascii_law.proofs.DataLawLemmas.{all_words, bind_assoc, whole_grid, read_end, read_grid, read_grid_is}
-use Rattle.cell_ascii_law_faults.proofs.SeenLemmas.{with_token, Seen, at_seen, tells, step, scan}
-use Rattle.cell_ascii_law_faults.proofs.PlaceWordLemmas.{one_told, one_silent, step_word, step_blank, step_feed, before_word, IsAfterWord, next_word, going, gone, settled}
+use Rattle.cell_ascii_law_faults.proofs.SeenLemmas.{with_token, Seen, at_seen, reports, step, scan}
+use Rattle.cell_ascii_law_faults.proofs.PlaceWordLemmas.{one_reported, one_silent, step_word, step_blank, step_feed, before_word, IsAfterWord, next_word, going, gone, settled}
 
 -- The header lines and the words of the data, line by line.
 abbrev no_data : List (List ℕ) → Bool
@@ -180,8 +180,8 @@ no_matter : (t : Bool) → ◌≡◌ {A = Option GridKind} (if t then None else 
 no_matter true = refl
 no_matter false = refl
 
-abbrev data_told : ℕ → List ℕ → HeaderValue → List (List ℕ) → FaultPlace → Option GridKind
-data_told gap token h words place =
+abbrev data_reported : ℕ → List ℕ → HeaderValue → List (List ℕ) → FaultPlace → Option GridKind
+data_reported gap token h words place =
     long_token token place
     or stuck gap place
     or bad_cell (Ok h) words token place
@@ -203,8 +203,8 @@ module _ (h : HeaderValue) (gap : ℕ) (token : List ℕ) (inside : Bool) (ls : 
   no_header : (place : FaultPlace) → header_ends header words token place ≡ None
   no_header place = (λ i. header_ends (is i) words token place) ∙ no_matter ((is_end_of_words place && is_empty words) || ((ends_token place && is_token token) && length words == 1))
 
-  told_in_data : (place : FaultPlace) → whole_table gap token inside ls line header words place ≡ data_told gap token h words place
-  told_in_data place = λ i.
+  reported_in_data : (place : FaultPlace) → whole_table gap token inside ls line header words place ≡ data_reported gap token h words place
+  reported_in_data place = λ i.
       long_token token place
       or stuck gap place
       or no_second place i
@@ -216,26 +216,26 @@ module _ (h : HeaderValue) (gap : ℕ) (token : List ℕ) (inside : Bool) (ls : 
       or read_fails place
 
 module _ (h : HeaderValue) (gap : ℕ) (words : List (List ℕ)) where
-  word_silent : (b : ℕ) → is_space b ≡ false → length words < h.region.rows * h.region.cols → data_told gap [] h words (Byte b) ≡ None
+  word_silent : (b : ℕ) → is_space b ≡ false → length words < h.region.rows * h.region.cols → data_reported gap [] h words (Byte b) ≡ None
   word_silent b word fewer = let t : nat_le (h.region.rows * h.region.cols) (length words) ≡ false = grind (arith, nat_tests) in rw (word, t)
 
-  word_many : (b : ℕ) → is_space b ≡ false → length words ≡ h.region.rows * h.region.cols → data_told gap [] h words (Byte b) ≡ Some TooMany
+  word_many : (b : ℕ) → is_space b ≡ false → length words ≡ h.region.rows * h.region.cols → data_reported gap [] h words (Byte b) ≡ Some TooMany
   word_many b word all = let t : nat_le (h.region.rows * h.region.cols) (length words) ≡ true = grind (arith, nat_tests) in rw (word, t)
 
-  end_few : length words < h.region.rows * h.region.cols → data_told gap [] h words End ≡ Some TooFew
+  end_few : length words < h.region.rows * h.region.cols → data_reported gap [] h words End ≡ Some TooFew
   end_few fewer = let t : nat_lt (length words) (h.region.rows * h.region.cols) ≡ true = grind (arith, nat_tests) in rw t
 
-  end_all : length words ≡ h.region.rows * h.region.cols → data_told gap [] h words End ≡ None
+  end_all : length words ≡ h.region.rows * h.region.cols → data_reported gap [] h words End ≡ None
   end_all all = let t : nat_lt (length words) (h.region.rows * h.region.cols) ≡ false = grind (arith, nat_tests) in rw t
 
 module _ (h : HeaderValue) (x : ℕ) (xs : List ℕ) where
-  no_cell : (words : List (List ℕ)) (kind : GridKind) → 0 < length words → cell_of_word h (x ∷ xs) ≡ Err kind → (place : FaultPlace) → ends_token place ≡ true → data_told 0 (x ∷ xs) h words place ≡ Some kind
+  no_cell : (words : List (List ℕ)) (kind : GridKind) → 0 < length words → cell_of_word h (x ∷ xs) ≡ Err kind → (place : FaultPlace) → ends_token place ≡ true → data_reported 0 (x ∷ xs) h words place ≡ Some kind
   no_cell [] kind some e place ends = absurd (omega arith)
   no_cell (w ∷ ws) kind some e (Byte b) space = rw (space, e)
   no_cell (w ∷ ws) kind some e End ends = rw e
   no_cell (w ∷ ws) kind some e Fails ends = cc
 
-  a_cell : (words : List (List ℕ)) (v : CellValue) → 0 < length words → cell_of_word h (x ∷ xs) ≡ Ok v → (place : FaultPlace) → ends_token place ≡ true → data_told 0 (x ∷ xs) h words place ≡ data_told 0 [] h words place
+  a_cell : (words : List (List ℕ)) (v : CellValue) → 0 < length words → cell_of_word h (x ∷ xs) ≡ Ok v → (place : FaultPlace) → ends_token place ≡ true → data_reported 0 (x ∷ xs) h words place ≡ data_reported 0 [] h words place
   a_cell [] v some e place ends = absurd (omega arith)
   a_cell (w ∷ ws) v some e (Byte b) space = rw (space, e)
   a_cell (w ∷ ws) v some e End ends = rw e
@@ -263,23 +263,23 @@ module _ (h : HeaderValue) where
   abbrev cells : ℕ
   cells = h.region.rows * h.region.cols
 
-  -- what is told in the data, at a place where no word goes on
-  told_there : (n : ℕ) (ls : Lines) (ws : List (List ℕ)) → IsData h n ls ws → (line gap : ℕ) (place : FaultPlace)
-      → tells whole_table (at_seen line gap ls ws []) place ≡ option_map (λ kind. grid_fault kind line) (data_told gap [] h (data_words (ls ++ ws ∷ [])) place)
-  told_there n ls ws is line gap place = ap (option_map (λ kind. grid_fault kind line)) (told_in_data h gap [] (in_header_line ls ws) ls ws (header_in (ls ++ ws ∷ [])) (data_words (ls ++ ws ∷ [])) (outside h n ls ws is) is.header place)
+  -- what is reported in the data, at a place where no word goes on
+  reported_there : (n : ℕ) (ls : Lines) (ws : List (List ℕ)) → IsData h n ls ws → (line gap : ℕ) (place : FaultPlace)
+      → reports whole_table (at_seen line gap ls ws []) place ≡ option_map (λ kind. grid_fault kind line) (data_reported gap [] h (data_words (ls ++ ws ∷ [])) place)
+  reported_there n ls ws is line gap place = ap (option_map (λ kind. grid_fault kind line)) (reported_in_data h gap [] (in_header_line ls ws) ls ws (header_in (ls ++ ws ∷ [])) (data_words (ls ++ ws ∷ [])) (outside h n ls ws is) is.header place)
 
   -- and where a word does
-  told_within : (n : ℕ) (ls : Lines) (ws : List (List ℕ)) (x : ℕ) (xs : List ℕ) → IsData h n ls (ws ++ (x ∷ xs) ∷ []) → (line : ℕ) (place : FaultPlace)
-      → tells whole_table (at_seen line 0 ls ws (x ∷ xs)) place ≡ option_map (λ kind. grid_fault kind line) (data_told 0 (x ∷ xs) h (data_words (ls ++ (ws ++ (x ∷ xs) ∷ []) ∷ [])) place)
-  told_within n ls ws x xs is line place =
+  reported_within : (n : ℕ) (ls : Lines) (ws : List (List ℕ)) (x : ℕ) (xs : List ℕ) → IsData h n ls (ws ++ (x ∷ xs) ∷ []) → (line : ℕ) (place : FaultPlace)
+      → reports whole_table (at_seen line 0 ls ws (x ∷ xs)) place ≡ option_map (λ kind. grid_fault kind line) (data_reported 0 (x ∷ xs) h (data_words (ls ++ (ws ++ (x ∷ xs) ∷ []) ∷ [])) place)
+  reported_within n ls ws x xs is line place =
       let now : List (List ℕ) = ws ++ (x ∷ xs) ∷ [] in
-      ap (option_map (λ kind. grid_fault kind line)) (told_in_data h 0 (x ∷ xs) (in_header_line ls now) ls now (header_in (ls ++ now ∷ [])) (data_words (ls ++ now ∷ [])) (outside h n ls now is) is.header place)
+      ap (option_map (λ kind. grid_fault kind line)) (reported_in_data h 0 (x ∷ xs) (in_header_line ls now) ls now (header_in (ls ++ now ∷ [])) (data_words (ls ++ now ∷ [])) (outside h n ls now is) is.header place)
 
   -- from any place with n words in the data, F tells what the places tell
   abbrev Goes : {X : Type 0} → ℕ → (X → At → Result Grid GridFault) → Type 0
   Goes {X} n F = (x : X) (line gap : ℕ) (bs : List ℕ) (f : Bool) (ls : Lines) (ws : List (List ℕ)) → gap ≤ 1048576 → IsData h n ls ws → fault_in (F x (at_of line gap (coming bs f))) ≡ scan whole_table (at_seen line gap ls ws []) bs f
 
-  -- at one place, where s is told from here on, a reading takes the next a words
+  -- at one place, where s is reported from here on, a reading takes the next a words
   abbrev Follows : {X : Type 0} → At → Option GridFault → ℕ → (At → Reading X) → ℕ → Type 0
   Follows {X} at s n one a = (F : X → At → Result Grid GridFault) → Goes (n + a) F → fault_in (one at >>= (λ x. F x.0 x.1)) ≡ s
 
@@ -334,20 +334,20 @@ module _ (h : HeaderValue) where
       some : 0 < length words
       some = let c = is.count in omega arith
 
-      good : (v : CellValue) → cell_of_word h (x ∷ xs) ≡ Ok v → (place : FaultPlace) → ends_token place ≡ true → tells whole_table (going true line ls ws x xs) place ≡ tells whole_table (gone true line ls ws x xs) place
-      good v e place ends = told_within (n + 1) ls ws x xs is line place ∙ ap (option_map (λ kind. grid_fault kind line)) (a_cell h x xs words v some e place ends) ∙ sym (told_there (n + 1) ls (ws ++ (x ∷ xs) ∷ []) is line 0 place)
+      good : (v : CellValue) → cell_of_word h (x ∷ xs) ≡ Ok v → (place : FaultPlace) → ends_token place ≡ true → reports whole_table (going true line ls ws x xs) place ≡ reports whole_table (gone true line ls ws x xs) place
+      good v e place ends = reported_within (n + 1) ls ws x xs is line place ∙ ap (option_map (λ kind. grid_fault kind line)) (a_cell h x xs words v some e place ends) ∙ sym (reported_there (n + 1) ls (ws ++ (x ∷ xs) ∷ []) is line 0 place)
 
-      bad : (kind : GridKind) → cell_of_word h (x ∷ xs) ≡ Err kind → (place : FaultPlace) → ends_token place ≡ true → tells whole_table (going true line ls ws x xs) place ≡ Some (grid_fault kind line)
-      bad kind e place ends = told_within (n + 1) ls ws x xs is line place ∙ ap (option_map (λ kind. grid_fault kind line)) (no_cell h x xs words kind some e place ends)
+      bad : (kind : GridKind) → cell_of_word h (x ∷ xs) ≡ Err kind → (place : FaultPlace) → ends_token place ≡ true → reports whole_table (going true line ls ws x xs) place ≡ Some (grid_fault kind line)
+      bad kind e place ends = reported_within (n + 1) ls ws x xs is line place ∙ ap (option_map (λ kind. grid_fault kind line)) (no_cell h x xs words kind some e place ends)
 
-      told : (kind : GridKind) → cell_of_word h (x ∷ xs) ≡ Err kind → (cs : List ℕ) (g : Bool) → IsAfterWord cs g → scan whole_table (going true line ls ws x xs) cs g ≡ Some (grid_fault kind line)
-      told kind e [] true after = cc
-      told kind e [] false after = bad kind e End refl
-      told kind e (b ∷ cs) g space = one_told true (going true line ls ws x xs) b cs g (grid_fault kind line) (bad kind e (Byte b) space)
+      reported : (kind : GridKind) → cell_of_word h (x ∷ xs) ≡ Err kind → (cs : List ℕ) (g : Bool) → IsAfterWord cs g → scan whole_table (going true line ls ws x xs) cs g ≡ Some (grid_fault kind line)
+      reported kind e [] true after = cc
+      reported kind e [] false after = bad kind e End refl
+      reported kind e (b ∷ cs) g space = one_reported true (going true line ls ws x xs) b cs g (grid_fault kind line) (bad kind e (Byte b) space)
 
       by : (r : Result CellValue GridKind) → cell_of_word h (x ∷ xs) ≡ r → fault_in (after_cell line (coming bs f) r >>= (λ y. F y.0 y.1)) ≡ scan whole_table (at_seen line 0 ls ws (x ∷ xs)) bs f
       by (Ok v) e = goes v line 0 bs f ls (ws ++ (x ∷ xs) ∷ []) (omega arith) is ∙ sym (settled true line ls ws x xs (good v e) bs f after)
-      by (Err kind) e = sym (told kind e bs f after)
+      by (Err kind) e = sym (reported kind e bs f after)
 
   cell_advances : Advances (cell_from h) 1
   unfolding cell_from
@@ -360,12 +360,12 @@ module _ (h : HeaderValue) where
           k s = fault_in (after_start h s >>= (λ y. F y.0 y.1))
 
           ends : (ms : Lines) (vs : List (List ℕ)) → IsData h n ms vs → (l g : ℕ) → k (Ends l) ≡ scan whole_table (at_seen l g ms vs []) [] false
-          ends ms vs here l g = sym (told_there n ms vs here l g End ∙ ap (option_map (λ kind. grid_fault kind l)) (end_few h g (data_words (ms ++ vs ∷ [])) (let c = here.count in omega arith)))
+          ends ms vs here l g = sym (reported_there n ms vs here l g End ∙ ap (option_map (λ kind. grid_fault kind l)) (end_few h g (data_words (ms ++ vs ∷ [])) (let c = here.count in omega arith)))
 
           begins : (ms : Lines) (vs : List (List ℕ)) → IsData h n ms vs → (l g b : ℕ) (cs : List ℕ) (e : Bool) → is_space b ≡ false → k (Begins l (coming (b ∷ cs) e)) ≡ scan whole_table (at_seen l g ms vs []) (b ∷ cs) e
           begins ms vs here l g b cs e word = next_word true l ms vs (λ r. fault_in (cell_after_word h l r >>= (λ y. F y.0 y.1))) (λ e. refl) (λ x xs. refl)
               (λ x xs ds t after. cell_after F n goes l ms vs x xs ds t after (one_word h n ms vs here (x ∷ xs))) g b cs e word
-              (told_there n ms vs here l g (Byte b) ∙ ap (option_map (λ kind. grid_fault kind l)) (word_silent h g (data_words (ms ++ vs ∷ [])) b word (let c = here.count in omega arith)))
+              (reported_there n ms vs here l g (Byte b) ∙ ap (option_map (λ kind. grid_fault kind l)) (word_silent h g (data_words (ms ++ vs ∷ [])) b word (let c = here.count in omega arith)))
 
   -- the end of the data
   end_goes : Goes cells (read_end h)
@@ -375,10 +375,10 @@ module _ (h : HeaderValue) where
       k s = fault_in (end_of s >>= (λ _. Ok (whole_grid h rows)))
 
       ends : (ms : Lines) (vs : List (List ℕ)) → IsData h cells ms vs → (l g : ℕ) → k (Ends l) ≡ scan whole_table (at_seen l g ms vs []) [] false
-      ends ms vs here l g = sym (told_there cells ms vs here l g End ∙ ap (option_map (λ kind. grid_fault kind l)) (end_all h g (data_words (ms ++ vs ∷ [])) here.count))
+      ends ms vs here l g = sym (reported_there cells ms vs here l g End ∙ ap (option_map (λ kind. grid_fault kind l)) (end_all h g (data_words (ms ++ vs ∷ [])) here.count))
 
       begins : (ms : Lines) (vs : List (List ℕ)) → IsData h cells ms vs → (l g b : ℕ) (cs : List ℕ) (e : Bool) → is_space b ≡ false → k (Begins l (coming (b ∷ cs) e)) ≡ scan whole_table (at_seen l g ms vs []) (b ∷ cs) e
-      begins ms vs here l g b cs e word = sym (one_told true (at_seen l g ms vs []) b cs e (grid_fault TooMany l) (told_there cells ms vs here l g (Byte b) ∙ ap (option_map (λ kind. grid_fault kind l)) (word_many h g (data_words (ms ++ vs ∷ [])) b word here.count)))
+      begins ms vs here l g b cs e word = sym (one_reported true (at_seen l g ms vs []) b cs e (grid_fault TooMany l) (reported_there cells ms vs here l g (Byte b) ∙ ap (option_map (λ kind. grid_fault kind l)) (word_many h g (data_words (ms ++ vs ∷ [])) b word here.count)))
 
   -- the data from the end of its first word on
   pub data_first : 0 < h.region.rows → 0 < h.region.cols → (line : ℕ) (ls : Lines) (x : ℕ) (xs bs : List ℕ) (f : Bool) → IsAfterWord bs f → IsData h 1 ls ((x ∷ xs) ∷ [])
@@ -421,7 +421,7 @@ module _ (h : HeaderValue) where
       by (v ∷ w ∷ words) e = let t : (length (v ∷ w ∷ words) == 1) ≡ false = grind (arith, nat_tests) in t
 
   module _ (n line gap : ℕ) (ls : Lines) (ws : List (List ℕ)) (t : List ℕ) (is : IsData h n ls ws) (some : 0 < n) where
-    nothing : (place : FaultPlace) → tells opening_table (at_seen line gap ls ws t) place ≡ None
+    nothing : (place : FaultPlace) → reports opening_table (at_seen line gap ls ws t) place ≡ None
     nothing place = ap (option_map (λ kind. grid_fault kind line)) (behind_silent gap (in_header_line ls (with_token ws t)) ls (with_token ws t) (header_in (ls ++ with_token ws t ∷ [])) (data_words (ls ++ with_token ws t ∷ [])) t (not_opening n ls ws t is some) place)
 
     counted : (m : ℕ) × (0 < m) × IsData h m ls (with_token ws t)
@@ -431,10 +431,10 @@ module _ (h : HeaderValue) where
         by [] = (n, some, is)
         by (x ∷ xs) = (n + 1, omega arith, one_word h n ls ws is (x ∷ xs))
 
-  none_told : (bs : List ℕ) (f : Bool) (n line gap : ℕ) (ls : Lines) (ws : List (List ℕ)) (t : List ℕ) → IsData h n ls ws → 0 < n → scan opening_table (at_seen line gap ls ws t) bs f ≡ None
-  none_told [] false n line gap ls ws t is some = nothing n line gap ls ws t is some End
-  none_told [] true n line gap ls ws t is some = nothing n line gap ls ws t is some Fails
-  none_told (b ∷ bs) f n line gap ls ws t is some = by (none_told bs f) (cases_Bool (is_space b)) (cases_Bool (b == 10))
+  none_reported : (bs : List ℕ) (f : Bool) (n line gap : ℕ) (ls : Lines) (ws : List (List ℕ)) (t : List ℕ) → IsData h n ls ws → 0 < n → scan opening_table (at_seen line gap ls ws t) bs f ≡ None
+  none_reported [] false n line gap ls ws t is some = nothing n line gap ls ws t is some End
+  none_reported [] true n line gap ls ws t is some = nothing n line gap ls ws t is some Fails
+  none_reported (b ∷ bs) f n line gap ls ws t is some = by (none_reported bs f) (cases_Bool (is_space b)) (cases_Bool (b == 10))
     where
       s : Seen
       s = at_seen line gap ls ws t
@@ -458,7 +458,7 @@ module _ (h : HeaderValue) where
       s : Seen
       s = at_seen line 0 ls [] (x ∷ xs)
 
-      quiet : (place : FaultPlace) → ends_token place ≡ true → tells opening_table s place ≡ None
+      quiet : (place : FaultPlace) → ends_token place ≡ true → reports opening_table s place ≡ None
       quiet place ends = ap (option_map (λ kind. grid_fault kind line)) (opened_silent 0 (in_header_line ls ((x ∷ xs) ∷ [])) ls ((x ∷ xs) ∷ []) (header_in (ls ++ ((x ∷ xs) ∷ []) ∷ [])) (data_words (ls ++ ((x ∷ xs) ∷ []) ∷ [])) h x xs refl (outside h 1 ls ((x ∷ xs) ∷ []) is) is.header place ends)
 
       by : (bs : List ℕ) (f : Bool) → IsAfterWord bs f → scan opening_table s bs f ≡ None
@@ -467,5 +467,5 @@ module _ (h : HeaderValue) where
       by (b ∷ bs) f space = spaced (cases_Bool (b == 10))
         where
           spaced : ((b == 10) ≡ true) ⊎ ((b == 10) ≡ false) → scan opening_table s (b ∷ bs) f ≡ None
-          spaced (inl feed) = one_silent false s (at_seen (line + 1) 1 (ls ++ ((x ∷ xs) ∷ []) ∷ []) [] []) b bs f (quiet (Byte b) space) (step_feed s b feed) ∙ none_told bs f 1 (line + 1) 1 (ls ++ ((x ∷ xs) ∷ []) ∷ []) [] [] (fed h 1 ls ((x ∷ xs) ∷ []) is) (omega arith)
-          spaced (inr blank) = one_silent false s (at_seen line 1 ls ((x ∷ xs) ∷ []) []) b bs f (quiet (Byte b) space) (step_blank s b space blank) ∙ none_told bs f 1 line 1 ls ((x ∷ xs) ∷ []) [] is (omega arith)
+          spaced (inl feed) = one_silent false s (at_seen (line + 1) 1 (ls ++ ((x ∷ xs) ∷ []) ∷ []) [] []) b bs f (quiet (Byte b) space) (step_feed s b feed) ∙ none_reported bs f 1 (line + 1) 1 (ls ++ ((x ∷ xs) ∷ []) ∷ []) [] [] (fed h 1 ls ((x ∷ xs) ∷ []) is) (omega arith)
+          spaced (inr blank) = one_silent false s (at_seen line 1 ls ((x ∷ xs) ∷ []) []) b bs f (quiet (Byte b) space) (step_blank s b space blank) ∙ none_reported bs f 1 line 1 ls ((x ∷ xs) ∷ []) [] is (omega arith)

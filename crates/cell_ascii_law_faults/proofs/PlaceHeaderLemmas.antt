@@ -21,10 +21,10 @@ use Rattle.cell_ascii_law.proofs.DataLawLemmas.{read_grid_is, read_end}
 use Rattle.cell_ascii_law.proofs.KeyLawLemmas.{open_keys, key_known, header_given, sides}
 use Rattle.cell_ascii_law.proofs.HeaderLawLemmas.{read_opened, value_at, value_is}
 use Rattle.cell_ascii_law.proofs.TextLawLemmas.{with_lines}
-use Rattle.cell_ascii_law_faults.proofs.SeenLemmas.{at_seen, tells, scan}
-use Rattle.cell_ascii_law_faults.proofs.PlaceWordLemmas.{table_of, judged, one_told, one_silent, step_feed, before_word, IsAfterWord, next_word, before_gap, settled}
+use Rattle.cell_ascii_law_faults.proofs.SeenLemmas.{at_seen, reports, scan}
+use Rattle.cell_ascii_law_faults.proofs.PlaceWordLemmas.{table_of, judged, one_reported, one_silent, step_feed, before_word, IsAfterWord, next_word, before_gap, settled}
 use Rattle.cell_ascii_law_faults.proofs.PlaceDataLemmas.{heads, has_data, heads_before, words_before, heads_more, heads_data, words_data, words_more, has_data-append, and_never, fault_in, IsData, data_first, opening_first}
-use Rattle.cell_ascii_law_faults.proofs.PlaceKeyLemmas.{keys_taken, line_told, no_value_told, lines_more}
+use Rattle.cell_ascii_law_faults.proofs.PlaceKeyLemmas.{keys_taken, line_reported, no_value_reported, lines_more}
 
 -- What the table tells in the header, where the words before a place are any.
 no_cells : (header : Result HeaderValue GridKind) (token : List ℕ) → cell_fault header [] token ≡ None
@@ -56,36 +56,36 @@ module _ (gap : ℕ) (inside : Bool) (ls : Lines) (line : List (List ℕ)) (head
       by false false j = rw (j, word, no_feed b word)
 
   -- and where one does
-  first_told : (w : Bool) (b : ℕ) (v : List ℕ) → judged w words [] ≡ true → is_space b ≡ false → inside ≡ true → line_values line ≡ v ∷ [] → table_of w gap [] inside ls line header words (Byte b) ≡ Some BadHeader
-  first_told true b v j word head one = rw (word, head, one)
-  first_told false b v j word head one = rw (j, word, head, one)
+  first_reported : (w : Bool) (b : ℕ) (v : List ℕ) → judged w words [] ≡ true → is_space b ≡ false → inside ≡ true → line_values line ≡ v ∷ [] → table_of w gap [] inside ls line header words (Byte b) ≡ Some BadHeader
+  first_reported true b v j word head one = rw (word, head, one)
+  first_reported false b v j word head one = rw (j, word, head, one)
 
-  feed_told : (w : Bool) (b : ℕ) → judged w words [] ≡ true → is_space b ≡ true → gap < 1048576 → table_of w gap [] inside ls line header words (Byte b) ≡ (header_line_ends inside ls line (Byte b) or None)
-  feed_told true b j space room = let t : (gap == 1048576) ≡ false = grind (arith, nat_tests) in rw (space, t)
-  feed_told false b j space room = let t : (gap == 1048576) ≡ false = grind (arith, nat_tests) in rw (j, space, t)
+  feed_reported : (w : Bool) (b : ℕ) → judged w words [] ≡ true → is_space b ≡ true → gap < 1048576 → table_of w gap [] inside ls line header words (Byte b) ≡ (header_line_ends inside ls line (Byte b) or None)
+  feed_reported true b j space room = let t : (gap == 1048576) ≡ false = grind (arith, nat_tests) in rw (space, t)
+  feed_reported false b j space room = let t : (gap == 1048576) ≡ false = grind (arith, nat_tests) in rw (j, space, t)
 
-  end_told : (w : Bool) → words ≡ [] → table_of w gap [] inside ls line header words End ≡ (header_line_ends inside ls line End or header_ends header words [] End or few_by w (too_few header words End) or None)
-  end_told true none = refl
-  end_told false none = ap (λ (t : Bool). if t then header_rows gap [] inside ls line header words End else None) (judged_none false words [] none)
+  end_reported : (w : Bool) → words ≡ [] → table_of w gap [] inside ls line header words End ≡ (header_line_ends inside ls line End or header_ends header words [] End or few_by w (too_few header words End) or None)
+  end_reported true none = refl
+  end_reported false none = ap (λ (t : Bool). if t then header_rows gap [] inside ls line header words End else None) (judged_none false words [] none)
 
   -- the end of a word of a header line
-  word_told : (w : Bool) (x : ℕ) (xs : List ℕ) → words ≡ [] → (place : FaultPlace) → ends_token place ≡ true → table_of w 0 (x ∷ xs) inside ls line header words place ≡ table_of w 0 [] inside ls line header words place
-  word_told true x xs none (Byte b) space = rw (none, space, no_cells header (x ∷ xs))
-  word_told true x xs none End ends = rw (none, no_cells header (x ∷ xs))
-  word_told false x xs none (Byte b) space = rw (none, space)
-  word_told false x xs none End ends = rw none
-  word_told w x xs none Fails ends = cc
+  word_reported : (w : Bool) (x : ℕ) (xs : List ℕ) → words ≡ [] → (place : FaultPlace) → ends_token place ≡ true → table_of w 0 (x ∷ xs) inside ls line header words place ≡ table_of w 0 [] inside ls line header words place
+  word_reported true x xs none (Byte b) space = rw (none, space, no_cells header (x ∷ xs))
+  word_reported true x xs none End ends = rw (none, no_cells header (x ∷ xs))
+  word_reported false x xs none (Byte b) space = rw (none, space)
+  word_reported false x xs none End ends = rw none
+  word_reported w x xs none Fails ends = cc
 
   -- the end of the first word of the data, without a header
-  no_header_told : (w : Bool) (x : ℕ) (xs : List ℕ) (kind : GridKind) → judged w words (x ∷ xs) ≡ true → inside ≡ false → header ≡ Err kind → length words ≡ 1 → (place : FaultPlace) → ends_token place ≡ true → table_of w 0 (x ∷ xs) inside ls line header words place ≡ Some kind
-  no_header_told w x xs kind j out is one (Byte b) space = by w (cases_Bool (b == 10)) words j one
+  no_header_reported : (w : Bool) (x : ℕ) (xs : List ℕ) (kind : GridKind) → judged w words (x ∷ xs) ≡ true → inside ≡ false → header ≡ Err kind → length words ≡ 1 → (place : FaultPlace) → ends_token place ≡ true → table_of w 0 (x ∷ xs) inside ls line header words place ≡ Some kind
+  no_header_reported w x xs kind j out is one (Byte b) space = by w (cases_Bool (b == 10)) words j one
     where
       by : (w : Bool) → ((b == 10) ≡ true) ⊎ ((b == 10) ≡ false) → (ws : List (List ℕ)) → judged w ws (x ∷ xs) ≡ true → length ws ≡ 1 → table_of w 0 (x ∷ xs) inside ls line header ws (Byte b) ≡ Some kind
       by true (inl feed) ws j e = rw (space, feed, out, is, e)
       by true (inr blank) ws j e = rw (space, blank, is, e)
       by false (inl feed) ws j e = rw (j, space, feed, out, is, e)
       by false (inr blank) ws j e = rw (j, space, blank, is, e)
-  no_header_told w x xs kind j out is one End ends = by w j
+  no_header_reported w x xs kind j out is one End ends = by w j
     where
       no_more : (t : Bool) → ◌or◌ (if t || true then Some kind else None) None ≡ Some kind
       no_more true = refl
@@ -94,7 +94,7 @@ module _ (gap : ℕ) (inside : Bool) (ls : Lines) (line : List (List ℕ)) (head
       by : (w : Bool) → judged w words (x ∷ xs) ≡ true → table_of w 0 (x ∷ xs) inside ls line header words End ≡ Some kind
       by true j = rw (out, is, one) (no_more (is_empty words))
       by false j = rw (j, out, is)
-  no_header_told w x xs kind j out is one Fails ends = cc
+  no_header_reported w x xs kind j out is one Fails ends = cc
 
 -- A line of the header, after lines without data.
 is_data_not : (l : List (List ℕ)) → is_header_line l ≡ true → is_data_line l ≡ false
@@ -184,10 +184,10 @@ module _ (whole : Bool) where
     ends_by r = fault_after whole ((at_line line r >>= (λ h. Ok (record { header = h; at = record { pending = None; line = line; run = 0; coming = header_ended } }))))
 
     end_is : (gap : ℕ) (ls : Lines) (ws : List (List ℕ)) → data_words (ls ++ ws ∷ []) ≡ [] → header_in (ls ++ ws ∷ []) ≡ header_of keys → header_line_ends (in_header_line ls ws) ls ws End ≡ None
-        → fault_after whole (opened_text keys line None header_ended) ≡ tells (table_of whole) (at_seen line gap ls ws []) End
+        → fault_after whole (opened_text keys line None header_ended) ≡ reports (table_of whole) (at_seen line gap ls ws []) End
     unfolding ends_by
     end_is gap ls ws none header silent = by (header_of keys) refl
-        ∙ sym (ap (option_map (λ kind. grid_fault kind line)) (end_told gap (in_header_line ls ws) ls ws (header_in (ls ++ ws ∷ [])) (data_words (ls ++ ws ∷ [])) whole none ∙ (λ i. silent i or header_ends (header i) (none i) [] End or few_by whole (too_few (header i) (none i) End) or None)))
+        ∙ sym (ap (option_map (λ kind. grid_fault kind line)) (end_reported gap (in_header_line ls ws) ls ws (header_in (ls ++ ws ∷ [])) (data_words (ls ++ ws ∷ [])) whole none ∙ (λ i. silent i or header_ends (header i) (none i) [] End or few_by whole (too_few (header i) (none i) End) or None)))
       where
         last : (w t : Bool) (o : Option GridFault) → t ≡ true → o ≡ Some (grid_fault TooFew line) → after_by w o ≡ option_map (λ kind. grid_fault kind line) (few_by w (when t TooFew) or None)
         last true t o few is = is ∙ ap (λ (u : Bool). option_map (λ kind. grid_fault kind line) (when u TooFew or None)) (sym few)
@@ -224,14 +224,14 @@ module _ (whole : Bool) where
     unfolding opens_by
     data_is bs f after = by (header_of keys) refl
       where
-        bad : (kind : GridKind) → header_of keys ≡ Err kind → (place : FaultPlace) → ends_token place ≡ true → tells (table_of whole) (at_seen line 0 ls [] (x ∷ xs)) place ≡ Some (grid_fault kind line)
+        bad : (kind : GridKind) → header_of keys ≡ Err kind → (place : FaultPlace) → ends_token place ≡ true → reports (table_of whole) (at_seen line 0 ls [] (x ∷ xs)) place ≡ Some (grid_fault kind line)
         bad kind e place ends = ap (option_map (λ kind. grid_fault kind line))
-            (no_header_told 0 (in_header_line ls ((x ∷ xs) ∷ [])) ls ((x ∷ xs) ∷ []) (header_in first_line) (data_words first_line) whole x xs kind (judged_one whole (data_words first_line) (x ∷ xs) x xs words_now) outside_now (header_now ∙ e) (ap length words_now) place ends)
+            (no_header_reported 0 (in_header_line ls ((x ∷ xs) ∷ [])) ls ((x ∷ xs) ∷ []) (header_in first_line) (data_words first_line) whole x xs kind (judged_one whole (data_words first_line) (x ∷ xs) x xs words_now) outside_now (header_now ∙ e) (ap length words_now) place ends)
 
-        told : (kind : GridKind) → header_of keys ≡ Err kind → (cs : List ℕ) (g : Bool) → IsAfterWord cs g → scan (table_of whole) (at_seen line 0 ls [] (x ∷ xs)) cs g ≡ Some (grid_fault kind line)
-        told kind e [] true after = cc
-        told kind e [] false after = bad kind e End refl
-        told kind e (b ∷ cs) g space = one_told whole (at_seen line 0 ls [] (x ∷ xs)) b cs g (grid_fault kind line) (bad kind e (Byte b) space)
+        reported : (kind : GridKind) → header_of keys ≡ Err kind → (cs : List ℕ) (g : Bool) → IsAfterWord cs g → scan (table_of whole) (at_seen line 0 ls [] (x ∷ xs)) cs g ≡ Some (grid_fault kind line)
+        reported kind e [] true after = cc
+        reported kind e [] false after = bad kind e End refl
+        reported kind e (b ∷ cs) g space = one_reported whole (at_seen line 0 ls [] (x ∷ xs)) b cs g (grid_fault kind line) (bad kind e (Byte b) space)
 
         opens : (w : Bool) (h : HeaderValue) → 0 < h.region.rows → 0 < h.region.cols → IsData h 1 ls ((x ∷ xs) ∷ [])
             → after_by w (fault_in (read_opened (record { header = h; at = record { pending = Some (x ∷ xs); line = line; run = 0; coming = coming bs f } }))) ≡ scan (table_of w) (at_seen line 0 ls [] (x ∷ xs)) bs f
@@ -239,7 +239,7 @@ module _ (whole : Bool) where
         opens false h rows cols is = sym (opening_first h line ls x xs bs f after is)
 
         by : (r : Result HeaderValue GridKind) → header_of keys ≡ r → opens_by bs f r ≡ scan (table_of whole) (at_seen line 0 ls [] (x ∷ xs)) bs f
-        by (Err kind) e = sym (told kind e bs f after)
+        by (Err kind) e = sym (reported kind e bs f after)
         by (Ok h) e =
             let s = sides h.region (header_given keys h e).good in
             opens whole h s.0 s.1 (record { header = header_now ∙ e; count = ap length words_now; begun = inr (no, word) })
@@ -271,7 +271,7 @@ module _ (whole : Bool) where
       line_now = ls ++ ws ∷ []
 
       line_why : line_fault (has_key_of ws (header_lines ls)) key (line_values ws) ≡ why_not (with_header_key keys key v)
-      line_why = ap (λ (hs : Lines). line_fault (has_key_of ws hs) key (line_values ws)) (heads_are ls no) ∙ line_told (heads ls) keys ws v taken one
+      line_why = ap (λ (hs : Lines). line_fault (has_key_of ws hs) key (line_values ws)) (heads_are ls no) ∙ line_reported (heads ls) keys ws v taken one
 
       at_end : (place : FaultPlace) → ends_line place ≡ true → header_line_ends (in_header_line ls ws) ls ws place ≡ why_not (with_header_key keys key v)
       at_end place ends = (λ i. if ends i && inside_is ls no ws head i then line_fault (has_key_of ws (header_lines ls)) key (line_values ws) else None) ∙ line_why
@@ -285,28 +285,28 @@ module _ (whole : Bool) where
       fewer : (more : KeyValues) → with_header_key keys key v ≡ Ok more → open_keys more < open_keys keys
       fewer more e = let g = (key_known keys key v more e).2.fewer in omega arith
 
-      last : (gap : ℕ) → closed None (with_header_key keys key v) ≡ tells (table_of whole) (at_seen line gap ls ws []) End
+      last : (gap : ℕ) → closed None (with_header_key keys key v) ≡ reports (table_of whole) (at_seen line gap ls ws []) End
       last gap = by (with_header_key keys key v) refl
         where
-          by : (r : Result KeyValues GridKind) → with_header_key keys key v ≡ r → closed None r ≡ tells (table_of whole) (at_seen line gap ls ws []) End
-          by (Err kind) e = sym (ap (option_map (λ kind. grid_fault kind line)) (end_told gap (in_header_line ls ws) ls ws (header_in line_now) (data_words line_now) whole (words_none ls no ws head)
+          by : (r : Result KeyValues GridKind) → with_header_key keys key v ≡ r → closed None r ≡ reports (table_of whole) (at_seen line gap ls ws []) End
+          by (Err kind) e = sym (ap (option_map (λ kind. grid_fault kind line)) (end_reported gap (in_header_line ls ws) ls ws (header_in line_now) (data_words line_now) whole (words_none ls no ws head)
               ∙ (λ i. (at_end End refl ∙ ap why_not e) i or header_ends (header_in line_now) (data_words line_now) [] End or few_by whole (too_few (header_in line_now) (data_words line_now) End) or None)))
           by (Ok more) e = end_is line more gap ls ws (words_none ls no ws head) (header_next more e) (at_end End refl ∙ ap why_not e)
 
       second : (gap b : ℕ) (bs : List ℕ) (f : Bool) → is_space b ≡ false → Some (grid_fault BadHeader line) ≡ scan (table_of whole) (at_seen line gap ls ws []) (b ∷ bs) f
-      second gap b bs f word = sym (one_told whole (at_seen line gap ls ws []) b bs f (grid_fault BadHeader line)
-          (ap (option_map (λ kind. grid_fault kind line)) (first_told gap (in_header_line ls ws) ls ws (header_in line_now) (data_words line_now) whole b v (judged_none whole (data_words line_now) [] (words_none ls no ws head)) word (inside_is ls no ws head) one)))
+      second gap b bs f word = sym (one_reported whole (at_seen line gap ls ws []) b bs f (grid_fault BadHeader line)
+          (ap (option_map (λ kind. grid_fault kind line)) (first_reported gap (in_header_line ls ws) ls ws (header_in line_now) (data_words line_now) whole b v (judged_none whole (data_words line_now) [] (words_none ls no ws head)) word (inside_is ls no ws head) one)))
 
-      fed_told : (gap b : ℕ) → (b == 10) ≡ true → gap < 1048576 → tells (table_of whole) (at_seen line gap ls ws []) (Byte b) ≡ option_map (λ kind. grid_fault kind line) (why_not (with_header_key keys key v) or None)
-      fed_told gap b feed room = ap (option_map (λ kind. grid_fault kind line)) (feed_told gap (in_header_line ls ws) ls ws (header_in line_now) (data_words line_now) whole b (judged_none whole (data_words line_now) [] (words_none ls no ws head)) (feed_space b feed) room ∙ (λ i. at_end (Byte b) feed i or None))
+      fed_reported : (gap b : ℕ) → (b == 10) ≡ true → gap < 1048576 → reports (table_of whole) (at_seen line gap ls ws []) (Byte b) ≡ option_map (λ kind. grid_fault kind line) (why_not (with_header_key keys key v) or None)
+      fed_reported gap b feed room = ap (option_map (λ kind. grid_fault kind line)) (feed_reported gap (in_header_line ls ws) ls ws (header_in line_now) (data_words line_now) whole b (judged_none whole (data_words line_now) [] (words_none ls no ws head)) (feed_space b feed) room ∙ (λ i. at_end (Byte b) feed i or None))
 
       feeds : (gap b : ℕ) (bs : List ℕ) (f : Bool) → (b == 10) ≡ true → gap < 1048576 → closed (Some (gap + 1, coming bs f)) (with_header_key keys key v) ≡ scan (table_of whole) (at_seen line gap ls ws []) (b ∷ bs) f
       feeds gap b bs f feed room = by (with_header_key keys key v) refl
         where
           by : (r : Result KeyValues GridKind) → with_header_key keys key v ≡ r → closed (Some (gap + 1, coming bs f)) r ≡ scan (table_of whole) (at_seen line gap ls ws []) (b ∷ bs) f
-          by (Err kind) e = sym (one_told whole (at_seen line gap ls ws []) b bs f (grid_fault kind line) (fed_told gap b feed room ∙ ap (λ r. option_map (λ kind. grid_fault kind line) (why_not r or None)) e))
+          by (Err kind) e = sym (one_reported whole (at_seen line gap ls ws []) b bs f (grid_fault kind line) (fed_reported gap b feed room ∙ ap (λ r. option_map (λ kind. grid_fault kind line) (why_not r or None)) e))
           by (Ok more) e = follows more (fewer more e) line_now (starts more e) (line + 1) (gap + 1) bs f (omega arith)
-              ∙ sym (one_silent whole (at_seen line gap ls ws []) (at_seen (line + 1) (gap + 1) line_now [] []) b bs f (fed_told gap b feed room ∙ ap (λ r. option_map (λ kind. grid_fault kind line) (why_not r or None)) e) (step_feed (at_seen line gap ls ws []) b feed))
+              ∙ sym (one_silent whole (at_seen line gap ls ws []) (at_seen (line + 1) (gap + 1) line_now [] []) b bs f (fed_reported gap b feed room ∙ ap (λ r. option_map (λ kind. grid_fault kind line) (why_not r or None)) e) (step_feed (at_seen line gap ls ws []) b feed))
 
       value_end : (bs : List ℕ) (f : Bool) → from_end key v (line_end line (gap_of line 0 (coming bs f))) ≡ scan (table_of whole) (at_seen line 0 ls ws []) bs f
       value_end bs f = before_gap whole line ls ws (λ gap. from_end key v (line_end line gap)) (λ e. refl) (judged_none whole (data_words line_now) [] (words_none ls no ws head)) last second feeds bs f 0 (omega arith)
@@ -332,23 +332,23 @@ module _ (whole : Bool) where
           empty = ap (λ (a : List ℕ). filter is_token (a ∷ [])) none
 
           at_end : (place : FaultPlace) → ends_line place ≡ true → header_line_ends (in_header_line ls (w ∷ [])) ls (w ∷ []) place ≡ Some BadHeader
-          at_end place ends = (λ i. if ends i && inside_is ls no (w ∷ []) head i then line_fault (has_key_of (w ∷ []) (header_lines ls)) w_key (empty i) else None) ∙ no_value_told (has_key_of (w ∷ []) (header_lines ls)) w_key
+          at_end place ends = (λ i. if ends i && inside_is ls no (w ∷ []) head i then line_fault (has_key_of (w ∷ []) (header_lines ls)) w_key (empty i) else None) ∙ no_value_reported (has_key_of (w ∷ []) (header_lines ls)) w_key
 
-          last : (gap : ℕ) → Some (grid_fault BadHeader line) ≡ tells (table_of whole) (at_seen line gap ls (w ∷ []) []) End
-          last gap = sym (ap (option_map (λ kind. grid_fault kind line)) (end_told gap (in_header_line ls (w ∷ [])) ls (w ∷ []) (header_in w_lines) (data_words w_lines) whole (words_none ls no (w ∷ []) head)
+          last : (gap : ℕ) → Some (grid_fault BadHeader line) ≡ reports (table_of whole) (at_seen line gap ls (w ∷ []) []) End
+          last gap = sym (ap (option_map (λ kind. grid_fault kind line)) (end_reported gap (in_header_line ls (w ∷ [])) ls (w ∷ []) (header_in w_lines) (data_words w_lines) whole (words_none ls no (w ∷ []) head)
               ∙ (λ i. at_end End refl i or header_ends (header_in w_lines) (data_words w_lines) [] End or few_by whole (too_few (header_in w_lines) (data_words w_lines) End) or None)))
 
           feeds : (gap b : ℕ) (cs : List ℕ) (g : Bool) → (b == 10) ≡ true → gap < 1048576 → Some (grid_fault BadHeader line) ≡ scan (table_of whole) (at_seen line gap ls (w ∷ []) []) (b ∷ cs) g
-          feeds gap b cs g feed room = sym (one_told whole (at_seen line gap ls (w ∷ []) []) b cs g (grid_fault BadHeader line)
-              (ap (option_map (λ kind. grid_fault kind line)) (feed_told gap (in_header_line ls (w ∷ [])) ls (w ∷ []) (header_in w_lines) (data_words w_lines) whole b judge (feed_space b feed) room ∙ (λ i. at_end (Byte b) feed i or None))))
+          feeds gap b cs g feed room = sym (one_reported whole (at_seen line gap ls (w ∷ []) []) b cs g (grid_fault BadHeader line)
+              (ap (option_map (λ kind. grid_fault kind line)) (feed_reported gap (in_header_line ls (w ∷ [])) ls (w ∷ []) (header_in w_lines) (data_words w_lines) whole b judge (feed_space b feed) room ∙ (λ i. at_end (Byte b) feed i or None))))
 
-          silent : (gap b : ℕ) → is_space b ≡ false → tells (table_of whole) (at_seen line gap ls (w ∷ []) []) (Byte b) ≡ None
+          silent : (gap b : ℕ) → is_space b ≡ false → reports (table_of whole) (at_seen line gap ls (w ∷ []) []) (Byte b) ≡ None
           silent gap b word = ap (option_map (λ kind. grid_fault kind line)) (first_silent gap (in_header_line ls (w ∷ [])) ls (w ∷ []) (header_in w_lines) (data_words w_lines) whole b (words_none ls no (w ∷ []) head) word empty
               (none_all (keys_of (header_lines w_lines)) (data_words w_lines) (words_none ls no (w ∷ []) head)))
 
           done : (y : ℕ) (ys cs : List ℕ) (g : Bool) → IsAfterWord cs g → from_end w_key (y ∷ ys) (line_end line (gap_of line 0 (coming cs g))) ≡ scan (table_of whole) (at_seen line 0 ls (w ∷ []) (y ∷ ys)) cs g
           done y ys cs g after = value_end (w ∷ (y ∷ ys) ∷ []) head (y ∷ ys) (ap (λ (a : List ℕ). filter is_token (a ∷ (y ∷ ys) ∷ [])) none) cs g
-              ∙ sym (settled whole line ls (w ∷ []) y ys (λ place ends. ap (option_map (λ kind. grid_fault kind line)) (word_told 0 (in_header_line ls both) ls both (header_in (ls ++ both ∷ [])) (data_words (ls ++ both ∷ [])) whole y ys (words_none ls no both head) place ends)) cs g after)
+              ∙ sym (settled whole line ls (w ∷ []) y ys (λ place ends. ap (option_map (λ kind. grid_fault kind line)) (word_reported 0 (in_header_line ls both) ls both (header_in (ls ++ both ∷ [])) (data_words (ls ++ both ∷ [])) whole y ys (words_none ls no both head) place ends)) cs g after)
             where
               both : List (List ℕ)
               both = w ∷ (y ∷ ys) ∷ []
@@ -363,7 +363,7 @@ module _ (whole : Bool) where
           by (y ∷ ys) e = value_end (w ∷ []) head (y ∷ ys) (ap (λ (a : List ℕ). filter is_token (a ∷ [])) e) bs f
           by [] e = no_value e bs f
 
-  -- what is told from the end of the first word of a line on
+  -- what is reported from the end of the first word of a line on
   abbrev from_word : (KeyValues → ℕ → ℕ → Coming → Result OpenedText GridFault) → KeyValues → ℕ → Result (List ℕ × Coming) GridFault → Option GridFault
   from_word rest keys line r = fault_after whole ((r >>= (λ w. if has_colon w.0 then key_line line keys w.0 w.1 >>= after_line rest line else opened_text keys line (Some w.0) w.1)))
 
@@ -411,10 +411,10 @@ module _ (whole : Bool) where
           first : (ms : Lines) → IsStart keys ms [] → (l x : ℕ) (xs ds : List ℕ) (h : Bool) → IsAfterWord ds h → (t : Bool) → has_colon (x ∷ xs) ≡ t
               → fault_after whole ((if t then key_line l keys (x ∷ xs) (coming ds h) >>= after_line rest l else opened_text keys l (Some (x ∷ xs)) (coming ds h))) ≡ scan (table_of whole) (at_seen l 0 ms [] (x ∷ xs)) ds h
           first ms start l x xs ds h after true e = line_is rest l keys ms start.0 start.1 follows (x ∷ xs) e ds h
-              ∙ sym (settled whole l ms [] x xs (λ place stop. ap (option_map (λ kind. grid_fault kind l)) (word_told 0 (in_header_line ms ((x ∷ xs) ∷ [])) ms ((x ∷ xs) ∷ []) (header_in (ms ++ ((x ∷ xs) ∷ []) ∷ [])) (data_words (ms ++ ((x ∷ xs) ∷ []) ∷ [])) whole x xs (words_none ms start.0 ((x ∷ xs) ∷ []) e) place stop)) ds h after)
+              ∙ sym (settled whole l ms [] x xs (λ place stop. ap (option_map (λ kind. grid_fault kind l)) (word_reported 0 (in_header_line ms ((x ∷ xs) ∷ [])) ms ((x ∷ xs) ∷ []) (header_in (ms ++ ((x ∷ xs) ∷ []) ∷ [])) (data_words (ms ++ ((x ∷ xs) ∷ []) ∷ [])) whole x xs (words_none ms start.0 ((x ∷ xs) ∷ []) e) place stop)) ds h after)
           first ms start l x xs ds h after false e = data_is l keys ms start.0 start.1 x xs (ap not e) ds h after
 
-          silent : (ms : Lines) → IsStart keys ms [] → (l g b : ℕ) → is_space b ≡ false → tells (table_of whole) (at_seen l g ms [] []) (Byte b) ≡ None
+          silent : (ms : Lines) → IsStart keys ms [] → (l g b : ℕ) → is_space b ≡ false → reports (table_of whole) (at_seen l g ms [] []) (Byte b) ≡ None
           silent ms start l g b word = ap (option_map (λ kind. grid_fault kind l)) (first_silent g (in_header_line ms []) ms [] (header_in (ms ++ [] ∷ [])) (data_words (ms ++ [] ∷ [])) whole b (words_blank ms start.0) word refl
               (none_all (keys_of (header_lines (ms ++ [] ∷ []))) (data_words (ms ++ [] ∷ [])) (words_blank ms start.0)))
 

@@ -63,45 +63,45 @@ some_found p (x ∷ xs) = by (p x) (some_found p xs)
 twice_is : (hs : Lines) (k : KeyValues) (l : List (List ℕ)) (q : HeaderKey) → with_lines no_keys hs ≡ Ok k → header_key_of (key_text l) ≡ Some q → has_key_of l hs ≡ is_some (held k q)
 twice_is hs k l q e is = ap (λ (t : List ℕ). list_any (λ m. bytes_eq t (key_text m)) hs) (name_is (key_text l) q is) ∙ sym (some_found (has_key q) hs) ∙ sym ((lines_taken hs no_keys k e).stands q (none_held q))
 
-given_told : {X : Type 0} (wrap : X → Value) (o value : Option X) (keep : X → KeyValues) → why_not (value_given o value keep) ≡ (when (is_some (option_map wrap o)) TwiceKey or unless value BadNumber)
-given_told wrap (Some old) value keep = refl
-given_told wrap None None keep = refl
-given_told wrap None (Some x) keep = refl
+given_reported : {X : Type 0} (wrap : X → Value) (o value : Option X) (keep : X → KeyValues) → why_not (value_given o value keep) ≡ (when (is_some (option_map wrap o)) TwiceKey or unless value BadNumber)
+given_reported wrap (Some old) value keep = refl
+given_reported wrap None None keep = refl
+given_reported wrap None (Some x) keep = refl
 
 -- why a key is not taken
-key_told : (a : KeyValues) (v : List ℕ) (q : HeaderKey) → line_fault (is_some (held a q)) (Some q) (v ∷ []) ≡ why_not (with_header_key a (Some q) v)
-key_told a v North = sym (given_told Number a.north (coordinate v) (λ x. record a { north = Some x }))
-key_told a v South = sym (given_told Number a.south (coordinate v) (λ x. record a { south = Some x }))
-key_told a v East = sym (given_told Number a.east (coordinate v) (λ x. record a { east = Some x }))
-key_told a v West = sym (given_told Number a.west (coordinate v) (λ x. record a { west = Some x }))
-key_told a v Rows = sym (given_told Count a.rows (side v) (λ x. record a { rows = Some x }))
-key_told a v Cols = sym (given_told Count a.cols (side v) (λ x. record a { cols = Some x }))
-key_told a v Null = by (has_colon v) a.null
+key_reported : (a : KeyValues) (v : List ℕ) (q : HeaderKey) → line_fault (is_some (held a q)) (Some q) (v ∷ []) ≡ why_not (with_header_key a (Some q) v)
+key_reported a v North = sym (given_reported Number a.north (coordinate v) (λ x. record a { north = Some x }))
+key_reported a v South = sym (given_reported Number a.south (coordinate v) (λ x. record a { south = Some x }))
+key_reported a v East = sym (given_reported Number a.east (coordinate v) (λ x. record a { east = Some x }))
+key_reported a v West = sym (given_reported Number a.west (coordinate v) (λ x. record a { west = Some x }))
+key_reported a v Rows = sym (given_reported Count a.rows (side v) (λ x. record a { rows = Some x }))
+key_reported a v Cols = sym (given_reported Count a.cols (side v) (λ x. record a { cols = Some x }))
+key_reported a v Null = by (has_colon v) a.null
   where
     by : (t : Bool) (o : Option (List ℕ)) → (unless (if t then None else Some v) BadHeader or when (is_some (option_map Text o)) TwiceKey or None) ≡ why_not (if t then Err BadHeader else value_given o (Some v) (λ x. record a { null = Some x }))
     by true o = refl
     by false (Some old) = refl
     by false None = refl
-key_told a v CellType = by a.kind (is_int v)
+key_reported a v CellType = by a.kind (is_int v)
   where
     by : (t u : Bool) → (when (is_some (option_map (λ _. Text []) (stood t))) TwiceKey or unless (if u then Some (tt {0}) else None) BadType) ≡ why_not (if t then Err TwiceKey else (if u then Ok (record a { kind = true }) else Err BadType))
     by true u = refl
     by false true = refl
     by false false = refl
-key_told a v Multiplier = sym (given_told Number a.multiplier (whole_in_range v) (λ x. record a { multiplier = Some x }))
+key_reported a v Multiplier = sym (given_reported Number a.multiplier (whole_in_range v) (λ x. record a { multiplier = Some x }))
 
 -- what the end of a line with one value tells is why its key is not taken
-pub line_told : (hs : Lines) (k : KeyValues) (l : List (List ℕ)) (v : List ℕ) → with_lines no_keys hs ≡ Ok k → line_values l ≡ v ∷ [] → line_fault (has_key_of l hs) (header_key_of (key_text l)) (line_values l) ≡ why_not (with_header_key k (header_key_of (key_text l)) v)
-line_told hs k l v e one = ap (line_fault (has_key_of l hs) (header_key_of (key_text l))) one ∙ by (header_key_of (key_text l)) refl
+pub line_reported : (hs : Lines) (k : KeyValues) (l : List (List ℕ)) (v : List ℕ) → with_lines no_keys hs ≡ Ok k → line_values l ≡ v ∷ [] → line_fault (has_key_of l hs) (header_key_of (key_text l)) (line_values l) ≡ why_not (with_header_key k (header_key_of (key_text l)) v)
+line_reported hs k l v e one = ap (line_fault (has_key_of l hs) (header_key_of (key_text l))) one ∙ by (header_key_of (key_text l)) refl
   where
     by : (o : Option HeaderKey) → header_key_of (key_text l) ≡ o → line_fault (has_key_of l hs) o (v ∷ []) ≡ why_not (with_header_key k o v)
     by None is = refl
-    by (Some q) is = ap (λ (t : Bool). line_fault t (Some q) (v ∷ [])) (twice_is hs k l q e is) ∙ key_told k v q
+    by (Some q) is = ap (λ (t : Bool). line_fault t (Some q) (v ∷ [])) (twice_is hs k l q e is) ∙ key_reported k v q
 
 -- a line without a value tells so
-pub no_value_told : (t : Bool) (o : Option HeaderKey) → line_fault t o [] ≡ Some BadHeader
-no_value_told t None = refl
-no_value_told t (Some q) = refl
+pub no_value_reported : (t : Bool) (o : Option HeaderKey) → line_fault t o [] ≡ Some BadHeader
+no_value_reported t None = refl
+no_value_reported t (Some q) = refl
 
 -- a line more
 lines_then : (hs : Lines) (a k m : KeyValues) (l : List (List ℕ)) → with_lines a hs ≡ Ok k → with_line k l ≡ Ok m → with_lines a (hs ++ l ∷ []) ≡ Ok m

@@ -12,7 +12,7 @@ use Rattle.cell_ascii_meaning.specs.declared.grid_fault.GridKind.{GridKind}
 use Rattle.cell_ascii_meaning.specs.declared.grid_fault.GridKind.TheVariants.{Read, ReaderStuck, LongToken}
 use Rattle.cell_ascii_meaning.specs.declared.grid_fault.GridFault.{GridFault}
 use Rattle.cell_ascii_law.proofs.LexemeLemmas.{coming, Lines, no_feed, feed_space, start-ends, start-fails, start-begins, start-stuck, start-more, gap-ends, gap-fails, gap-word, gap-feed, gap-stuck_feed, gap-stuck, gap-more, word-ends, word-fails, word-stops, word-long, word-more}
-use Rattle.cell_ascii_law_faults.proofs.SeenLemmas.{Seen, at_seen, here, all_lines, tells, step, step_by, scan}
+use Rattle.cell_ascii_law_faults.proofs.SeenLemmas.{Seen, at_seen, here, all_lines, reports, step, step_by, scan}
 
 -- the table of a whole text, or of its opening alone
 abbrev pub table_of : Bool → Table
@@ -67,18 +67,18 @@ module _ (gap : ℕ) (inside : Bool) (ls : Lines) (line : List (List ℕ)) (head
   more_long true x xs j word long = rw (word, sym long)
   more_long false x xs j word long = rw (j, word, sym long)
 
-fails_told : (w : Bool) (gap : ℕ) (token : List ℕ) (inside : Bool) (ls : Lines) (line : List (List ℕ)) (header : Result HeaderValue GridKind) (words : List (List ℕ)) → judged w words token ≡ true → table_of w gap token inside ls line header words Fails ≡ Some Read
-fails_told true gap token inside ls line header words j = refl
-fails_told false gap token inside ls line header words j = rw j
+fails_reported : (w : Bool) (gap : ℕ) (token : List ℕ) (inside : Bool) (ls : Lines) (line : List (List ℕ)) (header : Result HeaderValue GridKind) (words : List (List ℕ)) → judged w words token ≡ true → table_of w gap token inside ls line header words Fails ≡ Some Read
+fails_reported true gap token inside ls line header words j = refl
+fails_reported false gap token inside ls line header words j = rw j
 
 module _ (whole : Bool) where
-  reads : (s : Seen) → judged whole (data_words (all_lines s)) s.token ≡ true → tells (table_of whole) s Fails ≡ Some (grid_fault Read s.line)
-  reads s j = ap (option_map (λ kind. grid_fault kind s.line)) (fails_told whole s.gap s.token (in_header_line s.earlier (here s)) s.earlier (here s) (header_in (all_lines s)) (data_words (all_lines s)) j)
+  reads : (s : Seen) → judged whole (data_words (all_lines s)) s.token ≡ true → reports (table_of whole) s Fails ≡ Some (grid_fault Read s.line)
+  reads s j = ap (option_map (λ kind. grid_fault kind s.line)) (fails_reported whole s.gap s.token (in_header_line s.earlier (here s)) s.earlier (here s) (header_in (all_lines s)) (data_words (all_lines s)) j)
 
-  pub one_told : (s : Seen) (b : ℕ) (bs : List ℕ) (f : Bool) (e : GridFault) → tells (table_of whole) s (Byte b) ≡ Some e → scan (table_of whole) s (b ∷ bs) f ≡ Some e
-  one_told s b bs f e t = ap (λ (o : Option GridFault). o or scan (table_of whole) (step s b) bs f) t
+  pub one_reported : (s : Seen) (b : ℕ) (bs : List ℕ) (f : Bool) (e : GridFault) → reports (table_of whole) s (Byte b) ≡ Some e → scan (table_of whole) s (b ∷ bs) f ≡ Some e
+  one_reported s b bs f e t = ap (λ (o : Option GridFault). o or scan (table_of whole) (step s b) bs f) t
 
-  pub one_silent : (s n : Seen) (b : ℕ) (bs : List ℕ) (f : Bool) → tells (table_of whole) s (Byte b) ≡ None → step s b ≡ n → scan (table_of whole) s (b ∷ bs) f ≡ scan (table_of whole) n bs f
+  pub one_silent : (s n : Seen) (b : ℕ) (bs : List ℕ) (f : Bool) → reports (table_of whole) s (Byte b) ≡ None → step s b ≡ n → scan (table_of whole) s (b ∷ bs) f ≡ scan (table_of whole) n bs f
   one_silent s n b bs f t e = ap (λ (o : Option GridFault). o or scan (table_of whole) (step s b) bs f) t ∙ ap (λ (m : Seen). scan (table_of whole) m bs f) e
 
   -- What comes before the next word: where k agrees with the places from the word on, and at the end, it agrees from here on.
@@ -95,7 +95,7 @@ module _ (whole : Bool) where
         s : Seen
         s = at_seen line gap ls ws []
 
-        silent : is_space b ≡ true → gap < 1048576 → tells (table_of whole) s (Byte b) ≡ None
+        silent : is_space b ≡ true → gap < 1048576 → reports (table_of whole) s (Byte b) ≡ None
         silent space room = ap (option_map (λ kind. grid_fault kind line)) (feed_silent gap (in_header_line ls ws) ls ws (header_in (ls ++ ws ∷ [])) (data_words (ls ++ ws ∷ [])) b whole (judge ls ws is) space (outside ls ws is) room)
 
         full_is : 1048576 ≤ gap → gap ≡ 1048576
@@ -105,7 +105,7 @@ module _ (whole : Bool) where
             → (is_space b ≡ true) ⊎ (is_space b ≡ false) → ((b == 10) ≡ true) ⊎ ((b == 10) ≡ false) → (gap < 1048576) ⊎ (1048576 ≤ gap) → k (grid_start line gap (coming (b ∷ bs) f)) ≡ scan (table_of whole) s (b ∷ bs) f
         by on (inr word) _ _ = ap k (start-begins line gap low b bs f word) ∙ begins ls ws is line gap b bs f word
         by on (inl space) _ (inr full) = ap k (start-stuck line gap low b bs f space full) ∙ stops (grid_fault ReaderStuck line)
-            ∙ sym (one_told s b bs f (grid_fault ReaderStuck line) (ap (option_map (λ kind. grid_fault kind line)) (space_stuck gap (in_header_line ls ws) ls ws (header_in (ls ++ ws ∷ [])) (data_words (ls ++ ws ∷ [])) b whole (judge ls ws is) space (full_is full))))
+            ∙ sym (one_reported s b bs f (grid_fault ReaderStuck line) (ap (option_map (λ kind. grid_fault kind line)) (space_stuck gap (in_header_line ls ws) ls ws (header_in (ls ++ ws ∷ [])) (data_words (ls ++ ws ∷ [])) b whole (judge ls ws is) space (full_is full))))
         by on (inl space) (inl feed) (inl room) = ap k (start-more line gap low b bs f space room ∙ ap (λ (t : Bool). grid_start (line + cond t 1 0) (gap + 1) (coming bs f)) feed)
             ∙ on (line + 1) (gap + 1) (ls ++ ws ∷ []) [] (fed ls ws is) (omega arith)
             ∙ sym (one_silent s (at_seen (line + 1) (gap + 1) (ls ++ ws ∷ []) [] []) b bs f (silent space room) (step_feed s b feed))
@@ -138,13 +138,13 @@ module _ (whole : Bool) where
             → (is_space b ≡ true) ⊎ (is_space b ≡ false) → (length (x ∷ xs) < 64) ⊎ (64 ≤ length (x ∷ xs)) → k (word_from line (x ∷ xs) (coming (b ∷ bs) f)) ≡ scan (table_of whole) s (b ∷ bs) f
         by on (inl space) _ = ap k (word-stops line (x ∷ xs) short b bs f space) ∙ done x xs (b ∷ bs) f space
         by on (inr word) (inr full) = ap k (word-long line (x ∷ xs) short b bs f word full) ∙ fails (grid_fault LongToken line)
-            ∙ sym (one_told s b bs f (grid_fault LongToken line) (ap (option_map (λ kind. grid_fault kind line)) (more_long 0 (in_header_line ls line_now) ls line_now (header_in (ls ++ line_now ∷ [])) (data_words (ls ++ line_now ∷ [])) b whole x xs (judge x xs) word (longest full))))
+            ∙ sym (one_reported s b bs f (grid_fault LongToken line) (ap (option_map (λ kind. grid_fault kind line)) (more_long 0 (in_header_line ls line_now) ls line_now (header_in (ls ++ line_now ∷ [])) (data_words (ls ++ line_now ∷ [])) b whole x xs (judge x xs) word (longest full))))
         by on (inr word) (inl room) = ap k (word-more line (x ∷ xs) short b bs f word) ∙ on (omega (arith, length-append xs (b ∷ [])))
             ∙ sym (one_silent s (at_seen line 0 ls ws (x ∷ (xs ++ b ∷ []))) b bs f
             (ap (option_map (λ kind. grid_fault kind line)) (more_silent 0 (in_header_line ls line_now) ls line_now (header_in (ls ++ line_now ∷ [])) (data_words (ls ++ line_now ∷ [])) b whole x xs (judge x xs) word room)) (step_word s b word))
 
     -- a word from its first byte on
-    pub next_word : (gap b : ℕ) (bs : List ℕ) (f : Bool) → is_space b ≡ false → tells (table_of whole) (at_seen line gap ls ws []) (Byte b) ≡ None → k (word_from line [] (coming (b ∷ bs) f)) ≡ scan (table_of whole) (at_seen line gap ls ws []) (b ∷ bs) f
+    pub next_word : (gap b : ℕ) (bs : List ℕ) (f : Bool) → is_space b ≡ false → reports (table_of whole) (at_seen line gap ls ws []) (Byte b) ≡ None → k (word_from line [] (coming (b ∷ bs) f)) ≡ scan (table_of whole) (at_seen line gap ls ws []) (b ∷ bs) f
     next_word gap b bs f word silent = ap k (word-more line [] (omega arith) b bs f word) ∙ in_word bs f b [] (omega arith)
         ∙ sym (one_silent (at_seen line gap ls ws []) (at_seen line 0 ls ws (b ∷ [])) b bs f silent (step_word (at_seen line gap ls ws []) b word))
 
@@ -164,7 +164,7 @@ module _ (whole : Bool) where
         full_is full = omega arith
 
         stuck_here : is_space b ≡ true → 1048576 ≤ gap → Some (grid_fault ReaderStuck line) ≡ scan (table_of whole) s (b ∷ bs) f
-        stuck_here space full = sym (one_told s b bs f (grid_fault ReaderStuck line) (ap (option_map (λ kind. grid_fault kind line)) (space_stuck gap (in_header_line ls ws) ls ws (header_in (ls ++ ws ∷ [])) (data_words (ls ++ ws ∷ [])) b whole judge space (full_is full))))
+        stuck_here space full = sym (one_reported s b bs f (grid_fault ReaderStuck line) (ap (option_map (λ kind. grid_fault kind line)) (space_stuck gap (in_header_line ls ws) ls ws (header_in (ls ++ ws ∷ [])) (data_words (ls ++ ws ∷ [])) b whole judge space (full_is full))))
 
         by : (gap + 1 ≤ 1048576 → k (gap_of line (gap + 1) (coming bs f)) ≡ scan (table_of whole) (at_seen line (gap + 1) ls ws []) bs f)
             → (is_space b ≡ true) ⊎ (is_space b ≡ false) → ((b == 10) ≡ true) ⊎ ((b == 10) ≡ false) → (gap < 1048576) ⊎ (1048576 ≤ gap) → k (gap_of line gap (coming (b ∷ bs) f)) ≡ scan (table_of whole) s (b ∷ bs) f
@@ -184,7 +184,7 @@ module _ (whole : Bool) where
     abbrev pub gone : Seen
     gone = at_seen line 0 ls (ws ++ (x ∷ xs) ∷ []) []
 
-    pub settled : ((place : FaultPlace) → ends_token place ≡ true → tells (table_of whole) going place ≡ tells (table_of whole) gone place) → (bs : List ℕ) (f : Bool) → IsAfterWord bs f → scan (table_of whole) going bs f ≡ scan (table_of whole) gone bs f
+    pub settled : ((place : FaultPlace) → ends_token place ≡ true → reports (table_of whole) going place ≡ reports (table_of whole) gone place) → (bs : List ℕ) (f : Bool) → IsAfterWord bs f → scan (table_of whole) going bs f ≡ scan (table_of whole) gone bs f
     settled same [] true after = cc
     settled same [] false after = same End refl
     settled same (b ∷ bs) f space = by (cases_Bool (b == 10))

@@ -20,13 +20,13 @@ use Rattle.cell_ascii_law.proofs.LimitLawLemmas.{IsFree}
 use Rattle.cell_ascii_law_faults.proofs.SeenLemmas.{with_token}
 use Rattle.cell_ascii_law_faults.proofs.PlaceWordLemmas.{IsAfterWord}
 use Rattle.cell_ascii_law_faults.proofs.PlaceDataLemmas.{fault_in}
-use Rattle.cell_ascii_law_faults.proofs.RowSeenLemmas.{RowSeen, row_seen, row_tells, row_step, row_step_by, row_scan, first_is}
+use Rattle.cell_ascii_law_faults.proofs.RowSeenLemmas.{RowSeen, row_seen, row_reports, row_step, row_step_by, row_scan, first_is}
 
 module _ (table : RowTable) where
-  one_told : (s : RowSeen) (b : ℕ) (bs : List ℕ) (f : Bool) (e : GridFault) → row_tells table s (Byte b) ≡ Some e → row_scan table s (b ∷ bs) f ≡ Some e
-  one_told s b bs f e t = ap (λ (o : Option GridFault). o or row_scan table (row_step s b) bs f) t
+  one_reported : (s : RowSeen) (b : ℕ) (bs : List ℕ) (f : Bool) (e : GridFault) → row_reports table s (Byte b) ≡ Some e → row_scan table s (b ∷ bs) f ≡ Some e
+  one_reported s b bs f e t = ap (λ (o : Option GridFault). o or row_scan table (row_step s b) bs f) t
 
-  one_silent : (s n : RowSeen) (b : ℕ) (bs : List ℕ) (f : Bool) → row_tells table s (Byte b) ≡ None → row_step s b ≡ n → row_scan table s (b ∷ bs) f ≡ row_scan table n bs f
+  one_silent : (s n : RowSeen) (b : ℕ) (bs : List ℕ) (f : Bool) → row_reports table s (Byte b) ≡ None → row_step s b ≡ n → row_scan table s (b ∷ bs) f ≡ row_scan table n bs f
   one_silent s n b bs f t e = ap (λ (o : Option GridFault). o or row_scan table (row_step s b) bs f) t ∙ ap (λ (m : RowSeen). row_scan table m bs f) e
 
 step_space : (s : RowSeen) (b : ℕ) → is_space b ≡ true → row_step s b ≡ row_step_by true s b
@@ -68,7 +68,7 @@ module _ (table : RowTable) (ws : List (List ℕ)) (between : IsBetween table ws
           → (is_space b ≡ true) ⊎ (is_space b ≡ false) → (gap < 1048576) ⊎ (1048576 ≤ gap) → k (grid_start line gap (coming (b ∷ bs) f)) ≡ row_scan table s (b ∷ bs) f
       by on (inr word) _ = ap k (start-begins line gap low b bs f word) ∙ begins line gap b bs f word
       by on (inl space) (inr full) = ap k (start-stuck line gap low b bs f space full) ∙ stops (grid_fault ReaderStuck line)
-          ∙ sym (one_told table s b bs f (grid_fault ReaderStuck line) (ap (on_line line) (between.full gap b space (full_is full))))
+          ∙ sym (one_reported table s b bs f (grid_fault ReaderStuck line) (ap (on_line line) (between.full gap b space (full_is full))))
       by on (inl space) (inl room) = ap k (start-more line gap low b bs f space room) ∙ on (omega arith)
           ∙ sym (one_silent table s (row_seen (line + cond (b == 10) 1 0) (gap + 1) ws []) b bs f (ap (on_line line) (between.blank gap b space room)) (step_space s b space))
 
@@ -90,7 +90,7 @@ module _ (table : RowTable) (ws : List (List ℕ)) (within : IsWithin table ws) 
           → (is_space b ≡ true) ⊎ (is_space b ≡ false) → (length (x ∷ xs) < 64) ⊎ (64 ≤ length (x ∷ xs)) → k (word_from line (x ∷ xs) (coming (b ∷ bs) f)) ≡ row_scan table s (b ∷ bs) f
       by on (inl space) _ = ap k (word-stops line (x ∷ xs) short b bs f space) ∙ done x xs (b ∷ bs) f space
       by on (inr word) (inr full) = ap k (word-long line (x ∷ xs) short b bs f word full) ∙ fails (grid_fault LongToken line)
-          ∙ sym (one_told table s b bs f (grid_fault LongToken line) (ap (on_line line) (within.long b x xs word (longest full))))
+          ∙ sym (one_reported table s b bs f (grid_fault LongToken line) (ap (on_line line) (within.long b x xs word (longest full))))
       by on (inr word) (inl room) = ap k (word-more line (x ∷ xs) short b bs f word) ∙ on (omega (arith, length-append xs (b ∷ [])))
           ∙ sym (one_silent table s (row_seen line 0 ws (x ∷ (xs ++ b ∷ []))) b bs f (ap (on_line line) (within.short b x xs word room)) (step_word s b word))
 
@@ -157,7 +157,7 @@ module _ (h : HeaderValue) (count : ℕ) where
     early : (gap : ℕ) → table gap [] ws End ≡ Some TooFew
     early gap = judged gap [] ws End inside ∙ (let t : nat_lt (length ws) count ≡ true = grind (arith, nat_tests) in rw t)
 
-  -- behind the last cell nothing is told
+  -- behind the last cell nothing is reported
   over : (ws : List (List ℕ)) (t : List ℕ) → count ≤ length ws → is_within count (with_token ws t) t ≡ false
   over ws [] all = let u : nat_lt (length ws) count ≡ false = grind (arith, nat_tests) in rw u
   over ws (x ∷ xs) all =
@@ -221,7 +221,7 @@ module _ (h : HeaderValue) (count : ℕ) where
         last (inl less) = more place ends ∙ sym (judged 0 [] now place (inside now less))
         last (inr all) = none place ends (let u : nat_lt (length now) count ≡ false = grind (arith, nat_tests) in u) ∙ sym (behind 0 [] now place (over now [] all))
 
-  -- what is told from a cell on
+  -- what is reported from a cell on
   abbrev then_more : ℕ → Reading CellValue → Option GridFault
   then_more m r = fault_in {X = List CellValue × At} (r >>= (λ y. many (cell_from h) m y.1 >>= (λ z. Ok (y.0 ∷ z.0, z.1))))
 
@@ -230,23 +230,23 @@ module _ (h : HeaderValue) (count : ℕ) where
   more_fault v (Err e) = refl
 
   -- from n cells on, the next m tell what the places tell
-  abbrev Tells : ℕ → List (List ℕ) → Type 0
-  Tells m ws = (bs : List ℕ) (f : Bool) (line gap : ℕ) → gap ≤ 1048576 → fault_in (many (cell_from h) m (at_of line gap (coming bs f))) ≡ row_scan table (row_seen line gap ws []) bs f
+  abbrev Reports : ℕ → List (List ℕ) → Type 0
+  Reports m ws = (bs : List ℕ) (f : Bool) (line gap : ℕ) → gap ≤ 1048576 → fault_in (many (cell_from h) m (at_of line gap (coming bs f))) ≡ row_scan table (row_seen line gap ws []) bs f
 
-  word_done : (m : ℕ) (ws : List (List ℕ)) → length ws < count → (line x : ℕ) (xs : List ℕ) → Tells m (ws ++ (x ∷ xs) ∷ []) → (bs : List ℕ) (f : Bool) → IsAfterWord bs f
+  word_done : (m : ℕ) (ws : List (List ℕ)) → length ws < count → (line x : ℕ) (xs : List ℕ) → Reports m (ws ++ (x ∷ xs) ∷ []) → (bs : List ℕ) (f : Bool) → IsAfterWord bs f
       → then_more m (after_cell line (coming bs f) (cell_of_word h (x ∷ xs))) ≡ row_scan table (row_seen line 0 ws (x ∷ xs)) bs f
   word_done m ws fewer line x xs on bs f after = by (cell_of_word h (x ∷ xs)) refl
     where
-      told : (kind : GridKind) → cell_of_word h (x ∷ xs) ≡ Err kind → (cs : List ℕ) (g : Bool) → IsAfterWord cs g → row_scan table (row_seen line 0 ws (x ∷ xs)) cs g ≡ Some (grid_fault kind line)
-      told kind e [] true after = cc
-      told kind e [] false after = ap (on_line line) (no_cell ws fewer x xs kind e End refl)
-      told kind e (b ∷ cs) g space = one_told table (row_seen line 0 ws (x ∷ xs)) b cs g (grid_fault kind line) (ap (on_line line) (no_cell ws fewer x xs kind e (Byte b) space))
+      reported : (kind : GridKind) → cell_of_word h (x ∷ xs) ≡ Err kind → (cs : List ℕ) (g : Bool) → IsAfterWord cs g → row_scan table (row_seen line 0 ws (x ∷ xs)) cs g ≡ Some (grid_fault kind line)
+      reported kind e [] true after = cc
+      reported kind e [] false after = ap (on_line line) (no_cell ws fewer x xs kind e End refl)
+      reported kind e (b ∷ cs) g space = one_reported table (row_seen line 0 ws (x ∷ xs)) b cs g (grid_fault kind line) (ap (on_line line) (no_cell ws fewer x xs kind e (Byte b) space))
 
       by : (r : Result CellValue GridKind) → cell_of_word h (x ∷ xs) ≡ r → then_more m (after_cell line (coming bs f) r) ≡ row_scan table (row_seen line 0 ws (x ∷ xs)) bs f
       by (Ok v) e = more_fault v (many (cell_from h) m (at_of line 0 (coming bs f))) ∙ on bs f line 0 (omega arith) ∙ sym (settled table ws line x xs (a_cell ws fewer x xs v e) bs f after)
-      by (Err kind) e = sym (told kind e bs f after)
+      by (Err kind) e = sym (reported kind e bs f after)
 
-  cells_are : (m : ℕ) (ws : List (List ℕ)) → length ws + m ≡ count → Tells m ws
+  cells_are : (m : ℕ) (ws : List (List ℕ)) → length ws + m ≡ count → Reports m ws
   unfolding cell_from
   cells_are zero ws all bs f line gap low = sym (nothing bs f line gap ws [] (omega arith))
   cells_are (suc m) ws all bs f line gap low = by (λ w. cells_are m (ws ++ w ∷ []) (omega (arith, length-append ws (w ∷ []))))
@@ -254,7 +254,7 @@ module _ (h : HeaderValue) (count : ℕ) where
       fewer : length ws < count
       fewer = omega arith
 
-      by : ((w : List ℕ) → Tells m (ws ++ w ∷ [])) → then_more m (after_start h (grid_start line gap (coming bs f))) ≡ row_scan table (row_seen line gap ws []) bs f
+      by : ((w : List ℕ) → Reports m (ws ++ w ∷ [])) → then_more m (after_start h (grid_start line gap (coming bs f))) ≡ row_scan table (row_seen line gap ws []) bs f
       by on = before_word table ws (between ws fewer) (λ s. then_more m (after_start h s)) (λ e. refl) begins (λ l g. sym (ap (on_line l) (early ws fewer g))) bs f line gap low
         where
           begins : (l g b : ℕ) (cs : List ℕ) (e : Bool) → is_space b ≡ false → then_more m (after_start h (Begins l (coming (b ∷ cs) e))) ≡ row_scan table (row_seen l g ws []) (b ∷ cs) e
@@ -280,8 +280,8 @@ after_word_is [] false e = refl
 after_word_is (b ∷ bs) f e = e
 
 -- what the next cells tell from a place
-pub cells_told : (h : HeaderValue) (count : ℕ) (at : At) → IsPlaceOf at → fault_in (many (cell_from h) count at) ≡ cells_fault h count at
-cells_told h count at is = by at.pending is
+pub cells_reported : (h : HeaderValue) (count : ℕ) (at : At) → IsPlaceOf at → fault_in (many (cell_from h) count at) ≡ cells_fault h count at
+cells_reported h count at is = by at.pending is
   where
     by : (o : Option (List ℕ)) → IsPlaceOf ((record at { pending = o })) → fault_in (many (cell_from h) count ((record at { pending = o }))) ≡ cells_fault h count ((record at { pending = o }))
     by None is = cells_are h count count [] (omega arith) at.coming.bytes at.coming.fails at.line at.run is.low ∙ sym (first_is (cells_table h count) (record at { pending = None }) tt)
@@ -300,10 +300,10 @@ end_between = record {
   fails = λ gap. refl;
 }
 
-pub end_told : (at : At) → at.pending ≡ None → at.run ≤ 1048576 → fault_in (end_of (grid_start at.line at.run at.coming)) ≡ end_fault at
-end_told at none low = before_word end_table [] end_between (λ s. fault_in (end_of s)) (λ e. refl) begins (λ line gap. refl) at.coming.bytes at.coming.fails at.line at.run low
+pub end_reported : (at : At) → at.pending ≡ None → at.run ≤ 1048576 → fault_in (end_of (grid_start at.line at.run at.coming)) ≡ end_fault at
+end_reported at none low = before_word end_table [] end_between (λ s. fault_in (end_of s)) (λ e. refl) begins (λ line gap. refl) at.coming.bytes at.coming.fails at.line at.run low
     ∙ (λ i. row_scan end_table (row_seen at.line at.run [] (unwrap_or (sym none i) [])) at.coming.bytes at.coming.fails)
     ∙ sym (first_is end_table at (subst (λ (o : Option (List ℕ)). IsFree is_space (unwrap_or o [])) (sym none) tt))
   where
     begins : (line gap b : ℕ) (bs : List ℕ) (f : Bool) → is_space b ≡ false → fault_in (end_of (Begins line (coming (b ∷ bs) f))) ≡ row_scan end_table (row_seen line gap [] []) (b ∷ bs) f
-    begins line gap b bs f word = sym (one_told end_table (row_seen line gap [] []) b bs f (grid_fault TooMany line) (let t : end_table gap [] [] (Byte b) ≡ Some TooMany = rw word in ap (on_line line) t))
+    begins line gap b bs f word = sym (one_reported end_table (row_seen line gap [] []) b bs f (grid_fault TooMany line) (let t : end_table gap [] [] (Byte b) ≡ Some TooMany = rw word in ap (on_line line) t))

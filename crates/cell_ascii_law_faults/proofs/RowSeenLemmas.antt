@@ -8,7 +8,7 @@ use Rattle.cell_ascii_meaning.specs.GridTokens.{is_space, newlines, grid_fault}
 use Rattle.cell_ascii_meaning.specs.Header.{At}
 use Rattle.cell_ascii_meaning.specs.GridText.{grid_words_of}
 use Rattle.cell_ascii_meaning.specs.FaultPlaces.{FaultPlace, Byte, End, Fails, gap_of_place, last_token, ◌or◌}
-use Rattle.cell_ascii_meaning.specs.RowPlaces.{RowTable, run_of, told_behind, first_behind}
+use Rattle.cell_ascii_meaning.specs.RowPlaces.{RowTable, run_of, reported_behind, first_behind}
 use Rattle.cell_ascii_meaning.specs.declared.grid_fault.GridFault.{GridFault}
 use Rattle.cell_ascii_law.proofs.LexemeLemmas.{no_feed}
 use Rattle.cell_ascii_law.proofs.LimitLawLemmas.{IsFree, free_more, split_made, onto, split_free, as_word, words_alone, words_space}
@@ -66,9 +66,9 @@ pub record RowSeen : Type 0 where
 abbrev pub row_seen : ℕ → ℕ → List (List ℕ) → List ℕ → RowSeen
 row_seen line gap ws t = record { line = line; gap = gap; words = ws; token = t }
 
--- what is told, from the record
-abbrev pub row_tells : RowTable → RowSeen → FaultPlace → Option GridFault
-row_tells table s place = option_map (λ kind. grid_fault kind s.line) (table s.gap s.token (with_token s.words s.token) place)
+-- what is reported, from the record
+abbrev pub row_reports : RowTable → RowSeen → FaultPlace → Option GridFault
+row_reports table s place = option_map (λ kind. grid_fault kind s.line) (table s.gap s.token (with_token s.words s.token) place)
 
 abbrev pub row_step_by : Bool → RowSeen → ℕ → RowSeen
 row_step_by true s b = row_seen (s.line + cond (b == 10) 1 0) (s.gap + 1) (with_token s.words s.token) []
@@ -78,11 +78,11 @@ row_step_by false s b = row_seen s.line 0 s.words (s.token ++ b ∷ [])
 abbrev pub row_step : RowSeen → ℕ → RowSeen
 row_step s b = row_step_by (is_space b) s b
 
--- the first fault that is told from here on
+-- the first fault that is reported from here on
 abbrev pub row_scan : RowTable → RowSeen → List ℕ → Bool → Option GridFault
-row_scan table s [] false = row_tells table s End
-row_scan table s [] true = row_tells table s Fails
-row_scan table s (b ∷ bs) fails = row_tells table s (Byte b) or row_scan table (row_step s b) bs fails
+row_scan table s [] false = row_reports table s End
+row_scan table s [] true = row_reports table s Fails
+row_scan table s (b ∷ bs) fails = row_reports table s (Byte b) or row_scan table (row_step s b) bs fails
 
 module _ (table : RowTable) (at : At) (free : IsFree is_space (unwrap_or at.pending [])) where
   abbrev counted : List ℕ → Counted
@@ -91,8 +91,8 @@ module _ (table : RowTable) (at : At) (free : IsFree is_space (unwrap_or at.pend
   abbrev pub behind : List ℕ → RowSeen
   behind before = row_seen (at.line + newlines before) (run_of at.run before) (counted before).0 (counted before).1
 
-  behind_told : (before : List ℕ) (place : FaultPlace) → told_behind table at before place ≡ row_tells table (behind before) place
-  behind_told before place = λ i. option_map (λ kind. grid_fault kind (at.line + newlines before))
+  behind_reported : (before : List ℕ) (place : FaultPlace) → reported_behind table at before place ≡ row_reports table (behind before) place
+  behind_reported before place = λ i. option_map (λ kind. grid_fault kind (at.line + newlines before))
       (table (run_of at.run before) (sym (counted_token before [] (unwrap_or at.pending []) free) i) (sym (counted_words before [] (unwrap_or at.pending []) free) i) place)
 
   line_more : (before : List ℕ) (b : ℕ) → at.line + newlines (before ++ b ∷ []) ≡ at.line + newlines before + cond (b == 10) 1 0
@@ -137,9 +137,9 @@ module _ (table : RowTable) (at : At) (free : IsFree is_space (unwrap_or at.pend
           ∙ (λ i. parts (same i) 0 (count_by false (counted before) b)) ∙ (λ i. row_step_by (sym word i) (behind before) b)
 
   behind_is : (bs before : List ℕ) (fails : Bool) → first_behind table at before bs fails ≡ row_scan table (behind before) bs fails
-  behind_is [] before false = behind_told before End
-  behind_is [] before true = behind_told before Fails
-  behind_is (b ∷ bs) before fails = λ i. behind_told before (Byte b) i or (behind_is bs (before ++ b ∷ []) fails ∙ ap (λ (s : RowSeen). row_scan table s bs fails) (behind_more before b)) i
+  behind_is [] before false = behind_reported before End
+  behind_is [] before true = behind_reported before Fails
+  behind_is (b ∷ bs) before fails = λ i. behind_reported before (Byte b) i or (behind_is bs (before ++ b ∷ []) fails ∙ ap (λ (s : RowSeen). row_scan table s bs fails) (behind_more before b)) i
 
   -- the first fault behind a place is that from its record on
   pub first_is : first_behind table at [] at.coming.bytes at.coming.fails ≡ row_scan table (row_seen at.line at.run [] (unwrap_or at.pending [])) at.coming.bytes at.coming.fails

@@ -7,7 +7,7 @@ use Rattle.std.proofs.lemmas.List.{reverse-append}
 use Rattle.std.proofs.lemmas.List.Sums.{sum_by-append, fold-append}
 use Rattle.cell_ascii_meaning.specs.GridTokens.{is_space, grid_fault}
 use Rattle.cell_ascii_meaning.specs.GridText.{line_words, grid_words_of}
-use Rattle.cell_ascii_meaning.specs.FaultPlaces.{FaultPlace, Byte, End, Fails, last_token, front_of, line_of_place, gap_of_place, token_at_place, Table, kind_at, ◌or◌, told_fault, first_told}
+use Rattle.cell_ascii_meaning.specs.FaultPlaces.{FaultPlace, Byte, End, Fails, last_token, front_of, line_of_place, gap_of_place, token_at_place, Table, kind_at, ◌or◌, reported_fault, first_reported}
 use Rattle.cell_ascii_meaning.specs.declared.grid_fault.GridFault.{GridFault}
 use Rattle.cell_ascii_law.proofs.LexemeLemmas.{Lines, put_token, opening, no_feed}
 use Rattle.cell_ascii_law.proofs.LimitLawLemmas.{IsFree, free_more, IsMade, split_made, onto, split_free, lines_alone, lines_space}
@@ -147,9 +147,9 @@ here s = with_token s.words s.token
 abbrev pub all_lines : Seen → Lines
 all_lines s = s.earlier ++ here s ∷ []
 
--- what is told, from the record
-abbrev pub tells : Table → Seen → FaultPlace → Option GridFault
-tells table s place = option_map (λ kind. grid_fault kind s.line) (kind_at table s.gap s.token s.earlier (here s) (all_lines s) place)
+-- what is reported, from the record
+abbrev pub reports : Table → Seen → FaultPlace → Option GridFault
+reports table s place = option_map (λ kind. grid_fault kind s.line) (kind_at table s.gap s.token s.earlier (here s) (all_lines s) place)
 
 abbrev pub step_by : Bool → Bool → Seen → ℕ → Seen
 step_by false feed s b = at_seen s.line 0 s.earlier s.words (s.token ++ b ∷ [])
@@ -160,17 +160,17 @@ step_by true true s b = at_seen (s.line + 1) (s.gap + 1) (all_lines s) [] []
 abbrev pub step : Seen → ℕ → Seen
 step s b = step_by (is_space b) (b == 10) s b
 
--- the first fault that is told from here on
+-- the first fault that is reported from here on
 abbrev pub scan : Table → Seen → List ℕ → Bool → Option GridFault
-scan table s [] false = tells table s End
-scan table s [] true = tells table s Fails
-scan table s (b ∷ bs) fails = tells table s (Byte b) or scan table (step s b) bs fails
+scan table s [] false = reports table s End
+scan table s [] true = reports table s Fails
+scan table s (b ∷ bs) fails = reports table s (Byte b) or scan table (step s b) bs fails
 
 abbrev pub seen : List ℕ → Seen
 seen before = at_seen (line_of_place before) (gap_of_place before) (tracked before).earlier (tracked before).words (tracked before).token
 
-told_is : (table : Table) (before : List ℕ) (place : FaultPlace) → told_fault table before place ≡ tells table (seen before) place
-told_is table before place = λ i. option_map (λ kind. grid_fault kind (line_of_place before)) (kind_at table (gap_of_place before) (token_is before i) (front i) (last i) (lines_are before i) place)
+reported_is : (table : Table) (before : List ℕ) (place : FaultPlace) → reported_fault table before place ≡ reports table (seen before) place
+reported_is table before place = λ i. option_map (λ kind. grid_fault kind (line_of_place before)) (kind_at table (gap_of_place before) (token_is before i) (front i) (last i) (lines_are before i) place)
   where
     front : front_of (line_words before) ≡ (tracked before).earlier
     front = ap front_of (lines_are before) ∙ front_append (tracked before).earlier (here (seen before))
@@ -205,7 +205,7 @@ seen_more before b = (λ i. parts (line_more before b i) (gap_more before b i) (
         ∙ (λ i. parts (same i) (wider i) (track_by true false (tracked before) b)) ∙ (λ i. step_by (sym space i) (sym blank i) (seen before) b)
 
 -- the first fault after some bytes is that from their record on
-pub first_is : (table : Table) (bs before : List ℕ) (fails : Bool) → first_told table before bs fails ≡ scan table (seen before) bs fails
-first_is table [] before false = told_is table before End
-first_is table [] before true = told_is table before Fails
-first_is table (b ∷ bs) before fails = λ i. told_is table before (Byte b) i or (first_is table bs (before ++ b ∷ []) fails ∙ ap (λ (s : Seen). scan table s bs fails) (seen_more before b)) i
+pub first_is : (table : Table) (bs before : List ℕ) (fails : Bool) → first_reported table before bs fails ≡ scan table (seen before) bs fails
+first_is table [] before false = reported_is table before End
+first_is table [] before true = reported_is table before Fails
+first_is table (b ∷ bs) before fails = λ i. reported_is table before (Byte b) i or (first_is table bs (before ++ b ∷ []) fails ∙ ap (λ (s : Seen). scan table s bs fails) (seen_more before b)) i

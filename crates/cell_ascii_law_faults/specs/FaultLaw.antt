@@ -44,7 +44,7 @@ pub record IsMapText (c : Coming) : Type 0 where
 -- some place tells a fault, and a text denotes no map
 pub record IsFaultText (c : Coming) : Type 0 where
   pub fault : GridFault
-  pub told : text_fault c ≡ Some fault
+  pub reported : text_fault c ≡ Some fault
   pub none : (map : Grid) → Denotes c map → ⊥
 
 -- each text is one or the other

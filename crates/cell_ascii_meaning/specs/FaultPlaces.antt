@@ -1,4 +1,4 @@
--- Which fault of a grid text is told (profile): each byte, the end and a failing read are places, and the fault is that of the first place that tells one.
+-- Which fault of a grid text is reported (profile): each byte, the end and a failing read are places, and the fault is that of the first place that tells one.
 use Rattle.std.specs.Prelude.{ℕ, ◌+◌, ◌*◌, Bool, true, false, ◌&&◌, ◌||◌, ◌==◌, not, nat_lt, nat_le, is_some, List, [], ◌∷◌, ◌++◌, length, Option, Some, None, Result, Ok, Err, if◌then◌else◌, bytes_eq, codes}
 use Rattle.std.specs.List.{slice_split, suffix_len, list_any}
 use Rattle.std.specs.Option.{option_map, option_and_then}
@@ -73,12 +73,12 @@ token_at_place before = last_token (slice_split is_space before)
 
 -- The rows of the table. `earlier` are the words of each line before that of the place, `line` the words of its own line so far.
 
--- a fault that is told where something holds
+-- a fault that is reported where something holds
 abbrev pub when : Bool → GridKind → Option GridKind
 when true kind = Some kind
 when false kind = None
 
--- a fault that is told where something is missing
+-- a fault that is reported where something is missing
 abbrev pub unless : {X : Type 0} → Option X → GridKind → Option GridKind
 unless (Some x) kind = None
 unless None kind = Some kind
@@ -249,20 +249,20 @@ abbrev pub kind_at : Table → ℕ → List ℕ → List (List (List ℕ)) → L
 kind_at table gap token earlier line lines place = table gap token (in_header_line earlier line) earlier line (header_in lines) (data_words lines) place
 
 -- what a place tells, after the bytes before it; a token holds no line feed, so the line where it begins is that of its end
-abbrev pub told_fault : Table → List ℕ → FaultPlace → Option GridFault
-told_fault table before place = option_map (λ kind. grid_fault kind (line_of_place before))
+abbrev pub reported_fault : Table → List ℕ → FaultPlace → Option GridFault
+reported_fault table before place = option_map (λ kind. grid_fault kind (line_of_place before))
     (kind_at table (gap_of_place before) (token_at_place before) (front_of (line_words before)) (last_token (line_words before)) (line_words before) place)
 
--- the first fault that is told, where some bytes were passed and the rest comes
-abbrev pub first_told : Table → List ℕ → List ℕ → Bool → Option GridFault
-first_told table before [] false = told_fault table before End
-first_told table before [] true = told_fault table before Fails
-first_told table before (b ∷ bs) fails = told_fault table before (Byte b) or first_told table (before ++ b ∷ []) bs fails
+-- the first fault that is reported, where some bytes were passed and the rest comes
+abbrev pub first_reported : Table → List ℕ → List ℕ → Bool → Option GridFault
+first_reported table before [] false = reported_fault table before End
+first_reported table before [] true = reported_fault table before Fails
+first_reported table before (b ∷ bs) fails = reported_fault table before (Byte b) or first_reported table (before ++ b ∷ []) bs fails
 
 -- the fault of a text
 abbrev pub text_fault : Coming → Option GridFault
-text_fault c = first_told whole_table [] c.bytes c.fails
+text_fault c = first_reported whole_table [] c.bytes c.fails
 
 -- the fault of a text up to the end of the first token of its data, where no cell is judged
 abbrev pub opening_fault : Coming → Option GridFault
-opening_fault c = first_told opening_table [] c.bytes c.fails
+opening_fault c = first_reported opening_table [] c.bytes c.fails

@@ -16,6 +16,6 @@ is_read Read = true
 is_read _ = false
 
 -- whether an answer tells that an `Err` of the source was heard
-abbrev pub tells_read : {X : Type 0} → Result X GridFault → Bool
-tells_read (Ok x) = false
-tells_read (Err f) = is_read f.kind
+abbrev pub reports_read : {X : Type 0} → Result X GridFault → Bool
+reports_read (Ok x) = false
+reports_read (Err f) = is_read f.kind

@@ -44,7 +44,7 @@ is_within count words token = nat_lt (length words) count || (is_token token && 
 abbrev pub cells_table : HeaderValue → ℕ → RowTable
 cells_table h count gap token words place = if is_within count words token then cell_rows h count gap token words place else None
 
--- what is told behind the last cell
+-- what is reported behind the last cell
 abbrev pub end_table : RowTable
 end_table gap token words place = stuck gap place or token_begins token place or read_fails place
 
@@ -53,15 +53,15 @@ abbrev pub run_of : ℕ → List ℕ → ℕ
 run_of run before = if list_all is_space before then run + length before else gap_of_place before
 
 -- what a place behind another tells, after the bytes between; a token that waits stands before them
-abbrev pub told_behind : RowTable → At → List ℕ → FaultPlace → Option GridFault
-told_behind table at before place = option_map (λ kind. grid_fault kind (at.line + newlines before))
+abbrev pub reported_behind : RowTable → At → List ℕ → FaultPlace → Option GridFault
+reported_behind table at before place = option_map (λ kind. grid_fault kind (at.line + newlines before))
     (table (run_of at.run before) (token_at_place (unwrap_or at.pending [] ++ before)) (grid_words_of (unwrap_or at.pending [] ++ before)) place)
 
--- the first fault that is told behind a place
+-- the first fault that is reported behind a place
 abbrev pub first_behind : RowTable → At → List ℕ → List ℕ → Bool → Option GridFault
-first_behind table at before [] false = told_behind table at before End
-first_behind table at before [] true = told_behind table at before Fails
-first_behind table at before (b ∷ bs) fails = told_behind table at before (Byte b) or first_behind table at (before ++ b ∷ []) bs fails
+first_behind table at before [] false = reported_behind table at before End
+first_behind table at before [] true = reported_behind table at before Fails
+first_behind table at before (b ∷ bs) fails = reported_behind table at before (Byte b) or first_behind table at (before ++ b ∷ []) bs fails
 
 -- the fault of the next cells
 abbrev pub cells_fault : HeaderValue → ℕ → At → Option GridFault

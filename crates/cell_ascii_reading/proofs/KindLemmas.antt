@@ -40,5 +40,5 @@ module _ (P : GridKind → Type 0) (header : P BadHeader) (twice : P TwiceKey) (
 pub key_kind : (keys : KeyValues) (key : Option HeaderKey) (value : List ℕ) (kind : GridKind) → with_header_key keys key value ≡ Err kind → IsOfText kind
 key_kind = key_has IsOfText tt tt tt tt
 
-pub key_told : (keys : KeyValues) (key : Option HeaderKey) (value : List ℕ) (kind : GridKind) → with_header_key keys key value ≡ Err kind → is_read kind ≡ false
-key_told = key_has (λ kind. is_read kind ≡ false) refl refl refl refl
+pub key_reported : (keys : KeyValues) (key : Option HeaderKey) (value : List ℕ) (kind : GridKind) → with_header_key keys key value ≡ Err kind → is_read kind ≡ false
+key_reported = key_has (λ kind. is_read kind ≡ false) refl refl refl refl

@@ -15,23 +15,23 @@ abbrev pub coming : List ℕ → Bool → Coming
 coming bs f = record { bytes = bs; fails = f }
 
 -- a list with a first byte
-held_cons : (held : List ℕ) (b : ℕ) → slice_get held 0 ≡ Some b → held ≡ b ∷ drop 1 held
-held_cons [] b e = cc
-held_cons (x ∷ xs) b e = cc
+buffered_cons : (buffered : List ℕ) (b : ℕ) → slice_get buffered 0 ≡ Some b → buffered ≡ b ∷ drop 1 buffered
+buffered_cons [] b e = cc
+buffered_cons (x ∷ xs) b e = cc
 
 ended : (c : Coming) (f : Bool) → (c.bytes ≡ []) × (c.fails ≡ f) → c ≡ record { bytes = []; fails = f }
 ended c f e = λ i. record { bytes = e.0 i; fails = e.1 i }
 
 -- functions that agree on what is to come, where a byte is held
-pub at_byte : {X : Type 0} (F G : Coming → X) (a : Ahead) (b : ℕ) → slice_get a.held 0 ≡ Some b → ((bs : List ℕ) (f : Bool) → F (coming (b ∷ bs) f) ≡ G (coming (b ∷ bs) f)) → option_map F (bytes_to_come a) ≡ option_map G (bytes_to_come a)
-at_byte F G a b held same = rw (held_cons a.held b held) (mapped (drop 1 a.held) a.rest)
+pub at_byte : {X : Type 0} (F G : Coming → X) (a : Ahead) (b : ℕ) → slice_get a.buffered 0 ≡ Some b → ((bs : List ℕ) (f : Bool) → F (coming (b ∷ bs) f) ≡ G (coming (b ∷ bs) f)) → option_map F (bytes_to_come a) ≡ option_map G (bytes_to_come a)
+at_byte F G a b buffered same = rw (buffered_cons a.buffered b buffered) (mapped (drop 1 a.buffered) a.rest)
   where
     mapped : (t : List ℕ) (r : Option Coming) → option_map F (option_map (before_coming (b ∷ t)) r) ≡ option_map G (option_map (before_coming (b ∷ t)) r)
     mapped t None = refl
     mapped t (Some c) = ap Some (same (t ++ c.bytes) c.fails)
 
-pub past_byte : {X : Type 0} (F G : Coming → X) (a n : Ahead) (b : ℕ) → slice_get a.held 0 ≡ Some b → n.held ≡ drop 1 a.held → n.rest ≡ a.rest → ((bs : List ℕ) (f : Bool) → F (coming (b ∷ bs) f) ≡ G (coming bs f)) → option_map F (bytes_to_come a) ≡ option_map G (bytes_to_come n)
-past_byte F G a n b held rest_held rest same = rw (rest_held, rest, held_cons a.held b held) (mapped (drop 1 a.held) a.rest)
+pub past_byte : {X : Type 0} (F G : Coming → X) (a n : Ahead) (b : ℕ) → slice_get a.buffered 0 ≡ Some b → n.buffered ≡ drop 1 a.buffered → n.rest ≡ a.rest → ((bs : List ℕ) (f : Bool) → F (coming (b ∷ bs) f) ≡ G (coming bs f)) → option_map F (bytes_to_come a) ≡ option_map G (bytes_to_come n)
+past_byte F G a n b buffered rest_buffered rest same = rw (rest_buffered, rest, buffered_cons a.buffered b buffered) (mapped (drop 1 a.buffered) a.rest)
   where
     mapped : (t : List ℕ) (r : Option Coming) → option_map F (option_map (before_coming (b ∷ t)) r) ≡ option_map G (option_map (before_coming t) r)
     mapped t None = refl

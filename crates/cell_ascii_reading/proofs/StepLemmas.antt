@@ -99,7 +99,7 @@ lines_by (Ok End) line run = omega arith
 lines_by (Err f) line run = omega arith
 
 -- what a step from one place to another tells
-pub record Tells (r : Result ScanStep GridFault) (s t : Scan) : Type 0 where
+pub record Reports (r : Result ScanStep GridFault) (s t : Scan) : Type 0 where
   pub starts : Agrees (grid_start s.line s.run) s.ahead (start_step r t.line t.run) t.ahead
   pub gap : Agrees (gap_of s.line s.run) s.ahead (gap_step r t.line t.run) t.ahead
   pub line : t.line ≡ line_step r s.line
@@ -107,8 +107,8 @@ pub record Tells (r : Result ScanStep GridFault) (s t : Scan) : Type 0 where
   pub lines : t.line + s.run ≤ s.line + t.run
   pub word : t.word ≡ s.word
 
-pub step_tells : {r : Result ScanStep GridFault} {s t : Scan} → s.run ≤ 1048576 → IsStep r s t → Tells r s t
-step_tells {r = r} {s = s} {t = t} low step =
+pub step_reports : {r : Result ScanStep GridFault} {s t : Scan} → s.run ≤ 1048576 → IsStep r s t → Reports r s t
+step_reports {r = r} {s = s} {t = t} low step =
     let line : t.line ≡ line_step r s.line = ap (λ (v : Scan). v.line) step.scan in
     let run : t.run ≡ run_step r s.run = ap (λ (v : Scan). v.run) step.scan in
     record {

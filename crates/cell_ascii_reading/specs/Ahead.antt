@@ -7,7 +7,7 @@ use Rattle.cell_core_devices.specs.Device.{Coming}
 -- the bytes that a buffer holds, what its source still gives, where that is known, whether it has told its end, and what
 -- was heard of it
 pub record Ahead : Type 0 where
-  pub held : List ℕ
+  pub buffered : List ℕ
   pub rest : Option Coming
   pub ended : Bool
   pub heard : Heard
@@ -18,7 +18,7 @@ before_coming bs c = record { bytes = bs ++ c.bytes; fails = c.fails }
 
 -- all that is to come, where it is known
 abbrev pub bytes_to_come : Ahead → Option Coming
-bytes_to_come a = option_map (before_coming a.held) a.rest
+bytes_to_come a = option_map (before_coming a.buffered) a.rest
 
 -- a source whose bytes are known to be at their end
 abbrev pub IsAtEnd : Bool → Option Coming → Type 0

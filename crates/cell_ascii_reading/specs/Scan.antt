@@ -5,7 +5,7 @@ use Rattle.cell_core_devices.specs.Device.{Coming}
 use Rattle.cell_ascii_reading.specs.Ahead.{Ahead}
 use Rattle.cell_ascii_meaning.specs.GridTokens.{Start, Begins, Ends, Stops, word_from}
 use Rattle.cell_ascii_meaning.specs.Header.{Gap, Word, Feed, Last, Fault}
-use Rattle.cell_ascii_meaning.specs.Kinds.{IsOfText, tells_read}
+use Rattle.cell_ascii_meaning.specs.Kinds.{IsOfText, reports_read}
 use Rattle.cell_ascii_meaning.specs.declared.grid_fault.GridFault.{GridFault}
 use Rattle.cell_ascii_reading.specs.declared.scanner.Next.{Next}
 use Rattle.cell_ascii_reading.specs.declared.scanner.Next.TheVariants.{Word as NextWord, End as NextEnd}
@@ -56,4 +56,4 @@ FailsInText answer = IfErr answer (λ f. IsOfText f.kind)
 
 -- what an answer tells of the source is what was heard of it
 abbrev pub Hears : {A : Type 0} → Result A GridFault → Ahead → Ahead → Type 0
-Hears answer old new = new.heard ≡ hears (tells_read answer) old.heard
+Hears answer old new = new.heard ≡ hears (reports_read answer) old.heard

@@ -32,7 +32,7 @@ impl<R: Source> Model for Input<R> {
     ghost Value = { Ahead };
 
     ghost view = { λ i. record {
-      held = drop i.at (take i.filled i.buffer.items);
+      buffered = drop i.at (take i.filled i.buffer.items);
       rest = R.coming i.source;
       ended = i.ended;
       heard = record { sure = is_at (R.asked i.source) i.ended i.failed; failed = i.failed };
@@ -53,7 +53,7 @@ impl<R: Source> Input<R> {
     where
         R: Drop,
         ensures { IfOk result (λ i. i ≡ record {
-          held = [];
+          buffered = [];
           rest = R.coming source;
           ended = false;
           heard = heard_first (R.asked source);
@@ -74,10 +74,10 @@ impl<R: Source> Input<R> {
     /// told from then on.
     pub fn peek(&mut self) -> Result<Option<u8>, DeviceFault>
         ensures same { bytes_to_come self.new ≡ bytes_to_come self.old }
-        ensures byte { IfOk result (λ o. IfSome o (λ b. slice_get self.new.held 0 ≡ Some b)) }
+        ensures byte { IfOk result (λ o. IfSome o (λ b. slice_get self.new.buffered 0 ≡ Some b)) }
         ensures end { IfOk result (λ o. IfNone o (IsAtEnd false (bytes_to_come self.old))) }
         ensures fault { OnErr result (IsAtEnd true (bytes_to_come self.old)) }
-        ensures told { IfOk result (λ o. IfNone o (self.new.ended ≡ true)) }
+        ensures reported { IfOk result (λ o. IfNone o (self.new.ended ≡ true)) }
         ensures again { self.old.ended ≡ true → (self.new ≡ self.old) × (result ≡ Ok None) }
         ensures heard { self.new.heard ≡ hears (is_err result) self.old.heard }
     {
@@ -107,24 +107,24 @@ impl<R: Source> Input<R> {
     }
 
     /// The bytes that are held.
-    pub fn held_bytes(&self) -> &[u8]
-        ensures { result.now ≡ self.now.held }
+    pub fn buffered_bytes(&self) -> &[u8]
+        ensures { result.now ≡ self.now.buffered }
     {
         &self.buffer[self.at..self.filled]
     }
 
     /// Passes held bytes.
     pub fn pass(&mut self, n: usize)
-        requires { n ≤ length self.old.held }
-        ensures { self.new ≡ record self.old { held = drop n self.old.held } }
+        requires { n ≤ length self.old.buffered }
+        ensures { self.new ≡ record self.old { buffered = drop n self.old.buffered } }
     {
         self.at += n;
     }
 
     /// Passes the byte that `peek` gave.
     pub fn pass_byte(&mut self)
-        requires { 0 < length self.old.held }
-        ensures held { self.new.held ≡ drop 1 self.old.held }
+        requires { 0 < length self.old.buffered }
+        ensures buffered { self.new.buffered ≡ drop 1 self.old.buffered }
         ensures rest { self.new.rest ≡ self.old.rest }
         ensures ended { self.new.ended ≡ self.old.ended }
         ensures heard { self.new.heard ≡ self.old.heard }

@@ -75,7 +75,8 @@ impl<R: Source> Scanner<R> {
     fn peek(&mut self) -> Result<Option<u8>, GridFault>
         ensures same { bytes_to_come self.new.ahead ≡ bytes_to_come self.old.ahead }
         ensures scan { self.new ≡ record self.old { ahead = self.new.ahead } }
-        ensures byte { IfOk result (λ o. IfSome o (λ b. slice_get self.new.ahead.held 0 ≡ Some b)) }
+        ensures byte { IfOk result
+            (λ o. IfSome o (λ b. slice_get self.new.ahead.buffered 0 ≡ Some b)) }
         ensures end { IfOk result (λ o. IfNone o (IsAtEnd false (bytes_to_come self.old.ahead))) }
         ensures failed { OnErr result (IsAtEnd true (bytes_to_come self.old.ahead)) }
         ensures fault { IfErr result (λ f. f ≡ grid_fault GridKind.Read self.old.line) }
@@ -226,10 +227,10 @@ impl<R: Source> Scanner<R> {
     }
 
     /// The bytes that are held.
-    pub fn held_bytes(&self) -> &[u8]
-        ensures { result.now ≡ self.now.ahead.held }
+    pub fn buffered_bytes(&self) -> &[u8]
+        ensures { result.now ≡ self.now.ahead.buffered }
     {
-        self.input.held_bytes()
+        self.input.buffered_bytes()
     }
 
     /// Whether no blank was passed since the last word.
@@ -249,10 +250,10 @@ impl<R: Source> Scanner<R> {
 
     /// Passes held bytes that end with a word.
     pub fn pass(&mut self, n: usize)
-        requires { n ≤ length self.old.ahead.held }
+        requires { n ≤ length self.old.ahead.buffered }
         ensures { self.new ≡ record self.old {
           run = 0;
-          ahead = record self.old.ahead { held = drop n self.old.ahead.held };
+          ahead = record self.old.ahead { buffered = drop n self.old.ahead.buffered };
         } }
     {
         self.run = 0;
@@ -287,7 +288,7 @@ impl<R: Source> Scanner<R> {
           run = 0;
           word = [];
           ahead = record {
-            held = [];
+            buffered = [];
             rest = R.coming source;
             ended = false;
             heard = heard_first (R.asked source);

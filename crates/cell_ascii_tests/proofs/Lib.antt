@@ -1,2 +1,2 @@
 pub mod ListLemmas
-pub mod ToldLemmas
+pub mod ReportedLemmas

@@ -70,23 +70,23 @@ pub(crate) fn expect<R: Abort + AllocGlobal>(
     rt: &R,
     answer: Result<CellMap, GridFault>,
     text: &[u8],
-    told: Option<GridFault>,
+    reported: Option<GridFault>,
 ) -> Result<(), Fail> {
     match answer {
         Ok(map) => {
-            assert_same!(rt; told, None);
+            assert_same!(rt; reported, None);
             expect_map(rt, &map, text)
         }
         Err(fault) => {
-            assert_same!(rt; Some(fault), told);
+            assert_same!(rt; Some(fault), reported);
             Ok(())
         }
     }
 }
 
 // Adds the kind of a fault, where it was not yet told.
-fn note(kinds: &mut Vec<GridKind>, told: Option<GridFault>) -> Result<(), Memory> {
-    if let Some(fault) = told {
+fn note(kinds: &mut Vec<GridKind>, reported: Option<GridFault>) -> Result<(), Memory> {
+    if let Some(fault) = reported {
         if !kinds.contains(&fault.kind) {
             kinds.push(fault.kind)?;
         }
@@ -101,10 +101,15 @@ fn agrees<R: Abort + AllocGlobal>(
     text: &[u8],
     fails: bool,
 ) -> Result<(), Fail> {
-    let told = text_fault(rt.alloc(), text, fails)?;
-    note(kinds, told)?;
+    let reported = text_fault(rt.alloc(), text, fails)?;
+    note(kinds, reported)?;
     for more in [0u16, 1, 6, 65535] {
-        expect(rt, read(rt, text, more as usize + 1, fails)?, text, told)?;
+        expect(
+            rt,
+            read(rt, text, more as usize + 1, fails)?,
+            text,
+            reported,
+        )?;
     }
     Ok(())
 }

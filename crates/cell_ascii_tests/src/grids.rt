@@ -147,7 +147,7 @@ const HEADER_FAULTS: [(&[u8], GridKind, u64); 8] = [
 ];
 
 #[test]
-fn tells_faults_of_a_header(rt: HostRuntime) -> Result<(), Fail> {
+fn reports_faults_of_a_header(rt: HostRuntime) -> Result<(), Fail> {
     expect_faults(&rt, &HEADER_FAULTS)
 }
 
@@ -171,7 +171,7 @@ const REGION_FAULTS: [(&[u8], GridKind, u64); 3] = [
 ];
 
 #[test]
-fn tells_faults_of_a_region(rt: HostRuntime) -> Result<(), Fail> {
+fn reports_faults_of_a_region(rt: HostRuntime) -> Result<(), Fail> {
     expect_faults(&rt, &REGION_FAULTS)
 }
 
@@ -195,7 +195,7 @@ const SIZE_FAULTS: [(&[u8], GridKind, u64); 3] = [
 ];
 
 #[test]
-fn tells_too_many_cells(rt: HostRuntime) -> Result<(), Fail> {
+fn reports_too_many_cells(rt: HostRuntime) -> Result<(), Fail> {
     expect_faults(&rt, &SIZE_FAULTS)
 }
 
@@ -242,7 +242,7 @@ const CELL_FAULTS: [(&[u8], GridKind, u64); 3] = [
 ];
 
 #[test]
-fn tells_faults_of_cells(rt: HostRuntime) -> Result<(), Fail> {
+fn reports_faults_of_cells(rt: HostRuntime) -> Result<(), Fail> {
     expect_faults(&rt, &CELL_FAULTS)
 }
 

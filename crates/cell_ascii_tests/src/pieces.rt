@@ -44,10 +44,10 @@ fn agrees_in_pieces<R: Abort + AllocGlobal>(rt: &R, piece: usize) -> Result<(), 
     requires { 0 < piece }
 {
     for &text in &TEXTS {
-        let told = text_fault(rt.alloc(), text, false)?;
+        let reported = text_fault(rt.alloc(), text, false)?;
         for place in 0..text.len() {
             let answer = read_behind(rt, piece - 1 - place % piece, text, piece)?;
-            expect(rt, answer, text, told)?;
+            expect(rt, answer, text, reported)?;
         }
     }
     Ok(())

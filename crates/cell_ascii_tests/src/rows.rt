@@ -56,7 +56,7 @@ fn stops_at_a_bad_cell(rt: HostRuntime) -> Result<(), Fail> {
 }
 
 #[test]
-fn tells_that_a_row_is_missing(rt: HostRuntime) -> Result<(), Fail> {
+fn reports_that_a_row_is_missing(rt: HostRuntime) -> Result<(), Fail> {
     let six = b"north: 3\nsouth: 0\neast: 4\nwest: 0\nrows: 3\ncols: 4\n";
     let mut reader = open(&rt, six)?;
     let mut cells = vec![in rt.alloc(); Cell::null(); reader.region().cols() as usize]?;

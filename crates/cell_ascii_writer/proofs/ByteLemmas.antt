@@ -91,8 +91,8 @@ bytes-within bytes size most below few =
     omega (arith, below, pow-le-pow_right {n = 256} some {i = size} {j = most} few)
 
 module _ (number rest bytes size : ℕ) (wide : rest < 2 ^ 64)
-    (told : decimal rest ++ low_bytes bytes size ≡ decimal number) where
-  -- the last digit of the rest, before those that are told
+    (reported : decimal rest ++ low_bytes bytes size ≡ decimal number) where
+  -- the last digit of the rest, before those that are reported
   pub digits-more : 10 ≤ rest
       → decimal (rest / 10) ++ low_bytes (bytes * 256 + (48 + rest % 10)) (size + 1) ≡ decimal number
   digits-more more =
@@ -100,14 +100,14 @@ module _ (number rest bytes size : ℕ) (wide : rest < 2 ^ 64)
       ap (λ (l : List ℕ). decimal (rest / 10) ++ l) (low_bytes-more bytes size (48 + rest % 10) small)
       ∙ sym (append_assoc (decimal (rest / 10)) ((48 + rest % 10) ∷ []) (low_bytes bytes size))
       ∙ ap (λ (l : List ℕ). l ++ low_bytes bytes size) (sym (decimal_step rest more wide))
-      ∙ told
+      ∙ reported
 
   pub digits-last : rest < 10 → low_bytes (bytes * 256 + (48 + rest)) (size + 1) ≡ decimal number
   digits-last one =
       let small : 48 + rest < 256 = omega arith in
       low_bytes-more bytes size (48 + rest) small
       ∙ ap (λ (l : List ℕ). l ++ low_bytes bytes size) (sym (decimal_digit rest one))
-      ∙ told
+      ∙ reported
 
   -- a number of seven digits has no more of them
   whole : number < 10000000 → length (decimal rest) + size ≤ 7
@@ -115,7 +115,7 @@ module _ (number rest bytes size : ℕ) (wide : rest < 2 ^ 64)
       let some : 0 < 7 = omega arith in
       let all = length-decimal-le 7 number some few (omega (arith, few)) in
       let both = length-append (decimal rest) (low_bytes bytes size) in
-      omega (arith, all, ap length told, both, length-low_bytes size bytes)
+      omega (arith, all, ap length reported, both, length-low_bytes size bytes)
 
   pub digits-few : number < 10000000 → size + 1 ≤ 7
   digits-few few = omega (arith, whole few, decimal_nonempty rest wide)

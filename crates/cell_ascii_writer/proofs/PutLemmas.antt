@@ -16,7 +16,7 @@ module _ {before now : Option (List ℕ)} {start faults : Faults} {text : List �
       let front = put_ends good none in
       (p.taken ∙ ap (append_known before) front, (p.count ∙ ap (λ (l : List ℕ). capped_count (length l)) front, rw good at p.fails))
 
-  -- a put was refused: what the sink took is told, and is not all
+  -- a put was refused: what the sink took is reported, and is not all
   pub appended_cut : block.failed ≡ true → length text < 18446744073709551615
       → (now ≡ append_known before (take block.written text)) × ((block.written < length text) × (faults ≡ after_put start true))
   appended_cut failed short =

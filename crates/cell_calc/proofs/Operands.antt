@@ -9,7 +9,7 @@ use Rattle.cell_calc_grammar.specs.declared.step.Step.{Step}
 use Rattle.cell_calc.specs.declared.strip.Operand.{Operand}
 use Rattle.cell_calc.specs.declared.strip.Strip.{Strip}
 use Rattle.cell_calc.specs.Window.{Window}
-use Rattle.cell_calc.specs.parts.Operands.{operand_at, cells_at, seen_cell, spot_at}
+use Rattle.cell_calc.specs.parts.Operands.{operand_at, operand_cells_at, seen_cell, position_at}
 use Rattle.cell_calc_grammar.specs.Postfix.{arity, values_after, AreEnough}
 use Rattle.cell_calc.specs.RowValues.{at, column}
 use Rattle.cell_calc_grammar.proofs.PostfixLemmas.{one_step}
@@ -70,12 +70,12 @@ enough_more steps i d old new o lt h is =
 -- one step more along a strip
 pub step_more : (windows : List Window) (strip : Strip) (steps : List (Step ℕ)) (i c : ℕ) (d : Step ℕ) (old new : List Operand) (o : Operand) (end : List CellValue)
     → i < length steps → arity (get_or steps i d) ≤ length old → new ≡ take (length old - arity (get_or steps i d)) old ++ o ∷ []
-    → operand_at windows strip c o ≡ seen_cell windows (spot_at strip c) (get_or steps i d) (cells_at windows strip c (drop (length old - arity (get_or steps i d)) old))
-    → values_after (seen_cell windows (spot_at strip c)) (drop i steps) (cells_at windows strip c old) ≡ end
-    → values_after (seen_cell windows (spot_at strip c)) (drop (i + 1) steps) (cells_at windows strip c new) ≡ end
+    → operand_at windows strip c o ≡ seen_cell windows (position_at strip c) (get_or steps i d) (operand_cells_at windows strip c (drop (length old - arity (get_or steps i d)) old))
+    → values_after (seen_cell windows (position_at strip c)) (drop i steps) (operand_cells_at windows strip c old) ≡ end
+    → values_after (seen_cell windows (position_at strip c)) (drop (i + 1) steps) (operand_cells_at windows strip c new) ≡ end
 step_more windows strip steps i c d old new o end lt le is made before =
     let f = λ (p : Operand). operand_at windows strip c p in
-    let g = λ (s : Step ℕ) (xs : List CellValue). seen_cell windows (spot_at strip c) s xs in
+    let g = λ (s : Step ℕ) (xs : List CellValue). seen_cell windows (position_at strip c) s xs in
     let s = get_or steps i d in
     let n = length old - arity s in
     let split : map f old ≡ map f (take n old) ++ map f (drop n old) = ap (λ l. map f l) (sym (take-append-drop n old)) ∙ map-append f (take n old) (drop n old) in
@@ -88,24 +88,24 @@ step_more windows strip steps i c d old new o end lt le is made before =
 
 -- the value of the only operand that is left
 pub end_value : (windows : List Window) (strip : Strip) (steps : List (Step ℕ)) (i c : ℕ) (old : List Operand) (o : Operand) (end : List CellValue)
-    → drop i steps ≡ [] → old ≡ o ∷ [] → values_after (seen_cell windows (spot_at strip c)) (drop i steps) (cells_at windows strip c old) ≡ end
+    → drop i steps ≡ [] → old ≡ o ∷ [] → values_after (seen_cell windows (position_at strip c)) (drop i steps) (operand_cells_at windows strip c old) ≡ end
     → operand_at windows strip c o ∷ [] ≡ end
 end_value windows strip steps i c old o end none only is =
-    let g = λ (s : Step ℕ) (xs : List CellValue). seen_cell windows (spot_at strip c) s xs in
+    let g = λ (s : Step ℕ) (xs : List CellValue). seen_cell windows (position_at strip c) s xs in
     ap (λ l. values_after g l (operand_at windows strip c o ∷ [])) (sym none)
-    ∙ ap (λ l. values_after g (drop i steps) (cells_at windows strip c l)) (sym only) ∙ is
+    ∙ ap (λ l. values_after g (drop i steps) (operand_cells_at windows strip c l)) (sym only) ∙ is
 
 -- one more row of the arguments of a call, of which the last one comes first
 pub gather_more : {V : Type 0} (f : V → List CellValue) (windows : List Window) (strip : Strip) (c : ℕ) (old before new : List Operand) (a : Operand) (j : ℕ) (rows : List V) (row : V)
     → j ≤ length old → before ≡ take (length old - j) old → before ≡ new ++ a ∷ []
-    → column c (map f rows) ≡ reverse (cells_at windows strip c (drop (length old - j) old)) → at (f row) c ≡ operand_at windows strip c a
-    → column c (map f (rows ++ row ∷ [])) ≡ reverse (cells_at windows strip c (drop (length old - (j + 1)) old))
+    → column c (map f rows) ≡ reverse (operand_cells_at windows strip c (drop (length old - j) old)) → at (f row) c ≡ operand_at windows strip c a
+    → column c (map f (rows ++ row ∷ [])) ≡ reverse (operand_cells_at windows strip c (drop (length old - (j + 1)) old))
 gather_more f windows strip c old before new a j rows row le is popped so_far here =
-    let cells = cells_at windows strip c (drop (length old - j) old) in
+    let cells = operand_cells_at windows strip c (drop (length old - j) old) in
     ap (λ l. column c l) (map-append f rows (row ∷ [])) ∙ map-append (λ r. at r c) (map f rows) (f row ∷ [])
     ∙ ap (λ l. l ++ at (f row) c ∷ []) so_far ∙ ap (λ v. reverse cells ++ v ∷ []) here
     ∙ sym (reverse-append (operand_at windows strip c a ∷ []) cells)
-    ∙ ap (λ l. reverse (cells_at windows strip c l)) (back_more old before new a j le is popped)
+    ∙ ap (λ l. reverse (operand_cells_at windows strip c l)) (back_more old before new a j le is popped)
 
 map-reverse : {X Y : Type 0} (f : X → Y) (xs : List X) → map f (reverse xs) ≡ reverse (map f xs)
 map-reverse f [] = refl

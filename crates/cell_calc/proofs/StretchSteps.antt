@@ -5,7 +5,7 @@ use Rattle.std.specs.Prelude.{All, slice_get}
 use Rattle.std.proofs.lemmas.Int.{ints}
 use Rattle.std.proofs.lemmas.List.Elements.{All-tail}
 use Rattle.cell_core.specs.Grid.{CellValue}
-use Rattle.cell_calc_binding.specs.Applied.{Spot, call_result}
+use Rattle.cell_calc_binding.specs.Applied.{GridPosition, call_result}
 use Rattle.cell_calc.specs.RowValues.{at}
 use Rattle.cell_calc_grammar.specs.declared.step.Step.{Step}
 use Rattle.cell_calc_grammar.specs.declared.step.Step.TheVariants as step
@@ -62,7 +62,7 @@ ready_all windows short ws steps is place ready = λ i d lt.
     ready_short windows short (get_or steps i d) (same_count windows short ws is) (place i d lt) (ready i d lt)
 
 -- a column of a row
-abbrev pub column_of : (rows cols row col : ℕ) → Spot
+abbrev pub column_of : (rows cols row col : ℕ) → GridPosition
 column_of rows cols row col = record { rows = rows; cols = cols; row = row; col = col }
 
 -- what a step makes of the same cells at two columns

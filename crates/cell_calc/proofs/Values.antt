@@ -9,7 +9,7 @@ use Rattle.cell_calc_grammar.specs.declared.step.Step.{Step}
 use Rattle.cell_calc_grammar.specs.declared.step.Step.TheVariants as step
 use Rattle.cell_calc_binding.specs.Formula.{Formula, Formulas, NoTrees, Then}
 use Rattle.cell_calc_binding.specs.Reach.{IsProper, top_at, up_at, down_at, top_of, up_of, down_of}
-use Rattle.cell_calc_binding.specs.Applied.{Spot, operator_value, call_result, negated_cell, inverted_cell}
+use Rattle.cell_calc_binding.specs.Applied.{GridPosition, operator_value, call_result, negated_cell, inverted_cell}
 use Rattle.cell_calc_binding.specs.Offsets.{cell_in, item_at, row_of}
 use Rattle.cell_calc_binding.specs.Value.{value, argument_values}
 use Rattle.cell_calc.specs.Window.{Window, IsWindowOf, Reaches, IsOver, HasReach}
@@ -23,7 +23,7 @@ use Rattle.cell_calc.proofs.Rings.{held_row}
 use Rattle.cell_calc_binding.proofs.Steps.{proper_steps, below_greatest, top-postfix, up-postfix, down-postfix}
 
 -- what a step makes of cells over maps
-abbrev over_maps : List Grid → Spot → Step ℕ → List CellValue → CellValue
+abbrev over_maps : List Grid → GridPosition → Step ℕ → List CellValue → CellValue
 over_maps maps s (step.Number n) xs = Some (pos n)
 over_maps maps s (step.Map i down right) xs = cell_in (slice_get maps i) (pos s.row +ℤ down) (pos s.col +ℤ right)
 over_maps maps s step.Negated xs = negated_cell (slice_index_or xs 0 None)
@@ -31,12 +31,12 @@ over_maps maps s step.Not xs = inverted_cell (slice_index_or xs 0 None)
 over_maps maps s (step.Binary op) xs = operator_value op (slice_index_or xs 0 None) (slice_index_or xs 1 None)
 over_maps maps s (step.Call f n) xs = call_result f s xs
 
-values-listed : (maps : List Grid) (s : Spot) (xs : Formulas) → map (λ a. value a maps s) (listed xs) ≡ argument_values xs maps s
+values-listed : (maps : List Grid) (s : GridPosition) (xs : Formulas) → map (λ a. value a maps s) (listed xs) ≡ argument_values xs maps s
 values-listed maps s NoTrees = refl
 values-listed maps s (Then a xs) = ap (λ l. value a maps s ∷ l) (values-listed maps s xs)
 
 -- the steps of an expression make its value
-value_after : (maps : List Grid) (s : Spot) (f : Formula) → values_after (over_maps maps s) (postfix f) [] ≡ value f maps s ∷ []
+value_after : (maps : List Grid) (s : GridPosition) (f : Formula) → values_after (over_maps maps s) (postfix f) [] ≡ value f maps s ∷ []
 value_after maps s f =
     let is : IsMeaning ℕ CellValue (over_maps maps s) (λ a. value a maps s) =
     record {
@@ -111,7 +111,7 @@ over_window row c down right (Some w) (Some m) over h =
     ap (λ l. item_at None l (pos c +ℤ right)) (window_row w m down over (reaches_offset down row w h) ∙ ap (λ r. row_of m (pos r +ℤ down)) h.0)
 over_window row c down right _ _ over h = absurd over
 
-same_step : (windows : List Window) (maps : List Grid) (s : Spot) (t : Step ℕ)
+same_step : (windows : List Window) (maps : List Grid) (s : GridPosition) (t : Step ℕ)
     → ((i : ℕ) (down right : ℤ) → t ≡ step.Map i down right → IsOver (slice_get windows i) (slice_get maps i) × HasReach s.row (up_by down) (down_by down) (slice_get windows i))
     → (xs : List CellValue) → seen_cell windows s t xs ≡ over_maps maps s t xs
 same_step windows maps s (step.Map i down right) reach xs =
@@ -129,7 +129,7 @@ after_same {X} g h (s ∷ steps) all xs =
     ∙ ap (λ v. values_after h steps (take n xs ++ v ∷ [])) (All-head (λ s. (xs : List X) → g s xs ≡ h s xs) s steps all (drop n xs))
 
 -- the value of an expression from windows that are of the maps
-pub value_seen : (f : Formula) (windows : List Window) (maps : List Grid) (s : Spot)
+pub value_seen : (f : Formula) (windows : List Window) (maps : List Grid) (s : GridPosition)
     → ((i : ℕ) → i < top_of f → HasReach s.row (up_of i f) (down_of i f) (slice_get windows i))
     → ((i : ℕ) → i < top_of f → IsOver (slice_get windows i) (slice_get maps i)) → values_after (seen_cell windows s) (postfix f) [] ≡ value f maps s ∷ []
 value_seen f windows maps s h over =

@@ -137,7 +137,7 @@ fn call_value(
                 windows,
                 &mut spare.free,
             )?;
-            rows::nullness(row.as_mut_slice());
+            rows::row_nullness(row.as_mut_slice());
             Ok(row)
         }
         (Function::Abs, 1) => {

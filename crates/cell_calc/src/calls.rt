@@ -2,7 +2,7 @@
 
 ghost use Rattle.std.specs.Prelude.{◌≡◌, ◌≤◌, ◌<◌, ◌+◌, length, OnOk};
 ghost use Rattle.cell_calc_binding.specs.CellOperators.{if_of, least, greatest_cell, known_cells, first_known, last_argument, truth, is_null};
-ghost use Rattle.cell_calc_binding.specs.Applied.{spot, size_of, call_result};
+ghost use Rattle.cell_calc_binding.specs.Applied.{grid_position, size_of, call_result};
 ghost use Rattle.cell_calc.specs.RowValues.{Becomes, AreWide, arguments_at};
 
 use crate::{modes, rows};
@@ -104,13 +104,13 @@ fn copy_first_argument(arguments: &[Vec<Cell>], row: &mut [Cell])
     }
 }
 
-fn nullness(arguments: &[Vec<Cell>], row: &mut [Cell])
+fn row_nullness(arguments: &[Vec<Cell>], row: &mut [Cell])
     requires { AreWide (length row.old) arguments.now }
     ensures { Becomes row.old row.new
         (λ c. truth (is_null (first_known (arguments_at c arguments.now)))) }
 {
     copy_first_argument(arguments, row);
-    rows::nullness(row);
+    rows::row_nullness(row);
 }
 
 fn size(arguments: &[Vec<Cell>], row: &mut [Cell])
@@ -136,13 +136,13 @@ pub fn call_values(
     requires width { from + length row.old ≤ region.cols }
     requires widths { AreWide (length row.old) arguments.now }
     ensures { OnOk result (Becomes row.old row.new
-        (λ c. call_result function (spot region number (from + c))
+        (λ c. call_result function (grid_position region number (from + c))
         (arguments_at c arguments.now))) }
 {
     let (count, width) = (region.rows(), region.cols());
     match function {
         Function::If => choose_call(arguments, row),
-        Function::IsNull => nullness(arguments, row),
+        Function::IsNull => row_nullness(arguments, row),
         Function::Null => rows::fill(row, Cell::null()),
         Function::Abs => size(arguments, row),
         Function::Min => least(arguments, row),

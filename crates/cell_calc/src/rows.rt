@@ -168,7 +168,7 @@ fn shift_over_the_edge(source: &[Cell], from: usize, right: i32, row: &mut [Cell
 }
 
 /// `isnull` of each cell of a row, in place.
-pub fn nullness(row: &mut [Cell])
+pub fn row_nullness(row: &mut [Cell])
     ensures { Becomes row.old row.new (λ c. truth (is_null (at row.old c))) }
 {
     each(row, cell_operators::nullness);

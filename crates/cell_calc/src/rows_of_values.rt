@@ -2,7 +2,7 @@
 
 ghost use Rattle.std.specs.Prelude.{◌≡◌, ◌<◌, ◌≤◌, ℕ, List, [], ◌∷◌, length, slice_get, slice_index_or, All, None, IfOk, OnOk, OnErr};
 ghost use Rattle.cell_core.specs.Grid.{Grid};
-ghost use Rattle.cell_calc_binding.specs.Applied.{spot};
+ghost use Rattle.cell_calc_binding.specs.Applied.{grid_position};
 ghost use Rattle.cell_calc.specs.RowValues.{at};
 ghost use Rattle.cell_calc_grammar.specs.Postfix.{values_after, AreEnough};
 ghost use Rattle.cell_calc_binding.specs.Reach.{top_of, up_of, down_of};
@@ -43,7 +43,7 @@ fn along_columns(
     requires enough { AreEnough steps.now 0 }
     ensures width { IfOk result (λ cells. length cells.items ≡ cols) }
     ensures each { IfOk result (λ cells. (c : ℕ) → c < cols
-        → at cells.items c ∷ [] ≡ values_after (seen_cell windows.now (spot region row c)) steps.now []) }
+        → at cells.items c ∷ [] ≡ values_after (seen_cell windows.now (grid_position region row c)) steps.now []) }
 {
     let _all = region.cols();
     let mut cells = Vec::with_capacity(alloc, cols)?;
@@ -86,7 +86,7 @@ fn along_stretches(
     ensures count { IfOk result (λ values. length values.items ≡ length widths.now) }
     ensures each { IfOk result (λ values. (k c : ℕ) → k < length widths.now
         → IsLikeStart widths.now windows.now k c → at values.items k ∷ []
-        ≡ values_after (seen_cell windows.now (spot region row c)) steps.now []) }
+        ≡ values_after (seen_cell windows.now (grid_position region row c)) steps.now []) }
 {
     let _all = region.cols();
     let short = short_windows(alloc, windows, widths)?;
@@ -108,7 +108,7 @@ fn write_row(
     requires ready { All (IsReadyStep windows.now) steps.now }
     requires enough { AreEnough steps.now 0 }
     ensures each { OnOk result ((c : ℕ) → c < region.cols
-        → at cells.new c ∷ [] ≡ values_after (seen_cell windows.now (spot region row c)) steps.now []) }
+        → at cells.new c ∷ [] ≡ values_after (seen_cell windows.now (grid_position region row c)) steps.now []) }
     ensures err { OnErr result (cells.new ≡ cells.old) }
 {
     let cols = region.cols() as usize;
@@ -142,7 +142,7 @@ pub fn eval_row(
     ensures ok { OnOk result ((maps : List Grid)
         → ((i : ℕ) → i < top_of bound.now → IsOver (slice_get windows.now i) (slice_get maps i))
         → (c : ℕ) → c < region.now.cols
-        → slice_index_or cells.new c None ≡ value bound.now maps (spot region.now row c)) }
+        → slice_index_or cells.new c None ≡ value bound.now maps (grid_position region.now row c)) }
     ensures err { OnErr result (cells.new ≡ cells.old) }
 {
     write_row(alloc, bound.steps(), *region, row, windows, cells)?;

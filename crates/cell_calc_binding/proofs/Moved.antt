@@ -9,7 +9,7 @@ use Rattle.cell_calc_grammar.specs.declared.step.Step.{Step}
 use Rattle.cell_calc_grammar.specs.declared.step.Step.TheVariants as step
 use Rattle.cell_calc_binding.specs.Compact.{ArePicked}
 use Rattle.cell_calc_binding.specs.Formula.{Formula, Number, Map, Negated, Not, Binary, Call, Formulas, NoTrees, Then, count}
-use Rattle.cell_calc_binding.specs.Applied.{Spot, operator_value, call_result, negated_cell, inverted_cell}
+use Rattle.cell_calc_binding.specs.Applied.{GridPosition, operator_value, call_result, negated_cell, inverted_cell}
 use Rattle.cell_calc_binding.specs.Offsets.{cell_in}
 use Rattle.cell_calc_binding.specs.Value.{value, argument_values}
 use Rattle.cell_calc_grammar.specs.Postfix.{postfix, postfix_all, step_over}
@@ -26,7 +26,7 @@ back P xs ys all = All-same P ys (drop (length xs) (xs ++ ys)) (sym (drop-append
 
 mutual
   -- an expression over just the places of a list has the same values over the maps that they pick
-  pub value-moved : (places : List ℕ) (maps picked : List Grid) → ArePicked places maps picked → (s : Spot) (f : Formula)
+  pub value-moved : (places : List ℕ) (maps picked : List Grid) → ArePicked places maps picked → (s : GridPosition) (f : Formula)
       → All (IsListed places) (postfix f) → value (with_leaves (index_in places) f) picked s ≡ value f maps s
   value-moved places maps picked are s (Number n) all = refl
   value-moved places maps picked are s (Map i down right) all =
@@ -45,7 +45,8 @@ mutual
   value-moved places maps picked are s (Call f xs) all =
       ap (λ vs. call_result f s vs) (values-moved places maps picked are s xs (front (IsListed places) (postfix_all xs) (step.Call f (count xs) ∷ []) all))
 
-  values-moved : (places : List ℕ) (maps picked : List Grid) → ArePicked places maps picked → (s : Spot) (xs : Formulas)
+  values-moved : (places : List ℕ) (maps picked : List Grid) → ArePicked places maps picked
+      → (s : GridPosition) (xs : Formulas)
       → All (IsListed places) (postfix_all xs) → argument_values (with_leaves_all (index_in places) xs) picked s ≡ argument_values xs maps s
   values-moved places maps picked are s NoTrees all = refl
   values-moved places maps picked are s (Then a xs) all =

@@ -9,15 +9,15 @@ use Rattle.cell_calc_grammar.specs.declared.operator.Operator.{Operator}
 use Rattle.cell_calc_grammar.specs.declared.operator.Operator.TheVariants as operator
 
 -- where a value is asked for: a row and a column from 0, among so many
-pub record Spot : Type 0 where
+pub record GridPosition : Type 0 where
   pub rows : ℕ
   pub cols : ℕ
   pub row : ℕ
   pub col : ℕ
 
 -- a row and a column of a region
-abbrev pub spot : RegionValue → (row col : ℕ) → Spot
-spot region row col = record { rows = region.rows; cols = region.cols; row = row; col = col }
+abbrev pub grid_position : RegionValue → (row col : ℕ) → GridPosition
+grid_position region row col = record { rows = region.rows; cols = region.cols; row = row; col = col }
 
 -- minus; 1 where it is 0, else 0; its size
 abbrev pub negated_cell : CellValue → CellValue
@@ -48,7 +48,7 @@ operator_value operator.KnownAnd a b = known_and a b
 operator_value operator.KnownOr a b = known_or a b
 
 -- the value of a function, of those of its arguments
-abbrev pub call_result : Function → Spot → List CellValue → CellValue
+abbrev pub call_result : Function → GridPosition → List CellValue → CellValue
 call_result function.If s xs = if_of xs
 call_result function.IsNull s xs = truth (is_null (first_known xs))
 call_result function.Null s xs = None

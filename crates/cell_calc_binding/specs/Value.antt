@@ -1,13 +1,13 @@
 -- The value of an expression at a cell (r.mapcalc manual; cells outside the region are the profile's).
 use Rattle.std.specs.Prelude.{pos, ◌+ℤ◌, List, [], ◌∷◌, Some, slice_get}
 use Rattle.cell_core.specs.Grid.{Grid, CellValue}
-use Rattle.cell_calc_binding.specs.Applied.{Spot, negated_cell, inverted_cell, operator_value, call_result}
+use Rattle.cell_calc_binding.specs.Applied.{GridPosition, negated_cell, inverted_cell, operator_value, call_result}
 use Rattle.cell_calc_binding.specs.Offsets.{cell_in}
 use Rattle.cell_calc_binding.specs.Formula.{Formula, Number, Map, Negated, Not, Binary, Call, Formulas, NoTrees, Then}
 
 abbrev mutual
   -- the value of an expression over maps of one region, at a row and a column from 0
-  pub value : Formula → List Grid → Spot → CellValue
+  pub value : Formula → List Grid → GridPosition → CellValue
   value (Number n) maps s = Some (pos n)
   value (Map i down right) maps s = cell_in (slice_get maps i) (pos s.row +ℤ down) (pos s.col +ℤ right)
   value (Negated a) maps s = negated_cell (value a maps s)
@@ -16,6 +16,6 @@ abbrev mutual
   value (Call f xs) maps s = call_result f s (argument_values xs maps s)
 
   -- those of arguments, in order
-  pub argument_values : Formulas → List Grid → Spot → List CellValue
+  pub argument_values : Formulas → List Grid → GridPosition → List CellValue
   argument_values NoTrees maps s = []
   argument_values (Then a xs) maps s = value a maps s ∷ argument_values xs maps s

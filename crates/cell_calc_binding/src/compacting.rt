@@ -5,7 +5,7 @@ ghost use Rattle.cell_core.specs.Grid.{Grid};
 ghost use Rattle.cell_calc_binding.specs.Compact.{ReadsMap, AreMapsRead, ArePicked, AreDistinctPlaces};
 ghost use Rattle.cell_calc_binding.specs.Formula.{Formula};
 ghost use Rattle.cell_calc_binding.specs.Reach.{top_at, top_of};
-ghost use Rattle.cell_calc_binding.specs.Applied.{Spot};
+ghost use Rattle.cell_calc_binding.specs.Applied.{GridPosition};
 ghost use Rattle.cell_calc_binding.specs.Value.{value};
 ghost use Rattle.cell_calc_grammar.specs.Postfix.{at_step, step_over};
 ghost use Rattle.cell_calc_binding.specs.parts.TreeSteps.{index_in, IsListed, ReadsPlace, KeepsPlaces, AreOverRead};
@@ -91,7 +91,7 @@ impl Bound {
     /// [`Memory`] where memory was refused.
     pub fn over_read_maps(&self, alloc: Global) -> Result<(Bound, Vec<usize>), Memory>
         ensures value { IfOk result (λ r. (maps picked : List Grid)
-            → ArePicked r.1.items maps picked → (s : Spot)
+            → ArePicked r.1.items maps picked → (s : GridPosition)
             → value r.0 picked s ≡ value self.now maps s) }
         ensures top { IfOk result (λ r. top_of r.0 ≡ length r.1.items) }
         ensures read { IfOk result (λ r. AreMapsRead r.1.items self.now) }

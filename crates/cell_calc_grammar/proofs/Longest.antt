@@ -73,7 +73,7 @@ found-all P (x ∷ xs) bytes s all h = go (bytes_eq x.0 bytes) refl h (found-all
     go true is at later = subst P ((bytes_eq-Decides x.0 bytes).0 is) all.0
     go false is at later = later at
 
--- what is told of the spelling of each sign by a test
+-- what is reported of the spelling of each sign by a test
 pub sign-passes : (q : List ℕ → Bool) (bytes : List ℕ) (s : Sign) → list_all q (map (λ x. x.0) signs) ≡ true → sign_of bytes ≡ Some s → q bytes ≡ true
 sign-passes q bytes s all is = found-all (λ x. q x ≡ true) signs bytes s (list_all-AllOf q (map (λ x. x.0) signs) all) is
 

@@ -84,12 +84,12 @@ after_token found t count c b n rest others piece after w split word length some
     prefixed-before found t (tokens_of (count + 1) (pieces zero (c + n) after)) ∙ rw is at first
 
 -- a fault of the next token is the text's
-pub at_fault : (found : List Placed) (told : CalcFault) (count c b n : ℕ) (rest others piece : List ℕ) (w : Result (List Placed) CalcFault) →
+pub at_fault : (found : List Placed) (reported : CalcFault) (count c b n : ℕ) (rest others piece : List ℕ) (w : Result (List Placed) CalcFault) →
     rest ≡ b ∷ others → is_blank b ≡ false → piece_length rest ≡ n → 0 < n → piece ≡ take n rest →
     prefixed found (tokens_of count (pieces zero c rest)) ≡ w →
-    IsTokenFault (next_token count (record { column = c; bytes = piece })) told → IsTokenFault w told
-at_fault found told count c b n rest others piece w split word length some front kept (inl none) = inl none
-at_fault found told count c b n rest others piece w split word length some front kept (inr is) =
+    IsTokenFault (next_token count (record { column = c; bytes = piece })) reported → IsTokenFault w reported
+at_fault found reported count c b n rest others piece w split word length some front kept (inl none) = inl none
+at_fault found reported count c b n rest others piece w split word length some front kept (inr is) =
     let first = next_first found count c b n rest others piece (drop n rest) w split word length some front refl kept in
     inr (sym (rw is at first))
 

@@ -48,7 +48,7 @@ pub record Viable (P : List Placed → Type 0) (ts : List Placed) (kind : CalcKi
   pub after : List Placed
   pub all : ts ≡ before ++ rest
   pub front : rest ≡ seg ++ more
-  pub told : IsSegment kind before seg
+  pub reported : IsSegment kind before seg
   pub same : shape us ≡ shape (before ++ seg)
   pub goes : P (us ++ after)
 
@@ -71,7 +71,7 @@ viable_between P Q f g ends {kind = kind} {rest = rest} e w v = record {
   after = v.after ++ ends;
   all = ap (λ l. f ++ l) v.all ∙ sym (append_assoc f v.before rest);
   front = v.front;
-  told = segment_after kind f v.before v.seg v.told;
+  reported = segment_after kind f v.before v.seg v.reported;
   same = shape_append g v.us ∙ ap (λ l. l ++ shape v.us) e ∙ ap (λ l. shape f ++ l) v.same
       ∙ sym (shape_append f (v.before ++ v.seg)) ∙ ap shape (sym (append_assoc f v.before v.seg));
   goes = simp append_assoc (simp append_assoc at (w (v.us ++ v.after) v.goes));
@@ -87,7 +87,7 @@ viable_after P Q f g e w v = viable_between P Q f g [] e (λ l x. rw append-nil 
 viable_made : (P : List Placed → Type 0) (before seg rest us after : List Placed) {ts : List Placed} {kind : CalcKind}
     → ts ≡ before ++ (seg ++ rest) → IsSegment kind before seg → shape us ≡ shape (before ++ seg) → P (us ++ after)
     → Viable P ts kind (seg ++ rest)
-viable_made P before seg rest us after e told same h = record {
+viable_made P before seg rest us after e reported same h = record {
   before = before;
   seg = seg;
   more = rest;
@@ -95,7 +95,7 @@ viable_made P before seg rest us after e told same h = record {
   after = after;
   all = e;
   front = refl;
-  told = told;
+  reported = reported;
   same = same;
   goes = h;
 }

@@ -23,9 +23,9 @@ token_fault kind column = record { kind = kind; column = column }
 abbrev pub no_memory : CalcFault
 no_memory = token_fault Memory 0
 
--- a fault that may be told where this is wanted: its own, or being out of memory
+-- a fault that may be reported where this is wanted: its own, or being out of memory
 abbrev pub IsTokenFault : {T : Type 0} → Result T CalcFault → CalcFault → Type 0
-IsTokenFault wanted told = (told ≡ no_memory) ⊎ (wanted ≡ Err told)
+IsTokenFault wanted reported = (reported ≡ no_memory) ⊎ (wanted ≡ Err reported)
 
 -- the signs of three bytes
 abbrev pub triple_signs : List (List ℕ × Sign)

@@ -21,7 +21,7 @@ abbrev pub tail : List Placed → List Placed
 tail [] = []
 tail (s ∷ ts) = ts
 
--- what is read of some of the tokens, and the rest of them; or a fault, and the tokens from where it is told
+-- what is read of some of the tokens, and the rest of them; or a fault, and the tokens from where it is reported
 abbrev pub PartOfExpression : Type 0 → Type 0
 PartOfExpression A = Result (A × List Placed) (CalcKind × List Placed)
 
@@ -72,7 +72,7 @@ to_bracket down ts = read_then (offset ts) (λ right us. read_then (bracket_at (
 abbrev pub offsets : List Placed → PartOfExpression (ℤ × ℤ)
 offsets ts = read_then (offset ts) (λ down us. read_then (comma_at (head us) us) (λ _ vs. to_bracket down vs))
 
--- an expression or arguments and what is left, or a fault and the tokens from where it is told
+-- an expression or arguments and what is left, or a fault and the tokens from where it is reported
 pub data ReadOutcome : Type 0 where
   Got : (a : Term) (rest : List Placed) → ReadOutcome
   GotAll : (xs : Terms) (rest : List Placed) → ReadOutcome

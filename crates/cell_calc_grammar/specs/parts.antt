@@ -1,2 +1,2 @@
 -- What only bodies and proofs speak of.
-pub mod Telling
+pub mod Reporting

@@ -5,7 +5,7 @@ ghost use Rattle.std.specs.List.{list_all, list_any, prefix_len, starts_with};
 ghost use Rattle.cell_core_values.specs.Name.{is_name_byte, starts_name};
 ghost use Rattle.cell_calc_grammar.specs.TokenSpelling.{AreSpelled, ListIsSpelled};
 ghost use Rattle.cell_calc_grammar.specs.Tokens.{sign_of, triple_signs, double_signs, mark_length, piece_length, is_float_byte, not_whole, token_name, token_number, word_of, mark_of, token_of, next_token, token_list, token_fault, IsTokenFault};
-ghost use Rattle.cell_calc_grammar.specs.parts.Telling.{TellsToken};
+ghost use Rattle.cell_calc_grammar.specs.parts.Reporting.{ReportsToken};
 ghost use Rattle.cell_calc_grammar.specs.declared.calc_fault.CalcKind.TheVariants.{FloatNumber, BadNumber};
 
 use crate::calc_fault::{CalcFault, CalcKind};
@@ -194,7 +194,7 @@ fn mark_of(bytes: &[u8], column: u32) -> Result<Token, CalcFault>
 fn name_token(alloc: Global, bytes: &[u8], column: u32) -> Result<Token, CalcFault>
     requires starts { starts_name bytes.now ≡ true }
     requires all { list_all is_name_byte bytes.now ≡ true }
-    ensures { TellsToken result (token_name column bytes.now) }
+    ensures { ReportsToken result (token_name column bytes.now) }
 {
     match Name::read(alloc, bytes) {
         Ok(name) => Ok(Token::Name(name)),
@@ -206,7 +206,7 @@ fn name_token(alloc: Global, bytes: &[u8], column: u32) -> Result<Token, CalcFau
 #[tactic(auto, unfolding(crate::specs::Tokens::word_of))]
 fn word_of(alloc: Global, bytes: &[u8], column: u32) -> Result<Token, CalcFault>
     requires { list_all is_name_byte bytes.now ≡ true }
-    ensures { TellsToken result (word_of column bytes.now) }
+    ensures { ReportsToken result (word_of column bytes.now) }
 {
     if starts_name(bytes) {
         name_token(alloc, bytes, column)
@@ -218,7 +218,7 @@ fn word_of(alloc: Global, bytes: &[u8], column: u32) -> Result<Token, CalcFault>
 }
 
 fn token_of(alloc: Global, bytes: &[u8], column: u32) -> Result<Token, CalcFault>
-    ensures { TellsToken result (token_of column bytes.now) }
+    ensures { ReportsToken result (token_of column bytes.now) }
 {
     if are_name_bytes(bytes) {
         word_of(alloc, bytes, column)
@@ -229,7 +229,7 @@ fn token_of(alloc: Global, bytes: &[u8], column: u32) -> Result<Token, CalcFault
 
 // The token of a piece, where so many stand before it.
 fn next_token(alloc: Global, count: usize, bytes: &[u8], column: u32) -> Result<Placed, CalcFault>
-    ensures { TellsToken result
+    ensures { ReportsToken result
         (next_token count (record { column = column; bytes = bytes.now })) }
 {
     if count >= TOKEN_LIMIT {
@@ -248,7 +248,7 @@ fn next_token(alloc: Global, count: usize, bytes: &[u8], column: u32) -> Result<
 pub fn tokens(alloc: Global, text: &[u8]) -> Result<Vec<Placed>, CalcFault>
     requires { length text.now ≤ 65535 }
     ensures ok { IfOk result (λ found. token_list text.now ≡ Ok found.items) }
-    ensures err { IfErr result (λ told. IsTokenFault (token_list text.now) told) }
+    ensures err { IfErr result (λ reported. IsTokenFault (token_list text.now) reported) }
     ensures spelled { IfOk result (λ found. AreSpelled 1 text.now found.items) }
     ensures few { IfOk result (λ found. length found.items ≤ 1000) }
 {

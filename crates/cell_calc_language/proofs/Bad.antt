@@ -16,7 +16,7 @@ use Rattle.cell_calc_language.specs.Assignment.{IsAssignment}
 use Rattle.cell_calc_grammar.specs.Grammar as grammar
 use Rattle.cell_calc_grammar.specs.Grammar.{AreCalled, AreArguments}
 use Rattle.cell_calc_language.specs.GrammarFault as grammar_fault
-use Rattle.cell_calc_language.specs.GrammarFault.{IsOffsetSign, IsBeforeNumber, CanGoOn, Tells, TellsNone}
+use Rattle.cell_calc_language.specs.GrammarFault.{IsOffsetSign, IsBeforeNumber, CanGoOn, Reports, ReportsNone}
 use Rattle.cell_calc_grammar.specs.TokensRead as reading
 use Rattle.cell_calc_grammar.specs.TokensRead.{offset, ReadOutcome, Got, GotAll, Stops, State, Operand, Called, move, call_judged, GrammarReads}
 use Rattle.cell_calc_grammar.specs.Shape.{shape_of, shape}
@@ -93,7 +93,7 @@ bad_call ts front inside name c d f xs e u h a = record {
   calls = λ _. (d, inside, xs, refl, h);
 }
 
-pub bad_of : (kind : CalcKind) (column : ℕ) (b : List Placed) (n : Placed) → (kind ≡ Expected → ⊥) → Tells kind column b n → Bad kind (b ++ n ∷ [])
+pub bad_of : (kind : CalcKind) (column : ℕ) (b : List Placed) (n : Placed) → (kind ≡ Expected → ⊥) → Reports kind column b n → Bad kind (b ++ n ∷ [])
 bad_of Expected column b n k t = absurd (k refl)
 bad_of UnknownFunction column b n k ((front, name, d, e, u), can) = record {
   front = front;
@@ -129,16 +129,16 @@ abbrev pub HasNoBad : List Placed → Type 0
 HasNoBad l = (kind : CalcKind) (ts : List Placed) (bad : Bad kind ts) (m mid : List Placed) → l ≡ m ++ name_at bad.name bad.column ∷ (bad.ends ++ mid) → ⊥
 
 -- tokens that can go on, none of which ends in such a fault, tell none
-pub tells_none : (l : List Placed) → CanGoOn l → HasNoBad l → TellsNone l
-tells_none l can free = λ before rest next kind column e t. go before rest next kind column e t
+pub reports_none : (l : List Placed) → CanGoOn l → HasNoBad l → ReportsNone l
+reports_none l can free = λ before rest next kind column e t. go before rest next kind column e t
   where
-    other : (before rest : List Placed) (next : Placed) (kind : CalcKind) (column : ℕ) → l ≡ before ++ next ∷ rest → (kind ≡ Expected → ⊥) → Tells kind column before next → ⊥
+    other : (before rest : List Placed) (next : Placed) (kind : CalcKind) (column : ℕ) → l ≡ before ++ next ∷ rest → (kind ≡ Expected → ⊥) → Reports kind column before next → ⊥
     other before rest next kind column e k t =
         let bad = bad_of kind column before next k t in
         free kind (before ++ next ∷ []) bad bad.front rest
         (e ∙ sym (append_assoc before (next ∷ []) rest) ∙ ap (λ x. x ++ rest) bad.is ∙ append_assoc bad.front (name_at bad.name bad.column ∷ bad.ends) rest)
 
-    go : (before rest : List Placed) (next : Placed) (kind : CalcKind) (column : ℕ) → l ≡ before ++ next ∷ rest → Tells kind column before next → ⊥
+    go : (before rest : List Placed) (next : Placed) (kind : CalcKind) (column : ℕ) → l ≡ before ++ next ∷ rest → Reports kind column before next → ⊥
     go before rest next Expected column e (c, can', cannot) =
         cannot (can_before (before ++ next ∷ []) rest (subst CanGoOn (e ∙ sym (append_assoc before (next ∷ []) rest)) can))
     go before rest next kind column e t = other before rest next kind column e (λ k. cc) t

@@ -16,7 +16,7 @@ use Rattle.cell_calc_language.specs.Assignment.{IsAssignment}
 use Rattle.cell_calc_grammar.specs.Grammar as grammar
 use Rattle.cell_calc_grammar.specs.Grammar.{IsExpression}
 use Rattle.cell_calc_language.specs.GrammarFault as grammar_fault
-use Rattle.cell_calc_language.specs.GrammarFault.{IsOffsetSign, IsBeforeNumber, IsInBrackets, CanGoOn, Tells, column_of, IsNone, IsGrammarFault, IsFaultOf, IsTextFault}
+use Rattle.cell_calc_language.specs.GrammarFault.{IsOffsetSign, IsBeforeNumber, IsInBrackets, CanGoOn, Reports, column_of, IsNone, IsGrammarFault, IsFaultOf, IsTextFault}
 use Rattle.cell_calc_grammar.specs.TokensRead.{ReadOutcome, Got, Stops, Expression, IsNot, GrammarReads, tail}
 use Rattle.cell_calc_grammar.specs.Shape.{shape_of, shape}
 use Rattle.cell_calc_language.specs.Stopping.{ParserStopsAt, FollowsSign, fault_of_stop}
@@ -24,7 +24,7 @@ use Rattle.cell_calc_grammar.specs.Tree.{Tree}
 use Rattle.cell_calc_grammar.specs.Term.{Term}
 use Rattle.cell_calc_grammar.specs.Token.{token_number_at, name_at, sign_at, head}
 use Rattle.cell_calc_grammar.specs.Tokens.{token_fault, token_list}
-use Rattle.cell_calc_language.proofs.Bad.{can_before, HasNoBad, tells_none, none_in_nothing, none_in_one, none_in_assignment, none_in_call, called_end}
+use Rattle.cell_calc_language.proofs.Bad.{can_before, HasNoBad, reports_none, none_in_nothing, none_in_one, none_in_assignment, none_in_call, called_end}
 use Rattle.cell_calc_grammar.proofs.Complete.{one_outcome, read_all}
 use Rattle.cell_calc_language.proofs.Law.{one}
 use Rattle.cell_calc_grammar.proofs.Occurs.{find}
@@ -81,11 +81,11 @@ nothing_goes_on = can_before [] (name_at [] 0 ∷ []) (name_goes_on [] 0)
 
 -- no token tells a fault
 expected_at_end : (end : ℕ) (ts : List Placed) → CanGoOn ts → HasNoBad ts → IsNone ts → IsGrammarFault end ts (token_fault Expected end)
-expected_at_end end ts can free none = (inr (refl, can, tells_none ts can free), none)
+expected_at_end end ts can free none = (inr (refl, can, reports_none ts can free), none)
 
 -- a token that cannot come there
 unexpected : (end : ℕ) (before rest : List Placed) (next : Placed) → CanGoOn before → HasNoBad before → (CanGoOn (before ++ next ∷ []) → ⊥) → IsNone (before ++ next ∷ rest) → IsGrammarFault end (before ++ next ∷ rest) (token_fault Expected next.column)
-unexpected end before rest next can free not none = (inl (before, rest, next, refl, (refl, can, not), tells_none before can free), none)
+unexpected end before rest next can free not none = (inl (before, rest, next, refl, (refl, can, not), reports_none before can free), none)
 
 pub no_name : (end : ℕ) (s : Placed) (ts : List Placed) → ((name : List ℕ) → s.token ≡ token.Name name → ⊥) → IsGrammarFault end (s ∷ ts) (token_fault Expected s.column)
 no_name end s ts n = unexpected end [] ts s nothing_goes_on none_in_nothing (cannot (s ∷ []) (at s.token n)) (none_without_name s ts n)
@@ -149,17 +149,17 @@ stops_expected end name c d ts rest r can none = go rest refl
         subst (λ l. IsGrammarFault end l (token_fault Expected next.column)) (sym same)
         (unexpected end before more next can free (refused_after name c d (find r).before next refused) (subst IsNone same none))
 
--- the fault is told later, at the last token of a segment
+-- the fault is reported later, at the last token of a segment
 stops_later : (end : ℕ) (name : List ℕ) (c d : ℕ) (ts : List Placed) (kind : CalcKind) (rest : List Placed)
     (r : GrammarReads (Expression ts) (Stops kind rest)) (extra more : List Placed) (next : Placed)
     → rest ≡ (extra ++ next ∷ []) ++ more → ((q : List Placed) → Stops kind rest ≡ Stops BadOffset q → extra ≡ [])
     → HasNoBad extra
     → CanGoOn (name_at name c ∷ sign_at Assign d ∷ ((find r).before ++ (extra ++ next ∷ [])))
     → (CanGoOn ((name_at name c ∷ sign_at Assign d ∷ ((find r).before ++ extra)) ++ next ∷ [])
-    → Tells kind (column_of end ((extra ++ next ∷ []) ++ more))
+    → Reports kind (column_of end ((extra ++ next ∷ []) ++ more))
     (name_at name c ∷ sign_at Assign d ∷ ((find r).before ++ extra)) next)
     → IsNone (name_at name c ∷ sign_at Assign d ∷ ts) → IsFaultAt end (name_at name c ∷ sign_at Assign d ∷ ts) kind rest
-stops_later end name c d ts kind rest r extra more next e far free can told none =
+stops_later end name c d ts kind rest r extra more next e far free can reported none =
     let opens : List Placed = name_at name c ∷ sign_at Assign d ∷ [] in
     let before : List Placed = opens ++ ((find r).before ++ extra) in
     let can' = subst CanGoOn (ap (λ l. opens ++ l) (sym (append_assoc (find r).before extra (next ∷ [])))) can in
@@ -169,7 +169,7 @@ stops_later end name c d ts kind rest r extra more next e far free can told none
     ((find r).all ∙ ap (λ l. (find r).before ++ l) at ∙ sym (append_assoc (find r).before extra (next ∷ more))) in
     let free' = none_in_assignment name c d r extra (next ∷ more) at far free in
     subst (λ k. IsGrammarFault end (opens ++ ts) (token_fault kind k)) (sym (ap (column_of end) e))
-    (inl (before, more, next, all, told can', tells_none before (can_before before (next ∷ []) can') free'), none)
+    (inl (before, more, next, all, reported can', reports_none before (can_before before (next ∷ []) can') free'), none)
 
 offset_sign : {f : ℕ → ℤ} {ts : List Placed} → Signed f ts → IsOffsetSign ts
 offset_sign unsigned = grammar_fault.unsigned
@@ -185,10 +185,10 @@ stops_as : (end : ℕ) (name : List ℕ) (c d : ℕ) (ts : List Placed) (kind : 
     (r : GrammarReads (Expression ts) (Stops kind rest)) (seg more : List Placed) → rest ≡ seg ++ more
     → IsSegment kind (find r).before seg → CanGoOn (name_at name c ∷ sign_at Assign d ∷ ((find r).before ++ seg))
     → IsNone (name_at name c ∷ sign_at Assign d ∷ ts) → IsFaultAt end (name_at name c ∷ sign_at Assign d ∷ ts) kind rest
-stops_as end name c d ts Expected rest r seg more e told can none =
+stops_as end name c d ts Expected rest r seg more e reported can none =
     let opens : List Placed = name_at name c ∷ sign_at Assign d ∷ [] in
     stops_expected end name c d ts rest r
-    (subst (λ l. CanGoOn (opens ++ l)) (ap (λ l. (find r).before ++ l) told ∙ append-nil (find r).before) can) none
+    (subst (λ l. CanGoOn (opens ++ l)) (ap (λ l. (find r).before ++ l) reported ∙ append-nil (find r).before) can) none
 stops_as end name c d ts UnknownFunction rest r seg more e (f, c', d', s, u) can none =
     let front : List Placed = name_at name c ∷ sign_at Assign d ∷ (find r).before in
     let same = append_assoc front (name_at f c' ∷ []) (sign_at OpenParenthesis d' ∷ []) in
@@ -219,7 +219,7 @@ stops_as end name c d ts BadOffset rest r seg more e
     (λ q k. refl) none_in_nothing
     (subst (λ l. CanGoOn (opens ++ ((find r).before ++ l))) s can)
     (λ can'. ((opens ++ ((find r).before ++ []), n, refl, over, subst IsInBrackets (sym same) inside), can')) none
-stops_as end name c d ts _ rest r seg more e told can none = absurd told
+stops_as end name c d ts _ rest r seg more e reported can none = absurd reported
 
 pub stops : (end : ℕ) (name : List ℕ) (c d : ℕ) (ts : List Placed) (kind : CalcKind) (rest : List Placed)
     → GrammarReads (Expression ts) (Stops kind rest) → IsFaultAt end (name_at name c ∷ sign_at Assign d ∷ ts) kind rest
@@ -230,7 +230,7 @@ stops end name c d ts kind rest r =
     let shape_is = v.same ∙ ap (λ l. shape (l ++ v.seg)) one in
     let can = expression_goes_on name c d (w.before ++ v.seg) v.us v.after shape_is v.goes in
     let none = none_of_expression (name_at name c) (sign_at Assign d) ts (no_expression ts (Stops kind rest) r (λ a e. cc)) in
-    stops_as end name c d ts kind rest r v.seg v.more v.front (subst (λ b. IsSegment kind b v.seg) one v.told) can none
+    stops_as end name c d ts kind rest r v.seg v.more v.front (subst (λ b. IsSegment kind b v.seg) one v.reported) can none
 
 pub goes_on : (end : ℕ) (name : List ℕ) (c d : ℕ) (ts : List Placed) (a : Term) (u : Placed) (rest : List Placed) → GrammarReads (Expression ts) (Got a (u ∷ rest)) → IsFaultAt end (name_at name c ∷ sign_at Assign d ∷ ts) Expected (u ∷ rest)
 goes_on end name c d ts a u rest r =
@@ -295,7 +295,7 @@ ends name target ts us a left e h f r =
 pub ends_only : (name target : List ℕ) (ts us : List Placed) (a : Term) (left : List Placed) → target ≡ name → Begins name ts us → left ≡ [] → GrammarReads (Expression us) (Got a left) → (b : Assignment) → IsAssignment ts b → b ≡ record { target = target; expr = a }
 ends_only name target ts us a left e h f r = λ b is. one ts b (record { target = target; expr = a }) is (ends name target ts us a left e h f r)
 
--- what is told of the tokens is told of the text
+-- what is reported of the tokens is reported of the text
 text_fault_of : (text : List ℕ) (ts : List Placed) → token_list text ≡ Ok ts → (token_fault : CalcFault) → IsFaultOf (length text + 1) ts token_fault → IsTextFault text token_fault
 text_fault_of text ts e token_fault (inl m) = inl m
 text_fault_of text ts e token_fault (inr g) = inr (subst (λ r. MatchResult r (λ us. IsGrammarFault (length text + 1) us token_fault) (λ first. token_fault ≡ first)) (sym e) g)

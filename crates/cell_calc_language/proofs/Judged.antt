@@ -10,7 +10,7 @@ use Rattle.cell_calc_grammar.specs.declared.token.Token.{Token}
 use Rattle.cell_calc_grammar.specs.declared.token.Token.TheVariants as token
 use Rattle.cell_calc_language.specs.Assignment.{IsAssignment}
 use Rattle.cell_calc_grammar.specs.Grammar.{AreCalled}
-use Rattle.cell_calc_language.specs.GrammarFault.{CanGoOn, column_of, IsUnknown, IsMiscounted, IsFar, Tells, IsGrammarFault}
+use Rattle.cell_calc_language.specs.GrammarFault.{CanGoOn, column_of, IsUnknown, IsMiscounted, IsFar, Reports, IsGrammarFault}
 use Rattle.cell_calc_grammar.specs.TokensRead.{ReadOutcome, Got, GotAll, Stops, Expression, GrammarReads}
 use Rattle.cell_calc_grammar.specs.Term.{Terms}
 use Rattle.cell_calc_grammar.specs.Token.{token_number_at, name_at, sign_at}
@@ -63,7 +63,7 @@ not_within c d inside xs h ts bad (x ∷ m) e =
     let f : inside ≡ m ++ name_at bad.name bad.column ∷ bad.ends = cc in
     none_inside inside xs h BadArguments ts bad m [] (f ∙ ap (λ l. m ++ name_at bad.name bad.column ∷ l) (sym (append-nil bad.ends)))
 
-one_miscounted : (c c' : ℕ) (b : List Placed) (n : Placed) → Tells BadArguments c b n → Tells BadArguments c' b n → c ≡ c'
+one_miscounted : (c c' : ℕ) (b : List Placed) (n : Placed) → Reports BadArguments c b n → Reports BadArguments c' b n → c ≡ c'
 one_miscounted c c' b n ((front, inside, name, d, f, xs, e, u, h, a), can) ((front', inside', name', d', f', xs', e', u', h', a'), can') =
     go (cuts front (name_at name c) (sign_at OpenParenthesis d ∷ inside) front' (name_at name' c') (sign_at OpenParenthesis d' ∷ inside') (sym e ∙ e'))
   where
@@ -73,30 +73,31 @@ one_miscounted c c' b n ((front, inside, name, d, f, xs, e, u, h, a), can) ((fro
     go (behind m i j) = absurd (not_within c' d' inside' xs' h' (b ++ n ∷ []) (bad_call (b ++ n ∷ []) front inside name c d f xs e u h a) m j)
 
 -- the kind that a token tells where all up to it can go on
-abbrev told_by : Token → CalcKind
-told_by (token.Sign OpenParenthesis) = UnknownFunction
-told_by (token.Sign _) = BadArguments
-told_by _ = BadOffset
+abbrev reported_by : Token → CalcKind
+reported_by (token.Sign OpenParenthesis) = UnknownFunction
+reported_by (token.Sign _) = BadArguments
+reported_by _ = BadOffset
 
-told_so : (k : CalcKind) (c : ℕ) (b : List Placed) (n : Placed) → Tells k c b n
-    → ((k ≡ Expected) × (CanGoOn (b ++ n ∷ []) → ⊥)) ⊎ ((k ≡ told_by n.token) × CanGoOn (b ++ n ∷ []))
-told_so Expected c b n t = inl (refl, t.2)
-told_so UnknownFunction c b n t = inr (sym (ap told_by (unknown_last c b n t.0)), t.1)
-told_so BadArguments c b n t = inr (sym (ap told_by (miscounted_last c b n t.0)), t.1)
-told_so BadOffset c b n t = inr (sym (ap (λ (x : Placed). told_by x.token) (far_last c b n t.0).1), t.1)
-told_so _ c b n t = absurd t
+reported_so : (k : CalcKind) (c : ℕ) (b : List Placed) (n : Placed) → Reports k c b n
+    → ((k ≡ Expected) × (CanGoOn (b ++ n ∷ []) → ⊥)) ⊎ ((k ≡ reported_by n.token) × CanGoOn (b ++ n ∷ []))
+reported_so Expected c b n t = inl (refl, t.2)
+reported_so UnknownFunction c b n t = inr (sym (ap reported_by (unknown_last c b n t.0)), t.1)
+reported_so BadArguments c b n t = inr (sym (ap reported_by (miscounted_last c b n t.0)), t.1)
+reported_so BadOffset c b n t = inr (sym (ap (λ (x : Placed). reported_by x.token) (far_last c b n t.0).1), t.1)
+reported_so _ c b n t = absurd t
 
-one_kind : (k k' : CalcKind) (c c' : ℕ) (b : List Placed) (n : Placed) → Tells k c b n → Tells k' c' b n → k ≡ k'
-one_kind k k' c c' b n t t' = go (told_so k c b n t) (told_so k' c' b n t')
+one_kind : (k k' : CalcKind) (c c' : ℕ) (b : List Placed) (n : Placed) → Reports k c b n → Reports k' c' b n → k ≡ k'
+one_kind k k' c c' b n t t' = go (reported_so k c b n t) (reported_so k' c' b n t')
   where
-    go : ((k ≡ Expected) × (CanGoOn (b ++ n ∷ []) → ⊥)) ⊎ ((k ≡ told_by n.token) × CanGoOn (b ++ n ∷ []))
-        → ((k' ≡ Expected) × (CanGoOn (b ++ n ∷ []) → ⊥)) ⊎ ((k' ≡ told_by n.token) × CanGoOn (b ++ n ∷ [])) → k ≡ k'
+    go : ((k ≡ Expected) × (CanGoOn (b ++ n ∷ []) → ⊥)) ⊎ ((k ≡ reported_by n.token) × CanGoOn (b ++ n ∷ []))
+        → ((k' ≡ Expected) × (CanGoOn (b ++ n ∷ []) → ⊥)) ⊎ ((k' ≡ reported_by n.token) × CanGoOn (b ++ n ∷ []))
+        → k ≡ k'
     go (inl x) (inl y) = x.0 ∙ sym y.0
     go (inl x) (inr y) = absurd (x.1 y.1)
     go (inr x) (inl y) = absurd (y.1 x.1)
     go (inr x) (inr y) = x.0 ∙ sym y.0
 
-one_place : (k : CalcKind) (c c' : ℕ) (b : List Placed) (n : Placed) → Tells k c b n → Tells k c' b n → c ≡ c'
+one_place : (k : CalcKind) (c c' : ℕ) (b : List Placed) (n : Placed) → Reports k c b n → Reports k c' b n → c ≡ c'
 one_place Expected c c' b n t t' = sym t.0 ∙ t'.0
 one_place UnknownFunction c c' b n t t' = one_unknown c c' (b ++ n ∷ []) t.0 t'.0
 one_place BadArguments c c' b n t t' = one_miscounted c c' b n t t'
@@ -111,9 +112,9 @@ one_fault end ts f g (inl (b, r, n, e, t, none), _) (inl (b', r', n', e', t', no
   where
     go : Cuts b n r b' n' r' → f ≡ g
     go (same h i j) =
-        let s = subst (λ x. Tells f.kind f.column b' x) i (subst (λ l. Tells f.kind f.column l n) h t) in
+        let s = subst (λ x. Reports f.kind f.column b' x) i (subst (λ l. Reports f.kind f.column l n) h t) in
         let kind = one_kind f.kind g.kind f.column g.column b' n' s t' in
-        same_fault f g kind (one_place g.kind f.column g.column b' n' (subst (λ k. Tells k f.column b' n') kind s) t')
+        same_fault f g kind (one_place g.kind f.column g.column b' n' (subst (λ k. Reports k f.column b' n') kind s) t')
     go (before m h i) = absurd (none' b m n f.kind f.column h t)
     go (behind m h i) = absurd (none b' m n' g.kind g.column h t')
 one_fault end ts f g (inl (b, r, n, e, t, none), _) (inr (e', can, none'), _) = absurd (none' b r n f.kind f.column e t)
@@ -122,7 +123,7 @@ one_fault end ts f g (inr (e, can, none), _) (inr (e', can', none'), _) = e ∙ 
 
 -- the list stands for an assignment, or has a fault
 abbrev pub IsJudged : ℕ → List Placed → Type 0
-IsJudged end ts = ((a : Assignment) × IsAssignment ts a) ⊎ ((told : CalcFault) × IsGrammarFault end ts told)
+IsJudged end ts = ((a : Assignment) × IsAssignment ts a) ⊎ ((reported : CalcFault) × IsGrammarFault end ts reported)
 
 judged_read : (end : ℕ) (name : List ℕ) (c d : ℕ) (us : List Placed) (o : ReadOutcome) → GrammarReads (Expression us) o → IsJudged end (name_at name c ∷ sign_at Assign d ∷ us)
 judged_read end name c d us (Got a []) r =

@@ -73,36 +73,36 @@ abbrev pub IsUnexpected : (column : ℕ) → (before : List Placed) → Placed �
 IsUnexpected column before next =
     (next.column ≡ column) × CanGoOn before × (CanGoOn (before ++ next ∷ []) → ⊥)
 
--- reading from the left, at the next token a fault of the kind is told, at the column
-abbrev pub Tells : CalcKind → (column : ℕ) → (before : List Placed) → Placed → Type 0
-Tells Expected column before next = IsUnexpected column before next
-Tells UnknownFunction column before next =
+-- reading from the left, at the next token a fault of the kind is reported, at the column
+abbrev pub Reports : CalcKind → (column : ℕ) → (before : List Placed) → Placed → Type 0
+Reports Expected column before next = IsUnexpected column before next
+Reports UnknownFunction column before next =
     IsUnknown column (before ++ next ∷ []) × CanGoOn (before ++ next ∷ [])
-Tells Arguments column before next =
+Reports Arguments column before next =
     IsMiscounted column (before ++ next ∷ []) × CanGoOn (before ++ next ∷ [])
-Tells BadOffset column before next =
+Reports BadOffset column before next =
     IsFar column (before ++ next ∷ []) × CanGoOn (before ++ next ∷ [])
-Tells _ column before next = ⊥
+Reports _ column before next = ⊥
 
 -- none of the tokens tells a fault
-abbrev pub TellsNone : List Placed → Type 0
-TellsNone ts =
+abbrev pub ReportsNone : List Placed → Type 0
+ReportsNone ts =
     (before rest : List Placed) (next : Placed) (kind : CalcKind) (column : ℕ)
-    → ts ≡ before ++ next ∷ rest → Tells kind column before next → ⊥
+    → ts ≡ before ++ next ∷ rest → Reports kind column before next → ⊥
 
 -- a token tells the fault, and none before it tells any
-abbrev pub IsToldFirst : List Placed → CalcFault → Type 0
-IsToldFirst ts token_fault =
+abbrev pub IsReportedFirst : List Placed → CalcFault → Type 0
+IsReportedFirst ts token_fault =
     (before rest : List Placed) × (next : Placed) × (ts ≡ before ++ next ∷ rest)
-    × Tells token_fault.kind token_fault.column before next × TellsNone before
+    × Reports token_fault.kind token_fault.column before next × ReportsNone before
 
 -- no token tells a fault, and the list can go on: more is expected at the end
-abbrev pub IsToldAtEnd : (end : ℕ) → List Placed → CalcFault → Type 0
-IsToldAtEnd end ts told = (told ≡ token_fault Expected end) × CanGoOn ts × TellsNone ts
+abbrev pub IsReportedAtEnd : (end : ℕ) → List Placed → CalcFault → Type 0
+IsReportedAtEnd end ts reported = (reported ≡ token_fault Expected end) × CanGoOn ts × ReportsNone ts
 
 -- the list stands for no assignment, and this is the first fault that reading from the left can tell
 abbrev pub IsGrammarFault : (end : ℕ) → List Placed → CalcFault → Type 0
-IsGrammarFault end ts token_fault = (IsToldFirst ts token_fault ⊎ IsToldAtEnd end ts token_fault) × IsNone ts
+IsGrammarFault end ts token_fault = (IsReportedFirst ts token_fault ⊎ IsReportedAtEnd end ts token_fault) × IsNone ts
 
 -- the fault is one of the grammar, if memory lasts
 abbrev pub IsFaultOf : (end : ℕ) → List Placed → CalcFault → Type 0

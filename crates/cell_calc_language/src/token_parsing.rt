@@ -103,7 +103,7 @@ pub(crate) fn name_copy<'a>(alloc: Global, name: &Name) -> Result<Name, ParseSto
 }
 
 fn read_distance<'a>(tokens: &'a [Placed]) -> Result<(u32, &'a [Placed]), ParseStop<'a>>
-    ensures told { IsPartRead (distance tokens.now) result }
+    ensures reported { IsPartRead (distance tokens.now) result }
     ensures near { IfOk result (λ x. x.0 ≤ 255) }
     ensures shorter { IfOk result (λ x. length x.1.now < length tokens.now) }
 {
@@ -123,7 +123,7 @@ fn read_distance<'a>(tokens: &'a [Placed]) -> Result<(u32, &'a [Placed]), ParseS
 }
 
 fn read_offset<'a>(tokens: &'a [Placed]) -> Result<(i32, &'a [Placed]), ParseStop<'a>>
-    ensures told { IsPartRead (offset tokens.now) result }
+    ensures reported { IsPartRead (offset tokens.now) result }
     ensures shorter { IfOk result (λ x. length x.1.now < length tokens.now) }
 {
     if let Some(after) = after_sign(Sign::Minus, tokens) {
@@ -140,7 +140,7 @@ fn read_offset<'a>(tokens: &'a [Placed]) -> Result<(i32, &'a [Placed]), ParseSto
 
 // Both offsets and the closing bracket.
 pub(crate) fn offsets<'a>(tokens: &'a [Placed]) -> Result<((i32, i32), &'a [Placed]), ParseStop<'a>>
-    ensures told { IsPartRead (offsets tokens.now) result }
+    ensures reported { IsPartRead (offsets tokens.now) result }
     ensures shorter { IfOk result (λ x. length x.1.now < length tokens.now) }
 {
     let (down, rest) = read_offset(tokens)?;

@@ -13,7 +13,7 @@ use Rattle.std.proofs.lemmas.List.{map-append, length-map}
 use Rattle.std.proofs.lemmas.List.Elements.{All-append, All-map}
 use Rattle.cell_core.specs.Grid.{Grid, CellValue, cell_at}
 use Rattle.cell_core_values.specs.Cell.{cell_cmp, cell_cmp_total}
-use Rattle.cell_calc_binding.specs.Applied.{spot}
+use Rattle.cell_calc_binding.specs.Applied.{grid_position}
 use Rattle.cell_stats_counts.specs.declared.skip.Skip.TheVariants.{Nothing}
 use Rattle.cell_stats_counts.specs.Combinations.{Combination, combination_cmp, cell_of_map, combination_at}
 use Rattle.cell_stats_counts.proofs.OrderLemmas.{combination_cmp-exact, is_equal}
@@ -215,7 +215,7 @@ table-has-its-values f picks given gives shelf name x all are =
     let new = combination_at (shelf.maps ++ x ∷ []) (picks ++ length shelf.maps ∷ []) in
     let same : after ≡ map (more given wide) cells =
     all-mapped (more given wide) new old cols 0 rows (λ row col row_lt col_lt.
-    let value = are.cells row col (omega (arith, row_lt)) col_lt ∙ gives shelf.maps (spot shelf.region row col) in
+    let value = are.cells row col (omega (arith, row_lt)) col_lt ∙ gives shelf.maps (grid_position shelf.region row col) in
     more-cells shelf.maps x row col picks all ∙ ap (λ (c : CellValue). old row col ++ c ∷ []) value) in
     let keys_wide = table-wide shelf.maps picks Nothing rows cols es (table_of-IsTable Nothing cells) in
     let cells_wide = wide-rows shelf.maps picks cols (range_with_len 0 rows) in

@@ -8,7 +8,7 @@ use Rattle.std.specs.declared.cmp.Ordering.TheVariants.{Less, Equal}
 use Rattle.std.proofs.lemmas.List.{map-append}
 use Rattle.cell_core.specs.Grid.{CellValue}
 use Rattle.cell_core_values.specs.Cell.{cell_cmp, cell_eq}
-use Rattle.cell_calc_binding.specs.Applied.{spot}
+use Rattle.cell_calc_binding.specs.Applied.{grid_position}
 use Rattle.cell_stats_counts.specs.Combinations.{Combination, combination_cmp, combination_at}
 use Rattle.cell_stats_counts.specs.Counts.{count_of}
 use Rattle.cell_stats.proofs.TableLemmas.{count_cons}
@@ -65,7 +65,7 @@ counts-follow f picks given gives shelf x are v =
     let old = combination_at shelf.maps picks in
     let cells : cells_alone shelf.region x ≡ map (λ k. given k ∷ []) (cells_of_shelf shelf picks) =
     all-mapped (λ k. given k ∷ []) (combination_at (x ∷ []) (0 ∷ [])) old cols 0 rows (λ row col row_lt col_lt.
-    let value = are.cells row col (omega (arith, row_lt)) col_lt ∙ gives shelf.maps (spot shelf.region row col) in
+    let value = are.cells row col (omega (arith, row_lt)) col_lt ∙ gives shelf.maps (grid_position shelf.region row col) in
     ap (λ (c : CellValue). c ∷ []) value) in
     ap (count_of (v ∷ [])) cells
     ∙ count-mapped given v (cells_of_shelf shelf picks)

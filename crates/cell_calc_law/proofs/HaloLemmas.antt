@@ -10,14 +10,14 @@ use Rattle.cell_core.specs.Grid.{Grid, CellValue, IsFilled}
 use Rattle.cell_calc_grammar.specs.declared.function.Function.{Function}
 use Rattle.cell_calc_grammar.specs.declared.function.Function.TheVariants as function
 use Rattle.cell_calc_language.specs.Grammatical.{up_by, down_by}
-use Rattle.cell_calc_binding.specs.Applied.{Spot, spot, negated_cell, inverted_cell, operator_value, call_result}
+use Rattle.cell_calc_binding.specs.Applied.{GridPosition, grid_position, negated_cell, inverted_cell, operator_value, call_result}
 use Rattle.cell_calc_binding.specs.Offsets.{item_at, cell_at_offset, cell_in}
 use Rattle.cell_calc_binding.specs.Formula.{Formula, Number, Map, Negated, Not, Binary, Call, Formulas, NoTrees, Then}
 use Rattle.cell_calc_binding.specs.Reach.{up_of, down_of, up_of_all, down_of_all}
 use Rattle.cell_calc_binding.specs.Value.{value, argument_values}
 use Rattle.cell_parts.specs.Parts.{Rectangle, AreCutOut, cut_out}
 use Rattle.cell_parts.proofs.CutLemmas.{length-take-most, nothing-cut, row-cut, first-or}
-use Rattle.cell_calc_law.specs.HaloParts.{left_of, left_of_all, right_of, right_of_all, calls, call_any, asks_rows, asks_cols, HaloIsEnough, value_told, values_told, ToldOfItself, ReachIsEnough}
+use Rattle.cell_calc_law.specs.HaloParts.{left_of, left_of_all, right_of, right_of_all, calls, call_any, asks_rows, asks_cols, HaloIsEnough, value_seen_from, values_seen_from, SeenFromItself, ReachIsEnough}
 
 -- ---- an item of a stretch of a list, by an offset
 
@@ -129,11 +129,11 @@ module _ (region : RegionValue) (r : Rectangle) (row col : ℕ) where
     cols = or-second c c' h.cols;
   }
 
-  abbrev here : Spot
+  abbrev here : GridPosition
   here = record { rows = r.rows; cols = r.cols; row = row; col = col }
 
-  abbrev there : Spot
-  there = spot region (r.top + row) (r.left + col)
+  abbrev there : GridPosition
+  there = grid_position region (r.top + row) (r.left + col)
 
   -- a map of the part has the cells of that of the whole
   cell-cut : (w m : Grid) → IsFilled region w.rows → m.rows ≡ cut_out r w.rows → (down right : ℤ) → (r.top ≡ 0) ⊎ (up_by down ≤ row) → (region.rows ≤ r.top + r.rows) ⊎ (row + down_by down < r.rows) → (r.left ≡ 0) ⊎ (up_by right ≤ col) → (region.cols ≤ r.left + r.cols) ⊎ (col + down_by right < r.cols) → cell_at_offset m (pos row +ℤ down) (pos col +ℤ right) ≡ cell_at_offset w (pos (r.top + row) +ℤ down) (pos (r.left + col) +ℤ right)
@@ -210,40 +210,40 @@ module _ (region : RegionValue) (r : Rectangle) (row col : ℕ) where
 
     -- and any expression, told of the spot in the whole
     mutual
-      same-told : (f : Formula) → IsHalo region r row col (λ i. up_of i f) (λ i. down_of i f) (λ i. left_of i f) (λ i. right_of i f) false false → value_told f part here there ≡ value f whole there
-      same-told (Number n) h = refl
-      same-told (Map i down right) h =
+      same-reported : (f : Formula) → IsHalo region r row col (λ i. up_of i f) (λ i. down_of i f) (λ i. left_of i f) (λ i. right_of i f) false false → value_seen_from f part here there ≡ value f whole there
+      same-reported (Number n) h = refl
+      same-reported (Map i down right) h =
           cells-cut whole part i all cut down right (own-le i (up_by down) row (h.up i)) (own-lt i (down_by down) r.rows row (h.down i)) (own-le i (up_by right) col (h.left i)) (own-lt i (down_by right) r.cols col (h.right i))
-      same-told (Negated a) h = ap negated_cell (same-told a (record { up = h.up; down = h.down; left = h.left; right = h.right; rows = inl refl; cols = inl refl }))
-      same-told (Not a) h = ap inverted_cell (same-told a (record { up = h.up; down = h.down; left = h.left; right = h.right; rows = inl refl; cols = inl refl }))
-      same-told (Binary op a b) h =
+      same-reported (Negated a) h = ap negated_cell (same-reported a (record { up = h.up; down = h.down; left = h.left; right = h.right; rows = inl refl; cols = inl refl }))
+      same-reported (Not a) h = ap inverted_cell (same-reported a (record { up = h.up; down = h.down; left = h.left; right = h.right; rows = inl refl; cols = inl refl }))
+      same-reported (Binary op a b) h =
           let first = first-halo (λ i. up_of i a) (λ i. down_of i a) (λ i. left_of i a) (λ i. right_of i a) (λ i. up_of i b) (λ i. down_of i b) (λ i. left_of i b) (λ i. right_of i b) false false false false h in
           let second = second-halo (λ i. up_of i a) (λ i. down_of i a) (λ i. left_of i a) (λ i. right_of i a) (λ i. up_of i b) (λ i. down_of i b) (λ i. left_of i b) (λ i. right_of i b) false false false false h in
-          ap (λ x. operator_value op x (value_told b part here there)) (same-told a first) ∙ ap (λ y. operator_value op (value a whole there) y) (same-told b second)
-      same-told (Call g xs) h = ap (call_result g there) (sames-told xs (record { up = h.up; down = h.down; left = h.left; right = h.right; rows = inl refl; cols = inl refl }))
+          ap (λ x. operator_value op x (value_seen_from b part here there)) (same-reported a first) ∙ ap (λ y. operator_value op (value a whole there) y) (same-reported b second)
+      same-reported (Call g xs) h = ap (call_result g there) (sames-reported xs (record { up = h.up; down = h.down; left = h.left; right = h.right; rows = inl refl; cols = inl refl }))
 
-      sames-told : (xs : Formulas) → IsHalo region r row col (λ i. up_of_all i xs) (λ i. down_of_all i xs) (λ i. left_of_all i xs) (λ i. right_of_all i xs) false false → values_told xs part here there ≡ argument_values xs whole there
-      sames-told NoTrees h = refl
-      sames-told (Then a xs) h =
+      sames-reported : (xs : Formulas) → IsHalo region r row col (λ i. up_of_all i xs) (λ i. down_of_all i xs) (λ i. left_of_all i xs) (λ i. right_of_all i xs) false false → values_seen_from xs part here there ≡ argument_values xs whole there
+      sames-reported NoTrees h = refl
+      sames-reported (Then a xs) h =
           let first = first-halo (λ i. up_of i a) (λ i. down_of i a) (λ i. left_of i a) (λ i. right_of i a) (λ i. up_of_all i xs) (λ i. down_of_all i xs) (λ i. left_of_all i xs) (λ i. right_of_all i xs) false false false false h in
           let second = second-halo (λ i. up_of i a) (λ i. down_of i a) (λ i. left_of i a) (λ i. right_of i a) (λ i. up_of_all i xs) (λ i. down_of_all i xs) (λ i. left_of_all i xs) (λ i. right_of_all i xs) false false false false h in
-          ap (λ (x : CellValue). x ∷ values_told xs part here there) (same-told a first) ∙ ap (λ (l : List CellValue). value a whole there ∷ l) (sames-told xs second)
+          ap (λ (x : CellValue). x ∷ values_seen_from xs part here there) (same-reported a first) ∙ ap (λ (l : List CellValue). value a whole there ∷ l) (sames-reported xs second)
 
 mutual
-  pub told-of-itself : ToldOfItself
-  told-of-itself (Negated a) maps s = ap negated_cell (told-of-itself a maps s)
-  told-of-itself (Not a) maps s = ap inverted_cell (told-of-itself a maps s)
-  told-of-itself (Binary op a b) maps s = ap (λ x. operator_value op x (value_told b maps s s)) (told-of-itself a maps s) ∙ ap (λ y. operator_value op (value a maps s) y) (told-of-itself b maps s)
-  told-of-itself (Call g xs) maps s = ap (call_result g s) (all-of-itself xs maps s)
-  told-of-itself _ maps s = refl
+  pub seen-from-itself : SeenFromItself
+  seen-from-itself (Negated a) maps s = ap negated_cell (seen-from-itself a maps s)
+  seen-from-itself (Not a) maps s = ap inverted_cell (seen-from-itself a maps s)
+  seen-from-itself (Binary op a b) maps s = ap (λ x. operator_value op x (value_seen_from b maps s s)) (seen-from-itself a maps s) ∙ ap (λ y. operator_value op (value a maps s) y) (seen-from-itself b maps s)
+  seen-from-itself (Call g xs) maps s = ap (call_result g s) (all-of-itself xs maps s)
+  seen-from-itself _ maps s = refl
 
-  all-of-itself : (xs : Formulas) (maps : List Grid) (s : Spot) → values_told xs maps s s ≡ argument_values xs maps s
+  all-of-itself : (xs : Formulas) (maps : List Grid) (s : GridPosition) → values_seen_from xs maps s s ≡ argument_values xs maps s
   all-of-itself NoTrees maps s = refl
-  all-of-itself (Then a xs) maps s = ap (λ (x : CellValue). x ∷ values_told xs maps s s) (told-of-itself a maps s) ∙ ap (λ (l : List CellValue). value a maps s ∷ l) (all-of-itself xs maps s)
+  all-of-itself (Then a xs) maps s = ap (λ (x : CellValue). x ∷ values_seen_from xs maps s s) (seen-from-itself a maps s) ∙ ap (λ (l : List CellValue). value a maps s ∷ l) (all-of-itself xs maps s)
 
 pub reach-is-enough : ReachIsEnough
 reach-is-enough f whole part region r row col all cut h =
-    same-told region r row col whole part all cut f (record { up = h.up; down = h.down; left = h.left; right = h.right; rows = inl refl; cols = inl refl })
+    same-reported region r row col whole part all cut f (record { up = h.up; down = h.down; left = h.left; right = h.right; rows = inl refl; cols = inl refl })
 
 pub halo-is-enough : HaloIsEnough
 halo-is-enough f whole part region r row col all cut h =

@@ -7,7 +7,7 @@ use Rattle.std.proofs.lemmas.Bool.{eqb-true, eq-eqb}
 use Rattle.cell_core.specs.Grid.{Grid, CellValue, cell_at}
 use Rattle.cell_calc_grammar.specs.declared.function.Function.{Function}
 use Rattle.cell_calc_grammar.specs.declared.function.Function.TheVariants as function
-use Rattle.cell_calc_binding.specs.Applied.{Spot, negated_cell, inverted_cell, operator_value, call_result}
+use Rattle.cell_calc_binding.specs.Applied.{GridPosition, negated_cell, inverted_cell, operator_value, call_result}
 use Rattle.cell_calc_binding.specs.Offsets.{cell_in}
 use Rattle.cell_calc_binding.specs.Compact.{ReadsMap, AreReading}
 use Rattle.cell_calc_binding.specs.Formula as formula
@@ -25,7 +25,7 @@ here (Some m) row col =
     ap (λ n. get_or (get_or m.rows n []) (col + 0) None) (add-zero row)
     ∙ ap (λ n. get_or (get_or m.rows row []) n None) (add-zero col)
 
-pub value-here : (maps : List Grid) (place : ℕ) (down right : ℤ) (s : Spot) → down ≡ pos 0 → right ≡ pos 0
+pub value-here : (maps : List Grid) (place : ℕ) (down right : ℤ) (s : GridPosition) → down ≡ pos 0 → right ≡ pos 0
     → value (Map place down right) maps s ≡ cell_of_map maps s.row s.col place
 value-here maps place down right s no_rows no_cols =
     ap (λ z. cell_in (slice_get maps place) (pos s.row +ℤ z) (pos s.col +ℤ right)) no_rows
@@ -69,7 +69,7 @@ picked-is maps row col place (p ∷ picks) c =
 
 -- ---- the value
 
-nowhere : Spot
+nowhere : GridPosition
 nowhere = record { rows = 0; cols = 0; row = 0; col = 0 }
 
 abbrev mutual
@@ -86,12 +86,12 @@ abbrev mutual
   all_given (formula.Then a xs) picks k = given_by a picks k ∷ all_given xs picks k
 
 -- a function that does not ask where it is
-call-anywhere : (f : Function) (s t : Spot) (xs : List CellValue) → asks_where f ≡ false
+call-anywhere : (f : Function) (s t : GridPosition) (xs : List CellValue) → asks_where f ≡ false
     → call_result f s xs ≡ call_result f t xs
 call-anywhere function.Row s t xs e = cc
 call-anywhere _ s t xs e = cc
 
-module _ (picks : List ℕ) (maps : List Grid) (s : Spot) where
+module _ (picks : List ℕ) (maps : List Grid) (s : GridPosition) where
   abbrev k : Combination
   k = combination_at maps picks s.row s.col
 

@@ -6,7 +6,7 @@ use Rattle.std.proofs.lemmas.List.Elements.{All-get_or}
 use Rattle.cell_core_values.specs.Region.{RegionValue}
 use Rattle.cell_core.specs.Grid.{Grid, CellValue, IsFilled, cell_at}
 use Rattle.cell_core.specs.Shelf.{ShelfValue}
-use Rattle.cell_calc_binding.specs.Applied.{spot}
+use Rattle.cell_calc_binding.specs.Applied.{grid_position}
 use Rattle.cell_calc_binding.specs.CellOperators.{chosen_cell, truth, is_null}
 use Rattle.cell_calc_binding.specs.Formula.{Formula, Map}
 use Rattle.cell_calc_binding.specs.Value.{value}
@@ -63,11 +63,11 @@ either (Some n) = refl
 pub either-way-is-the-same : EitherWayIsTheSame
 either-way-is-the-same g shelf x y are_x are_y =
     one-map-of-values (either_way g) g shelf y x are_y are_x (λ row col _ _.
-    either (value g shelf.maps (spot shelf.region row col)))
+    either (value g shelf.maps (grid_position shelf.region row col)))
 
 pub copy-is-the-map : CopyIsTheMap
 copy-is-the-map shelf place g x is filled are =
     same_rows shelf.region x.rows g.rows (fills (Map place (pos 0) (pos 0)) shelf x are) filled (λ r c r_lt c_lt.
     are.cells r c r_lt c_lt
-    ∙ value-here shelf.maps place (pos 0) (pos 0) (spot shelf.region r c) refl refl
+    ∙ value-here shelf.maps place (pos 0) (pos 0) (grid_position shelf.region r c) refl refl
     ∙ ap (λ o. option_map_or (λ m. cell_at m r c) o None) is)

@@ -3,13 +3,13 @@ use Rattle.std.proofs.Common.{◌+◌, ◌-◌, ◌<◌, ◌≤◌, max, min, co
 use Rattle.std.specs.Prelude.{◌≡◌, ℕ, ◌⊎◌, Bool, true, false}
 use Rattle.std.proofs.lemmas.Bool.{cases_lt}
 use Rattle.cell_core_values.specs.Region.{RegionValue}
-use Rattle.cell_calc_binding.specs.Applied.{spot}
+use Rattle.cell_calc_binding.specs.Applied.{grid_position}
 use Rattle.cell_calc_language.specs.Grammatical.{up_by, down_by}
 use Rattle.cell_calc_binding.specs.Formula as formula
 use Rattle.cell_calc_binding.specs.Formula.{Formula, Formulas}
 use Rattle.cell_calc_binding.specs.Reach.{up_of, down_of, up_of_all, down_of_all}
 use Rattle.cell_calc_binding.specs.Value.{value}
-use Rattle.cell_calc_law.specs.HaloParts.{left_of, right_of, left_of_all, right_of_all, ReadsWithin, value_told}
+use Rattle.cell_calc_law.specs.HaloParts.{left_of, right_of, left_of_all, right_of_all, ReadsWithin, value_seen_from}
 use Rattle.cell_parts.specs.Parts.{Rectangle}
 use Rattle.cell_calc_law.specs.ReachParts as reached
 use Rattle.cell_calc_law.specs.ReachParts.{Halo, reach_of, reach_of_all, IsWithinReach, with_halo, IsCellInside}
@@ -116,10 +116,10 @@ module _ (f : Formula) (region : RegionValue) (r : Rectangle) (row col : ℕ) (i
   reads : ReadsWithin f region h (row - h.top) (col - h.left)
   reads = record { up = above-or; down = below-or; left = left-or; right = right-or }
 
-  there : spot region (h.top + (row - h.top)) (h.left + (col - h.left)) ≡ spot region row col
+  there : grid_position region (h.top + (row - h.top)) (h.left + (col - h.left)) ≡ grid_position region row col
   there =
-      ap (λ n. spot region n (h.left + (col - h.left))) (back r.top (reach_of f).up row is.below)
-      ∙ ap (λ n. spot region row n) (back r.left (reach_of f).left col is.right)
+      ap (λ n. grid_position region n (h.left + (col - h.left))) (back r.top (reach_of f).up row is.below)
+      ∙ ap (λ n. grid_position region row n) (back r.left (reach_of f).left col is.right)
 
 pub its-reach-is-enough : reached.ItsReachIsEnough
 its-reach-is-enough f whole part region r all cut no_rows no_cols row col holds =
@@ -127,9 +127,9 @@ its-reach-is-enough f whole part region r all cut no_rows no_cols row col holds 
     (record { reads = reads f region r row col holds; rows = inl no_rows; cols = inl no_cols })
     ∙ ap (value f whole) (there f region r row col holds)
 
-pub its-reach-is-enough-told : reached.ItsReachIsEnoughTold
-its-reach-is-enough-told f whole part region r all cut row col holds =
-    let here = reached.spot_in (with_halo region (reach_of f) r) row col in
-    ap (value_told f part here) (sym (there f region r row col holds))
+pub its-reach-is-enough-elsewhere : reached.ItsReachIsEnoughElsewhere
+its-reach-is-enough-elsewhere f whole part region r all cut row col holds =
+    let here = reached.position_in (with_halo region (reach_of f) r) row col in
+    ap (value_seen_from f part here) (sym (there f region r row col holds))
     ∙ reach-is-enough f whole part region (with_halo region (reach_of f) r) _ _ all cut (reads f region r row col holds)
     ∙ ap (value f whole) (there f region r row col holds)

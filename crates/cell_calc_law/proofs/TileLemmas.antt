@@ -5,14 +5,14 @@ use Rattle.cell_core.specs.Grid.{Grid, CellValue, cell_at}
 use Rattle.cell_core.specs.Shelf.{ShelfValue}
 use Rattle.cell_calc_grammar.specs.declared.function.Function.{Function}
 use Rattle.cell_calc_grammar.specs.declared.function.Function.TheVariants.{Row, Column}
-use Rattle.cell_calc_binding.specs.Applied.{Spot, spot, negated_cell, inverted_cell, operator_value, call_result}
+use Rattle.cell_calc_binding.specs.Applied.{GridPosition, grid_position, negated_cell, inverted_cell, operator_value, call_result}
 use Rattle.cell_calc_binding.proofs.Fit.{fit_number}
 use Rattle.cell_calc_binding.specs.Formula.{Formula, Number, Map, Negated, Not, Binary, Call, Formulas, NoTrees, Then}
 use Rattle.cell_calc_binding.specs.Value.{value, argument_values}
-use Rattle.cell_calc_law.specs.HaloParts.{value_told, values_told}
+use Rattle.cell_calc_law.specs.HaloParts.{value_seen_from, values_seen_from}
 use Rattle.cell_parts.specs.Parts.{Rectangle}
-use Rattle.cell_calc_law.specs.ReachParts.{reach_of, spot_in, IsCellInside}
-use Rattle.cell_calc_law.proofs.ReachLemmas.{its-reach-is-enough, its-reach-is-enough-told}
+use Rattle.cell_calc_law.specs.ReachParts.{reach_of, position_in, IsCellInside}
+use Rattle.cell_calc_law.proofs.ReachLemmas.{its-reach-is-enough, its-reach-is-enough-elsewhere}
 use Rattle.rcell.specs.Making.{AreValues}
 use Rattle.cell_calc_law.specs.TileLaw.{haloed_rectangle, IsHaloedTile, TilesMakeTheMap}
 use Rattle.cell_calc_law.specs.TileLaw.{placed, all_placed, placed_call, PlacedTilesMakeTheMap}
@@ -35,7 +35,7 @@ module _ (f g : Formula) (whole tile : ShelfValue) (r : Rectangle) (is : IsHaloe
   col-in = omega (arith, holds.wide, holds.left)
 
   -- where the expressions have one value, the maps have one cell
-  same-cell : value g tile.maps (spot_in h row col) ≡ value f whole.maps (spot whole.region row col)
+  same-cell : value g tile.maps (position_in h row col) ≡ value f whole.maps (grid_position whole.region row col)
       → cell_at y (row - h.top) (col - h.left) ≡ cell_at x row col
   same-cell same =
       let reach = reach_of f in
@@ -43,7 +43,7 @@ module _ (f g : Formula) (whole tile : ShelfValue) (r : Rectangle) (is : IsHaloe
       let col_in = inside whole.region.cols r.left r.cols reach.left reach.right col tile.region.cols is.cols in
       let row_here = row_in holds.high holds.below holds.above in
       let col_here = col_in holds.wide holds.right holds.left in
-      let here : spot tile.region (row - h.top) (col - h.left) ≡ spot_in h row col =
+      let here : grid_position tile.region (row - h.top) (col - h.left) ≡ position_in h row col =
       λ i. record { rows = is.rows i; cols = is.cols i; row = row - h.top; col = col - h.left } in
       are_y.cells (row - h.top) (col - h.left) row_here col_here
       ∙ ap (value g tile.maps) here ∙ same ∙ sym (are_x.cells row col row-in col-in)
@@ -53,15 +53,15 @@ tiles-make-the-map f whole tile r is no_rows no_cols x y are_x are_y row col hol
     same-cell f f whole tile r is x y are_x are_y row col holds
     (its-reach-is-enough f whole.maps tile.maps whole.region r is.filled is.cells no_rows no_cols row col holds)
 
--- ---- an expression that is placed in a region is told of the cell there
+-- ---- an expression that is placed in a region is reported of the cell there
 
 module _ (region : RegionValue) (r : Rectangle) (maps : List Grid) (row col : ℕ)
     (below : r.top ≤ row) (right : r.left ≤ col) (rows : row < 2147483647) (cols : col < 2147483647) where
-  abbrev here : Spot
-  here = spot_in r row col
+  abbrev here : GridPosition
+  here = position_in r row col
 
-  abbrev there : Spot
-  there = spot region row col
+  abbrev there : GridPosition
+  there = grid_position region row col
 
   called : (f : Function) (xs : Formulas)
       → value (placed_call region r f xs) maps here ≡ call_result f there (argument_values xs maps here)
@@ -74,21 +74,21 @@ module _ (region : RegionValue) (r : Rectangle) (maps : List Grid) (row col : �
   called f xs = refl
 
   mutual
-    placed-told : (f : Formula) → value (placed region r f) maps here ≡ value_told f maps here there
-    placed-told (Number n) = refl
-    placed-told (Map i down right) = refl
-    placed-told (Negated a) = ap negated_cell (placed-told a)
-    placed-told (Not a) = ap inverted_cell (placed-told a)
-    placed-told (Binary op a b) =
-        ap (λ x. operator_value op x (value (placed region r b) maps here)) (placed-told a)
-        ∙ ap (operator_value op (value_told a maps here there)) (placed-told b)
-    placed-told (Call f xs) = called f (all_placed region r xs) ∙ ap (call_result f there) (all-told xs)
+    placed-reported : (f : Formula) → value (placed region r f) maps here ≡ value_seen_from f maps here there
+    placed-reported (Number n) = refl
+    placed-reported (Map i down right) = refl
+    placed-reported (Negated a) = ap negated_cell (placed-reported a)
+    placed-reported (Not a) = ap inverted_cell (placed-reported a)
+    placed-reported (Binary op a b) =
+        ap (λ x. operator_value op x (value (placed region r b) maps here)) (placed-reported a)
+        ∙ ap (operator_value op (value_seen_from a maps here there)) (placed-reported b)
+    placed-reported (Call f xs) = called f (all_placed region r xs) ∙ ap (call_result f there) (all-read xs)
 
-    all-told : (xs : Formulas) → argument_values (all_placed region r xs) maps here ≡ values_told xs maps here there
-    all-told NoTrees = refl
-    all-told (Then a xs) =
-        ap (λ (x : CellValue). x ∷ argument_values (all_placed region r xs) maps here) (placed-told a)
-        ∙ ap (λ (l : List CellValue). value_told a maps here there ∷ l) (all-told xs)
+    all-read : (xs : Formulas) → argument_values (all_placed region r xs) maps here ≡ values_seen_from xs maps here there
+    all-read NoTrees = refl
+    all-read (Then a xs) =
+        ap (λ (x : CellValue). x ∷ argument_values (all_placed region r xs) maps here) (placed-reported a)
+        ∙ ap (λ (l : List CellValue). value_seen_from a maps here there ∷ l) (all-read xs)
 
 pub placed-tiles-make-the-map : PlacedTilesMakeTheMap
 placed-tiles-make-the-map f whole tile r is few_rows few_cols x y are_x are_y row col holds =
@@ -96,6 +96,6 @@ placed-tiles-make-the-map f whole tile r is few_rows few_cols x y are_x are_y ro
     let row_lt = row-in f (placed whole.region h f) whole tile r is x y are_x are_y row col holds in
     let col_lt = col-in f (placed whole.region h f) whole tile r is x y are_x are_y row col holds in
     same-cell f (placed whole.region h f) whole tile r is x y are_x are_y row col holds
-    (placed-told whole.region h tile.maps row col (omega (arith, holds.below)) (omega (arith, holds.right))
+    (placed-reported whole.region h tile.maps row col (omega (arith, holds.below)) (omega (arith, holds.right))
     (omega (arith, row_lt, few_rows)) (omega (arith, col_lt, few_cols)) f
-    ∙ its-reach-is-enough-told f whole.maps tile.maps whole.region r is.filled is.cells row col holds)
+    ∙ its-reach-is-enough-elsewhere f whole.maps tile.maps whole.region r is.filled is.cells row col holds)

@@ -5,7 +5,7 @@ use Rattle.cell_core.specs.Grid.{Grid, CellValue, IsFilled}
 use Rattle.cell_calc_grammar.specs.declared.function.Function.{Function}
 use Rattle.cell_calc_grammar.specs.declared.function.Function.TheVariants.{Row, Column, RowCount, ColumnCount}
 use Rattle.cell_calc_language.specs.Grammatical.{up_by, down_by}
-use Rattle.cell_calc_binding.specs.Applied.{Spot, spot, negated_cell, inverted_cell, operator_value, call_result}
+use Rattle.cell_calc_binding.specs.Applied.{GridPosition, grid_position, negated_cell, inverted_cell, operator_value, call_result}
 use Rattle.cell_calc_binding.specs.Offsets.{cell_in}
 use Rattle.cell_calc_grammar.specs.Tree.{fold_maps, fold_all}
 use Rattle.cell_calc_binding.specs.Formula.{Formula, Number, Map, Negated, Not, Binary, Call, Formulas, NoTrees, Then}
@@ -75,26 +75,26 @@ pub record HasHalo (f : Formula) (region : RegionValue) (r : Rectangle) (row col
 
 -- a halo is enough: the value over the part is that over the whole
 abbrev pub HaloIsEnough : Type 0
-HaloIsEnough = (f : Formula) (whole part : List Grid) (region : RegionValue) (r : Rectangle) (row col : ℕ) → All (λ m. IsFilled region m.rows) whole → AreCutOut r whole part → HasHalo f region r row col → value f part (record { rows = r.rows; cols = r.cols; row = row; col = col }) ≡ value f whole (spot region (r.top + row) (r.left + col))
+HaloIsEnough = (f : Formula) (whole part : List Grid) (region : RegionValue) (r : Rectangle) (row col : ℕ) → All (λ m. IsFilled region m.rows) whole → AreCutOut r whole part → HasHalo f region r row col → value f part (record { rows = r.rows; cols = r.cols; row = row; col = col }) ≡ value f whole (grid_position region (r.top + row) (r.left + col))
 
 abbrev mutual
   -- the value where row() and its like tell of another spot than the one that offsets are counted from
-  pub value_told : Formula → List Grid → (here told : Spot) → CellValue
-  value_told (Number n) maps here told = Some (pos n)
-  value_told (Map i down right) maps here told = cell_in (slice_get maps i) (pos here.row +ℤ down) (pos here.col +ℤ right)
-  value_told (Negated a) maps here told = negated_cell (value_told a maps here told)
-  value_told (Not a) maps here told = inverted_cell (value_told a maps here told)
-  value_told (Binary op a b) maps here told = operator_value op (value_told a maps here told) (value_told b maps here told)
-  value_told (Call f xs) maps here told = call_result f told (values_told xs maps here told)
+  pub value_seen_from : Formula → List Grid → (here reported : GridPosition) → CellValue
+  value_seen_from (Number n) maps here reported = Some (pos n)
+  value_seen_from (Map i down right) maps here reported = cell_in (slice_get maps i) (pos here.row +ℤ down) (pos here.col +ℤ right)
+  value_seen_from (Negated a) maps here reported = negated_cell (value_seen_from a maps here reported)
+  value_seen_from (Not a) maps here reported = inverted_cell (value_seen_from a maps here reported)
+  value_seen_from (Binary op a b) maps here reported = operator_value op (value_seen_from a maps here reported) (value_seen_from b maps here reported)
+  value_seen_from (Call f xs) maps here reported = call_result f reported (values_seen_from xs maps here reported)
 
-  pub values_told : Formulas → List Grid → (here told : Spot) → List CellValue
-  values_told NoTrees maps here told = []
-  values_told (Then a xs) maps here told = value_told a maps here told ∷ values_told xs maps here told
+  pub values_seen_from : Formulas → List Grid → (here reported : GridPosition) → List CellValue
+  values_seen_from NoTrees maps here reported = []
+  values_seen_from (Then a xs) maps here reported = value_seen_from a maps here reported ∷ values_seen_from xs maps here reported
 
 -- told of that spot itself, it is the value
-abbrev pub ToldOfItself : Type 0
-ToldOfItself = (f : Formula) (maps : List Grid) (s : Spot) → value_told f maps s s ≡ value f maps s
+abbrev pub SeenFromItself : Type 0
+SeenFromItself = (f : Formula) (maps : List Grid) (s : GridPosition) → value_seen_from f maps s s ≡ value f maps s
 
 -- told of the spot in the whole, any expression has the value over the whole
 abbrev pub ReachIsEnough : Type 0
-ReachIsEnough = (f : Formula) (whole part : List Grid) (region : RegionValue) (r : Rectangle) (row col : ℕ) → All (λ m. IsFilled region m.rows) whole → AreCutOut r whole part → ReadsWithin f region r row col → value_told f part (record { rows = r.rows; cols = r.cols; row = row; col = col }) (spot region (r.top + row) (r.left + col)) ≡ value f whole (spot region (r.top + row) (r.left + col))
+ReachIsEnough = (f : Formula) (whole part : List Grid) (region : RegionValue) (r : Rectangle) (row col : ℕ) → All (λ m. IsFilled region m.rows) whole → AreCutOut r whole part → ReadsWithin f region r row col → value_seen_from f part (record { rows = r.rows; cols = r.cols; row = row; col = col }) (grid_position region (r.top + row) (r.left + col)) ≡ value f whole (grid_position region (r.top + row) (r.left + col))

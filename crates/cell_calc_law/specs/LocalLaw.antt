@@ -6,7 +6,7 @@ use Rattle.cell_core.specs.Grid.{Grid, CellValue, IsFilled}
 use Rattle.cell_core.specs.Shelf.{ShelfValue}
 use Rattle.cell_calc_grammar.specs.declared.function.Function.{Function}
 use Rattle.cell_calc_grammar.specs.declared.function.Function.TheVariants.{If, IsNull, Row, Column, RowCount, ColumnCount}
-use Rattle.cell_calc_binding.specs.Applied.{Spot, spot}
+use Rattle.cell_calc_binding.specs.Applied.{GridPosition, grid_position}
 use Rattle.cell_calc_binding.specs.Compact.{ReadsMap}
 use Rattle.cell_calc_binding.specs.Formula.{Formula, Number, Map, Negated, Not, Binary, Call, Formulas, NoTrees, Then}
 use Rattle.cell_calc_binding.specs.Value.{value}
@@ -47,14 +47,14 @@ ReadsAmong picks f = (place : ℕ) → ReadsMap place f → Contains picks place
 abbrev pub OneValueACombination : Type 0
 OneValueACombination =
     (f : Formula) (picks : List ℕ) → IsLocal f → ReadsAmong picks f
-    → (maps : List Grid) (s t : Spot)
+    → (maps : List Grid) (s t : GridPosition)
     → combination_at maps picks s.row s.col ≡ combination_at maps picks t.row t.col
     → value f maps s ≡ value f maps t
 
 -- a function of the combination gives the values of an expression, at each cell of whatever maps
 abbrev pub GivesValues : (Combination → CellValue) → Formula → List ℕ → Type 0
 GivesValues given f picks =
-    (maps : List Grid) (s : Spot) → value f maps s ≡ given (combination_at maps picks s.row s.col)
+    (maps : List Grid) (s : GridPosition) → value f maps s ≡ given (combination_at maps picks s.row s.col)
 
 -- of a local expression there is such a function
 abbrev pub LocalGoesByCombinations : Type 0
@@ -99,7 +99,7 @@ abbrev pub OneMapOfValues : Type 0
 OneMapOfValues =
     (f g : Formula) (shelf : ShelfValue) (x y : Grid) → AreValues f shelf x → AreValues g shelf y
     → ((row col : ℕ) → row < shelf.region.rows → col < shelf.region.cols
-    → value f shelf.maps (spot shelf.region row col) ≡ value g shelf.maps (spot shelf.region row col))
+    → value f shelf.maps (grid_position shelf.region row col) ≡ value g shelf.maps (grid_position shelf.region row col))
     → x ≡ y
 
 -- if(isnull(g), g, g)

@@ -3,11 +3,11 @@ use Rattle.std.specs.Prelude.{ℕ, ◌≡◌, ◌≤◌, ◌<◌, ◌+◌, ◌-�
 use Rattle.cell_core_values.specs.Region.{RegionValue}
 use Rattle.cell_core.specs.Grid.{Grid, IsFilled}
 use Rattle.cell_calc_language.specs.Grammatical.{up_by, down_by}
-use Rattle.cell_calc_binding.specs.Applied.{Spot, spot}
+use Rattle.cell_calc_binding.specs.Applied.{GridPosition, grid_position}
 use Rattle.cell_calc_binding.specs.Formula.{Formula, Number, Map, Negated, Not, Binary, Call, Formulas, NoTrees, Then}
 use Rattle.cell_calc_binding.specs.Reach.{up_of, down_of}
 use Rattle.cell_calc_binding.specs.Value.{value}
-use Rattle.cell_calc_law.specs.HaloParts.{left_of, right_of, calls, asks_rows, asks_cols, value_told}
+use Rattle.cell_calc_law.specs.HaloParts.{left_of, right_of, calls, asks_rows, asks_cols, value_seen_from}
 use Rattle.cell_parts.specs.Parts.{Rectangle, AreCutOut}
 
 -- so many rows up and down, and columns to the left and to the right
@@ -64,8 +64,8 @@ with_halo region h r = record {
 }
 
 -- a cell of the region, as one of a part of it
-abbrev pub spot_in : Rectangle → (row col : ℕ) → Spot
-spot_in r row col = record { rows = r.rows; cols = r.cols; row = row - r.top; col = col - r.left }
+abbrev pub position_in : Rectangle → (row col : ℕ) → GridPosition
+position_in r row col = record { rows = r.rows; cols = r.cols; row = row - r.top; col = col - r.left }
 
 -- a rectangle of a region, and a cell of it
 pub record IsCellInside (region : RegionValue) (r : Rectangle) (row col : ℕ) : Type 0 where
@@ -83,13 +83,13 @@ ItsReachIsEnough =
     → All (λ m. IsFilled region m.rows) whole → AreCutOut (with_halo region (reach_of f) r) whole part
     → calls asks_rows f ≡ false → calls asks_cols f ≡ false
     → (row col : ℕ) → IsCellInside region r row col
-    → value f part (spot_in (with_halo region (reach_of f) r) row col) ≡ value f whole (spot region row col)
+    → value f part (position_in (with_halo region (reach_of f) r) row col) ≡ value f whole (grid_position region row col)
 
--- and any expression does, where row() and its like are told of the cell in the whole
-abbrev pub ItsReachIsEnoughTold : Type 0
-ItsReachIsEnoughTold =
+-- and any expression does, where row() and its like are reported of the cell in the whole
+abbrev pub ItsReachIsEnoughElsewhere : Type 0
+ItsReachIsEnoughElsewhere =
     (f : Formula) (whole part : List Grid) (region : RegionValue) (r : Rectangle)
     → All (λ m. IsFilled region m.rows) whole → AreCutOut (with_halo region (reach_of f) r) whole part
     → (row col : ℕ) → IsCellInside region r row col
-    → value_told f part (spot_in (with_halo region (reach_of f) r) row col) (spot region row col)
-    ≡ value f whole (spot region row col)
+    → value_seen_from f part (position_in (with_halo region (reach_of f) r) row col) (grid_position region row col)
+    ≡ value f whole (grid_position region row col)

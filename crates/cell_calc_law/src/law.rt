@@ -1,8 +1,8 @@
 //! What local expressions, shifts and expressions over tiles make of maps, in the subject's words.
 
-ghost use Rattle.cell_calc_law.specs.HaloParts.{HaloIsEnough, ReachIsEnough, ToldOfItself};
+ghost use Rattle.cell_calc_law.specs.HaloParts.{HaloIsEnough, ReachIsEnough, SeenFromItself};
 ghost use Rattle.cell_calc_law.specs.LocalLaw.{CopyIsTheMap, CountsFollow, EitherWayIsTheSame, LocalGoesByCombinations, OneMapOfValues, OneValueACombination, TableHasItsValues};
-ghost use Rattle.cell_calc_law.specs.ReachParts.{ItsReachIsEnough, ItsReachIsEnoughTold, MapsAreWithinReach};
+ghost use Rattle.cell_calc_law.specs.ReachParts.{ItsReachIsEnough, ItsReachIsEnoughElsewhere, MapsAreWithinReach};
 ghost use Rattle.cell_calc_law.specs.ShiftLaw.{NullBeyondTheEdge, ShiftsAddUp, ShiftsOnlyLose};
 ghost use Rattle.cell_calc_law.specs.TileLaw.{PlacedTilesMakeTheMap, TilesMakeTheMap};
 
@@ -64,10 +64,10 @@ pub fn halo_is_enough()
     ensures { HaloIsEnough }
 {}
 
-/// Where `row()` and its like are told of another spot than offsets are counted from: told of that spot itself, the value is
+/// Where `row()` and its like are reported of another spot than offsets are counted from: told of that spot itself, the value is
 /// the value.
-pub fn told_of_itself()
-    ensures { ToldOfItself }
+pub fn seen_from_itself()
+    ensures { SeenFromItself }
 {}
 
 /// Told of the spot in the whole, any expression has the same value over a part as over the whole, where what it reads lies
@@ -87,9 +87,9 @@ pub fn its_reach_is_enough()
     ensures { ItsReachIsEnough }
 {}
 
-/// And any expression does, where `row()` and its like are told of the cell in the whole.
-pub fn its_reach_is_enough_told()
-    ensures { ItsReachIsEnoughTold }
+/// And any expression does, where `row()` and its like are reported of the cell in the whole.
+pub fn its_reach_is_enough_elsewhere()
+    ensures { ItsReachIsEnoughElsewhere }
 {}
 
 /// `x = f` over the whole and `y = f` over a tile with its halo: in the tile, y has the cells of x, if f asks for no row or

@@ -5,7 +5,7 @@ use Rattle.std.proofs.lemmas.List.{length-drop, nil_from_length}
 use Rattle.std.proofs.lemmas.List.Elements.{All-nil, All-cons, All-append, All-same}
 use Rattle.cell_core.specs.Grid.{Grid, CellValue}
 use Rattle.cell_calc_binding.specs.Binding.{place_in, with_places}
-use Rattle.cell_calc_binding.specs.Applied.{Spot, call_result}
+use Rattle.cell_calc_binding.specs.Applied.{GridPosition, call_result}
 use Rattle.cell_calc_binding.specs.Value.{value, argument_values}
 use Rattle.cell_calc_tests.specs.Steps.{step_value, IsProperStep}
 use Rattle.cell_calc_language.specs.Grammatical.{IsGrammatical, AreGrammatical}
@@ -17,13 +17,13 @@ use Rattle.cell_calc_grammar.specs.declared.step.Step.{Step}
 use Rattle.cell_calc_grammar.specs.declared.step.Step.TheVariants as step
 use Rattle.cell_calc_grammar.proofs.PostfixLemmas.{listed, IsMeaning, after_postfix}
 
-values-listed : (names : List (List ℕ)) (maps : List Grid) (s : Spot) (xs : Terms)
+values-listed : (names : List (List ℕ)) (maps : List Grid) (s : GridPosition) (xs : Terms)
     → map (λ e. value (with_places names e) maps s) (listed xs) ≡ argument_values (with_leaves_all (place_in names) xs) maps s
 values-listed names maps s NoTrees = refl
 values-listed names maps s (Then a xs) = ap (λ l. value (with_places names a) maps s ∷ l) (values-listed names maps s xs)
 
 -- the value of an expression, where its steps have been taken
-pub value_after : (names : List (List ℕ)) (maps : List Grid) (s : Spot) (e : Term) (steps : List (Step MapName)) → steps ≡ postfix e
+pub value_after : (names : List (List ℕ)) (maps : List Grid) (s : GridPosition) (e : Term) (steps : List (Step MapName)) → steps ≡ postfix e
     → values_after (step_value names maps s) steps [] ≡ value (with_places names e) maps s ∷ []
 value_after names maps s e steps is =
     let means : IsMeaning MapName CellValue (step_value names maps s) (λ a. value (with_places names a) maps s) =

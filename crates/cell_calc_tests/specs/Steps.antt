@@ -2,14 +2,14 @@
 use Rattle.std.specs.Prelude.{◌≤◌, ◌+ℤ◌, ℕ, pos, List, Some, None, slice_get, slice_index_or}
 use Rattle.cell_core.specs.Grid.{Grid, CellValue}
 use Rattle.cell_calc_binding.specs.Binding.{place_in}
-use Rattle.cell_calc_binding.specs.Applied.{Spot, negated_cell, inverted_cell, operator_value, call_result}
+use Rattle.cell_calc_binding.specs.Applied.{GridPosition, negated_cell, inverted_cell, operator_value, call_result}
 use Rattle.cell_calc_binding.specs.Offsets.{cell_in}
 use Rattle.cell_calc_grammar.specs.declared.map_name.MapName.{MapName}
 use Rattle.cell_calc_grammar.specs.declared.step.Step.{Step}
 use Rattle.cell_calc_grammar.specs.declared.step.Step.TheVariants.{Number, Map, Negated, Not, Binary, Call}
 
 -- the value of a step, of those of its operands
-abbrev pub step_value : List (List ℕ) → List Grid → Spot → Step MapName → List CellValue → CellValue
+abbrev pub step_value : List (List ℕ) → List Grid → GridPosition → Step MapName → List CellValue → CellValue
 step_value names maps s (Number n) xs = Some (pos n)
 step_value names maps s (Map m down right) xs = cell_in (slice_get maps (place_in names m)) (pos s.row +ℤ down) (pos s.col +ℤ right)
 step_value names maps s Negated xs = negated_cell (slice_index_or xs 0 None)

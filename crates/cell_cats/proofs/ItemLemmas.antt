@@ -4,7 +4,7 @@ use Rattle.std.proofs.Common.{drop-drop, Bool, true, false, List, [], ◌∷◌,
 use Rattle.std.specs.Prelude.{◌&&◌, ◌==◌}
 use Rattle.std.specs.Option.{option_map, ok_or}
 use Rattle.std.proofs.lemmas.List.{map-append, at_drop_more}
-use Rattle.cell_cats.specs.parts.ItemWords.{texts, pairs}
+use Rattle.cell_cats.specs.parts.ItemWords.{item_texts, pairs}
 use Rattle.cell_cats.specs.RuleReading.{is_end, with_item, items_of, Left, is_lone_star, left_side, range_of, ranges_of}
 use Rattle.cell_cats.specs.declared.rules.RuleFault.{RuleFault}
 use Rattle.cell_cats.specs.declared.rules.RuleFault.TheVariants.{BadRule}
@@ -42,41 +42,41 @@ both-right false b e = cc
 -- one more item of the words
 pub items-step : (ws : List (Bor (List ℕ))) (i n : ℕ) (d b : Bor (List ℕ)) (done new : List (Bor (List ℕ) × Bor (List ℕ)))
     → i < length ws → n ≤ length (take (length ws - (i + 1)) (drop (i + 1) ws))
-    → items_of ((get_or ws i d).now ∷ texts (take (length ws - (i + 1)) (drop (i + 1) ws))) ≡ with_item (get_or ws i d).now b.now (items_of (texts (drop n (take (length ws - (i + 1)) (drop (i + 1) ws)))))
+    → items_of ((get_or ws i d).now ∷ item_texts (take (length ws - (i + 1)) (drop (i + 1) ws))) ≡ with_item (get_or ws i d).now b.now (items_of (item_texts (drop n (take (length ws - (i + 1)) (drop (i + 1) ws)))))
     → (is_end (get_or ws i d).now && is_end b.now) ≡ true
     → new ≡ done ++ (get_or ws i d, b) ∷ []
-    → items_of (texts ws) ≡ after (pairs done) (items_of (texts (drop i ws)))
-    → (items_of (texts ws) ≡ after (pairs new) (items_of (texts (drop (i + 1 + n) ws)))) × (i + 1 + n ≤ length ws)
+    → items_of (item_texts ws) ≡ after (pairs done) (items_of (item_texts (drop i ws)))
+    → (items_of (item_texts ws) ≡ after (pairs new) (items_of (item_texts (drop (i + 1 + n) ws)))) × (i + 1 + n ≤ length ws)
 items-step ws i n d b done new h within first good pushed so_far =
     let rest : take (length ws - (i + 1)) (drop (i + 1) ws) ≡ drop (i + 1) ws = take_all (length ws - (i + 1)) (drop (i + 1) ws) (omega (arith, length-drop (i + 1) ws)) in
     let within-rest : n ≤ length (drop (i + 1) ws) = rw (sym rest) within in
     let a = (get_or ws i d).now in
-    let first-rest : items_of (a ∷ texts (drop (i + 1) ws)) ≡ with_item a b.now (items_of (texts (drop n (drop (i + 1) ws))))
-    = ap (λ l. items_of (a ∷ texts l)) (sym rest) ∙ first ∙ ap (λ l. with_item a b.now (items_of (texts (drop n l)))) rest in
-    let one : items_of (texts (drop i ws)) ≡ option_map (λ more. (a, b.now) ∷ more) (items_of (texts (drop (i + 1 + n) ws)))
-    = at_drop_more (λ l. items_of (texts l)) ws i d h ∙ first-rest ∙ ap (λ l. with_item a b.now (items_of (texts l))) (drop-drop n (i + 1) ws)
-    ∙ with_item-good a b.now (items_of (texts (drop (i + 1 + n) ws))) (both-left (is_end a) (is_end b.now) good) (both-right (is_end a) (is_end b.now) good) in
+    let first-rest : items_of (a ∷ item_texts (drop (i + 1) ws)) ≡ with_item a b.now (items_of (item_texts (drop n (drop (i + 1) ws))))
+    = ap (λ l. items_of (a ∷ item_texts l)) (sym rest) ∙ first ∙ ap (λ l. with_item a b.now (items_of (item_texts (drop n l)))) rest in
+    let one : items_of (item_texts (drop i ws)) ≡ option_map (λ more. (a, b.now) ∷ more) (items_of (item_texts (drop (i + 1 + n) ws)))
+    = at_drop_more (λ l. items_of (item_texts l)) ws i d h ∙ first-rest ∙ ap (λ l. with_item a b.now (items_of (item_texts l))) (drop-drop n (i + 1) ws)
+    ∙ with_item-good a b.now (items_of (item_texts (drop (i + 1 + n) ws))) (both-left (is_end a) (is_end b.now) good) (both-right (is_end a) (is_end b.now) good) in
     let last : pairs new ≡ pairs done ++ (a, b.now) ∷ [] = ap pairs pushed ∙ map-append (λ item. (item.0.now, item.1.now)) done ((get_or ws i d, b) ∷ []) in (
-      so_far ∙ ap (after (pairs done)) one ∙ after-one (pairs done) (a, b.now) (items_of (texts (drop (i + 1 + n) ws))) ∙ ap (λ l. after l (items_of (texts (drop (i + 1 + n) ws)))) (sym last),
+      so_far ∙ ap (after (pairs done)) one ∙ after-one (pairs done) (a, b.now) (items_of (item_texts (drop (i + 1 + n) ws))) ∙ ap (λ l. after l (items_of (item_texts (drop (i + 1 + n) ws)))) (sym last),
       omega (arith, length-drop (i + 1) ws, within-rest),
     )
 
 -- words whose next item is none spell none
 pub items-stop : (ws : List (Bor (List ℕ))) (i n : ℕ) (d b : Bor (List ℕ)) (done : List (Bor (List ℕ) × Bor (List ℕ)))
     → i < length ws
-    → items_of ((get_or ws i d).now ∷ texts (take (length ws - (i + 1)) (drop (i + 1) ws)))
-    ≡ with_item (get_or ws i d).now b.now (items_of (texts (drop n (take (length ws - (i + 1)) (drop (i + 1) ws)))))
+    → items_of ((get_or ws i d).now ∷ item_texts (take (length ws - (i + 1)) (drop (i + 1) ws)))
+    ≡ with_item (get_or ws i d).now b.now (items_of (item_texts (drop n (take (length ws - (i + 1)) (drop (i + 1) ws)))))
     → (is_end (get_or ws i d).now && is_end b.now) ≡ false
-    → items_of (texts ws) ≡ after (pairs done) (items_of (texts (drop i ws)))
-    → items_of (texts ws) ≡ None
+    → items_of (item_texts ws) ≡ after (pairs done) (items_of (item_texts (drop i ws)))
+    → items_of (item_texts ws) ≡ None
 items-stop ws i n d b done h first bad so_far =
     let words = take (length ws - (i + 1)) (drop (i + 1) ws) in
     let rest : words ≡ drop (i + 1) ws =
     take_all (length ws - (i + 1)) (drop (i + 1) ws) (omega (arith, length-drop (i + 1) ws)) in
     let a = (get_or ws i d).now in
-    let none : items_of (texts (drop i ws)) ≡ None =
-    at_drop_more (λ l. items_of (texts l)) ws i d h ∙ ap (λ l. items_of (a ∷ texts l)) (sym rest) ∙ first
-    ∙ with_item-bad a b.now (items_of (texts (drop n words))) bad in
+    let none : items_of (item_texts (drop i ws)) ≡ None =
+    at_drop_more (λ l. items_of (item_texts l)) ws i d h ∙ ap (λ l. items_of (a ∷ item_texts l)) (sym rest) ∙ first
+    ∙ with_item-bad a b.now (items_of (item_texts (drop n words))) bad in
     so_far ∙ ap (after (pairs done)) none
 
 -- one more range of the items, or none
@@ -94,28 +94,28 @@ module _ (items : List (Bor (List ℕ) × Bor (List ℕ))) (i : ℕ) (d : Bor (L
       so_far ∙ ap (after done) none
 
 -- a left side that is no `*` is its items
-module _ (ws : List (Bor (List ℕ))) (lone : false ≡ is_lone_star (texts ws)) (some : false ≡ (length ws == 0)) where
-  left-items : left_side (texts ws) ≡ option_map Some (items_of (texts ws))
+module _ (ws : List (Bor (List ℕ))) (lone : false ≡ is_lone_star (item_texts ws)) (some : false ≡ (length ws == 0)) where
+  left-items : left_side (item_texts ws) ≡ option_map Some (items_of (item_texts ws))
   left-items = by ws lone some
     where
-      by : (ws : List (Bor (List ℕ))) → false ≡ is_lone_star (texts ws) → false ≡ (length ws == 0)
-          → left_side (texts ws) ≡ option_map Some (items_of (texts ws))
+      by : (ws : List (Bor (List ℕ))) → false ≡ is_lone_star (item_texts ws) → false ≡ (length ws == 0)
+          → left_side (item_texts ws) ≡ option_map Some (items_of (item_texts ws))
       by [] lone some = cc
       by (w ∷ ws) lone some = ap (λ t. cond {A = Option Left} t (Some None)
-          (option_map Some (items_of (texts (w ∷ ws))))) (sym lone)
+          (option_map Some (items_of (item_texts (w ∷ ws))))) (sym lone)
 
-  pub left-fails : (fault : RuleFault) → ok_or (items_of (texts ws)) BadRule ≡ Err fault
-      → ok_or (left_side (texts ws)) BadRule ≡ Err fault
-  left-fails fault e = ap (λ o. ok_or o BadRule) left-items ∙ by (items_of (texts ws)) e
+  pub left-fails : (fault : RuleFault) → ok_or (items_of (item_texts ws)) BadRule ≡ Err fault
+      → ok_or (left_side (item_texts ws)) BadRule ≡ Err fault
+  left-fails fault e = ap (λ o. ok_or o BadRule) left-items ∙ by (items_of (item_texts ws)) e
     where
       by : (o : Option (List (List ℕ × List ℕ))) → ok_or o BadRule ≡ Err fault
           → ok_or {T = Left} (option_map Some o) BadRule ≡ Err fault
       by None e = let same : BadRule ≡ fault = cc in ap Err same
       by (Some items) e = cc
 
-  pub left-found : (items : List (List ℕ × List ℕ)) → ok_or (items_of (texts ws)) BadRule ≡ Ok items
-      → ok_or (left_side (texts ws)) BadRule ≡ Ok (Some items)
-  left-found items e = ap (λ o. ok_or o BadRule) left-items ∙ by (items_of (texts ws)) e
+  pub left-found : (items : List (List ℕ × List ℕ)) → ok_or (items_of (item_texts ws)) BadRule ≡ Ok items
+      → ok_or (left_side (item_texts ws)) BadRule ≡ Ok (Some items)
+  left-found items e = ap (λ o. ok_or o BadRule) left-items ∙ by (items_of (item_texts ws)) e
     where
       by : (o : Option (List (List ℕ × List ℕ))) → ok_or o BadRule ≡ Ok items
           → ok_or {T = Left} (option_map Some o) BadRule ≡ Ok (Some items)

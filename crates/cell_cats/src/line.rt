@@ -6,7 +6,7 @@ ghost use Rattle.cell_core_values.specs.Answers.{Answers};
 ghost use Rattle.cell_cats.specs.RuleLine.{is_skipped};
 ghost use Rattle.cell_cats.specs.RuleReading.{is_thru, is_star, is_null_word, is_end, with_item, items_of, is_lone_star, left_side};
 ghost use Rattle.cell_cats.specs.RuleReading.{is_output, ranges_of, range_of, listed_of_line, output_of, rule_of};
-ghost use Rattle.cell_cats.specs.parts.ItemWords.{texts, pairs};
+ghost use Rattle.cell_cats.specs.parts.ItemWords.{item_texts, pairs};
 ghost use Rattle.cell_cats.specs.declared.rules.RuleFault.TheVariants.{BadRule, BadNumber};
 
 use crate::rule::{Output, Rule};
@@ -61,8 +61,8 @@ fn are_ends(a: &[u8], b: &[u8]) -> bool
 
 // The second end of the item that begins with a word, and how many words more the item has.
 fn item_end<'a>(a: &'a [u8], others: &[&'a [u8]]) -> (&'a [u8], usize)
-    ensures items { items_of (a.now ∷ texts others.now)
-        ≡ with_item a.now result.0.now (items_of (texts (drop result.1 others.now))) }
+    ensures items { items_of (a.now ∷ item_texts others.now)
+        ≡ with_item a.now result.0.now (items_of (item_texts (drop result.1 others.now))) }
     ensures within { result.1 ≤ length others.now }
 {
     match others {
@@ -74,7 +74,7 @@ fn item_end<'a>(a: &'a [u8], others: &[&'a [u8]]) -> (&'a [u8], usize)
 // The items that words spell.
 fn items_of<'a>(alloc: Global, words: &[&'a [u8]]) -> Result<Vec<(&'a [u8], &'a [u8])>, RuleFault>
     ensures { Answers RuleFault.Memory (λ items. pairs items.items) result
-        (ok_or (items_of (texts words.now)) BadRule) }
+        (ok_or (items_of (item_texts words.now)) BadRule) }
 {
     let mut items = Vec::new(alloc);
     let mut at = 0;
@@ -138,7 +138,7 @@ fn is_output(star: bool, word: &[u8]) -> bool
 }
 
 fn is_lone_star(words: &[&[u8]]) -> bool
-    ensures { result ≡ is_lone_star (texts words.now) }
+    ensures { result ≡ is_lone_star (item_texts words.now) }
 {
     match words {
         [word] => is_star_word(*word),
@@ -152,7 +152,7 @@ fn left_of<'a>(
     words: &[&'a [u8]],
 ) -> Result<Option<Vec<(&'a [u8], &'a [u8])>>, RuleFault>
     ensures { Answers RuleFault.Memory (option_map (λ items. pairs items.items)) result
-        (ok_or (left_side (texts words.now)) BadRule) }
+        (ok_or (left_side (item_texts words.now)) BadRule) }
 {
     if is_lone_star(words) {
         return Ok(None);

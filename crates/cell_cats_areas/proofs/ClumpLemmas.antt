@@ -7,7 +7,7 @@ use Rattle.std.proofs.lemmas.Bool.{cases_lt, cases_Bool, eq-eqb, eqb-true, and_p
 use Rattle.std.proofs.lemmas.Nat.{div-add-mod'}
 use Rattle.cell_core.specs.Grid.{Grid, CellValue, IsFilled, no_labels}
 use Rattle.cell_cats_areas.specs.declared.clump.Joining.{Joining}
-use Rattle.cell_cats_areas.specs.Areas.{Position, cell_at_spot, IsEarlierCell, AreJoined, IsFirst, HasNumber, IsClumping}
+use Rattle.cell_cats_areas.specs.Areas.{Position, cell_at_position, IsEarlierCell, AreJoined, IsFirst, HasNumber, IsClumping}
 use Rattle.cell_cats_areas.specs.parts.CellPlaces.{position, cell_place}
 use Rattle.cell_cats_areas.specs.parts.AreasRead.{AreRowsRead, area_label_at}
 use Rattle.cell_cats_areas.specs.parts.Starts.{start_of_run, starts, begins, meets}
@@ -55,7 +55,7 @@ module _ (j : Joining) (m : Grid) (table : List ℕ) (h : AreLabels j m table) w
   abbrev rd : AreRowsRead j m table h.labels h.has_read.open_of
   rd = h.has_read.read
 
-  inside_table : (p : Position) (v : ℤ) → cell_at_spot m p ≡ Some v → area_label_at m h.labels p < length table
+  inside_table : (p : Position) (v : ℤ) → cell_at_position m p ≡ Some v → area_label_at m h.labels p < length table
   inside_table p v is = label_below j m table h.labels f rd p v is (read_all j m table h p v is)
 
   -- where a label begins, and that it is the label there
@@ -65,17 +65,17 @@ module _ (j : Joining) (m : Grid) (table : List ℕ) (h : AreLabels j m table) w
       let t = start_found j m k (omega arith) in
       (t.0, t.3, ap (cell_place m.region.cols) t.4 ∙ div-add-mod' t.0 m.region.cols, t.2)
 
-  start_some : (k : ℕ) → k < length table → IsSome (cell_at_spot m (start_of_run j m k))
-  start_some k lt = (and_parts (is_some (cell_at_spot m (start_of_run j m k))) (not (meets j m (start_of_run j m k).row (start_of_run j m k).col)) (place_found k lt).3).0
+  start_some : (k : ℕ) → k < length table → IsSome (cell_at_position m (start_of_run j m k))
+  start_some k lt = (and_parts (is_some (cell_at_position m (start_of_run j m k))) (not (meets j m (start_of_run j m k).row (start_of_run j m k).col)) (place_found k lt).3).0
 
   label_own : (k : ℕ) → k < length table → area_label_at m h.labels (start_of_run j m k) ≡ k
   label_own k lt =
       let t = place_found k lt in
-      let v = some_of (cell_at_spot m (start_of_run j m k)) (start_some k lt) in
+      let v = some_of (cell_at_position m (start_of_run j m k)) (start_some k lt) in
       rd.own (start_of_run j m k) (rd.inside (start_of_run j m k) v.0 v.1) t.3 (read_all j m table h (start_of_run j m k) v.0 v.1) ∙ ap (starts j m) t.2 ∙ t.1
 
   -- a cell before the one whose own label it is has a smaller label
-  label_before : (k : ℕ) (p : Position) (v : ℤ) → k < length table → cell_at_spot m p ≡ Some v → IsEarlierCell p (start_of_run j m k) → area_label_at m h.labels p < k
+  label_before : (k : ℕ) (p : Position) (v : ℤ) → k < length table → cell_at_position m p ≡ Some v → IsEarlierCell p (start_of_run j m k) → area_label_at m h.labels p < k
   label_before k p v lt is less =
       let t = place_found k lt in
       let few = rd.few p v is (read_all j m table h p v is) in
@@ -87,7 +87,7 @@ module _ (j : Joining) (m : Grid) (table : List ℕ) (h : AreLabels j m table) w
   -- runs begin in the order of their labels
   starts_before : (i n : ℕ) → i < n → n < length table → IsEarlierCell (start_of_run j m i) (start_of_run j m n)
   starts_before i n lt inside =
-      let v = some_of (cell_at_spot m (start_of_run j m n)) (start_some n inside) in
+      let v = some_of (cell_at_position m (start_of_run j m n)) (start_some n inside) in
       let one = label_own i (omega arith) in let other = label_own n inside in
       ⊎_elim (λ e. absurd (let same = ap (area_label_at m h.labels) e in omega arith))
       (λ apart. ⊎_elim (λ less. less) (λ more. absurd (let less = label_before i (start_of_run j m n) v.0 (omega arith) v.1 more in omega arith)) apart)
@@ -109,7 +109,7 @@ module _ (j : Joining) (m : Grid) (table : List ℕ) (h : AreLabels j m table) w
       AreJoined-along j m (λ s. f (area_label_at m h.labels s))
       (λ a b v near a_is b_is. rd.meet a b v near a_is b_is (read_all j m table h a v a_is) (read_all j m table h b v b_is)) p q joined
 
-  to_first : (p : Position) (v : ℤ) → cell_at_spot m p ≡ Some v → AreJoined j m (start_of_run j m (f (area_label_at m h.labels p))) p
+  to_first : (p : Position) (v : ℤ) → cell_at_position m p ≡ Some v → AreJoined j m (start_of_run j m (f (area_label_at m h.labels p))) p
   to_first p v is =
       let k : ℕ = area_label_at m h.labels p in
       ⊎_elim
@@ -117,18 +117,18 @@ module _ (j : Joining) (m : Grid) (table : List ℕ) (h : AreLabels j m table) w
       (λ far. AreJoined-trans j m _ _ _ (AreJoined-sym j m _ _ far) (rd.joined p v is (read_all j m table h p v is)))
       (rd.sound.joined k (inside_table p v is))
 
-  open_is_first : (p : Position) (v : ℤ) → cell_at_spot m p ≡ Some v → is_first table (f (area_label_at m h.labels p)) ≡ true
-  open_is_first p v is = eq-eqb _ _ (rd.sound.tells.is_open (area_label_at m h.labels p) (inside_table p v is))
+  open_is_first : (p : Position) (v : ℤ) → cell_at_position m p ≡ Some v → is_first table (f (area_label_at m h.labels p)) ≡ true
+  open_is_first p v is = eq-eqb _ _ (rd.sound.reports.is_open (area_label_at m h.labels p) (inside_table p v is))
 
   first_from : (g : ℕ) → g < length table → is_first table g ≡ true → IsFirst j m (start_of_run j m g)
   first_from g inside is =
-      let own : f g ≡ g = rd.sound.tells.itself g inside (eqb-true _ _ is) in
+      let own : f g ≡ g = rd.sound.reports.itself g inside (eqb-true _ _ is) in
       record {
         category = start_some g inside;
         none_before = λ q before joined.
             let v = AreJoined-first j m q (start_of_run j m g) joined in
             let less = label_before g q joined.category inside v before in
-            let low = rd.sound.tells.low (area_label_at m h.labels q) (inside_table q joined.category v) in
+            let low = rd.sound.reports.low (area_label_at m h.labels q) (inside_table q joined.category v) in
             let same = same_open q (start_of_run j m g) joined in
             let there : f (area_label_at m h.labels (start_of_run j m g)) ≡ g = ap f (label_own g inside) ∙ own in
             absurd (omega arith);
@@ -137,9 +137,9 @@ module _ (j : Joining) (m : Grid) (table : List ℕ) (h : AreLabels j m table) w
   -- a first cell is the one at which its run begins
   first_begins : (p : Position) → IsFirst j m p → start_of_run j m (f (area_label_at m h.labels p)) ≡ p
   first_begins p first =
-      let v = some_of (cell_at_spot m p) first.category in
+      let v = some_of (cell_at_position m p) first.category in
       let inside = inside_table p v.0 v.1 in
-      let low = rd.sound.tells.low (area_label_at m h.labels p) inside in
+      let low = rd.sound.reports.low (area_label_at m h.labels p) inside in
       ⊎_elim (λ e. e)
       (λ apart. ⊎_elim (λ before. absurd (first.none_before _ before (to_first p v.0 v.1)))
       (λ after. absurd (let less = label_before (f (area_label_at m h.labels p)) p v.0 (omega arith) v.1 after in omega arith)) apart)
@@ -147,17 +147,17 @@ module _ (j : Joining) (m : Grid) (table : List ℕ) (h : AreLabels j m table) w
 
   first_own : (p : Position) → IsFirst j m p → f (area_label_at m h.labels p) ≡ area_label_at m h.labels p
   first_own p first =
-      let v = some_of (cell_at_spot m p) first.category in
+      let v = some_of (cell_at_position m p) first.category in
       let inside = inside_table p v.0 v.1 in
-      let low = rd.sound.tells.low (area_label_at m h.labels p) inside in
+      let low = rd.sound.reports.low (area_label_at m h.labels p) inside in
       sym (label_own (f (area_label_at m h.labels p)) (omega arith)) ∙ ap (area_label_at m h.labels) (first_begins p first)
 
   -- the number of a cell
-  pub has_number : (p : Position) (v : ℤ) → cell_at_spot m p ≡ Some v → HasNumber j m p (area_number j m table (f (area_label_at m h.labels p)))
+  pub has_number : (p : Position) (v : ℤ) → cell_at_position m p ≡ Some v → HasNumber j m p (area_number j m table (f (area_label_at m h.labels p)))
   has_number p v is =
       let g : ℕ = f (area_label_at m h.labels p) in
       let inside = inside_table p v is in
-      let low = rd.sound.tells.low (area_label_at m h.labels p) inside in
+      let low = rd.sound.reports.low (area_label_at m h.labels p) inside in
       let g_first = first_from g (omega arith) (open_is_first p v is) in
       record {
         first = start_of_run j m g;
@@ -170,12 +170,12 @@ module _ (j : Joining) (m : Grid) (table : List ℕ) (h : AreLabels j m table) w
             λ within. let s = below_some j m table (suc g) q within in
                 let less = s.1 in (
                   subst (λ (x : Position). IsFirst j m x) (sym s.2) (first_from s.0 (omega arith) s.3),
-                  λ before. let u = some_of (cell_at_spot m (start_of_run j m g)) g_first.category in
+                  λ before. let u = some_of (cell_at_position m (start_of_run j m g)) g_first.category in
                       let back = label_before s.0 (start_of_run j m g) u.0 (omega arith) u.1 (subst (λ (x : Position). IsEarlierCell (start_of_run j m g) x) s.2 before) in
                       let there = label_own g (omega arith) in
                       absurd (omega arith),
                 ),
-            λ both. let u = some_of (cell_at_spot m q) both.0.category in
+            λ both. let u = some_of (cell_at_position m q) both.0.category in
                 let own = first_own q both.0 in let here = ap (start_of_run j m) (sym own) ∙ first_begins q both.0 in
                 let q_in = inside_table q u.0 u.1 in
                 let le : area_label_at m h.labels q < suc g =
@@ -187,29 +187,29 @@ module _ (j : Joining) (m : Grid) (table : List ℕ) (h : AreLabels j m table) w
       }
 
   -- cells of one number are joined
-  joined_from : (p q : Position) (v u : ℤ) → cell_at_spot m p ≡ Some v → cell_at_spot m q ≡ Some u → area_number j m table (f (area_label_at m h.labels p)) ≡ area_number j m table (f (area_label_at m h.labels q)) → AreJoined j m p q
+  joined_from : (p q : Position) (v u : ℤ) → cell_at_position m p ≡ Some v → cell_at_position m q ≡ Some u → area_number j m table (f (area_label_at m h.labels p)) ≡ area_number j m table (f (area_label_at m h.labels q)) → AreJoined j m p q
   joined_from p q v u p_is q_is e =
       let same = number_apart j m table _ _ (open_is_first p v p_is) (open_is_first q u q_is) e in
       AreJoined-trans j m p _ q (AreJoined-sym j m _ _ (to_first p v p_is)) (subst (λ (n : ℕ). AreJoined j m (start_of_run j m n) q) (sym same) (to_first q u q_is))
 
-  pub clumping : (numbers : Grid) → numbers.region ≡ m.region → numbers.labels ≡ no_labels → IsFilled numbers.region numbers.rows → ((r c : ℕ) → r < m.region.rows → c < m.region.cols → cell_at_spot numbers (position r c) ≡ cell_number j m table h (position r c)) → IsClumping j m numbers
+  pub clumping : (numbers : Grid) → numbers.region ≡ m.region → numbers.labels ≡ no_labels → IsFilled numbers.region numbers.rows → ((r c : ℕ) → r < m.region.rows → c < m.region.cols → cell_at_position numbers (position r c) ≡ cell_number j m table h (position r c)) → IsClumping j m numbers
   clumping numbers region unlabelled full cells =
-      let number : (p : Position) (v : ℤ) → cell_at_spot m p ≡ Some v → cell_at_spot numbers p ≡ Some (pos (area_number j m table (f (area_label_at m h.labels p)))) = λ p v is.
+      let number : (p : Position) (v : ℤ) → cell_at_position m p ≡ Some v → cell_at_position numbers p ≡ Some (pos (area_number j m table (f (area_label_at m h.labels p)))) = λ p v is.
       let t = rd.inside p v is in cells p.row p.col t.0 t.1 ∙ cell_numbered j m table h p v is ∙ ap (λ (n : ℕ). Some (pos n)) (number_is j m table h p) in
       record {
         region = region;
         labels = unlabelled;
-        nulls = λ p is. nulls_at p is (cell_at_spot numbers p) refl;
-        numbered = λ p some. let v = some_of (cell_at_spot m p) some in (area_number j m table (f (area_label_at m h.labels p)), has_number p v.0 v.1, number p v.0 v.1);
+        nulls = λ p is. nulls_at p is (cell_at_position numbers p) refl;
+        numbered = λ p some. let v = some_of (cell_at_position m p) some in (area_number j m table (f (area_label_at m h.labels p)), has_number p v.0 v.1, number p v.0 v.1);
         same = λ p q p_some q_some.
-            let v = some_of (cell_at_spot m p) p_some in
-            let u = some_of (cell_at_spot m q) q_some in (
+            let v = some_of (cell_at_position m p) p_some in
+            let u = some_of (cell_at_position m q) q_some in (
               λ e. joined_from p q v.0 u.0 v.1 u.1 (let both : Some (pos (area_number j m table (f (area_label_at m h.labels p)))) ≡ Some (pos (area_number j m table (f (area_label_at m h.labels q)))) = sym (number p v.0 v.1) ∙ e ∙ number q u.0 u.1 in cc),
               λ joined. number p v.0 v.1 ∙ ap (λ (n : ℕ). Some (pos (area_number j m table n))) (same_open p q joined) ∙ sym (number q u.0 u.1),
             );
       }
     where
-      nulls_at : (p : Position) → cell_at_spot m p ≡ None → (x : CellValue) → cell_at_spot numbers p ≡ x → cell_at_spot numbers p ≡ None
+      nulls_at : (p : Position) → cell_at_position m p ≡ None → (x : CellValue) → cell_at_position numbers p ≡ x → cell_at_position numbers p ≡ None
       nulls_at p is None e = e
       nulls_at p is (Some v) e =
           let t = inside_map numbers p v full e in

@@ -6,7 +6,7 @@ use Rattle.std.proofs.lemmas.List.{get_or-take, get_or_default, length-take-le}
 use Rattle.std.proofs.lemmas.List.Elements.{Contains-get_or}
 use Rattle.cell_core.specs.Grid.{Grid, CellValue}
 use Rattle.cell_cats_areas.specs.declared.clump.Joining.{Joining}
-use Rattle.cell_cats_areas.specs.Areas.{Position, cell_at_spot, IsEarlierCell, IsFirst, HasNumber, IsClumping}
+use Rattle.cell_cats_areas.specs.Areas.{Position, cell_at_position, IsEarlierCell, IsFirst, HasNumber, IsClumping}
 use Rattle.cell_cats_areas.specs.ClumpLaw.{NoNumberIsLeftOut, NumbersCountAreas, Occurs}
 use Rattle.cell_cats_areas.proofs.PathLemmas.{AreJoined-refl}
 use Rattle.cell_cats_areas.proofs.MeetingLemmas.{some_of}
@@ -38,7 +38,7 @@ number_at j m firsts d leading i lt =
     let f : Position = get_or firsts i d in
     let f_in : Contains firsts f = Contains-get_or firsts i d lt in
     let first = leading.are_first f f_in in
-    let v = some_of (cell_at_spot m f) first.category in
+    let v = some_of (cell_at_position m f) first.category in
     let long : length (take (i + 1) firsts) ≡ i + 1 = length-take-le (i + 1) firsts (omega arith) in
     let same : (k : ℕ) (e : Position) → k < i + 1 → get_or (take (i + 1) firsts) k e ≡ get_or firsts k e = λ k e below. get_or-take (i + 1) firsts k e below in
     let here : (e : Position) → get_or firsts i e ≡ f = λ e. get_or_default firsts i e d lt in
@@ -109,7 +109,7 @@ least_number j m p n h =
 
 pub no_number_is_left_out : NoNumberIsLeftOut
 no_number_is_left_out j m numbers clumping p some =
-    let t = clumping.numbered p (some_cell (cell_at_spot m p) (cell_at_spot numbers p) (clumping.nulls p) some) in
+    let t = clumping.numbered p (some_cell (cell_at_position m p) (cell_at_position numbers p) (clumping.nulls p) some) in
     let h = t.1 in
     let count = h.count in
     (t.0, t.2, least_number j m p t.0 h, λ k least most. occurs_at j m numbers h.firsts clumping (leading_up_to j m p t.0 h) k least (omega arith))
@@ -118,7 +118,7 @@ pub numbers_count_areas : NumbersCountAreas
 numbers_count_areas j m numbers clumping firsts all n = (
   λ occurs.
       let p : Position = occurs.0 in
-      let t = clumping.numbered p (some_cell (cell_at_spot m p) (cell_at_spot numbers p) (clumping.nulls p) (rw occurs.1 refl)) in
+      let t = clumping.numbered p (some_cell (cell_at_position m p) (cell_at_position numbers p) (clumping.nulls p) (rw occurs.1 refl)) in
       let h = t.1 in
       let count = h.count in
       let same : t.0 ≡ n = (let both : Some (pos t.0) ≡ Some (pos n) = sym t.2 ∙ occurs.1 in cc) in

@@ -4,7 +4,7 @@ use Rattle.std.proofs.Math.ListN.{length-set}
 use Rattle.std.proofs.lemmas.List.{length_push, get_or_push, get_or_append_left}
 use Rattle.std.proofs.lemmas.Grind.{common_steps}
 use Rattle.std.proofs.lemmas.Bool.{cases_eq, cases_lt, ne_eqb, cond-true, cond-false}
-use Rattle.cell_cats_areas.specs.parts.Labels.{PointDown, TellsOpen, closed_labels, after_join}
+use Rattle.cell_cats_areas.specs.parts.Labels.{PointDown, LeadsToOpen, closed_labels, after_join}
 
 -- an entry after a write
 at_set : (P : ℕ → Type 0) (table : List ℕ) (x v k : ℕ) → x < length table → (k ≡ x → P v) → ((k ≡ x → ⊥) → P (get_or table k 0)) → P (get_or (set table x v) k 0)
@@ -16,8 +16,8 @@ pub PointDown-set : (table : List ℕ) (x v : ℕ) → x < length table → v �
 PointDown-set table x v inside le down k = at_set (λ (n : ℕ). n ≤ k) table x v k inside (λ e. omega arith) (λ ne. down k)
 
 -- a way is halved
-pub TellsOpen-halved : (table : List ℕ) (x : ℕ) (open_of : ℕ → ℕ) → PointDown table → x < length table → TellsOpen table open_of → TellsOpen (set table x (get_or table (get_or table x 0) 0)) open_of
-TellsOpen-halved table x open_of down inside tells =
+pub LeadsToOpen-halved : (table : List ℕ) (x : ℕ) (open_of : ℕ → ℕ) → PointDown table → x < length table → LeadsToOpen table open_of → LeadsToOpen (set table x (get_or table (get_or table x 0) 0)) open_of
+LeadsToOpen-halved table x open_of down inside reports =
     let next : ℕ = get_or table x 0 in
     let far : ℕ = get_or table next 0 in
     let next_low : next ≤ x = down x in
@@ -27,17 +27,18 @@ TellsOpen-halved table x open_of down inside tells =
     record {
       points = λ k lt. let lt' : k < length table = omega arith in
           at_set (λ (n : ℕ). open_of n ≡ open_of k) table x far k inside
-          (λ e. tells.points next next_inside ∙ tells.points x inside ∙ ap open_of (sym e)) (λ ne. tells.points k lt');
+          (λ e. reports.points next next_inside ∙ reports.points x inside
+          ∙ ap open_of (sym e)) (λ ne. reports.points k lt');
       itself = λ k lt. let lt' : k < length table = omega arith in
           at_set (λ (n : ℕ). n ≡ k → open_of k ≡ k) table x far k inside
-          (λ e same. tells.itself k lt' (let is : get_or table k 0 ≡ next = ap (λ (i : ℕ). get_or table i 0) e in omega arith)) (λ ne. tells.itself k lt');
+          (λ e same. reports.itself k lt' (let is : get_or table k 0 ≡ next = ap (λ (i : ℕ). get_or table i 0) e in omega arith)) (λ ne. reports.itself k lt');
       is_open = λ k lt. let lt' : k < length table = omega arith in
           at_set (λ (n : ℕ). n ≡ open_of k) table x far (open_of k) inside
-          (λ e. let is = tells.is_open k lt' in
+          (λ e. let is = reports.is_open k lt' in
           let here : next ≡ x = sym (ap (λ (i : ℕ). get_or table i 0) e) ∙ is ∙ e in
           ap (λ (i : ℕ). get_or table i 0) here ∙ here ∙ sym e)
-          (λ ne. tells.is_open k lt');
-      low = λ k lt. tells.low k (omega arith);
+          (λ ne. reports.is_open k lt');
+      low = λ k lt. reports.low k (omega arith);
     }
 
 pub closed_high : (f : ℕ → ℕ) (high low k : ℕ) → f k ≡ high → closed_labels f high low k ≡ low
@@ -47,11 +48,11 @@ pub closed_other : (f : ℕ → ℕ) (high low k : ℕ) → (f k ≡ high → �
 closed_other f high low k ne = cond-false (eqb (f k) high) low (f k) (ne_eqb _ _ ne)
 
 -- an open label is closed
-TellsOpen-closed : (table : List ℕ) (high low : ℕ) (open_of : ℕ → ℕ) → high < length table → low ≤ high → get_or table high 0 ≡ high → get_or table low 0 ≡ low → TellsOpen table open_of → TellsOpen (set table high low) (closed_labels open_of high low)
-TellsOpen-closed table high low open_of inside le high_open low_open tells =
+LeadsToOpen-closed : (table : List ℕ) (high low : ℕ) (open_of : ℕ → ℕ) → high < length table → low ≤ high → get_or table high 0 ≡ high → get_or table low 0 ≡ low → LeadsToOpen table open_of → LeadsToOpen (set table high low) (closed_labels open_of high low)
+LeadsToOpen-closed table high low open_of inside le high_open low_open reports =
     let long = length-set table high low in
-    let high_is : open_of high ≡ high = tells.itself high inside high_open in
-    let low_is : open_of low ≡ low = tells.itself low (omega arith) low_open in
+    let high_is : open_of high ≡ high = reports.itself high inside high_open in
+    let low_is : open_of low ≡ low = reports.itself low (omega arith) low_open in
     let f : ℕ → ℕ = closed_labels open_of high low in
     let to_low = closed_high open_of high low in
     let stays = closed_other open_of high low in
@@ -60,19 +61,19 @@ TellsOpen-closed table high low open_of inside le high_open low_open tells =
       points = λ k lt. let lt' : k < length table = omega arith in
           at_set (λ (n : ℕ). f n ≡ f k) table high low k inside
           (λ e. low_stays ∙ sym (to_low k (ap open_of e ∙ high_is)))
-          (λ ne. ap (λ (n : ℕ). cond (eqb n high) low n) (tells.points k lt'));
+          (λ ne. ap (λ (n : ℕ). cond (eqb n high) low n) (reports.points k lt'));
       itself = λ k lt. let lt' : k < length table = omega arith in
           at_set (λ (n : ℕ). n ≡ k → f k ≡ k) table high low k inside
           (λ e same. to_low k (ap open_of e ∙ high_is) ∙ same)
-          (λ ne same. let is = tells.itself k lt' same in stays k (λ e. ne (sym is ∙ e)) ∙ is);
+          (λ ne same. let is = reports.itself k lt' same in stays k (λ e. ne (sym is ∙ e)) ∙ is);
       is_open = λ k lt. let lt' : k < length table = omega arith in
           ⊎_elim
           (λ e. subst (λ (n : ℕ). get_or (set table high low) n 0 ≡ n) (sym (to_low k e))
           (at_set (λ (n : ℕ). n ≡ low) table high low low inside (λ _. refl) (λ _. low_open)))
           (λ ne. subst (λ (n : ℕ). get_or (set table high low) n 0 ≡ n) (sym (stays k ne))
-          (at_set (λ (n : ℕ). n ≡ open_of k) table high low (open_of k) inside (λ e. absurd (ne e)) (λ _. tells.is_open k lt')))
+          (at_set (λ (n : ℕ). n ≡ open_of k) table high low (open_of k) inside (λ e. absurd (ne e)) (λ _. reports.is_open k lt')))
           (cases_eq (open_of k) high);
-      low = λ k lt. let least = tells.low k (omega arith) in
+      low = λ k lt. let least = reports.low k (omega arith) in
           ⊎_elim (λ e. let is = to_low k e in omega arith) (λ ne. let is = stays k ne in omega arith) (cases_eq (open_of k) high);
     }
 
@@ -83,22 +84,22 @@ by_order P x y one other =
     (λ le. let e : max x y ≡ x = omega arith in let d : min x y ≡ y = omega arith in rw (e, d) one) (cases_lt x y)
 
 -- two labels are joined
-pub TellsOpen-after : (table : List ℕ) (a b : ℕ) (open_of : ℕ → ℕ) → a < length table → b < length table → TellsOpen table open_of → TellsOpen (set table (max (open_of a) (open_of b)) (min (open_of a) (open_of b))) (after_join open_of a b)
-TellsOpen-after table a b open_of a_inside b_inside tells =
-    let a_low = tells.low a a_inside in
-    let b_low = tells.low b b_inside in
-    let a_open = tells.is_open a a_inside in
-    let b_open = tells.is_open b b_inside in
+pub LeadsToOpen-after : (table : List ℕ) (a b : ℕ) (open_of : ℕ → ℕ) → a < length table → b < length table → LeadsToOpen table open_of → LeadsToOpen (set table (max (open_of a) (open_of b)) (min (open_of a) (open_of b))) (after_join open_of a b)
+LeadsToOpen-after table a b open_of a_inside b_inside reports =
+    let a_low = reports.low a a_inside in
+    let b_low = reports.low b b_inside in
+    let a_open = reports.is_open a a_inside in
+    let b_open = reports.is_open b b_inside in
     let both = by_order (λ h l. (get_or table h 0 ≡ h) × (get_or table l 0 ≡ l)) (open_of a) (open_of b) (a_open, b_open) (b_open, a_open) in
-    TellsOpen-closed table (max (open_of a) (open_of b)) (min (open_of a) (open_of b)) open_of (omega arith) (omega arith) both.0 both.1 tells
+    LeadsToOpen-closed table (max (open_of a) (open_of b)) (min (open_of a) (open_of b)) open_of (omega arith) (omega arith) both.0 both.1 reports
 
 -- the same, by the open labels that were found
-pub TellsOpen-joined : (table : List ℕ) (a b first second high low : ℕ) (open_of : ℕ → ℕ) → a < length table → b < length table → TellsOpen table open_of → first ≡ open_of a → second ≡ open_of b → high ≡ max first second → low ≡ min first second → TellsOpen (set table high low) (after_join open_of a b)
-TellsOpen-joined table a b first second high low open_of a_inside b_inside tells e d high_is low_is =
+pub LeadsToOpen-joined : (table : List ℕ) (a b first second high low : ℕ) (open_of : ℕ → ℕ) → a < length table → b < length table → LeadsToOpen table open_of → first ≡ open_of a → second ≡ open_of b → high ≡ max first second → low ≡ min first second → LeadsToOpen (set table high low) (after_join open_of a b)
+LeadsToOpen-joined table a b first second high low open_of a_inside b_inside reports e d high_is low_is =
     let high' : high ≡ max (open_of a) (open_of b) = omega arith in
     let low' : low ≡ min (open_of a) (open_of b) = omega arith in
-    subst (λ (l : ℕ). TellsOpen (set table high l) (after_join open_of a b)) (sym low')
-    (subst (λ (h : ℕ). TellsOpen (set table h (min (open_of a) (open_of b))) (after_join open_of a b)) (sym high') (TellsOpen-after table a b open_of a_inside b_inside tells))
+    subst (λ (l : ℕ). LeadsToOpen (set table high l) (after_join open_of a b)) (sym low')
+    (subst (λ (h : ℕ). LeadsToOpen (set table h (min (open_of a) (open_of b))) (after_join open_of a b)) (sym high') (LeadsToOpen-after table a b open_of a_inside b_inside reports))
 
 -- ---- a label more, which is open
 
@@ -114,8 +115,8 @@ extended_new open_of n = cond-true (eqb n n) n (open_of n) (eq-eqb _ _ refl)
 pub extended_old : (open_of : ℕ → ℕ) (n k : ℕ) → k < n → extended open_of n k ≡ open_of k
 extended_old open_of n k lt = cond-false (eqb k n) n (open_of k) (ne_eqb _ _ (λ e. absurd (omega arith)))
 
-pub TellsOpen-push : (table : List ℕ) (open_of : ℕ → ℕ) → PointDown table → TellsOpen table open_of → TellsOpen (table ++ length table ∷ []) (extended open_of (length table))
-TellsOpen-push table open_of down tells =
+pub LeadsToOpen-push : (table : List ℕ) (open_of : ℕ → ℕ) → PointDown table → LeadsToOpen table open_of → LeadsToOpen (table ++ length table ∷ []) (extended open_of (length table))
+LeadsToOpen-push table open_of down reports =
     let n : ℕ = length table in
     let new : List ℕ = table ++ n ∷ [] in
     let f : ℕ → ℕ = extended open_of n in
@@ -127,15 +128,15 @@ TellsOpen-push table open_of down tells =
     let each : (P : ℕ → Type 0) → ((k : ℕ) → k < n → P k) → P n → (k : ℕ) → k < length new → P k = λ P below here k lt. ⊎_elim (λ less. below k less) (λ le. let e : n ≡ k = omega arith in subst P e here) (cases_lt k n) in
     record {
       points = each (λ k. f (get_or new k 0) ≡ f k)
-          (λ k lt. let low = down k in ap f (old k lt) ∙ kept (get_or table k 0) (omega arith) ∙ tells.points k lt ∙ sym (kept k lt))
+          (λ k lt. let low = down k in ap f (old k lt) ∙ kept (get_or table k 0) (omega arith) ∙ reports.points k lt ∙ sym (kept k lt))
           (ap f last);
       itself = each (λ k. get_or new k 0 ≡ k → f k ≡ k)
-          (λ k lt e. kept k lt ∙ tells.itself k lt (sym (old k lt) ∙ e))
+          (λ k lt e. kept k lt ∙ reports.itself k lt (sym (old k lt) ∙ e))
           (λ e. same);
       is_open = each (λ k. get_or new (f k) 0 ≡ f k)
-          (λ k lt. let low = tells.low k lt in subst (λ (i : ℕ). get_or new i 0 ≡ i) (sym (kept k lt)) (old (open_of k) (omega arith) ∙ tells.is_open k lt))
+          (λ k lt. let low = reports.low k lt in subst (λ (i : ℕ). get_or new i 0 ≡ i) (sym (kept k lt)) (old (open_of k) (omega arith) ∙ reports.is_open k lt))
           (subst (λ (i : ℕ). get_or new i 0 ≡ i) (sym same) last);
       low = each (λ k. f k ≤ k)
-          (λ k lt. let low = tells.low k lt in let is = kept k lt in omega arith)
+          (λ k lt. let low = reports.low k lt in let is = kept k lt in omega arith)
           (omega arith);
     }

@@ -9,7 +9,7 @@ use Rattle.cell_core_values.specs.Region.{RegionValue}
 use Rattle.std.proofs.lemmas.Bool.{cases_order}
 use Rattle.cell_core.specs.Grid.{Grid, CellValue, IsFilled, cell_at}
 use Rattle.cell_cats_areas.specs.declared.clump.Joining.{Joining}
-use Rattle.cell_cats_areas.specs.Areas.{Position, cell_at_spot, IsEarlierCell, HasNumber, IsClumping}
+use Rattle.cell_cats_areas.specs.Areas.{Position, cell_at_position, IsEarlierCell, HasNumber, IsClumping}
 use Rattle.cell_cats_areas.specs.ClumpLaw.{ClumpingIsOne}
 use Rattle.cell_cats_areas.proofs.PathLemmas.{AreJoined-sym, AreJoined-trans}
 use Rattle.cell_cats_areas.specs.parts.CellPlaces.{position}
@@ -82,13 +82,13 @@ HasNumber-one j m p n k h g =
     omega arith
 
 -- two clumpings have one number at each cell
-cells_one : (j : Joining) (m a b : Grid) → IsClumping j m a → IsClumping j m b → (p : Position) → cell_at_spot a p ≡ cell_at_spot b p
-cells_one j m a b one other p = at_cell (cell_at_spot m p) refl
+cells_one : (j : Joining) (m a b : Grid) → IsClumping j m a → IsClumping j m b → (p : Position) → cell_at_position a p ≡ cell_at_position b p
+cells_one j m a b one other p = at_cell (cell_at_position m p) refl
   where
-    at_cell : (x : CellValue) → cell_at_spot m p ≡ x → cell_at_spot a p ≡ cell_at_spot b p
+    at_cell : (x : CellValue) → cell_at_position m p ≡ x → cell_at_position a p ≡ cell_at_position b p
     at_cell None e = one.nulls p e ∙ sym (other.nulls p e)
     at_cell (Some v) e =
-        let some : IsSome (cell_at_spot m p) = rw e refl in
+        let some : IsSome (cell_at_position m p) = rw e refl in
         let n = one.numbered p some in
         let k = other.numbered p some in
         n.2 ∙ ap (λ (i : ℕ). Some (pos i)) (HasNumber-one j m p n.0 k.0 n.1 k.1) ∙ sym k.2

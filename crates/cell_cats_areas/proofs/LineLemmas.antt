@@ -6,44 +6,44 @@ use Rattle.cell_core.specs.Grid.{Grid, CellValue, IsFilled, row_at}
 use Rattle.cell_cats_areas.specs.declared.clump.Joining.{Joining}
 use Rattle.cell_cats_areas.specs.declared.near.Labelled.{Labelled}
 use Rattle.cell_cats_areas.specs.declared.near.Near.{Near}
-use Rattle.cell_cats_areas.specs.Areas.{Position, cell_at_spot}
+use Rattle.cell_cats_areas.specs.Areas.{Position, cell_at_position}
 use Rattle.cell_cats_areas.specs.parts.CellPlaces.{position, cell_place, IsInside}
-use Rattle.cell_cats_areas.specs.parts.AreasRead.{AreBeside, AreInside, AreNear, HasRead, HaveCells, IsLine, IsAreaReading, TellsLabels, area_label_at, near_at}
+use Rattle.cell_cats_areas.specs.parts.AreasRead.{AreBeside, AreInside, AreNear, HasRead, HaveCells, IsLine, IsAreaReading, IsLabelledCell, area_label_at, near_at}
 use Rattle.cell_cats_areas.specs.parts.Starts.{IsCellAt, IsLeft, IsAbove, IsUpperLeft, IsUpperRight}
 use Rattle.cell_cats_areas.proofs.StartLemmas.{same_position, inside_map}
 use Rattle.cell_cats_areas.proofs.NearLemmas.{inside_near}
 use Rattle.cell_cats_areas.proofs.ReadLemmas.{read_nothing}
 
 -- no cell lies there
-tells_none : (m : Grid) (count : ℕ) (f : Position → ℕ) (Lies : Position → Type 0) (x : Labelled) → x.cell ≡ None → ((q : Position) (v : ℤ) → Lies q → cell_at_spot m q ≡ Some v → ⊥) → TellsLabels m count f Lies x
-tells_none m count f Lies x none never = record {
+reports_none : (m : Grid) (count : ℕ) (f : Position → ℕ) (Lies : Position → Type 0) (x : Labelled) → x.cell ≡ None → ((q : Position) (v : ℤ) → Lies q → cell_at_position m q ≡ Some v → ⊥) → IsLabelledCell m count f Lies x
+reports_none m count f Lies x none never = record {
   some = λ v e. absurd (let both : None ≡ Some v = sym none ∙ e in cc);
   all = λ q v lies is. absurd (never q v lies is);
 }
 
 -- the same cell by another place
-tells_as : (m : Grid) (count : ℕ) (f : Position → ℕ) (P Q : Position → Type 0) (x : Labelled) → ((q : Position) → P q → Q q) → ((q : Position) → Q q → P q) → TellsLabels m count f P x → TellsLabels m count f Q x
-tells_as m count f P Q x to from h = record {
+reports_as : (m : Grid) (count : ℕ) (f : Position → ℕ) (P Q : Position → Type 0) (x : Labelled) → ((q : Position) → P q → Q q) → ((q : Position) → Q q → P q) → IsLabelledCell m count f P x → IsLabelledCell m count f Q x
+reports_as m count f P Q x to from h = record {
   some = λ v e. let t = h.some v e in (t.0, to t.0 t.1, t.2, t.3, t.4);
   all = λ q v lies is. h.all q v (from q lies) is;
 }
 
 -- and once more cells were read
-tells_grown : (m : Grid) (count more : ℕ) (f g : Position → ℕ) (P : Position → Type 0) (x : Labelled) → count ≤ more → ((q : Position) → cell_place m.region.cols q < count → g q ≡ f q) → TellsLabels m count f P x → TellsLabels m more g P x
-tells_grown m count more f g P x le same h = record {
+reports_grown : (m : Grid) (count more : ℕ) (f g : Position → ℕ) (P : Position → Type 0) (x : Labelled) → count ≤ more → ((q : Position) → cell_place m.region.cols q < count → g q ≡ f q) → IsLabelledCell m count f P x → IsLabelledCell m more g P x
+reports_grown m count more f g P x le same h = record {
   some = λ v e. let t = h.some v e in (t.0, t.1, t.2, t.3 ∙ sym (same t.0 t.4), let lt = t.4 in omega arith);
   all = h.all;
 }
 
 -- a cell that was just read
-pub tells_here : (m : Grid) (count : ℕ) (f : Position → ℕ) (r c : ℕ) (x : Labelled) → x.cell ≡ cell_at_spot m (position r c) → ((v : ℤ) → cell_at_spot m (position r c) ≡ Some v → x.label ≡ f (position r c)) → r * m.region.cols + c < count → TellsLabels m count f (IsCellAt r c) x
-tells_here m count f r c x cell label lt = record {
+pub leads_here : (m : Grid) (count : ℕ) (f : Position → ℕ) (r c : ℕ) (x : Labelled) → x.cell ≡ cell_at_position m (position r c) → ((v : ℤ) → cell_at_position m (position r c) ≡ Some v → x.label ≡ f (position r c)) → r * m.region.cols + c < count → IsLabelledCell m count f (IsCellAt r c) x
+leads_here m count f r c x cell label lt = record {
   some = λ v e. let is = sym cell ∙ e in (position r c, (refl, refl), is, label v is, lt);
-  all = λ q v lies is. cell ∙ sym (ap (cell_at_spot m) (same_position q r c lies.0 lies.1)) ∙ is;
+  all = λ q v lies is. cell ∙ sym (ap (cell_at_position m) (same_position q r c lies.0 lies.1)) ∙ is;
 }
 
 -- the neighbours of the next cell
-pub near_next : (m : Grid) → ((p : Position) (v : ℤ) → cell_at_spot m p ≡ Some v → IsInside m p) → (count : ℕ) (f : Position → ℕ) (r c : ℕ) (line : List Labelled) → IsLine m count f r c line → (near : Near) → AreBeside m count f r c near → c < m.region.cols → AreNear m count f r c (near_at line c near)
+pub near_next : (m : Grid) → ((p : Position) (v : ℤ) → cell_at_position m p ≡ Some v → IsInside m p) → (count : ℕ) (f : Position → ℕ) (r c : ℕ) (line : List Labelled) → IsLine m count f r c line → (near : Near) → AreBeside m count f r c near → c < m.region.cols → AreNear m count f r c (near_at line c near)
 near_next m inside count f r c line is_line near beside c_in = record {
   left = beside.left;
   upper_left = beside.upper_left;
@@ -51,20 +51,20 @@ near_next m inside count f r c line is_line near beside c_in = record {
   upper_right = ⊎_elim (λ lt. is_line.above (c + 1) near.left (omega arith) lt)
       (λ ge. let e : c + 1 ≡ m.region.cols = omega arith in
       let none : (get_or line (c + 1) near.left).cell ≡ None = ap (λ (k : ℕ). (get_or line k near.left).cell) e ∙ is_line.end near.left in
-      tells_none m count f (IsUpperRight r c) (get_or line (c + 1) near.left) none (λ q v lies is. let col = lies.1 in let q_in = (inside q v is).1 in omega arith))
+      reports_none m count f (IsUpperRight r c) (get_or line (c + 1) near.left) none (λ q v lies is. let col = lies.1 in let q_in = (inside q v is).1 in omega arith))
       (cases_lt (c + 1) m.region.cols);
 }
 
 -- at the left of a row
 pub beside_first : (m : Grid) (count : ℕ) (f : Position → ℕ) (r : ℕ) (near : Near) → near.left.cell ≡ None → near.above.cell ≡ None → AreBeside m count f r 0 near
 beside_first m count f r near left above = record {
-  left = tells_none m count f (IsLeft r 0) near.left left (λ q v lies is. let col = lies.1 in omega arith);
-  upper_left = tells_none m count f (IsUpperLeft r 0) near.above above (λ q v lies is. let col = lies.1 in omega arith);
+  left = reports_none m count f (IsLeft r 0) near.left left (λ q v lies is. let col = lies.1 in omega arith);
+  upper_left = reports_none m count f (IsUpperLeft r 0) near.above above (λ q v lies is. let col = lies.1 in omega arith);
 }
 
 -- ---- one cell more
 
-module _ (m : Grid) (count more : ℕ) (f g : Position → ℕ) (le : count ≤ more) (same : (q : Position) → cell_place m.region.cols q < count → g q ≡ f q) (r c : ℕ) (x : Labelled) (here : TellsLabels m more g (IsCellAt r c) x) where
+module _ (m : Grid) (count more : ℕ) (f g : Position → ℕ) (le : count ≤ more) (same : (q : Position) → cell_place m.region.cols q < count → g q ≡ f q) (r c : ℕ) (x : Labelled) (here : IsLabelledCell m more g (IsCellAt r c) x) where
   pub line_next : (line : List Labelled) → c < m.region.cols → IsLine m count f r c line → IsLine m more g r (c + 1) (set line c x)
   line_next line c_in is_line =
       let wide = is_line.wide in
@@ -72,18 +72,18 @@ module _ (m : Grid) (count more : ℕ) (f g : Position → ℕ) (le : count ≤ 
         wide = length-set line c x ∙ is_line.wide;
         end = λ d. ap (λ (z : Labelled). z.cell) (get_or-set_other line c m.region.cols x d (omega arith)) ∙ is_line.end d;
         here = λ k d lt. ⊎_elim
-            (λ below. subst (TellsLabels m more g (IsCellAt r k)) (sym (get_or-set_other line c k x d (omega arith))) (tells_grown m count more f g (IsCellAt r k) (get_or line k d) le same (is_line.here k d below)))
-            (λ ge. let e : c ≡ k = omega arith in subst (λ (i : ℕ). TellsLabels m more g (IsCellAt r i) (get_or (set line c x) i d)) e (subst (TellsLabels m more g (IsCellAt r c)) (sym (get_or-set_same line c x d (omega arith))) here))
+            (λ below. subst (IsLabelledCell m more g (IsCellAt r k)) (sym (get_or-set_other line c k x d (omega arith))) (reports_grown m count more f g (IsCellAt r k) (get_or line k d) le same (is_line.here k d below)))
+            (λ ge. let e : c ≡ k = omega arith in subst (λ (i : ℕ). IsLabelledCell m more g (IsCellAt r i) (get_or (set line c x) i d)) e (subst (IsLabelledCell m more g (IsCellAt r c)) (sym (get_or-set_same line c x d (omega arith))) here))
             (cases_lt k c);
-        above = λ k d ge lt. subst (TellsLabels m more g (IsAbove r k)) (sym (get_or-set_other line c k x d (omega arith))) (tells_grown m count more f g (IsAbove r k) (get_or line k d) le same (is_line.above k d (omega arith) lt));
+        above = λ k d ge lt. subst (IsLabelledCell m more g (IsAbove r k)) (sym (get_or-set_other line c k x d (omega arith))) (reports_grown m count more f g (IsAbove r k) (get_or line k d) le same (is_line.above k d (omega arith) lt));
       }
 
   pub beside_next : (near : Near) → AreNear m count f r c near → AreBeside m more g r (c + 1) (record near { left = x })
   beside_next near n = record {
-    left = tells_as m more g (IsCellAt r c) (IsLeft r (c + 1)) x
+    left = reports_as m more g (IsCellAt r c) (IsLeft r (c + 1)) x
         (λ q h. let col = h.1 in (h.0, omega arith)) (λ q h. let col = h.1 in (h.0, omega arith)) here;
-    upper_left = tells_as m more g (IsAbove r c) (IsUpperLeft r (c + 1)) near.above
-        (λ q h. let col = h.1 in (h.0, omega arith)) (λ q h. let col = h.1 in (h.0, omega arith)) (tells_grown m count more f g (IsAbove r c) near.above le same n.above);
+    upper_left = reports_as m more g (IsAbove r c) (IsUpperLeft r (c + 1)) near.above
+        (λ q h. let col = h.1 in (h.0, omega arith)) (λ q h. let col = h.1 in (h.0, omega arith)) (reports_grown m count more f g (IsAbove r c) near.above le same n.above);
   }
 
 -- the line at the next row
@@ -92,7 +92,7 @@ line_down m count f r line h = record {
   wide = h.wide;
   end = h.end;
   here = λ k d lt. absurd (omega arith);
-  above = λ k d ge lt. tells_as m count f (IsCellAt r k) (IsAbove (r + 1) k) (get_or line k d)
+  above = λ k d ge lt. reports_as m count f (IsCellAt r k) (IsAbove (r + 1) k) (get_or line k d)
       (λ q l. let row = l.0 in (omega arith, l.1)) (λ q l. let row = l.0 in (omega arith, l.1)) (h.here k d lt);
 }
 
@@ -105,14 +105,14 @@ module _ (j : Joining) (m : Grid) (table : List ℕ) (line : List Labelled) (r c
   pub reading_inside : AreInside (length table) after
   reading_inside = inside_near j m table h.cells.labels h.cells.has_read.open_of r c after h.cells.has_read.read reading_near
 
-  pub reading_next : (new : List ℕ) (z : Labelled) → z.cell ≡ cell_at_spot m (position r c) → HasRead j m new (h.cells.labels ++ z.label ∷ []) → IsAreaReading j m new (set line c z) r (c + 1) (record after { left = z })
+  pub reading_next : (new : List ℕ) (z : Labelled) → z.cell ≡ cell_at_position m (position r c) → HasRead j m new (h.cells.labels ++ z.label ∷ []) → IsAreaReading j m new (set line c z) r (c + 1) (record after { left = z })
   reading_next new z cell has_read =
       let old : List ℕ = h.cells.labels in
       let more : List ℕ = old ++ z.label ∷ [] in
       let count = h.cells.count in
       let long : length more ≡ length old + 1 = length_push old z.label in
       let same : (q : Position) → cell_place m.region.cols q < length old → area_label_at m more q ≡ area_label_at m old q = λ q lt. get_or_append_left old (z.label ∷ []) 0 (cell_place m.region.cols q) lt in
-      let here = tells_here m (length more) (area_label_at m more) r c z cell (λ v is. sym (get_or_push old z.label 0 (r * m.region.cols + c) count)) (omega arith) in
+      let here = leads_here m (length more) (area_label_at m more) r c z cell (λ v is. sym (get_or_push old z.label 0 (r * m.region.cols + c) count)) (omega arith) in
       record {
         cells = record {
           labels = more;
@@ -134,7 +134,7 @@ cells_down j m table line r c e h = record {
 }
 
 -- a cell of a row that was copied
-pub copied : (m : Grid) (r c : ℕ) (cells : List CellValue) (x : CellValue) → cells ≡ row_at m r → c < length cells → x ≡ get_or cells c x → x ≡ cell_at_spot m (position r c)
+pub copied : (m : Grid) (r c : ℕ) (cells : List CellValue) (x : CellValue) → cells ≡ row_at m r → c < length cells → x ≡ get_or cells c x → x ≡ cell_at_position m (position r c)
 copied m r c cells x e lt is = is ∙ get_or_default cells c x None lt ∙ ap (λ (xs : List CellValue). get_or xs c None) e
 
 -- the line before the first row
@@ -145,7 +145,7 @@ line_empty m f line x is none =
       wide = ap (length {A = Labelled}) is ∙ length-replicate (m.region.cols + 1) x;
       end = λ d. null m.region.cols d (omega arith);
       here = λ k d lt. absurd (omega arith);
-      above = λ k d ge lt. tells_none m 0 f (IsAbove 0 k) (get_or line k d) (null k d (omega arith)) (λ q v lies is. let row = lies.0 in omega arith);
+      above = λ k d ge lt. reports_none m 0 f (IsAbove 0 k) (get_or line k d) (null k d (omega arith)) (λ q v lies is. let row = lies.0 in omega arith);
     }
 
 pub cells_first : (j : Joining) (m : Grid) (line : List Labelled) (x : Labelled) → IsFilled m.region m.rows → line ≡ replicate (m.region.cols + 1) x → x.cell ≡ None → HaveCells j m [] line 0 0

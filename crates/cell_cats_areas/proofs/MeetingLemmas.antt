@@ -3,12 +3,12 @@ use Rattle.std.proofs.Common.{◌≡◌, ℕ, ℤ, ◌+◌, ◌++◌, ◌∷◌,
 use Rattle.std.proofs.lemmas.Bool.{cases_eq, cases_lt}
 use Rattle.cell_core.specs.Grid.{Grid, CellValue}
 use Rattle.cell_cats_areas.specs.declared.clump.Joining.{Joining}
-use Rattle.cell_cats_areas.specs.Areas.{cell_at_spot, AreJoined}
-use Rattle.cell_cats_areas.specs.parts.Labels.{PointDown, TellsOpen, closed_labels, after_join}
+use Rattle.cell_cats_areas.specs.Areas.{cell_at_position, AreJoined}
+use Rattle.cell_cats_areas.specs.parts.Labels.{PointDown, LeadsToOpen, closed_labels, after_join}
 use Rattle.cell_cats_areas.specs.parts.Meetings.{AreSound}
 use Rattle.cell_cats_areas.specs.parts.Starts.{start_of_run}
 use Rattle.std.proofs.lemmas.List.{length_push}
-use Rattle.cell_cats_areas.proofs.LabelLemmas.{by_order, closed_high, closed_other, extended, extended_new, extended_old, TellsOpen-push}
+use Rattle.cell_cats_areas.proofs.LabelLemmas.{by_order, closed_high, closed_other, extended, extended_new, extended_old, LeadsToOpen-push}
 use Rattle.cell_cats_areas.proofs.PathLemmas.{AreJoined-refl, AreJoined-trans, AreJoined-sym, AreJoined-first, AreJoined-last}
 
 closed_low : (f : ℕ → ℕ) (high low k : ℕ) → f k ≡ low → closed_labels f high low k ≡ low
@@ -22,7 +22,7 @@ after_join_one f a b =
     (closed_low f (f b) (f a) a refl ∙ sym (closed_high f (f b) (f a) b refl))
 
 -- a cell is joined to that of the label that its own leads to
-to_open : (j : Joining) (m : Grid) (table : List ℕ) (f : ℕ → ℕ) (k : ℕ) (v : ℤ) → AreSound j m table f → k < length table → cell_at_spot m (start_of_run j m k) ≡ Some v → AreJoined j m (start_of_run j m k) (start_of_run j m (f k))
+to_open : (j : Joining) (m : Grid) (table : List ℕ) (f : ℕ → ℕ) (k : ℕ) (v : ℤ) → AreSound j m table f → k < length table → cell_at_position m (start_of_run j m k) ≡ Some v → AreJoined j m (start_of_run j m k) (start_of_run j m (f k))
 to_open j m table f k v sound inside is =
     ⊎_elim (λ e. subst (λ (n : ℕ). AreJoined j m (start_of_run j m k) (start_of_run j m n)) (sym e) (AreJoined-refl j m (start_of_run j m k) v is)) (λ h. h) (sound.joined k inside)
 
@@ -38,8 +38,8 @@ closed_joined j m f high low k joined here =
     (λ ne. subst To (sym (closed_other f high low k ne)) here) (cases_eq (f k) high)
 
 -- two labels whose cells are joined
-pub AreSound-joined : (j : Joining) (m : Grid) (table new : List ℕ) (f : ℕ → ℕ) (a b : ℕ) → AreSound j m table f → length new ≡ length table → TellsOpen new (after_join f a b) → a < length table → b < length table → AreJoined j m (start_of_run j m a) (start_of_run j m b) → AreSound j m new (after_join f a b)
-AreSound-joined j m table new f a b sound long tells a_inside b_inside near =
+pub AreSound-joined : (j : Joining) (m : Grid) (table new : List ℕ) (f : ℕ → ℕ) (a b : ℕ) → AreSound j m table f → length new ≡ length table → LeadsToOpen new (after_join f a b) → a < length table → b < length table → AreJoined j m (start_of_run j m a) (start_of_run j m b) → AreSound j m new (after_join f a b)
+AreSound-joined j m table new f a b sound long reports a_inside b_inside near =
     let IsJoined : ℕ → ℕ → Type 0 = λ x y. AreJoined j m (start_of_run j m x) (start_of_run j m y) in
     let a_to = to_open j m table f a near.category sound a_inside (AreJoined-first j m _ _ near) in
     let b_to = to_open j m table f b near.category sound b_inside (AreJoined-last j m _ _ near) in
@@ -47,7 +47,7 @@ AreSound-joined j m table new f a b sound long tells a_inside b_inside near =
     let from_b : IsJoined (f b) (f a) = AreJoined-sym j m _ _ from_a in
     let down = by_order IsJoined (f a) (f b) from_a from_b in
     record {
-      tells = tells;
+      reports = reports;
       joined = λ k lt. closed_joined j m f (max (f a) (f b)) (min (f a) (f b)) k down (sound.joined k (omega arith));
     }
 
@@ -69,7 +69,7 @@ after_join_keeps f x y a b e = ap (λ (n : ℕ). cond (eqb n (max (f x) (f y))) 
 -- a label more
 pub AreSound-push : (j : Joining) (m : Grid) (table : List ℕ) (open_of : ℕ → ℕ) → PointDown table → AreSound j m table open_of → AreSound j m (table ++ length table ∷ []) (extended open_of (length table))
 AreSound-push j m table open_of down sound = record {
-  tells = TellsOpen-push table open_of down sound.tells;
+  reports = LeadsToOpen-push table open_of down sound.reports;
   joined = λ k lt.
       let n : ℕ = length table in
       let long : length (table ++ n ∷ []) ≡ n + 1 = length_push table n in

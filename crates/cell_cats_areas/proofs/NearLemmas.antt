@@ -7,10 +7,10 @@ use Rattle.cell_cats_areas.specs.declared.clump.Joining.{Joining}
 use Rattle.cell_cats_areas.specs.declared.clump.Joining.TheVariants.{Edges, EdgesAndCorners}
 use Rattle.cell_cats_areas.specs.declared.near.Labelled.{Labelled}
 use Rattle.cell_cats_areas.specs.declared.near.Near.{Near}
-use Rattle.cell_cats_areas.specs.Areas.{Position, cell_at_spot, AreAdjacent, AreJoined}
-use Rattle.cell_cats_areas.specs.parts.Labels.{TellsOpen, after_join}
+use Rattle.cell_cats_areas.specs.Areas.{Position, cell_at_position, AreAdjacent, AreJoined}
+use Rattle.cell_cats_areas.specs.parts.Labels.{LeadsToOpen, after_join}
 use Rattle.cell_cats_areas.specs.parts.CellPlaces.{position, cell_place}
-use Rattle.cell_cats_areas.specs.parts.AreasRead.{AreInside, AreNear, AreRowsRead, HasNoneEarlier, Shares, SharesAt, SharesAtCorners, SharesLabel, SharesLabelAtCorners, TellsLabels, WasRead, area_label_at}
+use Rattle.cell_cats_areas.specs.parts.AreasRead.{AreInside, AreNear, AreRowsRead, HasNoneEarlier, Shares, SharesAt, SharesAtCorners, SharesLabel, SharesLabelAtCorners, IsLabelledCell, WasRead, area_label_at}
 use Rattle.cell_cats_areas.specs.parts.Starts.{IsLeft, IsAbove, IsUpperLeft, IsUpperRight, IsEarlier, start_of_run}
 use Rattle.cell_cats_areas.proofs.PathLemmas.{AreJoined-adjacent, AreJoined-sym, AreJoined-trans}
 use Rattle.cell_cats_areas.proofs.MeetingLemmas.{AreSound-joined, after_join_keeps, after_join_one}
@@ -39,35 +39,37 @@ below Edges p q e d = inr (inr e, d)
 below EdgesAndCorners p q e d = inl (inr (inr e, d))
 
 -- a neighbour of a category, and what is known of it
-pub record Told (m : Grid) (count : ℕ) (label_of : Position → ℕ) (q : Position) (v : ℤ) (x : Labelled) : Type 0 where
+pub record Reported (m : Grid) (count : ℕ) (label_of : Position → ℕ) (q : Position) (v : ℤ) (x : Labelled) : Type 0 where
   pub cell : x.cell ≡ Some v
-  pub is : cell_at_spot m q ≡ Some v
+  pub is : cell_at_position m q ≡ Some v
   pub label : x.label ≡ label_of q
   pub read : cell_place m.region.cols q < count
 
-tell : (m : Grid) (count : ℕ) (label_of : Position → ℕ) (Lies : Position → Type 0) (x : Labelled) (v : ℤ) → TellsLabels m count label_of Lies x → x.cell ≡ Some v → (q : Position) × Lies q × Told m count label_of q v x
-tell m count label_of Lies x v h e = let t = h.some v e in (t.0, t.1, record { cell = e; is = t.2; label = t.3; read = t.4 })
+report : (m : Grid) (count : ℕ) (label_of : Position → ℕ) (Lies : Position → Type 0) (x : Labelled) (v : ℤ) → IsLabelledCell m count label_of Lies x → x.cell ≡ Some v → (q : Position) × Lies q × Reported m count label_of q v x
+report m count label_of Lies x v h e = let t = h.some v e in (t.0, t.1, record { cell = e; is = t.2; label = t.3; read = t.4 })
 
-told : (m : Grid) (count : ℕ) (label_of : Position → ℕ) (Lies : Position → Type 0) (x : Labelled) (v : ℤ) → TellsLabels m count label_of Lies x → ((p q : Position) → Lies p → Lies q → p ≡ q) → (q : Position) → Lies q → cell_at_spot m q ≡ Some v → Told m count label_of q v x
-told m count label_of Lies x v h one q lies is =
-    let t = tell m count label_of Lies x v h (h.all q v lies is) in
-    subst (λ (p : Position). Told m count label_of p v x) (one t.0 q t.1 lies) t.2
+reported : (m : Grid) (count : ℕ) (label_of : Position → ℕ) (Lies : Position → Type 0) (x : Labelled) (v : ℤ) → IsLabelledCell m count label_of Lies x → ((p q : Position) → Lies p → Lies q → p ≡ q) → (q : Position) → Lies q → cell_at_position m q ≡ Some v → Reported m count label_of q v x
+reported m count label_of Lies x v h one q lies is =
+    let t = report m count label_of Lies x v h (h.all q v lies is) in
+    subst (λ (p : Position). Reported m count label_of p v x) (one t.0 q t.1 lies) t.2
 
 module _ (m : Grid) (count : ℕ) (label_of : Position → ℕ) (r c : ℕ) (v : ℤ) (near : Near) (n : AreNear m count label_of r c near) where
-  pub told_left : (q : Position) → IsLeft r c q → cell_at_spot m q ≡ Some v → Told m count label_of q v near.left
-  told_left = told m count label_of (IsLeft r c) near.left v n.left (λ p q h g. let a = h.0 in let b = g.0 in let x = h.1 in let y = g.1 in same_position p q.row q.col (omega arith) (omega arith))
+  pub label_left : (q : Position) → IsLeft r c q → cell_at_position m q ≡ Some v → Reported m count label_of q v near.left
+  label_left = reported m count label_of (IsLeft r c) near.left v n.left (λ p q h g. let a = h.0 in let b = g.0 in let x = h.1 in let y = g.1 in same_position p q.row q.col (omega arith) (omega arith))
 
-  pub told_above : (q : Position) → IsAbove r c q → cell_at_spot m q ≡ Some v → Told m count label_of q v near.above
-  told_above = told m count label_of (IsAbove r c) near.above v n.above (λ p q h g. let a = h.0 in let b = g.0 in let x = h.1 in let y = g.1 in same_position p q.row q.col (omega arith) (omega arith))
+  pub label_above : (q : Position) → IsAbove r c q → cell_at_position m q ≡ Some v → Reported m count label_of q v near.above
+  label_above = reported m count label_of (IsAbove r c) near.above v n.above (λ p q h g. let a = h.0 in let b = g.0 in let x = h.1 in let y = g.1 in same_position p q.row q.col (omega arith) (omega arith))
 
-  pub told_upper_left : (q : Position) → IsUpperLeft r c q → cell_at_spot m q ≡ Some v → Told m count label_of q v near.upper_left
-  told_upper_left = told m count label_of (IsUpperLeft r c) near.upper_left v n.upper_left (λ p q h g. let a = h.0 in let b = g.0 in let x = h.1 in let y = g.1 in same_position p q.row q.col (omega arith) (omega arith))
+  pub label_upper_left : (q : Position) → IsUpperLeft r c q → cell_at_position m q ≡ Some v
+      → Reported m count label_of q v near.upper_left
+  label_upper_left = reported m count label_of (IsUpperLeft r c) near.upper_left v n.upper_left (λ p q h g. let a = h.0 in let b = g.0 in let x = h.1 in let y = g.1 in same_position p q.row q.col (omega arith) (omega arith))
 
-  pub told_upper_right : (q : Position) → IsUpperRight r c q → cell_at_spot m q ≡ Some v → Told m count label_of q v near.upper_right
-  told_upper_right = told m count label_of (IsUpperRight r c) near.upper_right v n.upper_right (λ p q h g. let a = h.0 in let b = g.0 in let x = h.1 in let y = g.1 in same_position p q.row q.col (omega arith) (omega arith))
+  pub label_upper_right : (q : Position) → IsUpperRight r c q → cell_at_position m q ≡ Some v
+      → Reported m count label_of q v near.upper_right
+  label_upper_right = reported m count label_of (IsUpperRight r c) near.upper_right v n.upper_right (λ p q h g. let a = h.0 in let b = g.0 in let x = h.1 in let y = g.1 in same_position p q.row q.col (omega arith) (omega arith))
 
 -- a label of the cells read is one of the table
-pub label_below : (j : Joining) (m : Grid) (table labels : List ℕ) (open_of : ℕ → ℕ) → AreRowsRead j m table labels open_of → (q : Position) (v : ℤ) → cell_at_spot m q ≡ Some v → WasRead m labels q → area_label_at m labels q < length table
+pub label_below : (j : Joining) (m : Grid) (table labels : List ℕ) (open_of : ℕ → ℕ) → AreRowsRead j m table labels open_of → (q : Position) (v : ℤ) → cell_at_position m q ≡ Some v → WasRead m labels q → area_label_at m labels q < length table
 label_below j m table labels open_of rd q v is read =
     let few = rd.few q v is read in
     let le = count_le j m (suc (cell_place m.region.cols q)) (length labels) (omega arith) in
@@ -76,25 +78,25 @@ label_below j m table labels open_of rd q v is read =
 
 pub inside_near : (j : Joining) (m : Grid) (table labels : List ℕ) (open_of : ℕ → ℕ) (r c : ℕ) (near : Near) → AreRowsRead j m table labels open_of → AreNear m (length labels) (area_label_at m labels) r c near → AreInside (length table) near
 inside_near j m table labels open_of r c near rd n = record {
-  left = λ v e. from v near.left (tell m (length labels) (area_label_at m labels) (IsLeft r c) near.left v n.left e).2;
-  upper_left = λ v e. from v near.upper_left (tell m (length labels) (area_label_at m labels) (IsUpperLeft r c) near.upper_left v n.upper_left e).2;
-  above = λ v e. from v near.above (tell m (length labels) (area_label_at m labels) (IsAbove r c) near.above v n.above e).2;
-  upper_right = λ v e. from v near.upper_right (tell m (length labels) (area_label_at m labels) (IsUpperRight r c) near.upper_right v n.upper_right e).2;
+  left = λ v e. from v near.left (report m (length labels) (area_label_at m labels) (IsLeft r c) near.left v n.left e).2;
+  upper_left = λ v e. from v near.upper_left (report m (length labels) (area_label_at m labels) (IsUpperLeft r c) near.upper_left v n.upper_left e).2;
+  above = λ v e. from v near.above (report m (length labels) (area_label_at m labels) (IsAbove r c) near.above v n.above e).2;
+  upper_right = λ v e. from v near.upper_right (report m (length labels) (area_label_at m labels) (IsUpperRight r c) near.upper_right v n.upper_right e).2;
 }
   where
-    from : {q : Position} (v : ℤ) (x : Labelled) → Told m (length labels) (area_label_at m labels) q v x → x.label < length table
+    from : {q : Position} (v : ℤ) (x : Labelled) → Reported m (length labels) (area_label_at m labels) q v x → x.label < length table
     from {q} v x t = let lt = label_below j m table labels open_of rd q v t.is t.read in let e = t.label in omega arith
 
 module _ (j : Joining) (m : Grid) (r c : ℕ) (v : ℤ) (table labels : List ℕ) (f : ℕ → ℕ) (rd : AreRowsRead j m table labels f) where
-  abbrev ToldOf : Position → Labelled → Type 0
-  ToldOf q x = Told m (length labels) (area_label_at m labels) q v x
+  abbrev ReportedOf : Position → Labelled → Type 0
+  ReportedOf q x = Reported m (length labels) (area_label_at m labels) q v x
 
   -- adjacent cells that were read
-  met : (p q : Position) (x y : Labelled) → AreAdjacent j p q → ToldOf p x → ToldOf q y → f (area_label_at m labels p) ≡ f y.label
+  met : (p q : Position) (x y : Labelled) → AreAdjacent j p q → ReportedOf p x → ReportedOf q y → f (area_label_at m labels p) ≡ f y.label
   met p q x y near t s = rd.meet p q v near t.is s.is t.read s.read ∙ ap f (sym s.label)
 
   -- no labels are joined
-  pub shared : (q : Position) (x : Labelled) → IsEarlier j r c q → ToldOf q x → ((p : Position) → IsEarlier j r c p → cell_at_spot m p ≡ Some v → f (area_label_at m labels p) ≡ f x.label) → Shares j m table labels f r c v x.label
+  pub shared : (q : Position) (x : Labelled) → IsEarlier j r c q → ReportedOf q x → ((p : Position) → IsEarlier j r c p → cell_at_position m p ≡ Some v → f (area_label_at m labels p) ≡ f x.label) → Shares j m table labels f r c v x.label
   shared q x earlier t meet = record {
     after = f;
     sound = rd.sound;
@@ -107,17 +109,17 @@ module _ (j : Joining) (m : Grid) (r c : ℕ) (v : ℤ) (table labels : List ℕ
   }
 
   -- two are
-  pub shared_joined : (new : List ℕ) (p q : Position) (x y : Labelled) → cell_at_spot m (position r c) ≡ Some v → IsEarlier j r c p → IsEarlier j r c q → ToldOf p x → ToldOf q y → length new ≡ length table → TellsOpen new (after_join f x.label y.label) → ((s : Position) → IsEarlier j r c s → cell_at_spot m s ≡ Some v → (f (area_label_at m labels s) ≡ f x.label) ⊎ (f (area_label_at m labels s) ≡ f y.label)) → Shares j m new labels f r c v y.label
-  shared_joined new p q x y is p_earlier q_earlier t s long tells meet =
-      let to_start : (k : Position) (z : Labelled) → ToldOf k z → AreJoined j m (start_of_run j m z.label) k = λ k z told. subst (λ (l : ℕ). AreJoined j m (start_of_run j m l) k) (sym told.label) (rd.joined k v told.is told.read) in
-      let here : (k : Position) → IsEarlier j r c k → cell_at_spot m k ≡ Some v → AreJoined j m k (position r c) = λ k earlier k_is. AreJoined-adjacent j m k (position r c) v (earlier_adjacent j r c k earlier) k_is is in
+  pub shared_joined : (new : List ℕ) (p q : Position) (x y : Labelled) → cell_at_position m (position r c) ≡ Some v → IsEarlier j r c p → IsEarlier j r c q → ReportedOf p x → ReportedOf q y → length new ≡ length table → LeadsToOpen new (after_join f x.label y.label) → ((s : Position) → IsEarlier j r c s → cell_at_position m s ≡ Some v → (f (area_label_at m labels s) ≡ f x.label) ⊎ (f (area_label_at m labels s) ≡ f y.label)) → Shares j m new labels f r c v y.label
+  shared_joined new p q x y is p_earlier q_earlier t s long reports meet =
+      let to_start : (k : Position) (z : Labelled) → ReportedOf k z → AreJoined j m (start_of_run j m z.label) k = λ k z reported. subst (λ (l : ℕ). AreJoined j m (start_of_run j m l) k) (sym reported.label) (rd.joined k v reported.is reported.read) in
+      let here : (k : Position) → IsEarlier j r c k → cell_at_position m k ≡ Some v → AreJoined j m k (position r c) = λ k earlier k_is. AreJoined-adjacent j m k (position r c) v (earlier_adjacent j r c k earlier) k_is is in
       let one = AreJoined-trans j m _ p _ (to_start p x t) (here p p_earlier t.is) in
       let other = AreJoined-trans j m _ q _ (to_start q y s) (here q q_earlier s.is) in
       let x_in : x.label < length table = (let lt = label_below j m table labels f rd p v t.is t.read in let e = t.label in omega arith) in
       let y_in : y.label < length table = (let lt = label_below j m table labels f rd q v s.is s.read in let e = s.label in omega arith) in
       record {
         after = after_join f x.label y.label;
-        sound = AreSound-joined j m table new f x.label y.label rd.sound long tells x_in y_in (AreJoined-trans j m _ _ _ one (AreJoined-sym j m _ _ other));
+        sound = AreSound-joined j m table new f x.label y.label rd.sound long reports x_in y_in (AreJoined-trans j m _ _ _ one (AreJoined-sym j m _ _ other));
         keeps = after_join_keeps f x.label y.label;
         from = q;
         earlier = q_earlier;
@@ -131,18 +133,18 @@ module _ (j : Joining) (m : Grid) (r c : ℕ) (v : ℤ) (table labels : List ℕ
 module _ (m : Grid) (r c : ℕ) (v : ℤ) (table labels : List ℕ) (f : ℕ → ℕ) (near : Near) (n : AreNear m (length labels) (area_label_at m labels) r c near) (rd : AreRowsRead Edges m table labels f) where
   pub edges_above : (near.left.cell ≡ Some v → ⊥) → near.above.cell ≡ Some v → Shares Edges m table labels f r c v near.above.label
   edges_above not_left above =
-      let t = tell m (length labels) (area_label_at m labels) (IsAbove r c) near.above v n.above above in
+      let t = report m (length labels) (area_label_at m labels) (IsAbove r c) near.above v n.above above in
       shared Edges m r c v table labels f rd t.0 near.above (inr t.1) t.2
-      (λ p earlier is. ⊎_elim (λ h. absurd (not_left (told_left m (length labels) (area_label_at m labels) r c v near n p h is).cell))
-      (λ h. ap f (sym (told_above m (length labels) (area_label_at m labels) r c v near n p h is).label)) earlier)
+      (λ p earlier is. ⊎_elim (λ h. absurd (not_left (label_left m (length labels) (area_label_at m labels) r c v near n p h is).cell))
+      (λ h. ap f (sym (label_above m (length labels) (area_label_at m labels) r c v near n p h is).label)) earlier)
 
   pub edges_left : near.left.cell ≡ Some v → (near.above.cell ≡ Some v → near.upper_left.cell ≡ Some v) → Shares Edges m table labels f r c v near.left.label
   edges_left left between =
-      let t = tell m (length labels) (area_label_at m labels) (IsLeft r c) near.left v n.left left in
+      let t = report m (length labels) (area_label_at m labels) (IsLeft r c) near.left v n.left left in
       shared Edges m r c v table labels f rd t.0 near.left (inl t.1) t.2
-      (λ p earlier is. ⊎_elim (λ h. ap f (sym (told_left m (length labels) (area_label_at m labels) r c v near n p h is).label))
-      (λ h. let a = told_above m (length labels) (area_label_at m labels) r c v near n p h is in
-      let u = tell m (length labels) (area_label_at m labels) (IsUpperLeft r c) near.upper_left v n.upper_left (between a.cell) in
+      (λ p earlier is. ⊎_elim (λ h. ap f (sym (label_left m (length labels) (area_label_at m labels) r c v near n p h is).label))
+      (λ h. let a = label_above m (length labels) (area_label_at m labels) r c v near n p h is in
+      let u = report m (length labels) (area_label_at m labels) (IsUpperLeft r c) near.upper_left v n.upper_left (between a.cell) in
       let x = u.1.0 in let y = u.1.1 in let z = t.1.0 in let w = t.1.1 in let i = h.0 in let k = h.1 in
       sym (met Edges m r c v table labels f rd t.0 u.0 near.left near.upper_left (below Edges t.0 u.0 (omega arith) (omega arith)) t.2 u.2
       ∙ ap f u.2.label
@@ -150,27 +152,27 @@ module _ (m : Grid) (r c : ℕ) (v : ℤ) (table labels : List ℕ) (f : ℕ →
       ∙ ap f a.label)
       ∙ ap f (sym t.2.label)) earlier)
 
-  pub edges_joined : (new : List ℕ) → cell_at_spot m (position r c) ≡ Some v → near.left.cell ≡ Some v → near.above.cell ≡ Some v → length new ≡ length table → TellsOpen new (after_join f near.above.label near.left.label) → Shares Edges m new labels f r c v near.left.label
-  edges_joined new is left above long tells =
-      let t = tell m (length labels) (area_label_at m labels) (IsAbove r c) near.above v n.above above in
-      let l = tell m (length labels) (area_label_at m labels) (IsLeft r c) near.left v n.left left in
-      shared_joined Edges m r c v table labels f rd new t.0 l.0 near.above near.left is (inr t.1) (inl l.1) t.2 l.2 long tells
-      (λ p earlier p_is. ⊎_elim (λ h. inr (ap f (sym (told_left m (length labels) (area_label_at m labels) r c v near n p h p_is).label)))
-      (λ h. inl (ap f (sym (told_above m (length labels) (area_label_at m labels) r c v near n p h p_is).label))) earlier)
+  pub edges_joined : (new : List ℕ) → cell_at_position m (position r c) ≡ Some v → near.left.cell ≡ Some v → near.above.cell ≡ Some v → length new ≡ length table → LeadsToOpen new (after_join f near.above.label near.left.label) → Shares Edges m new labels f r c v near.left.label
+  edges_joined new is left above long reports =
+      let t = report m (length labels) (area_label_at m labels) (IsAbove r c) near.above v n.above above in
+      let l = report m (length labels) (area_label_at m labels) (IsLeft r c) near.left v n.left left in
+      shared_joined Edges m r c v table labels f rd new t.0 l.0 near.above near.left is (inr t.1) (inl l.1) t.2 l.2 long reports
+      (λ p earlier p_is. ⊎_elim (λ h. inr (ap f (sym (label_left m (length labels) (area_label_at m labels) r c v near n p h p_is).label)))
+      (λ h. inl (ap f (sym (label_above m (length labels) (area_label_at m labels) r c v near n p h p_is).label))) earlier)
 
 -- ---- by edges and corners
 
 module _ (m : Grid) (r c : ℕ) (v : ℤ) (table labels : List ℕ) (f : ℕ → ℕ) (near : Near) (n : AreNear m (length labels) (area_label_at m labels) r c near) (rd : AreRowsRead EdgesAndCorners m table labels f) where
   -- what holds of each neighbour of the category
-  each : (P : Position → Type 0) → ((p : Position) → IsLeft r c p → Told m (length labels) (area_label_at m labels) p v near.left → P p) → ((p : Position) → IsAbove r c p → Told m (length labels) (area_label_at m labels) p v near.above → P p) → ((p : Position) → IsUpperLeft r c p → Told m (length labels) (area_label_at m labels) p v near.upper_left → P p) → ((p : Position) → IsUpperRight r c p → Told m (length labels) (area_label_at m labels) p v near.upper_right → P p) → (p : Position) → IsEarlier EdgesAndCorners r c p → cell_at_spot m p ≡ Some v → P p
-  each P left above upper_left upper_right p (inl (inl h)) is = left p h (told_left m (length labels) (area_label_at m labels) r c v near n p h is)
-  each P left above upper_left upper_right p (inl (inr h)) is = above p h (told_above m (length labels) (area_label_at m labels) r c v near n p h is)
-  each P left above upper_left upper_right p (inr (inl h)) is = upper_left p h (told_upper_left m (length labels) (area_label_at m labels) r c v near n p h is)
-  each P left above upper_left upper_right p (inr (inr h)) is = upper_right p h (told_upper_right m (length labels) (area_label_at m labels) r c v near n p h is)
+  each : (P : Position → Type 0) → ((p : Position) → IsLeft r c p → Reported m (length labels) (area_label_at m labels) p v near.left → P p) → ((p : Position) → IsAbove r c p → Reported m (length labels) (area_label_at m labels) p v near.above → P p) → ((p : Position) → IsUpperLeft r c p → Reported m (length labels) (area_label_at m labels) p v near.upper_left → P p) → ((p : Position) → IsUpperRight r c p → Reported m (length labels) (area_label_at m labels) p v near.upper_right → P p) → (p : Position) → IsEarlier EdgesAndCorners r c p → cell_at_position m p ≡ Some v → P p
+  each P left above upper_left upper_right p (inl (inl h)) is = left p h (label_left m (length labels) (area_label_at m labels) r c v near n p h is)
+  each P left above upper_left upper_right p (inl (inr h)) is = above p h (label_above m (length labels) (area_label_at m labels) r c v near n p h is)
+  each P left above upper_left upper_right p (inr (inl h)) is = upper_left p h (label_upper_left m (length labels) (area_label_at m labels) r c v near n p h is)
+  each P left above upper_left upper_right p (inr (inr h)) is = upper_right p h (label_upper_right m (length labels) (area_label_at m labels) r c v near n p h is)
 
   pub corners_above : near.above.cell ≡ Some v → Shares EdgesAndCorners m table labels f r c v near.above.label
   corners_above above =
-      let t = tell m (length labels) (area_label_at m labels) (IsAbove r c) near.above v n.above above in
+      let t = report m (length labels) (area_label_at m labels) (IsAbove r c) near.above v n.above above in
       let z = t.1.0 in let w = t.1.1 in
       shared EdgesAndCorners m r c v table labels f rd t.0 near.above (inl (inr t.1)) t.2
       (each (λ p. f (area_label_at m labels p) ≡ f near.above.label)
@@ -180,14 +182,14 @@ module _ (m : Grid) (r c : ℕ) (v : ℤ) (table labels : List ℕ) (f : ℕ →
       (λ p h s. let a = h.0 in let b = h.1 in sym (met EdgesAndCorners m r c v table labels f rd t.0 p near.above near.upper_right (beside EdgesAndCorners t.0 p (omega arith) (omega arith)) t.2 s ∙ ap f s.label) ∙ ap f (sym t.2.label)))
 
   -- the upper left neighbour touches the left one
-  under_left : (p l : Position) → IsUpperLeft r c p → IsLeft r c l → Told m (length labels) (area_label_at m labels) p v near.upper_left → Told m (length labels) (area_label_at m labels) l v near.left → f (area_label_at m labels p) ≡ f near.left.label
+  under_left : (p l : Position) → IsUpperLeft r c p → IsLeft r c l → Reported m (length labels) (area_label_at m labels) p v near.upper_left → Reported m (length labels) (area_label_at m labels) l v near.left → f (area_label_at m labels p) ≡ f near.left.label
   under_left p l h g s t =
       let a = h.0 in let b = h.1 in let z = g.0 in let w = g.1 in
       sym (met EdgesAndCorners m r c v table labels f rd l p near.left near.upper_left (below EdgesAndCorners l p (omega arith) (omega arith)) t s ∙ ap f s.label) ∙ ap f (sym t.label)
 
   pub corners_left : (near.above.cell ≡ Some v → ⊥) → near.left.cell ≡ Some v → (near.upper_right.cell ≡ Some v → ⊥) → Shares EdgesAndCorners m table labels f r c v near.left.label
   corners_left not_above left not_upper_right =
-      let t = tell m (length labels) (area_label_at m labels) (IsLeft r c) near.left v n.left left in
+      let t = report m (length labels) (area_label_at m labels) (IsLeft r c) near.left v n.left left in
       shared EdgesAndCorners m r c v table labels f rd t.0 near.left (inl (inl t.1)) t.2
       (each (λ p. f (area_label_at m labels p) ≡ f near.left.label)
       (λ p h s. ap f (sym s.label))
@@ -195,21 +197,21 @@ module _ (m : Grid) (r c : ℕ) (v : ℤ) (table labels : List ℕ) (f : ℕ →
       (λ p h s. under_left p t.0 h t.1 s t.2)
       (λ p h s. absurd (not_upper_right s.cell)))
 
-  pub corners_joined_left : (new : List ℕ) → cell_at_spot m (position r c) ≡ Some v → (near.above.cell ≡ Some v → ⊥) → near.left.cell ≡ Some v → near.upper_right.cell ≡ Some v → length new ≡ length table → TellsOpen new (after_join f near.upper_right.label near.left.label) → Shares EdgesAndCorners m new labels f r c v near.left.label
-  corners_joined_left new is not_above left upper_right long tells =
-      let t = tell m (length labels) (area_label_at m labels) (IsUpperRight r c) near.upper_right v n.upper_right upper_right in
-      let l = tell m (length labels) (area_label_at m labels) (IsLeft r c) near.left v n.left left in
-      shared_joined EdgesAndCorners m r c v table labels f rd new t.0 l.0 near.upper_right near.left is (inr (inr t.1)) (inl (inl l.1)) t.2 l.2 long tells
+  pub corners_joined_left : (new : List ℕ) → cell_at_position m (position r c) ≡ Some v → (near.above.cell ≡ Some v → ⊥) → near.left.cell ≡ Some v → near.upper_right.cell ≡ Some v → length new ≡ length table → LeadsToOpen new (after_join f near.upper_right.label near.left.label) → Shares EdgesAndCorners m new labels f r c v near.left.label
+  corners_joined_left new is not_above left upper_right long reports =
+      let t = report m (length labels) (area_label_at m labels) (IsUpperRight r c) near.upper_right v n.upper_right upper_right in
+      let l = report m (length labels) (area_label_at m labels) (IsLeft r c) near.left v n.left left in
+      shared_joined EdgesAndCorners m r c v table labels f rd new t.0 l.0 near.upper_right near.left is (inr (inr t.1)) (inl (inl l.1)) t.2 l.2 long reports
       (each (λ p. (f (area_label_at m labels p) ≡ f near.upper_right.label) ⊎ (f (area_label_at m labels p) ≡ f near.left.label))
       (λ p h s. inr (ap f (sym s.label)))
       (λ p h s. absurd (not_above s.cell))
       (λ p h s. inr (under_left p l.0 h l.1 s l.2))
       (λ p h s. inl (ap f (sym s.label))))
 
-  module _ (none : (q : Position) → IsLeft r c q ⊎ IsAbove r c q → cell_at_spot m q ≡ Some v → ⊥) where
+  module _ (none : (q : Position) → IsLeft r c q ⊎ IsAbove r c q → cell_at_position m q ≡ Some v → ⊥) where
     pub corners_upper_right : (near.upper_left.cell ≡ Some v → ⊥) → near.upper_right.cell ≡ Some v → Shares EdgesAndCorners m table labels f r c v near.upper_right.label
     corners_upper_right not_upper_left upper_right =
-        let t = tell m (length labels) (area_label_at m labels) (IsUpperRight r c) near.upper_right v n.upper_right upper_right in
+        let t = report m (length labels) (area_label_at m labels) (IsUpperRight r c) near.upper_right v n.upper_right upper_right in
         shared EdgesAndCorners m r c v table labels f rd t.0 near.upper_right (inr (inr t.1)) t.2
         (each (λ p. f (area_label_at m labels p) ≡ f near.upper_right.label)
         (λ p h s. absurd (none p (inl h) s.is))
@@ -219,7 +221,7 @@ module _ (m : Grid) (r c : ℕ) (v : ℤ) (table labels : List ℕ) (f : ℕ →
 
     pub corners_upper_left : near.upper_left.cell ≡ Some v → (near.upper_right.cell ≡ Some v → near.upper_right.label ≡ near.upper_left.label) → Shares EdgesAndCorners m table labels f r c v near.upper_left.label
     corners_upper_left upper_left same =
-        let t = tell m (length labels) (area_label_at m labels) (IsUpperLeft r c) near.upper_left v n.upper_left upper_left in
+        let t = report m (length labels) (area_label_at m labels) (IsUpperLeft r c) near.upper_left v n.upper_left upper_left in
         shared EdgesAndCorners m r c v table labels f rd t.0 near.upper_left (inr (inl t.1)) t.2
         (each (λ p. f (area_label_at m labels p) ≡ f near.upper_left.label)
         (λ p h s. absurd (none p (inl h) s.is))
@@ -227,11 +229,11 @@ module _ (m : Grid) (r c : ℕ) (v : ℤ) (table labels : List ℕ) (f : ℕ →
         (λ p h s. ap f (sym s.label))
         (λ p h s. ap f (sym s.label ∙ same s.cell)))
 
-    pub corners_joined : (new : List ℕ) → cell_at_spot m (position r c) ≡ Some v → near.upper_left.cell ≡ Some v → near.upper_right.cell ≡ Some v → length new ≡ length table → TellsOpen new (after_join f near.upper_right.label near.upper_left.label) → Shares EdgesAndCorners m new labels f r c v near.upper_left.label
-    corners_joined new is upper_left upper_right long tells =
-        let t = tell m (length labels) (area_label_at m labels) (IsUpperRight r c) near.upper_right v n.upper_right upper_right in
-        let u = tell m (length labels) (area_label_at m labels) (IsUpperLeft r c) near.upper_left v n.upper_left upper_left in
-        shared_joined EdgesAndCorners m r c v table labels f rd new t.0 u.0 near.upper_right near.upper_left is (inr (inr t.1)) (inr (inl u.1)) t.2 u.2 long tells
+    pub corners_joined : (new : List ℕ) → cell_at_position m (position r c) ≡ Some v → near.upper_left.cell ≡ Some v → near.upper_right.cell ≡ Some v → length new ≡ length table → LeadsToOpen new (after_join f near.upper_right.label near.upper_left.label) → Shares EdgesAndCorners m new labels f r c v near.upper_left.label
+    corners_joined new is upper_left upper_right long reports =
+        let t = report m (length labels) (area_label_at m labels) (IsUpperRight r c) near.upper_right v n.upper_right upper_right in
+        let u = report m (length labels) (area_label_at m labels) (IsUpperLeft r c) near.upper_left v n.upper_left upper_left in
+        shared_joined EdgesAndCorners m r c v table labels f rd new t.0 u.0 near.upper_right near.upper_left is (inr (inr t.1)) (inr (inl u.1)) t.2 u.2 long reports
         (each (λ p. (f (area_label_at m labels p) ≡ f near.upper_right.label) ⊎ (f (area_label_at m labels p) ≡ f near.upper_left.label))
         (λ p h s. absurd (none p (inl h) s.is))
         (λ p h s. absurd (none p (inr h) s.is))

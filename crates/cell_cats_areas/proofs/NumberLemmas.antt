@@ -6,7 +6,7 @@ use Rattle.cell_core.specs.Grid.{Grid, CellValue}
 use Rattle.std.proofs.Math.Nat.{mul-le-mul_right}
 use Rattle.cell_core_values.specs.Region.{IsRegion, RegionValue}
 use Rattle.cell_cats_areas.specs.declared.clump.Joining.{Joining}
-use Rattle.cell_cats_areas.specs.Areas.{Position, cell_at_spot, AreAdjacent}
+use Rattle.cell_cats_areas.specs.Areas.{Position, cell_at_position, AreAdjacent}
 use Rattle.cell_cats_areas.specs.parts.Labels.{PointDown}
 use Rattle.cell_cats_areas.specs.parts.Meetings.{AreSound}
 use Rattle.cell_cats_areas.specs.parts.CellPlaces.{position}
@@ -70,7 +70,7 @@ number_written j m labels open_of place table count new v h inside is counted = 
 pub AreNumbered-open : (j : Joining) (m : Grid) (labels : List ℕ) (open_of : ℕ → ℕ) (place : ℕ) (table : List ℕ) (count : ℕ) → AreSound j m labels open_of → AreNumbered j m labels open_of place table count → place < length table → get_or table place 0 ≡ place → AreNumbered j m labels open_of (place + 1) (set table place (count + 1)) (count + 1)
 AreNumbered-open j m labels open_of place table count sound h inside here =
     let open' : get_or labels place 0 ≡ place = sym (h.later place (omega arith)) ∙ here in
-    let is : open_of place ≡ place = sound.tells.itself place (let long = h.long in omega arith) open' in
+    let is : open_of place ≡ place = sound.reports.itself place (let long = h.long in omega arith) open' in
     let more = count_more j m labels place (eq-eqb _ _ open') in
     let counted : count + 1 ≡ length (firsts_below j m labels (suc place)) = ap (λ (n : ℕ). n + 1) h.counted ∙ sym more in
     number_written j m labels open_of place table count (count + 1) (count + 1) h inside (counted ∙ ap (λ (n : ℕ). area_number j m labels n) (sym is)) counted
@@ -81,7 +81,7 @@ AreNumbered-closed j m labels open_of place table count sound h inside less =
     let long = h.long in
     let same_label : get_or table place 0 ≡ get_or labels place 0 = h.later place (omega arith) in
     let up : ℕ = get_or table place 0 in
-    let leads : open_of up ≡ open_of place = ap open_of same_label ∙ sound.tells.points place (omega arith) in
+    let leads : open_of up ≡ open_of place = ap open_of same_label ∙ sound.reports.points place (omega arith) in
     let is : get_or table up 0 ≡ area_number j m labels (open_of place) = h.done up less ∙ ap (λ (n : ℕ). area_number j m labels n) leads in
     let same = firsts_same j m labels place (ne_eqb _ _ (λ e. absurd (omega arith))) in
     number_written j m labels open_of place table count count (get_or table up 0) h inside is (h.counted ∙ ap (length {A = Position}) (sym same))
@@ -108,28 +108,28 @@ module _ (j : Joining) (m : Grid) (table : List ℕ) (h : AreLabels j m table) w
   unfolding area_number_at
   number_is p = refl
 
-  pub cell_numbered : (p : Position) (v : ℤ) → cell_at_spot m p ≡ Some v → cell_number j m table h p ≡ Some (pos (area_number_at j m table h p))
-  cell_numbered p v is = cond-true (is_some (cell_at_spot m p)) (Some (pos (area_number_at j m table h p))) None (ap (λ (x : CellValue). is_some x) is)
+  pub cell_numbered : (p : Position) (v : ℤ) → cell_at_position m p ≡ Some v → cell_number j m table h p ≡ Some (pos (area_number_at j m table h p))
+  cell_numbered p v is = cond-true (is_some (cell_at_position m p)) (Some (pos (area_number_at j m table h p))) None (ap (λ (x : CellValue). is_some x) is)
 
-  pub cell_null : (p : Position) → cell_at_spot m p ≡ None → cell_number j m table h p ≡ None
-  cell_null p is = cond-false (is_some (cell_at_spot m p)) (Some (pos (area_number_at j m table h p))) None (ap (λ (x : CellValue). is_some x) is)
+  pub cell_null : (p : Position) → cell_at_position m p ≡ None → cell_number j m table h p ≡ None
+  cell_null p is = cond-false (is_some (cell_at_position m p)) (Some (pos (area_number_at j m table h p))) None (ap (λ (x : CellValue). is_some x) is)
 
-  pub read_all : (p : Position) (v : ℤ) → cell_at_spot m p ≡ Some v → WasRead m h.labels p
+  pub read_all : (p : Position) (v : ℤ) → cell_at_position m p ≡ Some v → WasRead m h.labels p
   read_all p v is = let lt = place_inside m p (h.has_read.read.inside p v is) in let long = h.long in omega arith
 
-  pub number_met : (p q : Position) (v : ℤ) → AreAdjacent j p q → cell_at_spot m p ≡ Some v → cell_at_spot m q ≡ Some v → area_number_at j m table h p ≡ area_number_at j m table h q
+  pub number_met : (p q : Position) (v : ℤ) → AreAdjacent j p q → cell_at_position m p ≡ Some v → cell_at_position m q ≡ Some v → area_number_at j m table h p ≡ area_number_at j m table h q
   number_met p q v near p_is q_is = number_is p ∙ ap (area_number j m table) (h.has_read.read.meet p q v near p_is q_is (read_all p v p_is) (read_all q v q_is)) ∙ sym (number_is q)
 
-  pub number_small : (p : Position) (v : ℤ) → cell_at_spot m p ≡ Some v → length table < 2147483648 → area_number_at j m table h p < 2147483648
+  pub number_small : (p : Position) (v : ℤ) → cell_at_position m p ≡ Some v → length table < 2147483648 → area_number_at j m table h p < 2147483648
   number_small p v is short =
       let below = label_below j m table h.labels h.has_read.open_of h.has_read.read p v is (read_all p v is) in
-      let low = h.has_read.read.sound.tells.low (area_label_at m h.labels p) below in
+      let low = h.has_read.read.sound.reports.low (area_label_at m h.labels p) below in
       let most = count_most j m table (suc (h.has_read.open_of (area_label_at m h.labels p))) in
       let e = number_is p in
       omega arith
 
   -- the cell with a label of its own
-  module _ (numbers : List ℕ) (n : IsNumbered j m table h numbers) (r c : ℕ) (v : ℤ) (is : cell_at_spot m (position r c) ≡ Some v) (none : (q : Position) → IsEarlier j r c q → cell_at_spot m q ≡ Some v → ⊥) where
+  module _ (numbers : List ℕ) (n : IsNumbered j m table h numbers) (r c : ℕ) (v : ℤ) (is : cell_at_position m (position r c) ≡ Some v) (none : (q : Position) → IsEarlier j r c q → cell_at_position m q ≡ Some v → ⊥) where
     begun : begins j m (position r c) ≡ true
     begun = begins_from j m r c v is none
 

@@ -5,7 +5,7 @@ use Rattle.std.proofs.lemmas.List.Elements.{All-nil, All-cons, All-head, All-tai
 use Rattle.cell_core.specs.Grid.{Grid}
 use Rattle.cell_cats_areas.specs.declared.clump.Joining.{Joining}
 use Rattle.cell_cats_areas.specs.declared.clump.Joining.TheVariants.{Edges, EdgesAndCorners}
-use Rattle.cell_cats_areas.specs.Areas.{Position, cell_at_spot, AreNeighbours, ShareEdge, AreAdjacent, LeadsTo, AreJoined}
+use Rattle.cell_cats_areas.specs.Areas.{Position, cell_at_position, AreNeighbours, ShareEdge, AreAdjacent, LeadsTo, AreJoined}
 
 AreNeighbours-sym : (i j : ℕ) → AreNeighbours i j → AreNeighbours j i
 AreNeighbours-sym i j (inl e) = inr e
@@ -26,32 +26,32 @@ LeadsTo-append j p [] q ys r h k = subst (λ (s : Position). LeadsTo j s ys r) (
 LeadsTo-append j p (x ∷ xs) q ys r h k = (h.0, LeadsTo-append j x xs q ys r h.1 k)
 
 -- the last cell of a way over cells of one category has it
-last_alike : (j : Joining) (m : Grid) (v : ℤ) (p : Position) (xs : List Position) (q : Position) → LeadsTo j p xs q → All (λ s. cell_at_spot m s ≡ Some v) (p ∷ xs) → cell_at_spot m q ≡ Some v
-last_alike j m v p [] q h all = ap (cell_at_spot m) (sym h) ∙ All-head (λ s. cell_at_spot m s ≡ Some v) p [] all
-last_alike j m v p (x ∷ xs) q h all = last_alike j m v x xs q h.1 (All-tail (λ s. cell_at_spot m s ≡ Some v) p (x ∷ xs) all)
+last_alike : (j : Joining) (m : Grid) (v : ℤ) (p : Position) (xs : List Position) (q : Position) → LeadsTo j p xs q → All (λ s. cell_at_position m s ≡ Some v) (p ∷ xs) → cell_at_position m q ≡ Some v
+last_alike j m v p [] q h all = ap (cell_at_position m) (sym h) ∙ All-head (λ s. cell_at_position m s ≡ Some v) p [] all
+last_alike j m v p (x ∷ xs) q h all = last_alike j m v x xs q h.1 (All-tail (λ s. cell_at_position m s ≡ Some v) p (x ∷ xs) all)
 
-pub AreJoined-first : (j : Joining) (m : Grid) (p q : Position) → (h : AreJoined j m p q) → cell_at_spot m p ≡ Some h.category
-AreJoined-first j m p q h = All-head (λ s. cell_at_spot m s ≡ Some h.category) p h.others h.alike
+pub AreJoined-first : (j : Joining) (m : Grid) (p q : Position) → (h : AreJoined j m p q) → cell_at_position m p ≡ Some h.category
+AreJoined-first j m p q h = All-head (λ s. cell_at_position m s ≡ Some h.category) p h.others h.alike
 
-pub AreJoined-last : (j : Joining) (m : Grid) (p q : Position) → (h : AreJoined j m p q) → cell_at_spot m q ≡ Some h.category
+pub AreJoined-last : (j : Joining) (m : Grid) (p q : Position) → (h : AreJoined j m p q) → cell_at_position m q ≡ Some h.category
 AreJoined-last j m p q h = last_alike j m h.category p h.others q h.leads h.alike
 
 -- a cell that is not null is joined to itself
-pub AreJoined-refl : (j : Joining) (m : Grid) (p : Position) (v : ℤ) → cell_at_spot m p ≡ Some v → AreJoined j m p p
+pub AreJoined-refl : (j : Joining) (m : Grid) (p : Position) (v : ℤ) → cell_at_position m p ≡ Some v → AreJoined j m p p
 AreJoined-refl j m p v is = record {
   category = v;
   others = [];
   leads = refl;
-  alike = All-cons (λ s. cell_at_spot m s ≡ Some v) p [] is (All-nil (λ s. cell_at_spot m s ≡ Some v));
+  alike = All-cons (λ s. cell_at_position m s ≡ Some v) p [] is (All-nil (λ s. cell_at_position m s ≡ Some v));
 }
 
 -- adjacent cells of one category are joined
-pub AreJoined-adjacent : (j : Joining) (m : Grid) (p q : Position) (v : ℤ) → AreAdjacent j p q → cell_at_spot m p ≡ Some v → cell_at_spot m q ≡ Some v → AreJoined j m p q
+pub AreJoined-adjacent : (j : Joining) (m : Grid) (p q : Position) (v : ℤ) → AreAdjacent j p q → cell_at_position m p ≡ Some v → cell_at_position m q ≡ Some v → AreJoined j m p q
 AreJoined-adjacent j m p q v near is also = record {
   category = v;
   others = q ∷ [];
   leads = (near, refl);
-  alike = All-cons (λ s. cell_at_spot m s ≡ Some v) p (q ∷ []) is (All-cons (λ s. cell_at_spot m s ≡ Some v) q [] also (All-nil (λ s. cell_at_spot m s ≡ Some v)));
+  alike = All-cons (λ s. cell_at_position m s ≡ Some v) p (q ∷ []) is (All-cons (λ s. cell_at_position m s ≡ Some v) q [] also (All-nil (λ s. cell_at_position m s ≡ Some v)));
 }
 
 pub AreJoined-trans : (j : Joining) (m : Grid) (p q r : Position) → AreJoined j m p q → AreJoined j m q r → AreJoined j m p r
@@ -63,29 +63,29 @@ AreJoined-trans j m p q r h k =
       category = h.category;
       others = h.others ++ k.others;
       leads = LeadsTo-append j p h.others q k.others r h.leads k.leads;
-      alike = All-append (λ s. cell_at_spot m s ≡ Some h.category) (p ∷ h.others) k.others h.alike
-          (All-tail (λ s. cell_at_spot m s ≡ Some h.category) q k.others (subst (λ (v : ℤ). All (λ s. cell_at_spot m s ≡ Some v) (q ∷ k.others)) same k.alike));
+      alike = All-append (λ s. cell_at_position m s ≡ Some h.category) (p ∷ h.others) k.others h.alike
+          (All-tail (λ s. cell_at_position m s ≡ Some h.category) q k.others (subst (λ (v : ℤ). All (λ s. cell_at_position m s ≡ Some v) (q ∷ k.others)) same k.alike));
     }
 
 -- a way back
-back : (j : Joining) (m : Grid) (v : ℤ) (p : Position) (xs : List Position) (q : Position) → LeadsTo j p xs q → All (λ s. cell_at_spot m s ≡ Some v) (p ∷ xs) → AreJoined j m q p
-back j m v p [] q h all = subst (λ (s : Position). AreJoined j m s p) h (AreJoined-refl j m p v (All-head (λ s. cell_at_spot m s ≡ Some v) p [] all))
+back : (j : Joining) (m : Grid) (v : ℤ) (p : Position) (xs : List Position) (q : Position) → LeadsTo j p xs q → All (λ s. cell_at_position m s ≡ Some v) (p ∷ xs) → AreJoined j m q p
+back j m v p [] q h all = subst (λ (s : Position). AreJoined j m s p) h (AreJoined-refl j m p v (All-head (λ s. cell_at_position m s ≡ Some v) p [] all))
 back j m v p (x ∷ xs) q h all =
-    let is = All-head (λ s. cell_at_spot m s ≡ Some v) p (x ∷ xs) all in
-    let rest = All-tail (λ s. cell_at_spot m s ≡ Some v) p (x ∷ xs) all in
+    let is = All-head (λ s. cell_at_position m s ≡ Some v) p (x ∷ xs) all in
+    let rest = All-tail (λ s. cell_at_position m s ≡ Some v) p (x ∷ xs) all in
     AreJoined-trans j m q x p (back j m v x xs q h.1 rest)
-    (AreJoined-adjacent j m x p v (AreAdjacent-sym j p x h.0) (All-head (λ s. cell_at_spot m s ≡ Some v) x xs rest) is)
+    (AreJoined-adjacent j m x p v (AreAdjacent-sym j p x h.0) (All-head (λ s. cell_at_position m s ≡ Some v) x xs rest) is)
 
 pub AreJoined-sym : (j : Joining) (m : Grid) (p q : Position) → AreJoined j m p q → AreJoined j m q p
 AreJoined-sym j m p q h = back j m h.category p h.others q h.leads h.alike
 
 -- what is the same at adjacent cells of one category is the same at joined cells
-along : (j : Joining) (m : Grid) (f : Position → ℕ) → ((p q : Position) (v : ℤ) → AreAdjacent j p q → cell_at_spot m p ≡ Some v → cell_at_spot m q ≡ Some v → f p ≡ f q) → (v : ℤ) (p : Position) (xs : List Position) (q : Position) → LeadsTo j p xs q → All (λ s. cell_at_spot m s ≡ Some v) (p ∷ xs) → f p ≡ f q
+along : (j : Joining) (m : Grid) (f : Position → ℕ) → ((p q : Position) (v : ℤ) → AreAdjacent j p q → cell_at_position m p ≡ Some v → cell_at_position m q ≡ Some v → f p ≡ f q) → (v : ℤ) (p : Position) (xs : List Position) (q : Position) → LeadsTo j p xs q → All (λ s. cell_at_position m s ≡ Some v) (p ∷ xs) → f p ≡ f q
 along j m f step v p [] q h all = ap f h
 along j m f step v p (x ∷ xs) q h all =
-    let is = All-head (λ s. cell_at_spot m s ≡ Some v) p (x ∷ xs) all in
-    let rest = All-tail (λ s. cell_at_spot m s ≡ Some v) p (x ∷ xs) all in
-    step p x v h.0 is (All-head (λ s. cell_at_spot m s ≡ Some v) x xs rest) ∙ along j m f step v x xs q h.1 rest
+    let is = All-head (λ s. cell_at_position m s ≡ Some v) p (x ∷ xs) all in
+    let rest = All-tail (λ s. cell_at_position m s ≡ Some v) p (x ∷ xs) all in
+    step p x v h.0 is (All-head (λ s. cell_at_position m s ≡ Some v) x xs rest) ∙ along j m f step v x xs q h.1 rest
 
-pub AreJoined-along : (j : Joining) (m : Grid) (f : Position → ℕ) → ((p q : Position) (v : ℤ) → AreAdjacent j p q → cell_at_spot m p ≡ Some v → cell_at_spot m q ≡ Some v → f p ≡ f q) → (p q : Position) → AreJoined j m p q → f p ≡ f q
+pub AreJoined-along : (j : Joining) (m : Grid) (f : Position → ℕ) → ((p q : Position) (v : ℤ) → AreAdjacent j p q → cell_at_position m p ≡ Some v → cell_at_position m q ≡ Some v → f p ≡ f q) → (p q : Position) → AreJoined j m p q → f p ≡ f q
 AreJoined-along j m f step p q h = along j m f step h.category p h.others q h.leads h.alike

@@ -4,7 +4,7 @@ use Rattle.std.proofs.lemmas.Bool.{cases_lt, both_ways}
 use Rattle.std.proofs.lemmas.List.{length_push, get_or_push, get_or_append_left, take_at}
 use Rattle.cell_core.specs.Grid.{Grid}
 use Rattle.cell_cats_areas.specs.declared.clump.Joining.{Joining}
-use Rattle.cell_cats_areas.specs.Areas.{Position, cell_at_spot, IsEarlierCell, AreAdjacent, AreJoined}
+use Rattle.cell_cats_areas.specs.Areas.{Position, cell_at_position, IsEarlierCell, AreAdjacent, AreJoined}
 use Rattle.cell_cats_areas.specs.parts.Labels.{PointDown}
 use Rattle.cell_cats_areas.specs.parts.Meetings.{AreSound}
 use Rattle.cell_cats_areas.specs.parts.CellPlaces.{position, cell_place, IsInside}
@@ -47,36 +47,36 @@ module _ (j : Joining) (m : Grid) (table labels : List ℕ) (f : ℕ → ℕ) (r
       subst (λ (x : Position). P x (area_label_at m one_more x)) (sym e) (subst (P (position r c)) (sym last) new))
       (cases_lt (cell_place m.region.cols q) (length labels))
 
-  earlier_of : (q : Position) (v : ℤ) → cell_at_spot m q ≡ Some v → WasRead m labels q → AreAdjacent j q (position r c) → IsEarlier j r c q
+  earlier_of : (q : Position) (v : ℤ) → cell_at_position m q ≡ Some v → WasRead m labels q → AreAdjacent j q (position r c) → IsEarlier j r c q
   earlier_of q v is read near = adjacent_earlier j r c q near (before_of m.region.cols q (position r c) ((rd.inside q v is).1) c_in (omega arith))
 
-  grown : (new : List ℕ) (g : ℕ → ℕ) → length new ≡ starts j m (suc (r * m.region.cols + c)) → AreSound j m new g → ((a b : ℕ) → a < length table → b < length table → f a ≡ f b → g a ≡ g b) → ((v : ℤ) → cell_at_spot m (position r c) ≡ Some v → (l < starts j m (suc (r * m.region.cols + c))) × AreJoined j m (start_of_run j m l) (position r c)) → (begins j m (position r c) ≡ true → l ≡ starts j m (r * m.region.cols + c)) → ((q : Position) (v : ℤ) → IsEarlier j r c q → cell_at_spot m q ≡ Some v → cell_at_spot m (position r c) ≡ Some v → WasRead m labels q → g (area_label_at m labels q) ≡ g l) → AreRowsRead j m new one_more g
+  grown : (new : List ℕ) (g : ℕ → ℕ) → length new ≡ starts j m (suc (r * m.region.cols + c)) → AreSound j m new g → ((a b : ℕ) → a < length table → b < length table → f a ≡ f b → g a ≡ g b) → ((v : ℤ) → cell_at_position m (position r c) ≡ Some v → (l < starts j m (suc (r * m.region.cols + c))) × AreJoined j m (start_of_run j m l) (position r c)) → (begins j m (position r c) ≡ true → l ≡ starts j m (r * m.region.cols + c)) → ((q : Position) (v : ℤ) → IsEarlier j r c q → cell_at_position m q ≡ Some v → cell_at_position m (position r c) ≡ Some v → WasRead m labels q → g (area_label_at m labels q) ≡ g l) → AreRowsRead j m new one_more g
   grown new g new_long sound keeps here own meet = record {
     inside = rd.inside;
     long = new_long ∙ ap (starts j m) (sym long);
     sound = sound;
-    few = λ p v is read. by_cell (λ x k. cell_at_spot m x ≡ Some v → k < starts j m (suc (cell_place m.region.cols x))) p ((rd.inside p v is).1) read
+    few = λ p v is read. by_cell (λ x k. cell_at_position m x ≡ Some v → k < starts j m (suc (cell_place m.region.cols x))) p ((rd.inside p v is).1) read
         (λ old e. rd.few p v e old) (λ e. (here v e).0) is;
-    joined = λ p v is read. by_cell (λ x k. cell_at_spot m x ≡ Some v → AreJoined j m (start_of_run j m k) x) p ((rd.inside p v is).1) read
+    joined = λ p v is read. by_cell (λ x k. cell_at_position m x ≡ Some v → AreJoined j m (start_of_run j m k) x) p ((rd.inside p v is).1) read
         (λ old e. rd.joined p v e old) (λ e. (here v e).1) is;
     own = λ p inside is read. by_cell (λ x k. begins j m x ≡ true → k ≡ starts j m (cell_place m.region.cols x)) p inside.1 read
         (λ old e. rd.own p inside e old) own is;
     meet = λ p q v near p_is q_is p_read q_read.
-        by_cell (λ x k. AreAdjacent j x q → cell_at_spot m x ≡ Some v → g k ≡ g (area_label_at m one_more q)) p ((rd.inside p v p_is).1) p_read
-        (λ p_old near_x x_is. by_cell (λ y k. AreAdjacent j p y → cell_at_spot m y ≡ Some v → g (area_label_at m labels p) ≡ g k) q ((rd.inside q v q_is).1) q_read
+        by_cell (λ x k. AreAdjacent j x q → cell_at_position m x ≡ Some v → g k ≡ g (area_label_at m one_more q)) p ((rd.inside p v p_is).1) p_read
+        (λ p_old near_x x_is. by_cell (λ y k. AreAdjacent j p y → cell_at_position m y ≡ Some v → g (area_label_at m labels p) ≡ g k) q ((rd.inside q v q_is).1) q_read
         (λ q_old near_y y_is. keeps _ _ (label_below j m table labels f rd p v p_is p_old) (label_below j m table labels f rd q v q_is q_old) (rd.meet p q v near p_is q_is p_old q_old))
         (λ near_y y_is. meet p v (earlier_of p v p_is p_old near_y) p_is y_is p_old) near q_is)
-        (λ near_x x_is. by_cell (λ y k. AreAdjacent j (position r c) y → cell_at_spot m y ≡ Some v → g l ≡ g k) q ((rd.inside q v q_is).1) q_read
+        (λ near_x x_is. by_cell (λ y k. AreAdjacent j (position r c) y → cell_at_position m y ≡ Some v → g l ≡ g k) q ((rd.inside q v q_is).1) q_read
         (λ q_old near_y y_is. sym (meet q v (earlier_of q v q_is q_old (AreAdjacent-sym j (position r c) q near_y)) q_is x_is q_old))
         (λ near_y y_is. refl) near_x q_is) near p_is;
   }
 
   -- a null cell
-  pub read_null : cell_at_spot m (position r c) ≡ None → HasRead j m table one_more
+  pub read_null : cell_at_position m (position r c) ≡ None → HasRead j m table one_more
   read_null is =
       let none = begins_null j m (position r c) is in
       let stays = count_stays j m r c c_in none in
-      let never : (v : ℤ) → cell_at_spot m (position r c) ≡ Some v → ⊥ = λ v e. let both : None ≡ Some v = sym is ∙ e in cc in
+      let never : (v : ℤ) → cell_at_position m (position r c) ≡ Some v → ⊥ = λ v e. let both : None ≡ Some v = sym is ∙ e in cc in
       record {
         open_of = f;
         read = grown table f (rd.long ∙ ap (starts j m) count ∙ sym stays) rd.sound (λ a b _ _ e. e)
@@ -86,7 +86,7 @@ module _ (j : Joining) (m : Grid) (table labels : List ℕ) (f : ℕ → ℕ) (r
       }
 
   -- one that shares a label
-  pub read_shared : (new : List ℕ) (v : ℤ) → cell_at_spot m (position r c) ≡ Some v → length new ≡ length table → Shares j m new labels f r c v l → HasRead j m new one_more
+  pub read_shared : (new : List ℕ) (v : ℤ) → cell_at_position m (position r c) ≡ Some v → length new ≡ length table → Shares j m new labels f r c v l → HasRead j m new one_more
   read_shared new v is same s =
       let near = earlier_adjacent j r c s.from s.earlier in
       let inside = rd.inside s.from v s.alike in
@@ -110,7 +110,7 @@ module _ (j : Joining) (m : Grid) (table labels : List ℕ) (f : ℕ → ℕ) (r
       }
 
   -- one that gets a label of its own
-  pub read_new : (v : ℤ) → cell_at_spot m (position r c) ≡ Some v → PointDown table → ((q : Position) → IsEarlier j r c q → cell_at_spot m q ≡ Some v → ⊥) → l ≡ length table → HasRead j m (table ++ l ∷ []) one_more
+  pub read_new : (v : ℤ) → cell_at_position m (position r c) ≡ Some v → PointDown table → ((q : Position) → IsEarlier j r c q → cell_at_position m q ≡ Some v → ⊥) → l ≡ length table → HasRead j m (table ++ l ∷ []) one_more
   read_new v is down none own =
       let begun = begins_from j m r c v is none in
       let more = count_begins j m r c c_in begun in
@@ -137,14 +137,14 @@ pub written_back : (new items : List ℕ) (n : ℕ) → length new ≡ n → tak
 written_back new items n e = take_at new (drop (length new) items) n e
 
 -- no cell was read yet
-pub read_nothing : (j : Joining) (m : Grid) → ((p : Position) (v : ℤ) → cell_at_spot m p ≡ Some v → IsInside m p) → HasRead j m [] []
+pub read_nothing : (j : Joining) (m : Grid) → ((p : Position) (v : ℤ) → cell_at_position m p ≡ Some v → IsInside m p) → HasRead j m [] []
 read_nothing j m inside = record {
   open_of = λ k. k;
   read = record {
     inside = inside;
     long = refl;
     sound = record {
-      tells = record {
+      reports = record {
         points = λ k lt. absurd (omega arith);
         itself = λ k lt e. absurd (omega arith);
         is_open = λ k lt. absurd (omega arith);

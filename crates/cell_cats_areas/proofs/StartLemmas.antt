@@ -9,7 +9,7 @@ use Rattle.cell_core_values.specs.Cell.{cell_eq, cell_eq-Decides}
 use Rattle.cell_core.specs.Grid.{Grid, CellValue, IsFilled, cell_at, row_at}
 use Rattle.cell_cats_areas.specs.declared.clump.Joining.{Joining}
 use Rattle.cell_cats_areas.specs.declared.clump.Joining.TheVariants.{Edges, EdgesAndCorners}
-use Rattle.cell_cats_areas.specs.Areas.{Position, cell_at_spot, IsEarlierCell, AreAdjacent}
+use Rattle.cell_cats_areas.specs.Areas.{Position, cell_at_position, IsEarlierCell, AreAdjacent}
 use Rattle.cell_cats_areas.specs.parts.CellPlaces.{position, cell_of_place, cell_place, IsInside}
 use Rattle.cell_cats_areas.specs.parts.Starts.{IsLeft, IsAbove, IsUpperLeft, IsUpperRight, IsEarlier, cell_to_the_left, above_of, upper_left_of, upper_right_of, meets, begins, starts_below, starts, start_of_run}
 
@@ -32,16 +32,17 @@ pub one_place : (w : ℕ) (p q : Position) → p.col < w → q.col < w → cell_
 one_place w p q p_in q_in e = sym (cell_of-place w p.row p.col p_in) ∙ ap (cell_of_place w) e ∙ cell_of-place w q.row q.col q_in
 
 -- a cell that is not null is of the map
-pub inside_map : (m : Grid) (p : Position) (v : ℤ) → IsFilled m.region m.rows → cell_at_spot m p ≡ Some v → IsInside m p
+pub inside_map : (m : Grid) (p : Position) (v : ℤ) → IsFilled m.region m.rows → cell_at_position m p ≡ Some v
+    → IsInside m p
 inside_map m p v filled is =
     let count = filled.count in
     let row : p.row < length m.rows =
     ⊎_elim (λ lt. lt)
     (λ le. let past : row_at m p.row ≡ [] = get_or_past m.rows p.row [] le in
-    let null : cell_at_spot m p ≡ None = ap (λ (xs : List CellValue). get_or xs p.col None) past in
+    let null : cell_at_position m p ≡ None = ap (λ (xs : List CellValue). get_or xs p.col None) past in
     absurd (let none : None ≡ Some v = sym null ∙ is in cc)) (cases_lt p.row (length m.rows)) in
     let col : p.col < length (row_at m p.row) =
-    ⊎_elim (λ lt. lt) (λ le. let past : cell_at_spot m p ≡ None = get_or_past (row_at m p.row) p.col None le in absurd (let none : None ≡ Some v = sym past ∙ is in cc)) (cases_lt p.col (length (row_at m p.row))) in
+    ⊎_elim (λ lt. lt) (λ le. let past : cell_at_position m p ≡ None = get_or_past (row_at m p.row) p.col None le in absurd (let none : None ≡ Some v = sym past ∙ is in cc)) (cases_lt p.col (length (row_at m p.row))) in
     let wide = All-get_or (λ xs. length xs ≡ m.region.cols) m.rows p.row [] row filled.width in
     (omega arith, omega arith)
 
@@ -85,33 +86,33 @@ adjacent_earlier EdgesAndCorners r c q (inr (inr h, e)) before = absurd (not_bef
 
 -- ---- which cells get labels of their own
 
-left_at : (m : Grid) (r c : ℕ) (q : Position) → IsLeft r c q → cell_to_the_left m r c ≡ cell_at_spot m q
+left_at : (m : Grid) (r c : ℕ) (q : Position) → IsLeft r c q → cell_to_the_left m r c ≡ cell_at_position m q
 left_at m r c q h = let e = h.1 in let z : c ≡ suc q.col = omega arith in ap (cell_to_the_left m r) z ∙ ap (λ (x : ℕ). cell_at m x q.col) (sym h.0)
 
-above_at : (m : Grid) (r c : ℕ) (q : Position) → IsAbove r c q → above_of m r c ≡ cell_at_spot m q
+above_at : (m : Grid) (r c : ℕ) (q : Position) → IsAbove r c q → above_of m r c ≡ cell_at_position m q
 above_at m r c q h = let e = h.0 in let z : r ≡ suc q.row = omega arith in ap (λ (x : ℕ). above_of m x c) z ∙ ap (cell_at m q.row) (sym h.1)
 
-upper_left_at : (m : Grid) (r c : ℕ) (q : Position) → IsUpperLeft r c q → upper_left_of m r c ≡ cell_at_spot m q
+upper_left_at : (m : Grid) (r c : ℕ) (q : Position) → IsUpperLeft r c q → upper_left_of m r c ≡ cell_at_position m q
 upper_left_at m r c q h = let e = h.0 in let z : r ≡ suc q.row = omega arith in ap (λ (x : ℕ). upper_left_of m x c) z ∙ left_at m q.row c q (refl, h.1)
 
-upper_right_at : (m : Grid) (r c : ℕ) (q : Position) → IsUpperRight r c q → upper_right_of m r c ≡ cell_at_spot m q
+upper_right_at : (m : Grid) (r c : ℕ) (q : Position) → IsUpperRight r c q → upper_right_of m r c ≡ cell_at_position m q
 upper_right_at m r c q h =
     let e = h.0 in let d = h.1 in let z : r ≡ suc q.row = omega arith in let y : suc c ≡ q.col = omega arith in
     ap (λ (x : ℕ). upper_right_of m x c) z ∙ ap (cell_at m q.row) y
 
-left_found : (m : Grid) (r c : ℕ) (v : ℤ) → cell_to_the_left m r c ≡ Some v → (q : Position) × IsLeft r c q × (cell_at_spot m q ≡ Some v)
+left_found : (m : Grid) (r c : ℕ) (v : ℤ) → cell_to_the_left m r c ≡ Some v → (q : Position) × IsLeft r c q × (cell_at_position m q ≡ Some v)
 left_found m r zero v e = absurd (let none : None ≡ Some v = e in cc)
 left_found m r (suc c) v e = (position r c, (refl, omega arith), e)
 
-above_found : (m : Grid) (r c : ℕ) (v : ℤ) → above_of m r c ≡ Some v → (q : Position) × IsAbove r c q × (cell_at_spot m q ≡ Some v)
+above_found : (m : Grid) (r c : ℕ) (v : ℤ) → above_of m r c ≡ Some v → (q : Position) × IsAbove r c q × (cell_at_position m q ≡ Some v)
 above_found m zero c v e = absurd (let none : None ≡ Some v = e in cc)
 above_found m (suc r) c v e = (position r c, (omega arith, refl), e)
 
-upper_left_found : (m : Grid) (r c : ℕ) (v : ℤ) → upper_left_of m r c ≡ Some v → (q : Position) × IsUpperLeft r c q × (cell_at_spot m q ≡ Some v)
+upper_left_found : (m : Grid) (r c : ℕ) (v : ℤ) → upper_left_of m r c ≡ Some v → (q : Position) × IsUpperLeft r c q × (cell_at_position m q ≡ Some v)
 upper_left_found m zero c v e = absurd (let none : None ≡ Some v = e in cc)
 upper_left_found m (suc r) c v e = let t = left_found m r c v e in let row = t.1.0 in (t.0, (omega arith, t.1.1), t.2)
 
-upper_right_found : (m : Grid) (r c : ℕ) (v : ℤ) → upper_right_of m r c ≡ Some v → (q : Position) × IsUpperRight r c q × (cell_at_spot m q ≡ Some v)
+upper_right_found : (m : Grid) (r c : ℕ) (v : ℤ) → upper_right_of m r c ≡ Some v → (q : Position) × IsUpperRight r c q × (cell_at_position m q ≡ Some v)
 upper_right_found m zero c v e = absurd (let none : None ≡ Some v = e in cc)
 upper_right_found m (suc r) c v e = (position r (suc c), (omega arith, omega arith), e)
 
@@ -121,7 +122,7 @@ alike_from x y v e d = (cell_eq-Decides x y).1 (e ∙ sym d)
 pub alike_to : (x y : CellValue) (v : ℤ) → y ≡ Some v → cell_eq x y ≡ true → x ≡ Some v
 alike_to x y v d is = (cell_eq-Decides x y).0 is ∙ d
 
-meets_from : (j : Joining) (m : Grid) (r c : ℕ) (v : ℤ) → cell_at_spot m (position r c) ≡ Some v → (q : Position) → IsEarlier j r c q → cell_at_spot m q ≡ Some v → meets j m r c ≡ true
+meets_from : (j : Joining) (m : Grid) (r c : ℕ) (v : ℤ) → cell_at_position m (position r c) ≡ Some v → (q : Position) → IsEarlier j r c q → cell_at_position m q ≡ Some v → meets j m r c ≡ true
 meets_from Edges m r c v is q (inl h) e = or_left _ _ (alike_from _ _ v (left_at m r c q h ∙ e) is)
 meets_from Edges m r c v is q (inr h) e = or_right _ _ (alike_from _ _ v (above_at m r c q h ∙ e) is)
 meets_from EdgesAndCorners m r c v is q (inl (inl h)) e = or_left _ _ (or_left _ _ (alike_from _ _ v (left_at m r c q h ∙ e) is))
@@ -129,7 +130,7 @@ meets_from EdgesAndCorners m r c v is q (inl (inr h)) e = or_left _ _ (or_right 
 meets_from EdgesAndCorners m r c v is q (inr (inl h)) e = or_right _ _ (or_left _ _ (alike_from _ _ v (upper_left_at m r c q h ∙ e) is))
 meets_from EdgesAndCorners m r c v is q (inr (inr h)) e = or_right _ _ (or_right _ _ (alike_from _ _ v (upper_right_at m r c q h ∙ e) is))
 
-meets_none : (j : Joining) (m : Grid) (r c : ℕ) (v : ℤ) → cell_at_spot m (position r c) ≡ Some v → ((q : Position) → IsEarlier j r c q → cell_at_spot m q ≡ Some v → ⊥) → meets j m r c ≡ true → ⊥
+meets_none : (j : Joining) (m : Grid) (r c : ℕ) (v : ℤ) → cell_at_position m (position r c) ≡ Some v → ((q : Position) → IsEarlier j r c q → cell_at_position m q ≡ Some v → ⊥) → meets j m r c ≡ true → ⊥
 meets_none Edges m r c v is none e =
     ⊎_elim (λ d. let t = left_found m r c v (alike_to _ _ v is d) in none t.0 (inl t.1) t.2)
     (λ d. let t = above_found m r c v (alike_to _ _ v is d) in none t.0 (inr t.1) t.2) (or_cases _ _ e)
@@ -141,14 +142,14 @@ meets_none EdgesAndCorners m r c v is none e =
     (λ d. let t = upper_right_found m r c v (alike_to _ _ v is d) in none t.0 (inr (inr t.1)) t.2) (or_cases _ _ f))
     (or_cases _ _ e)
 
-pub begins_none : (j : Joining) (m : Grid) (r c : ℕ) (v : ℤ) → cell_at_spot m (position r c) ≡ Some v → (q : Position) → IsEarlier j r c q → cell_at_spot m q ≡ Some v → begins j m (position r c) ≡ false
-begins_none j m r c v is q earlier e = and_right (is_some (cell_at_spot m (position r c))) (not (meets j m r c)) (not_from_true _ (meets_from j m r c v is q earlier e))
+pub begins_none : (j : Joining) (m : Grid) (r c : ℕ) (v : ℤ) → cell_at_position m (position r c) ≡ Some v → (q : Position) → IsEarlier j r c q → cell_at_position m q ≡ Some v → begins j m (position r c) ≡ false
+begins_none j m r c v is q earlier e = and_right (is_some (cell_at_position m (position r c))) (not (meets j m r c)) (not_from_true _ (meets_from j m r c v is q earlier e))
 
-pub begins_from : (j : Joining) (m : Grid) (r c : ℕ) (v : ℤ) → cell_at_spot m (position r c) ≡ Some v → ((q : Position) → IsEarlier j r c q → cell_at_spot m q ≡ Some v → ⊥) → begins j m (position r c) ≡ true
-begins_from j m r c v is none = and_from (is_some (cell_at_spot m (position r c))) (not (meets j m r c)) (rw is refl) (not_from_false _ (false_from_ne_true _ (meets_none j m r c v is none)))
+pub begins_from : (j : Joining) (m : Grid) (r c : ℕ) (v : ℤ) → cell_at_position m (position r c) ≡ Some v → ((q : Position) → IsEarlier j r c q → cell_at_position m q ≡ Some v → ⊥) → begins j m (position r c) ≡ true
+begins_from j m r c v is none = and_from (is_some (cell_at_position m (position r c))) (not (meets j m r c)) (rw is refl) (not_from_false _ (false_from_ne_true _ (meets_none j m r c v is none)))
 
-pub begins_null : (j : Joining) (m : Grid) (p : Position) → cell_at_spot m p ≡ None → begins j m p ≡ false
-begins_null j m p is = and_left (is_some (cell_at_spot m p)) (not (meets j m p.row p.col)) (rw is refl)
+pub begins_null : (j : Joining) (m : Grid) (p : Position) → cell_at_position m p ≡ None → begins j m p ≡ false
+begins_null j m p is = and_left (is_some (cell_at_position m p)) (not (meets j m p.row p.col)) (rw is refl)
 
 -- ---- how many of the first cells get one
 

@@ -11,8 +11,8 @@ pub record Position : Type 0 where
   pub col : ℕ
 
 -- the cell of a map at a position, null outside
-abbrev pub cell_at_spot : Grid → Position → CellValue
-cell_at_spot m p = cell_at m p.row p.col
+abbrev pub cell_at_position : Grid → Position → CellValue
+cell_at_position m p = cell_at m p.row p.col
 
 -- row order: by rows from the top, in a row from the left
 abbrev pub IsEarlierCell : Position → Position → Type 0
@@ -45,11 +45,11 @@ pub record AreJoined (j : Joining) (m : Grid) (p q : Position) : Type 0 where
   pub category : ℤ
   pub others : List Position
   pub leads : LeadsTo j p others q
-  pub alike : All (λ s. cell_at_spot m s ≡ Some category) (p ∷ others)
+  pub alike : All (λ s. cell_at_position m s ≡ Some category) (p ∷ others)
 
 -- a first cell is not null, and no cell before it is joined to it
 pub record IsFirst (j : Joining) (m : Grid) (p : Position) : Type 0 where
-  pub category : IsSome (cell_at_spot m p)
+  pub category : IsSome (cell_at_position m p)
   pub none_before : (q : Position) → IsEarlierCell q p → ¬ AreJoined j m q p
 
 -- the first cells at or before a cell, in row order
@@ -72,8 +72,8 @@ pub record IsClumping (j : Joining) (m numbers : Grid) : Type 0 where
   pub region : numbers.region ≡ m.region
   pub labels : numbers.labels ≡ no_labels
   -- null stays null
-  pub nulls : (p : Position) → cell_at_spot m p ≡ None → cell_at_spot numbers p ≡ None
+  pub nulls : (p : Position) → cell_at_position m p ≡ None → cell_at_position numbers p ≡ None
   -- a cell that is not null has its number
-  pub numbered : (p : Position) → IsSome (cell_at_spot m p) → (n : ℕ) × HasNumber j m p n × (cell_at_spot numbers p ≡ Some (pos n))
+  pub numbered : (p : Position) → IsSome (cell_at_position m p) → (n : ℕ) × HasNumber j m p n × (cell_at_position numbers p ≡ Some (pos n))
   -- two such cells have the same number exactly where a path joins them
-  pub same : (p q : Position) → IsSome (cell_at_spot m p) → IsSome (cell_at_spot m q) → (cell_at_spot numbers p ≡ cell_at_spot numbers q) ↔ AreJoined j m p q
+  pub same : (p q : Position) → IsSome (cell_at_position m p) → IsSome (cell_at_position m q) → (cell_at_position numbers p ≡ cell_at_position numbers q) ↔ AreJoined j m p q

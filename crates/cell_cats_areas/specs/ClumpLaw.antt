@@ -3,7 +3,7 @@ use Rattle.std.specs.Prelude.{ℕ, pos, ◌≡◌, ◌≤◌, ◌↔◌, List, l
 use Rattle.std.specs.List.{AllPairs}
 use Rattle.cell_core.specs.Grid.{Grid, IsFilled}
 use Rattle.cell_cats_areas.specs.declared.clump.Joining.{Joining}
-use Rattle.cell_cats_areas.specs.Areas.{Position, cell_at_spot, IsEarlierCell, IsFirst, IsClumping}
+use Rattle.cell_cats_areas.specs.Areas.{Position, cell_at_position, IsEarlierCell, IsFirst, IsClumping}
 
 -- two clumpings of a map by one adjacency are one map
 abbrev pub ClumpingIsOne : Type 0
@@ -11,11 +11,11 @@ ClumpingIsOne = (j : Joining) (m a b : Grid) → IsFilled a.region a.rows → Is
 
 -- some cell has a number
 abbrev pub Occurs : Grid → ℕ → Type 0
-Occurs numbers n = (p : Position) × (cell_at_spot numbers p ≡ Some (pos n))
+Occurs numbers n = (p : Position) × (cell_at_position numbers p ≡ Some (pos n))
 
 -- no number is left out: a cell that is not null has a number from 1 on, and each number from 1 to that one occurs
 abbrev pub NoNumberIsLeftOut : Type 0
-NoNumberIsLeftOut = (j : Joining) (m numbers : Grid) → IsClumping j m numbers → (p : Position) → IsSome (cell_at_spot numbers p) → (n : ℕ) × (cell_at_spot numbers p ≡ Some (pos n)) × (1 ≤ n) × ((k : ℕ) → 1 ≤ k → k ≤ n → Occurs numbers k)
+NoNumberIsLeftOut = (j : Joining) (m numbers : Grid) → IsClumping j m numbers → (p : Position) → IsSome (cell_at_position numbers p) → (n : ℕ) × (cell_at_position numbers p ≡ Some (pos n)) × (1 ≤ n) × ((k : ℕ) → 1 ≤ k → k ≤ n → Occurs numbers k)
 
 -- the first cells of all areas, in row order
 pub record AreFirsts (j : Joining) (m : Grid) (firsts : List Position) : Type 0 where

@@ -1,7 +1,7 @@
 //! Labels of runs, and the table that says which were joined.
 
 ghost use Rattle.std.specs.Prelude.{◌≡◌, ℕ, ◌<◌, ◌≤◌, length};
-ghost use Rattle.cell_cats_areas.specs.parts.Labels.{PointDown, TellsOpen, after_join};
+ghost use Rattle.cell_cats_areas.specs.parts.Labels.{PointDown, LeadsToOpen, after_join};
 
 /// The open label that a label leads to. The way to it is halved, after its first step.
 pub fn open_label(table: &mut [u32], label: u32) -> u32
@@ -9,8 +9,9 @@ pub fn open_label(table: &mut [u32], label: u32) -> u32
     requires inside { label < length table.old }
     ensures down { PointDown table.new }
     ensures low { result ≤ label }
-    ensures tells { (open_of : ℕ → ℕ) → TellsOpen table.old open_of → TellsOpen table.new open_of }
-    ensures open { (open_of : ℕ → ℕ) → TellsOpen table.old open_of → result ≡ open_of label }
+    ensures reports { (open_of : ℕ → ℕ)
+        → LeadsToOpen table.old open_of → LeadsToOpen table.new open_of }
+    ensures open { (open_of : ℕ → ℕ) → LeadsToOpen table.old open_of → result ≡ open_of label }
 {
     let mut at = table[label as usize];
     while table[at as usize] != at {
@@ -27,8 +28,8 @@ pub fn join_labels(table: &mut [u32], one: u32, other: u32)
     requires one_inside { one < length table.old }
     requires other_inside { other < length table.old }
     ensures down { PointDown table.new }
-    ensures tells { (open_of : ℕ → ℕ) → TellsOpen table.old open_of
-        → TellsOpen table.new (after_join open_of one other) }
+    ensures reports { (open_of : ℕ → ℕ) → LeadsToOpen table.old open_of
+        → LeadsToOpen table.new (after_join open_of one other) }
 {
     let first = open_label(table, one);
     let second = open_label(table, other);

@@ -35,7 +35,7 @@ use Rattle.std.specs.Ordering.{eq_by_cmp, is_eq}
 use Rattle.std.specs.Cmp.{tied_itself}
 use Rattle.cell_core.specs.Grid.{Grid, CellValue, IsFilled}
 use Rattle.cell_cats_areas.specs.declared.clump.Joining.{Joining}
-use Rattle.cell_cats_areas.specs.Areas.{Position, cell_at_spot, IsClumping}
+use Rattle.cell_cats_areas.specs.Areas.{Position, cell_at_position, IsClumping}
 use Rattle.cell_cats_areas.proofs.PathLemmas.{AreJoined-first, AreJoined-last}
 use Rattle.cell_stats_counts.specs.declared.skip.Skip.{Skip}
 use Rattle.cell_stats_counts.specs.declared.skip.Skip.TheVariants.{Nothing}
@@ -58,25 +58,26 @@ use Rattle.cell_cats_law.specs.AreaLaw.{
 
 -- a cell with a number is not null in the map
 pub some-below : (j : Joining) (m numbers : Grid) → IsClumping j m numbers → (p : Position) (v : ℤ) →
-    cell_at_spot numbers p ≡ Some v → IsSome (cell_at_spot m p)
-some-below j m numbers is p v e = by (cell_at_spot m p) refl
+    cell_at_position numbers p ≡ Some v → IsSome (cell_at_position m p)
+some-below j m numbers is p v e = by (cell_at_position m p) refl
   where
-    by : (c : CellValue) → cell_at_spot m p ≡ c → IsSome c
+    by : (c : CellValue) → cell_at_position m p ≡ c → IsSome c
     by None none = let null = is.nulls p none in cc
     by (Some w) some = refl
 
 -- and one without is
 pub none-below : (j : Joining) (m numbers : Grid) → IsClumping j m numbers → (p : Position) →
-    cell_at_spot numbers p ≡ None → cell_at_spot m p ≡ None
-none-below j m numbers is p e = by (cell_at_spot m p) refl
+    cell_at_position numbers p ≡ None → cell_at_position m p ≡ None
+none-below j m numbers is p e = by (cell_at_position m p) refl
   where
-    by : (c : CellValue) → cell_at_spot m p ≡ c → c ≡ None
+    by : (c : CellValue) → cell_at_position m p ≡ c → c ≡ None
     by None none = refl
-    by (Some w) some = let number = (is.numbered p (is-some (cell_at_spot m p) w some)).2 in cc
+    by (Some w) some = let number = (is.numbered p (is-some (cell_at_position m p) w some)).2 in cc
 
 -- cells of one number, or of none, are of one category
 pub one-category : (j : Joining) (m numbers : Grid) → IsClumping j m numbers → (p q : Position) (number : CellValue) →
-    cell_at_spot numbers p ≡ number → cell_at_spot numbers q ≡ number → cell_at_spot m p ≡ cell_at_spot m q
+    cell_at_position numbers p ≡ number → cell_at_position numbers q ≡ number
+    → cell_at_position m p ≡ cell_at_position m q
 one-category j m numbers is p q None one other = none-below j m numbers is p one
     ∙ sym (none-below j m numbers is q other)
 one-category j m numbers is p q (Some v) one other =
@@ -94,21 +95,21 @@ abbrev second-cell : Combination → CellValue
 second-cell [] = None
 second-cell (c ∷ k) = first-cell k
 
-abbrev spot : ℕ → ℕ → Position
-spot row col = record { row = row; col = col }
+abbrev grid_position : ℕ → ℕ → Position
+grid_position row col = record { row = row; col = col }
 
 -- where an entry of the table of two maps stands
 pub record Stands (one other : Grid) (a b : CellValue) : Type 0 where
   pub at : Position
-  pub first : cell_at_spot one at ≡ a
-  pub second : cell_at_spot other at ≡ b
+  pub first : cell_at_position one at ≡ a
+  pub second : cell_at_position other at ≡ b
 
 pub stands-at : (one other : Grid) (skip : Skip) (rows cols : ℕ) (table : Pairs) →
     IsTable skip (cells_of_both one other rows cols) table → (a b : CellValue) (n : ℕ) →
     Contains table (a ∷ b ∷ [], n) → Stands one other a b
 stands-at one other skip rows cols table is a b n stands =
     let found = entry-at skip (one ∷ other ∷ []) (0 ∷ 1 ∷ []) rows cols table is (a ∷ b ∷ []) n stands in
-    record { at = spot found.0 found.1; first = ap first-cell found.2; second = ap second-cell found.2 }
+    record { at = grid_position found.0 found.1; first = ap first-cell found.2; second = ap second-cell found.2 }
 
 pub numbers-have-one-category : NumbersHaveOneCategory
 numbers-have-one-category j m numbers is skip rows cols table is_table number one other a b first second =
@@ -137,14 +138,14 @@ entries-are-whole j m numbers is skip rows cols table is_table category number n
     ((is_table.counted (category ∷ number ∷ []) n).0 stands).1.1
     ∙ counts-same (m ∷ numbers ∷ []) (numbers ∷ []) (0 ∷ 1 ∷ []) (0 ∷ [])
     (eq_by_cmp combination_cmp (category ∷ number ∷ [])) (eq_by_cmp combination_cmp (number ∷ []))
-    (λ row col. let q = spot row col in
-    tests-same (category ∷ number ∷ []) (cell_at_spot m q ∷ cell_at_spot numbers q ∷ []) (number ∷ [])
-    (cell_at_spot numbers q ∷ [])
-    (λ (e : category ∷ number ∷ [] ≡ cell_at_spot m q ∷ cell_at_spot numbers q ∷ []). ap (λ (c : CellValue). c ∷ [])
+    (λ row col. let q = grid_position row col in
+    tests-same (category ∷ number ∷ []) (cell_at_position m q ∷ cell_at_position numbers q ∷ []) (number ∷ [])
+    (cell_at_position numbers q ∷ [])
+    (λ (e : category ∷ number ∷ [] ≡ cell_at_position m q ∷ cell_at_position numbers q ∷ []). ap (λ (c : CellValue). c ∷ [])
     (ap second-cell e))
-    (λ (e : number ∷ [] ≡ cell_at_spot numbers q ∷ []).
-    let same : number ≡ cell_at_spot numbers q = ap first-cell e in
-    let one : category ≡ cell_at_spot m q = sym p.first
+    (λ (e : number ∷ [] ≡ cell_at_position numbers q ∷ []).
+    let same : number ≡ cell_at_position numbers q = ap first-cell e in
+    let one : category ≡ cell_at_position m q = sym p.first
     ∙ one-category j m numbers is p.at q number p.second (sym same) in
     λ i. one i ∷ same i ∷ []))
     rows cols
@@ -156,18 +157,18 @@ kept-number _ v n = refl
 
 module _ (j : Joining) (m numbers : Grid) (is : IsClumping j m numbers) (skip : Skip) (category : ℤ) where
   abbrev is-of : Position → Bool
-  is-of q = eq_by_cmp combination_cmp (Some category ∷ []) (cell_at_spot m q ∷ [])
+  is-of q = eq_by_cmp combination_cmp (Some category ∷ []) (cell_at_position m q ∷ [])
 
   abbrev is-left : Position → Bool
-  is-left q = is_left_out skip (cell_at_spot m q ∷ cell_at_spot numbers q ∷ [])
+  is-left q = is_left_out skip (cell_at_position m q ∷ cell_at_position numbers q ∷ [])
 
   -- no cell of the category is left out
   kept-of : (q : Position) (b : Bool) → is-of q ≡ b → (not (is-left q) && is-of q) ≡ is-of q
   kept-of q false e = ap (λ b. not (is-left q) && b) e ∙ and-false (not (is-left q)) ∙ sym e
   kept-of q true e =
-      let same = combination_cmp-exact (Some category ∷ []) (cell_at_spot m q ∷ []) (is_equal _ e) in
-      let here : cell_at_spot m q ≡ Some category = sym (ap first-cell same) in
-      let number = is.numbered q (is-some (cell_at_spot m q) category here) in
+      let same = combination_cmp-exact (Some category ∷ []) (cell_at_position m q ∷ []) (is_equal _ e) in
+      let here : cell_at_position m q ≡ Some category = sym (ap first-cell same) in
+      let number = is.numbered q (is-some (cell_at_position m q) category here) in
       let cells : is-left q ≡ is_left_out skip (Some category ∷ Some (pos number.0) ∷ []) =
       λ i. is_left_out skip (here i ∷ number.2 i ∷ []) in
       ap (λ b. not b && is-of q) (cells ∙ kept-number skip category (pos number.0))
@@ -176,8 +177,8 @@ pub areas-divide-their-category : AreasDivideTheirCategory
 areas-divide-their-category j m numbers is skip rows cols table is_table category =
     let t = λ (k : Combination). eq_by_cmp combination_cmp (Some category ∷ []) (take 1 k) in
     let u = λ (k : Combination). not (is_left_out skip k) && t k in
-    let same = λ (row col : ℕ). kept-of j m numbers is skip category (spot row col)
-    (is-of j m numbers is skip category (spot row col)) refl in
+    let same = λ (row col : ℕ). kept-of j m numbers is skip category (grid_position row col)
+    (is-of j m numbers is skip category (grid_position row col)) refl in
     table-sums skip (cells_of_both m numbers rows cols) table is_table t
     ∙ counts-same (m ∷ numbers ∷ []) (m ∷ []) (0 ∷ 1 ∷ [])
     (0 ∷ []) u (eq_by_cmp combination_cmp (Some category ∷ [])) same rows cols
@@ -195,7 +196,7 @@ in-rows (row ∷ rows) zero c v e = omega arith
 in-rows (row ∷ rows) (suc r) c v e = omega (arith, in-rows rows r c v e)
 
 -- a cell that is not null lies in the region
-pub in-region : (m : Grid) → IsFilled m.region m.rows → (p : Position) (v : ℤ) → cell_at_spot m p ≡ Some v →
+pub in-region : (m : Grid) → IsFilled m.region m.rows → (p : Position) (v : ℤ) → cell_at_position m p ≡ Some v →
     (p.row < m.region.rows) × (p.col < m.region.cols)
 in-region m filled p v e =
     let low = in-rows m.rows p.row p.col v e in
@@ -208,16 +209,16 @@ no-area-is-empty j m numbers is filled skip table is_table category last size st
     let rows = numbers.region.rows in
     let cols = numbers.region.cols in
     let p = stands-at m numbers skip rows cols table is_table category (Some (pos last)) size stands in
-    let all = no_number_is_left_out j m numbers is p.at (is-some (cell_at_spot numbers p.at) (pos last) p.second) in
+    let all = no_number_is_left_out j m numbers is p.at (is-some (cell_at_position numbers p.at) (pos last) p.second) in
     let same : all.0 ≡ last = let e = sym all.1 ∙ p.second in cc in
     let occurs = all.3 number least (omega (arith, most, same)) in
     let q = occurs.0 in
-    let v = some_of (cell_at_spot m q) (some-below j m numbers is q (pos number) occurs.1) in
+    let v = some_of (cell_at_position m q) (some-below j m numbers is q (pos number) occurs.1) in
     let k : Combination = Some v.0 ∷ Some (pos number) ∷ [] in
-    let is_k : k ≡ cell_at_spot m q ∷ cell_at_spot numbers q ∷ [] = λ i. sym v.1 i ∷ sym occurs.1 i ∷ [] in
+    let is_k : k ≡ cell_at_position m q ∷ cell_at_position numbers q ∷ [] = λ i. sym v.1 i ∷ sym occurs.1 i ∷ [] in
     let inside = in-region numbers filled q (pos number) occurs.1 in
     let counted = counted-cell (m ∷ numbers ∷ []) (0 ∷ 1 ∷ [])
     (eq_by_cmp combination_cmp k) rows cols q.row q.col inside.0 inside.1
-    (equal-itself k (cell_at_spot m q ∷ cell_at_spot numbers q ∷ []) is_k) in
+    (equal-itself k (cell_at_position m q ∷ cell_at_position numbers q ∷ []) is_k) in
     let cells = count_of k (cells_of_both m numbers rows cols) in
     (v.0, cells, counted, (is_table.counted k cells).1 (kept-number skip v.0 (pos number), (counted, refl)))

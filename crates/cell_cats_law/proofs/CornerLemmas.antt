@@ -2,7 +2,7 @@
 use Rattle.std.proofs.Common.{◌≡◌, ℕ, pos, ◌≤◌, [], ◌∷◌, List, Some, None, sym, ◌∙◌, arith, subst, inl, ⊎_elim}
 use Rattle.cell_core.specs.Grid.{Grid, CellValue}
 use Rattle.cell_cats_areas.specs.declared.clump.Joining.TheVariants.{Edges, EdgesAndCorners}
-use Rattle.cell_cats_areas.specs.Areas.{Position, cell_at_spot, IsEarlierCell, LeadsTo, AreJoined, IsFirst, HasNumber}
+use Rattle.cell_cats_areas.specs.Areas.{Position, cell_at_position, IsEarlierCell, LeadsTo, AreJoined, IsFirst, HasNumber}
 use Rattle.cell_cats_areas.proofs.PathLemmas.{AreJoined-sym, AreJoined-trans}
 use Rattle.cell_cats_areas.proofs.LawLemmas.{cases_before, within_le}
 use Rattle.cell_cats_areas.proofs.CountLemmas.{no_number_is_left_out}
@@ -26,7 +26,7 @@ widen m p q h = record {
 
 pub corners-only-join : CornersOnlyJoin
 corners-only-join m edges corners both p q some same =
-    let v = some_of (cell_at_spot edges p) some in
+    let v = some_of (cell_at_position edges p) some in
     let here = some-below Edges m edges both.by_edges p v.0 v.1 in
     let there = some-below Edges m edges both.by_edges q v.0 (sym same ∙ v.1) in
     (both.by_corners.same p q here there).1 (widen m p q ((both.by_edges.same p q here there).0 same))
@@ -79,9 +79,9 @@ corners-add-no-area m edges corners both n occurs =
     let some = some-below EdgesAndCorners m corners both.by_corners p (pos n) occurs.1 in
     let number = both.by_edges.numbered p some in
     let fall = numbers-only-fall m edges corners both p number.0 n number.2 occurs.1 in
-    let least = no_number_is_left_out EdgesAndCorners m corners both.by_corners p (is-some (cell_at_spot corners p)
+    let least = no_number_is_left_out EdgesAndCorners m corners both.by_corners p (is-some (cell_at_position corners p)
     (pos n) occurs.1) in
-    let all = no_number_is_left_out Edges m edges both.by_edges p (is-some (cell_at_spot edges p)
+    let all = no_number_is_left_out Edges m edges both.by_edges p (is-some (cell_at_position edges p)
     (pos number.0) number.2) in
     let same_least : least.0 ≡ n = let e = sym least.1 ∙ occurs.1 in cc in
     let same_all : all.0 ≡ number.0 = let e = sym all.1 ∙ number.2 in cc in
@@ -93,9 +93,9 @@ one-by-corners m edges corners both skip rows cols table is_table number one oth
     let q = stands-at edges corners skip rows cols table is_table number other b second in
     sym p.second ∙ by number p.at q.at p.first q.first ∙ q.second
   where
-    by : (c : CellValue) (p q : Position) → cell_at_spot edges p ≡ c → cell_at_spot edges q ≡ c →
-        cell_at_spot corners p ≡ cell_at_spot corners q
-    by (Some v) p q here there = corners-only-join m edges corners both p q (is-some (cell_at_spot edges p) v here)
+    by : (c : CellValue) (p q : Position) → cell_at_position edges p ≡ c → cell_at_position edges q ≡ c →
+        cell_at_position corners p ≡ cell_at_position corners q
+    by (Some v) p q here there = corners-only-join m edges corners both p q (is-some (cell_at_position edges p) v here)
         (here ∙ sym there)
     by None p q here there =
         both.by_corners.nulls p (none-below Edges m edges both.by_edges p here)

@@ -2,7 +2,7 @@
 use Rattle.std.proofs.Common.{◌≡◌, ℕ, pos, cond, Some, None, IsSome, is_some, refl, ap, sym, ◌∙◌}
 use Rattle.cell_core.specs.Grid.{Grid, CellValue, IsFilled}
 use Rattle.cell_cats_areas.specs.declared.clump.Joining.{Joining}
-use Rattle.cell_cats_areas.specs.Areas.{Position, cell_at_spot, IsClumping}
+use Rattle.cell_cats_areas.specs.Areas.{Position, cell_at_position, IsClumping}
 use Rattle.cell_cats_areas.specs.parts.CellPlaces.{position, IsInside}
 use Rattle.cell_cats_areas.proofs.MeetingLemmas.{some_of}
 use Rattle.cell_cats_areas.proofs.StartLemmas.{inside_map}
@@ -16,7 +16,7 @@ module _ (j : Joining) (m : Grid) (filled : IsFilled m.region m.rows) (f : ℕ �
   number_at p = number j m filled f led p
 
   abbrev cell_of : Position → CellValue
-  cell_of p = cond (is_some (cell_at_spot m p)) (Some (pos (number_at p))) None
+  cell_of p = cond (is_some (cell_at_position m p)) (Some (pos (number_at p))) None
 
   abbrev numbers : Grid
   numbers = made_map m.region (λ r c. cell_of (position r c))
@@ -24,32 +24,32 @@ module _ (j : Joining) (m : Grid) (filled : IsFilled m.region m.rows) (f : ℕ �
   numbers_filled : IsFilled numbers.region numbers.rows
   numbers_filled = made_filled m.region (λ r c. cell_of (position r c))
 
-  there : (p : Position) → IsInside m p → cell_at_spot numbers p ≡ cell_of p
+  there : (p : Position) → IsInside m p → cell_at_position numbers p ≡ cell_of p
   there p inside = made_there m.region (λ r c. cell_of (position r c)) p.row p.col inside.0 inside.1
 
-  null_there : (p : Position) → cell_at_spot m p ≡ None → (x : CellValue) → cell_at_spot numbers p ≡ x
-      → cell_at_spot numbers p ≡ None
+  null_there : (p : Position) → cell_at_position m p ≡ None → (x : CellValue) → cell_at_position numbers p ≡ x
+      → cell_at_position numbers p ≡ None
   null_there p none None is = is
   null_there p none (Some v) is =
       there p (inside_map numbers p v numbers_filled is) ∙ ap
       (λ (x : CellValue). cond (is_some x) (Some (pos (number_at p))) None) none
 
-  some_there : (p : Position) → IsSome (cell_at_spot m p) → cell_at_spot numbers p ≡ Some (pos (number_at p))
+  some_there : (p : Position) → IsSome (cell_at_position m p) → cell_at_position numbers p ≡ Some (pos (number_at p))
   some_there p some =
-      let v = some_of (cell_at_spot m p) some in
+      let v = some_of (cell_at_position m p) some in
       there p (inside_map m p v.0 filled v.1) ∙ ap (λ t. cond t (Some (pos (number_at p))) None) some
 
   clumped : IsClumping j m numbers
   clumped = record {
     region = refl;
     labels = refl;
-    nulls = λ p none. null_there p none (cell_at_spot numbers p) refl;
+    nulls = λ p none. null_there p none (cell_at_position numbers p) refl;
     numbered = λ p some.
-        let v = some_of (cell_at_spot m p) some in
+        let v = some_of (cell_at_position m p) some in
         (number_at p, has_number j m filled f led p v.0 v.1, some_there p some);
     same = λ p q some other.
-        let v = some_of (cell_at_spot m p) some in
-        let u = some_of (cell_at_spot m q) other in (
+        let v = some_of (cell_at_position m p) some in
+        let u = some_of (cell_at_position m q) other in (
           λ e.
               let both : Some (pos (number_at p)) ≡ Some (pos (number_at q)) = sym (some_there p some) ∙ e
               ∙ some_there q other in

@@ -10,7 +10,7 @@ use Rattle.std.proofs.lemmas.List.Elements.{Contains-get_or, Contains-append_lef
 use Rattle.std.proofs.lemmas.List.Quantifiers.{all_pairs_push}
 use Rattle.cell_core.specs.Grid.{Grid, IsFilled}
 use Rattle.cell_cats_areas.specs.declared.clump.Joining.{Joining}
-use Rattle.cell_cats_areas.specs.Areas.{Position, cell_at_spot, IsEarlierCell, AreJoined, IsFirst, HasNumber}
+use Rattle.cell_cats_areas.specs.Areas.{Position, cell_at_position, IsEarlierCell, AreJoined, IsFirst, HasNumber}
 use Rattle.cell_cats_areas.specs.parts.CellPlaces.{cell_of_place, cell_place, IsInside}
 use Rattle.cell_cats_areas.proofs.LawLemmas.{cases_before}
 use Rattle.cell_cats_areas.proofs.MeetingLemmas.{some_of}
@@ -36,7 +36,7 @@ module _ (j : Joining) (m : Grid) (filled : IsFilled m.region m.rows) (f : ℕ �
   first_place p = f (place p)
 
   -- that cell is joined to it
-  first_joined : (p : Position) (v : ℤ) → cell_at_spot m p ≡ Some v → AreJoined j m (at (first_place p)) p
+  first_joined : (p : Position) (v : ℤ) → cell_at_position m p ≡ Some v → AreJoined j m (at (first_place p)) p
   first_joined p v is =
       let inside = inside_map m p v filled is in
       ⊎_elim
@@ -45,7 +45,7 @@ module _ (j : Joining) (m : Grid) (filled : IsFilled m.region m.rows) (f : ℕ �
       (subst (λ (s : Position). AreJoined j m s (at (first_place p))) (at_of p inside) h))
       (led.first (place p))
 
-  first_is : (p : Position) (v : ℤ) → cell_at_spot m p ≡ Some v → IsFirst j m (at (first_place p))
+  first_is : (p : Position) (v : ℤ) → cell_at_position m p ≡ Some v → IsFirst j m (at (first_place p))
   first_is p v is =
       let g : Position = at (first_place p) in
       let joined = first_joined p v is in
@@ -67,7 +67,7 @@ module _ (j : Joining) (m : Grid) (filled : IsFilled m.region m.rows) (f : ℕ �
   -- a first cell leads to itself
   own_place : (p : Position) → IsFirst j m p → first_place p ≡ place p
   own_place p h =
-      let v = some_of (cell_at_spot m p) h.category in
+      let v = some_of (cell_at_position m p) h.category in
       let inside = inside_map m p v.0 filled v.1 in
       let g : Position = at (first_place p) in
       let joined = first_joined p v.0 v.1 in
@@ -82,7 +82,7 @@ module _ (j : Joining) (m : Grid) (filled : IsFilled m.region m.rows) (f : ℕ �
   -- ---- the first cells below a place
 
   abbrev is_own : ℕ → Bool
-  is_own k = is_some (cell_at_spot m (at k)) && eqb (f k) k
+  is_own k = is_some (cell_at_position m (at k)) && eqb (f k) k
 
   abbrev pub firsts : ℕ → List Position
   firsts zero = []
@@ -90,19 +90,19 @@ module _ (j : Joining) (m : Grid) (filled : IsFilled m.region m.rows) (f : ℕ �
 
   own_is_first : (k : ℕ) → is_own k ≡ true → IsFirst j m (at k)
   own_is_first k own =
-      let some : IsSome (cell_at_spot m (at k)) = (and_parts (is_some (cell_at_spot m (at k))) (eqb (f k) k) own).0 in
-      let v = some_of (cell_at_spot m (at k)) some in
-      let stays : f k ≡ k = eqb-true (f k) k ((and_parts (is_some (cell_at_spot m (at k))) (eqb (f k) k) own).1) in
+      let some : IsSome (cell_at_position m (at k)) = (and_parts (is_some (cell_at_position m (at k))) (eqb (f k) k) own).0 in
+      let v = some_of (cell_at_position m (at k)) some in
+      let stays : f k ≡ k = eqb-true (f k) k ((and_parts (is_some (cell_at_position m (at k))) (eqb (f k) k) own).1) in
       let here : first_place (at k) ≡ k = ap f (place_of k) ∙ stays in
       subst (λ (n : ℕ). IsFirst j m (at n)) here (first_is (at k) v.0 v.1)
 
   first_is_own : (p : Position) → IsFirst j m p → is_own (place p) ≡ true
   first_is_own p h =
-      let v = some_of (cell_at_spot m p) h.category in
+      let v = some_of (cell_at_position m p) h.category in
       let inside = inside_map m p v.0 filled v.1 in
-      let some : is_some (cell_at_spot m (at (place p))) ≡ true = ap (λ (s : Position). is_some (cell_at_spot m s))
+      let some : is_some (cell_at_position m (at (place p))) ≡ true = ap (λ (s : Position). is_some (cell_at_position m s))
       (at_of p inside) ∙ h.category in
-      and_from (is_some (cell_at_spot m (at (place p)))) (eqb (f (place p)) (place p)) some
+      and_from (is_some (cell_at_position m (at (place p)))) (eqb (f (place p)) (place p)) some
       (eq-eqb (f (place p)) (place p) (own_place p h))
 
   record AreFirstsBelow (k : ℕ) (ps : List Position) : Type 0 where
@@ -114,14 +114,14 @@ module _ (j : Joining) (m : Grid) (filled : IsFilled m.region m.rows) (f : ℕ �
       (ps ++ at k ∷ [])
   firsts_more k ps h own =
       let here = own_is_first k own in
-      let v = some_of (cell_at_spot m (at k)) here.category in
+      let v = some_of (cell_at_position m (at k)) here.category in
       let k_in = inside_map m (at k) v.0 filled v.1 in
       record {
         in_order = all_pairs_push IsEarlierCell ps (at k) h.in_order
             (λ i d lt.
             let p : Position = get_or ps i d in
             let is = h.are_first p (Contains-get_or ps i d lt) in
-            let u = some_of (cell_at_spot m p) is.0.category in
+            let u = some_of (cell_at_position m p) is.0.category in
             let p_in = inside_map m p u.0 filled u.1 in
             let less = is.1 in
             let k_place = place_of k in
@@ -141,7 +141,7 @@ module _ (j : Joining) (m : Grid) (filled : IsFilled m.region m.rows) (f : ℕ �
         all = λ p first lt.
             ⊎_elim (λ less. Contains-append_left ps (at k ∷ []) p (h.all p first less))
             (λ le.
-            let u = some_of (cell_at_spot m p) first.category in
+            let u = some_of (cell_at_position m p) first.category in
             let p_in = inside_map m p u.0 filled u.1 in
             let e : k ≡ place p = omega (arith, lt, le) in
             let same : at k ≡ p = ap at e ∙ at_of p p_in in
@@ -179,7 +179,7 @@ module _ (j : Joining) (m : Grid) (filled : IsFilled m.region m.rows) (f : ℕ �
   abbrev pub number : Position → ℕ
   number p = length (firsts (suc (first_place p)))
 
-  pub has_number : (p : Position) (v : ℤ) → cell_at_spot m p ≡ Some v → HasNumber j m p (number p)
+  pub has_number : (p : Position) (v : ℤ) → cell_at_position m p ≡ Some v → HasNumber j m p (number p)
   has_number p v is =
       let g : Position = at (first_place p) in
       let joined = first_joined p v is in
@@ -202,7 +202,7 @@ module _ (j : Joining) (m : Grid) (filled : IsFilled m.region m.rows) (f : ℕ �
                   absurd (omega (arith, less, more, g_place)),
             ),
             λ both.
-                let u = some_of (cell_at_spot m q) both.0.category in
+                let u = some_of (cell_at_position m q) both.0.category in
                 let q_in = inside_map m q u.0 filled u.1 in
                 below.all q both.0
                 (⊎_elim (λ e. let same : place q ≡ place g = ap place e in omega (arith, same, g_place))
@@ -225,7 +225,7 @@ module _ (j : Joining) (m : Grid) (filled : IsFilled m.region m.rows) (f : ℕ �
       (cases_Bool (is_own k))
 
   -- an area whose first cell comes later has a greater number
-  later_is_more : (p q : Position) (v : ℤ) → cell_at_spot m q ≡ Some v → first_place p < first_place q
+  later_is_more : (p q : Position) (v : ℤ) → cell_at_position m q ≡ Some v → first_place p < first_place q
       → number p < number q
   later_is_more p q v is lt =
       let k : ℕ = first_place q in
@@ -236,7 +236,7 @@ module _ (j : Joining) (m : Grid) (filled : IsFilled m.region m.rows) (f : ℕ �
       let before = grows (λ n. length (firsts n)) count_step (suc (first_place p)) k (omega (arith, lt)) in
       omega (arith, e, l, before)
 
-  pub one_number : (p q : Position) (v u : ℤ) → cell_at_spot m p ≡ Some v → cell_at_spot m q ≡ Some u
+  pub one_number : (p q : Position) (v u : ℤ) → cell_at_position m p ≡ Some v → cell_at_position m q ≡ Some u
       → number p ≡ number q → AreJoined j m p q
   one_number p q v u p_is q_is same =
       let p_in = inside_map m p v filled p_is in

@@ -6,7 +6,7 @@ use Rattle.cell_core_values.specs.Cell.{cell_eq, cell_eq-Decides}
 use Rattle.cell_core.specs.Grid.{Grid, CellValue, IsFilled}
 use Rattle.cell_cats_areas.specs.declared.clump.Joining.{Joining}
 use Rattle.cell_cats_areas.specs.declared.clump.Joining.TheVariants.{Edges, EdgesAndCorners}
-use Rattle.cell_cats_areas.specs.Areas.{Position, cell_at_spot, AreNeighbours, ShareEdge, AreAdjacent, AreJoined}
+use Rattle.cell_cats_areas.specs.Areas.{Position, cell_at_position, AreNeighbours, ShareEdge, AreAdjacent, AreJoined}
 use Rattle.cell_cats_areas.specs.parts.CellPlaces.{cell_of_place, cell_place, IsInside}
 use Rattle.cell_cats_areas.proofs.PathLemmas.{AreJoined-sym, AreJoined-trans, AreJoined-adjacent, AreJoined-along}
 use Rattle.cell_cats_areas.proofs.PathLemmas.{AreJoined-refl}
@@ -68,14 +68,14 @@ module _ (j : Joining) (m : Grid) where
   JoinedPlaces x y = AreJoined j m (at_place x) (at_place y)
 
   abbrev LinkedPlaces : ℕ → ℕ → Type 0
-  LinkedPlaces x y = AreAdjacent j (at_place x) (at_place y) × AreAlike (cell_at_spot m (at_place x))
-      (cell_at_spot m (at_place y))
+  LinkedPlaces x y = AreAdjacent j (at_place x) (at_place y) × AreAlike (cell_at_position m (at_place x))
+      (cell_at_position m (at_place y))
 
   -- each place leads to the first one joined to it
   pub record AreLed (f : ℕ → ℕ) : Type 0 where
     pub low : (k : ℕ) → f k ≤ k
     pub stays : (k : ℕ) → f (f k) ≡ f k
-    pub near : (p q : Position) (v : ℤ) → IsInside m p → IsInside m q → cell_at_spot m p ≡ Some v → f
+    pub near : (p q : Position) (v : ℤ) → IsInside m p → IsInside m q → cell_at_position m p ≡ Some v → f
         (cell_place m.region.cols p) ≡ f (cell_place m.region.cols q) → AreJoined j m p q
     pub one : (p q : Position) → AreJoined j m p q → f (cell_place m.region.cols p) ≡ f (cell_place m.region.cols q)
     pub first : (k : ℕ) → AreNear JoinedPlaces k (f k)
@@ -85,7 +85,7 @@ module _ (j : Joining) (m : Grid) where
       let all = leads_all JoinedPlaces (λ x y. AreJoined-sym j m (at_place x) (at_place y))
       (λ x y z. AreJoined-trans j m (at_place x) (at_place y) (at_place z))
       LinkedPlaces (λ x y. decided_both (adjacent_decided j (at_place x) (at_place y))
-      (alike_decided (cell_at_spot m (at_place x)) (cell_at_spot m (at_place y))))
+      (alike_decided (cell_at_position m (at_place x)) (cell_at_position m (at_place y))))
       (λ x y h. AreJoined-adjacent j m (at_place x) (at_place y) h.1.0 h.0 h.1.1.0 h.1.1.1)
       (m.region.rows * m.region.cols) in
       let f = all.0 in
@@ -109,8 +109,8 @@ module _ (j : Joining) (m : Grid) where
               (λ a b v near first second.
               let a_in = inside_map m a v filled first in
               let b_in = inside_map m b v filled second in
-              let Link : Position → Position → Type 0 = λ s t. AreAdjacent j s t × AreAlike (cell_at_spot m s)
-              (cell_at_spot m t) in
+              let Link : Position → Position → Type 0 = λ s t. AreAdjacent j s t × AreAlike (cell_at_position m s)
+              (cell_at_position m t) in
               let here : Link a b = (near, (v, (first, second))) in
               all.1.1 (cell_place m.region.cols a) (cell_place m.region.cols b) (place_inside m a a_in)
               (place_inside m b b_in)

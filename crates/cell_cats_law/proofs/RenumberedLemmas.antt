@@ -36,7 +36,7 @@ use Rattle.cell_core.specs.Grid.{Grid, CellValue}
 use Rattle.cell_cats_areas.specs.declared.clump.Joining.{Joining}
 use Rattle.cell_cats_areas.specs.Areas.{
   Position,
-  cell_at_spot,
+  cell_at_position,
   IsEarlierCell,
   AreJoined,
   IsFirst,
@@ -125,24 +125,25 @@ module _ (j : Joining) (m numbers : Grid) (is : IsClumping j m numbers) (number 
 
   goes-joined : (p q : Position) → AreJoined j m p q → goes p ≡ goes q
   goes-joined p q h =
-      let here = is-some (cell_at_spot m p) h.category (AreJoined-first j m p q h) in
-      let there = is-some (cell_at_spot m q) h.category (AreJoined-last j m p q h) in
+      let here = is-some (cell_at_position m p) h.category (AreJoined-first j m p q h) in
+      let there = is-some (cell_at_position m q) h.category (AreJoined-last j m p q h) in
       ap (λ (c : CellValue). cell_eq c (Some (pos number))) ((is.same p q here there).1 h)
 
   first-stays : (q : Position) → IsFirst j m q → goes q ≡ false → IsFirst j less q
   first-stays q first stays =
-      let v = some_of (cell_at_spot m q) first.category in record {
-        category = is-some (cell_at_spot less q) v.0 (kept-cell j m numbers is (pos number) less without q stays ∙ v.1);
+      let v = some_of (cell_at_position m q) first.category in record {
+        category = is-some (cell_at_position less q) v.0 (kept-cell j m numbers is (pos number) less without q stays
+            ∙ v.1);
         none_before = λ s before joined.
             first.none_before s before (joined-before j m numbers is (pos number) less without s q joined);
       }
 
   first-was : (q : Position) → IsFirst j less q → IsFirst j m q × (goes q ≡ false)
   first-was q first =
-      let v = some_of (cell_at_spot less q) first.category in
+      let v = some_of (cell_at_position less q) first.category in
       let stays = stays-some j m numbers is (pos number) less without q v.0 v.1 in (
         record {
-          category = is-some (cell_at_spot m q) v.0 (some-before j m numbers is (pos number) less without q v.0 v.1);
+          category = is-some (cell_at_position m q) v.0 (some-before j m numbers is (pos number) less without q v.0 v.1);
           none_before = λ s before joined.
               let too : goes s ≡ false = goes-joined s q joined ∙ stays in
               first.none_before s before (joined-after j m numbers is (pos number) less without s q too joined);
@@ -151,7 +152,7 @@ module _ (j : Joining) (m numbers : Grid) (is : IsClumping j m numbers) (number 
       )
 
   module _ (p c : Position) (n i : ℕ) (h : HasNumber j m p n) (stays : goes p ≡ false) (r : HasNumber j less p i)
-      (g : HasNumber j m c number) (at_c : cell_at_spot numbers c ≡ Some (pos number)) where
+      (g : HasNumber j m c number) (at_c : cell_at_position numbers c ≡ Some (pos number)) where
     first-too : goes h.first ≡ false
     first-too = goes-joined h.first p h.joined ∙ stays
 
@@ -183,14 +184,15 @@ module _ (j : Joining) (m numbers : Grid) (is : IsClumping j m numbers) (number 
     -- a first cell that goes is that of the area
     gone-first : (q : Position) → IsFirst j m q → goes q ≡ true → q ≡ g.first
     gone-first q first goes_q =
-        let here : cell_at_spot numbers q ≡ Some (pos number) =
-        (cell_eq-Decides (cell_at_spot numbers q) (Some (pos number))).0 goes_q in
+        let here : cell_at_position numbers q ≡ Some (pos number) =
+        (cell_eq-Decides (cell_at_position numbers q) (Some (pos number))).0 goes_q in
         let joined = (is.same q c first.category (some-below j m numbers is c (pos number) at_c)).0 (here ∙ sym at_c) in
         one-first j m q g.first first g.is_first
         (AreJoined-trans j m q c g.first joined (AreJoined-sym j m g.first c g.joined))
 
     first-goes : goes g.first ≡ true
-    first-goes = goes-joined g.first c g.joined ∙ (cell_eq-Decides (cell_at_spot numbers c) (Some (pos number))).1 at_c
+    first-goes = goes-joined g.first c g.joined
+        ∙ (cell_eq-Decides (cell_at_position numbers c) (Some (pos number))).1 at_c
 
     number-before : n < number → i ≡ n
     number-before lt =
@@ -244,15 +246,16 @@ module _ (j : Joining) (m numbers : Grid) (is : IsClumping j m numbers) (number 
 
 -- a cell with another number stays
 other-stays : (j : Joining) (m numbers : Grid) (is : IsClumping j m numbers) (number : ℕ) (less : Grid)
-    (without : IsWithout m numbers (pos number) less) (p : Position) (n : ℕ) → cell_at_spot numbers p ≡ Some (pos n) →
+    (without : IsWithout m numbers (pos number) less) (p : Position) (n : ℕ)
+    → cell_at_position numbers p ≡ Some (pos n) →
     ¬ (n ≡ number) → goes j m numbers is number less without p ≡ false
 other-stays j m numbers is number less without p n is_n other = by (goes j m numbers is number less without p) refl
   where
     by : (b : Bool) → goes j m numbers is number less without p ≡ b → b ≡ false
     by false e = refl
     by true e =
-        let here : cell_at_spot numbers p ≡ Some (pos number) =
-        (cell_eq-Decides (cell_at_spot numbers p) (Some (pos number))).0 e in
+        let here : cell_at_position numbers p ≡ Some (pos number) =
+        (cell_eq-Decides (cell_at_position numbers p) (Some (pos number))).0 e in
         let same : n ≡ number = let both = sym is_n ∙ here in cc in
         absurd (other same)
 
@@ -266,9 +269,9 @@ numbers-close-up j m numbers is number occurs less renumbered without is_less p 
     let same_number : area.0 ≡ number = let e = sym area.2 ∙ occurs.1 in cc in
     let h : HasNumber j m p n = subst (λ (x : ℕ). HasNumber j m p x) same_n was.1 in
     let g : HasNumber j m c number = subst (λ (x : ℕ). HasNumber j m c x) same_number area.1 in
-    let v = some_of (cell_at_spot m p) some in
+    let v = some_of (cell_at_position m p) some in
     let left = λ (stays : goes j m numbers is number less without p ≡ false).
-    is-some (cell_at_spot less p) v.0 (kept-cell j m numbers is (pos number) less without p stays ∙ v.1) in (
+    is-some (cell_at_position less p) v.0 (kept-cell j m numbers is (pos number) less without p stays ∙ v.1) in (
       λ lt.
           let stays = other-stays j m numbers is number less without p n is_n (λ e. absurd (omega (arith, lt, e))) in
           let now = is_less.numbered p (left stays) in

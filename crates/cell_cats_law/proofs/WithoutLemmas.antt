@@ -25,7 +25,7 @@ use Rattle.std.specs.Ordering.{eq_by_cmp}
 use Rattle.cell_core_values.specs.Cell.{cell_eq, cell_eq-Decides}
 use Rattle.cell_core.specs.Grid.{Grid, CellValue}
 use Rattle.cell_cats_areas.specs.declared.clump.Joining.{Joining}
-use Rattle.cell_cats_areas.specs.Areas.{Position, cell_at_spot, LeadsTo, AreJoined, IsClumping}
+use Rattle.cell_cats_areas.specs.Areas.{Position, cell_at_position, LeadsTo, AreJoined, IsClumping}
 use Rattle.cell_cats_areas.proofs.PathLemmas.{AreJoined-adjacent}
 use Rattle.cell_stats_counts.specs.Combinations.{combination_cmp}
 use Rattle.cell_cats_law.proofs.CountLemmas.{counts-same}
@@ -37,33 +37,33 @@ use Rattle.cell_cats_law.proofs.AreaLemmas.{some-below, first-cell, tests-same}
 module _ (j : Joining) (m numbers : Grid) (is : IsClumping j m numbers) (number : ℤ) (less : Grid)
     (without : IsWithout m numbers number less) where
   abbrev pub gone : Position → Bool
-  gone p = cell_eq (cell_at_spot numbers p) (Some number)
+  gone p = cell_eq (cell_at_position numbers p) (Some number)
 
-  pub kept-cell : (p : Position) → gone p ≡ false → cell_at_spot less p ≡ cell_at_spot m p
-  kept-cell p stays = without p ∙ ap (λ b. cond b None (cell_at_spot m p)) stays
+  pub kept-cell : (p : Position) → gone p ≡ false → cell_at_position less p ≡ cell_at_position m p
+  kept-cell p stays = without p ∙ ap (λ b. cond b None (cell_at_position m p)) stays
 
-  gone-cell : (p : Position) → gone p ≡ true → cell_at_spot less p ≡ None
-  gone-cell p goes = without p ∙ ap (λ b. cond b None (cell_at_spot m p)) goes
+  gone-cell : (p : Position) → gone p ≡ true → cell_at_position less p ≡ None
+  gone-cell p goes = without p ∙ ap (λ b. cond b None (cell_at_position m p)) goes
 
   -- what is not null is not of the area
-  pub stays-some : (p : Position) (v : ℤ) → cell_at_spot less p ≡ Some v → gone p ≡ false
+  pub stays-some : (p : Position) (v : ℤ) → cell_at_position less p ≡ Some v → gone p ≡ false
   stays-some p v some = by (gone p) refl
     where
       by : (b : Bool) → gone p ≡ b → b ≡ false
       by false e = refl
       by true e = let none = gone-cell p e in cc
 
-  pub some-before : (p : Position) (v : ℤ) → cell_at_spot less p ≡ Some v → cell_at_spot m p ≡ Some v
+  pub some-before : (p : Position) (v : ℤ) → cell_at_position less p ≡ Some v → cell_at_position m p ≡ Some v
   some-before p v some = sym (kept-cell p (stays-some p v some)) ∙ some
 
   -- a path of what is left is one of the whole
-  alike-before : (v : ℤ) (ps : List Position) → All (λ s. cell_at_spot less s ≡ Some v) ps →
-      All (λ s. cell_at_spot m s ≡ Some v) ps
-  alike-before v [] all = All-nil (λ s. cell_at_spot m s ≡ Some v)
+  alike-before : (v : ℤ) (ps : List Position) → All (λ s. cell_at_position less s ≡ Some v) ps →
+      All (λ s. cell_at_position m s ≡ Some v) ps
+  alike-before v [] all = All-nil (λ s. cell_at_position m s ≡ Some v)
   alike-before v (p ∷ ps) all =
-      All-cons (λ s. cell_at_spot m s ≡ Some v) p ps
-      (some-before p v (All-head (λ s. cell_at_spot less s ≡ Some v) p ps all))
-      (alike-before v ps (All-tail (λ s. cell_at_spot less s ≡ Some v) p ps all))
+      All-cons (λ s. cell_at_position m s ≡ Some v) p ps
+      (some-before p v (All-head (λ s. cell_at_position less s ≡ Some v) p ps all))
+      (alike-before v ps (All-tail (λ s. cell_at_position less s ≡ Some v) p ps all))
 
   pub joined-before : (p q : Position) → AreJoined j less p q → AreJoined j m p q
   joined-before p q h = record {
@@ -75,20 +75,20 @@ module _ (j : Joining) (m numbers : Grid) (is : IsClumping j m numbers) (number 
 
   -- a path of the whole that begins at a cell that is left is one of what is left
   alike-after : (v : ℤ) (p : Position) (others : List Position) (q : Position) → LeadsTo j p others q →
-      gone p ≡ false → All (λ s. cell_at_spot m s ≡ Some v) (p ∷ others) →
-      All (λ s. cell_at_spot less s ≡ Some v) (p ∷ others)
+      gone p ≡ false → All (λ s. cell_at_position m s ≡ Some v) (p ∷ others) →
+      All (λ s. cell_at_position less s ≡ Some v) (p ∷ others)
   alike-after v p [] q h stays alike =
-      All-cons (λ s. cell_at_spot less s ≡ Some v) p [] (kept-cell p stays
-      ∙ All-head (λ s. cell_at_spot m s ≡ Some v) p [] alike) (All-nil (λ s. cell_at_spot less s ≡ Some v))
+      All-cons (λ s. cell_at_position less s ≡ Some v) p [] (kept-cell p stays
+      ∙ All-head (λ s. cell_at_position m s ≡ Some v) p [] alike) (All-nil (λ s. cell_at_position less s ≡ Some v))
   alike-after v p (x ∷ others) q h stays alike =
-      let here = All-head (λ s. cell_at_spot m s ≡ Some v) p (x ∷ others) alike in
-      let rest = All-tail (λ s. cell_at_spot m s ≡ Some v) p (x ∷ others) alike in
-      let next = All-head (λ s. cell_at_spot m s ≡ Some v) x others rest in
-      let same : cell_at_spot numbers p ≡ cell_at_spot numbers x =
-      (is.same p x (is-some (cell_at_spot m p) v here)
-      (is-some (cell_at_spot m x) v next)).1 (AreJoined-adjacent j m p x v h.0 here next) in
+      let here = All-head (λ s. cell_at_position m s ≡ Some v) p (x ∷ others) alike in
+      let rest = All-tail (λ s. cell_at_position m s ≡ Some v) p (x ∷ others) alike in
+      let next = All-head (λ s. cell_at_position m s ≡ Some v) x others rest in
+      let same : cell_at_position numbers p ≡ cell_at_position numbers x =
+      (is.same p x (is-some (cell_at_position m p) v here)
+      (is-some (cell_at_position m x) v next)).1 (AreJoined-adjacent j m p x v h.0 here next) in
       let stays_too : gone x ≡ false = ap (λ c. cell_eq c (Some number)) (sym same) ∙ stays in
-      All-cons (λ s. cell_at_spot less s ≡ Some v) p (x ∷ others) (kept-cell p stays ∙ here)
+      All-cons (λ s. cell_at_position less s ≡ Some v) p (x ∷ others) (kept-cell p stays ∙ here)
       (alike-after v x others q h.1 stays_too rest)
 
   pub joined-after : (p q : Position) → gone p ≡ false → AreJoined j m p q → AreJoined j less p q
@@ -100,46 +100,46 @@ module _ (j : Joining) (m numbers : Grid) (is : IsClumping j m numbers) (number 
   }
 
   module _ (renumbered : Grid) (is_less : IsClumping j less renumbered) where
-    pub others-stay : (p q : Position) → IsSome (cell_at_spot less p) → IsSome (cell_at_spot less q) →
-        (cell_at_spot renumbered p ≡ cell_at_spot renumbered q) ↔ (cell_at_spot numbers p ≡ cell_at_spot numbers q)
+    pub others-stay : (p q : Position) → IsSome (cell_at_position less p) → IsSome (cell_at_position less q) →
+        (cell_at_position renumbered p ≡ cell_at_position renumbered q) ↔ (cell_at_position numbers p ≡ cell_at_position numbers q)
     others-stay p q some_p some_q =
-        let v = some_of (cell_at_spot less p) some_p in
-        let w = some_of (cell_at_spot less q) some_q in
-        let was_p = is-some (cell_at_spot m p) v.0 (some-before p v.0 v.1) in
-        let was_q = is-some (cell_at_spot m q) w.0 (some-before q w.0 w.1) in (
+        let v = some_of (cell_at_position less p) some_p in
+        let w = some_of (cell_at_position less q) some_q in
+        let was_p = is-some (cell_at_position m p) v.0 (some-before p v.0 v.1) in
+        let was_q = is-some (cell_at_position m q) w.0 (some-before q w.0 w.1) in (
           λ now. (is.same p q was_p was_q).1 (joined-before p q ((is_less.same p q some_p some_q).0 now)),
           λ was. (is_less.same p q some_p some_q).1 (joined-after p q (stays-some p v.0 v.1)
               ((is.same p q was_p was_q).0 was)),
         )
 
     -- a cell of another area is left
-    left-over : (p : Position) (was : ℤ) → was ≢ number → cell_at_spot numbers p ≡ Some was →
-        IsSome (cell_at_spot less p)
+    left-over : (p : Position) (was : ℤ) → was ≢ number → cell_at_position numbers p ≡ Some was →
+        IsSome (cell_at_position less p)
     left-over p was other here =
-        let v = some_of (cell_at_spot m p) (some-below j m numbers is p was here) in
-        is-some (cell_at_spot less p) v.0 (kept-cell p (by (gone p) refl) ∙ v.1)
+        let v = some_of (cell_at_position m p) (some-below j m numbers is p was here) in
+        is-some (cell_at_position less p) v.0 (kept-cell p (by (gone p) refl) ∙ v.1)
       where
         by : (b : Bool) → gone p ≡ b → b ≡ false
         by false e = refl
         by true e =
-            let same : cell_at_spot numbers p ≡ Some number =
-            (cell_eq-Decides (cell_at_spot numbers p) (Some number)).0 e in
+            let same : cell_at_position numbers p ≡ Some number =
+            (cell_eq-Decides (cell_at_position numbers p) (Some number)).0 e in
             let one : was ≡ number = let both = sym here ∙ same in cc in
             absurd (other one)
 
-    pub others-keep-their-size : (p : Position) (was now : ℤ) → was ≢ number → cell_at_spot numbers p ≡ Some was →
-        cell_at_spot renumbered p ≡ Some now → (q : Position) →
+    pub others-keep-their-size : (p : Position) (was now : ℤ) → was ≢ number → cell_at_position numbers p ≡ Some was →
+        cell_at_position renumbered p ≡ Some now → (q : Position) →
         eq_by_cmp combination_cmp (Some now ∷ [])
-        (cell_at_spot renumbered q ∷ []) ≡ eq_by_cmp combination_cmp (Some was ∷ []) (cell_at_spot numbers q ∷ [])
+        (cell_at_position renumbered q ∷ []) ≡ eq_by_cmp combination_cmp (Some was ∷ []) (cell_at_position numbers q ∷ [])
     others-keep-their-size p was now other is_was is_now q =
         let left_p = left-over p was other is_was in
-        tests-same (Some now ∷ []) (cell_at_spot renumbered q ∷ []) (Some was ∷ []) (cell_at_spot numbers q ∷ [])
-        (λ (e : Some now ∷ [] ≡ cell_at_spot renumbered q ∷ []).
-        let same : cell_at_spot renumbered q ≡ Some now = sym (ap first-cell e) in
+        tests-same (Some now ∷ []) (cell_at_position renumbered q ∷ []) (Some was ∷ []) (cell_at_position numbers q ∷ [])
+        (λ (e : Some now ∷ [] ≡ cell_at_position renumbered q ∷ []).
+        let same : cell_at_position renumbered q ≡ Some now = sym (ap first-cell e) in
         let left_q = some-below j less renumbered is_less q now same in
         ap (λ (c : CellValue). c ∷ []) (sym is_was ∙ (others-stay p q left_p left_q).0 (is_now ∙ sym same)))
-        (λ (e : Some was ∷ [] ≡ cell_at_spot numbers q ∷ []).
-        let same : cell_at_spot numbers q ≡ Some was = sym (ap first-cell e) in
+        (λ (e : Some was ∷ [] ≡ cell_at_position numbers q ∷ []).
+        let same : cell_at_position numbers q ≡ Some was = sym (ap first-cell e) in
         let left_q = left-over q was other same in
         ap (λ (c : CellValue). c ∷ []) (sym is_now ∙ (others-stay p q left_p left_q).1 (is_was ∙ sym same)))
 

@@ -4,7 +4,7 @@ use Rattle.std.specs.Ordering.{eq_by_cmp}
 use Rattle.cell_core_values.specs.Cell.{cell_eq}
 use Rattle.cell_core.specs.Grid.{Grid, CellValue, IsFilled}
 use Rattle.cell_cats_areas.specs.declared.clump.Joining.{Joining}
-use Rattle.cell_cats_areas.specs.Areas.{Position, cell_at_spot, IsClumping}
+use Rattle.cell_cats_areas.specs.Areas.{Position, cell_at_position, IsClumping}
 use Rattle.cell_cats_areas.specs.ClumpLaw.{Occurs}
 use Rattle.cell_stats_counts.specs.declared.skip.Skip.{Skip}
 use Rattle.cell_stats_counts.specs.Combinations.{Combination, combination_cmp, all_combinations}
@@ -56,22 +56,22 @@ NoAreaIsEmpty = (j : Joining) (m numbers : Grid) → IsClumping j m numbers → 
 -- a map in which one whole area is made null
 abbrev pub IsWithout : Grid → Grid → ℤ → Grid → Type 0
 IsWithout m numbers number less = (p : Position)
-    → cell_at_spot less p ≡ (if cell_eq (cell_at_spot numbers p) (Some number) then None else cell_at_spot m p)
+    → cell_at_position less p ≡ (if cell_eq (cell_at_position numbers p) (Some number) then None else cell_at_position m p)
 
 -- making null of one whole area changes no other: two cells are of one area where they were
 abbrev pub OtherAreasStay : Type 0
 OtherAreasStay = (j : Joining) (m numbers : Grid) → IsClumping j m numbers
     → (number : ℤ) (less renumbered : Grid) → IsWithout m numbers number less → IsClumping j less renumbered
-    → (p q : Position) → IsSome (cell_at_spot less p) → IsSome (cell_at_spot less q)
-    → (cell_at_spot renumbered p ≡ cell_at_spot renumbered q)
-    ↔ (cell_at_spot numbers p ≡ cell_at_spot numbers q)
+    → (p q : Position) → IsSome (cell_at_position less p) → IsSome (cell_at_position less q)
+    → (cell_at_position renumbered p ≡ cell_at_position renumbered q)
+    ↔ (cell_at_position numbers p ≡ cell_at_position numbers q)
 
 -- and each other area keeps its size
 abbrev pub OtherAreasKeepTheirSize : Type 0
 OtherAreasKeepTheirSize = (j : Joining) (m numbers : Grid) → IsClumping j m numbers
     → (number : ℤ) (less renumbered : Grid) → IsWithout m numbers number less → IsClumping j less renumbered
-    → (p : Position) (was now : ℤ) → was ≢ number → cell_at_spot numbers p ≡ Some was
-    → cell_at_spot renumbered p ≡ Some now → (rows cols : ℕ)
+    → (p : Position) (was now : ℤ) → was ≢ number → cell_at_position numbers p ≡ Some was
+    → cell_at_position renumbered p ≡ Some now → (rows cols : ℕ)
     → count_of (Some now ∷ []) (cells_of renumbered rows cols)
     ≡ count_of (Some was ∷ []) (cells_of numbers rows cols)
 
@@ -79,6 +79,6 @@ OtherAreasKeepTheirSize = (j : Joining) (m numbers : Grid) → IsClumping j m nu
 abbrev pub NumbersCloseUp : Type 0
 NumbersCloseUp = (j : Joining) (m numbers : Grid) → IsClumping j m numbers → (number : ℕ)
     → Occurs numbers number → (less renumbered : Grid) → IsWithout m numbers (pos number) less
-    → IsClumping j less renumbered → (p : Position) (n : ℕ) → cell_at_spot numbers p ≡ Some (pos n)
-    → (n < number → cell_at_spot renumbered p ≡ Some (pos n))
-    × (number < n → cell_at_spot renumbered p ≡ Some (pos (n - 1)))
+    → IsClumping j less renumbered → (p : Position) (n : ℕ) → cell_at_position numbers p ≡ Some (pos n)
+    → (n < number → cell_at_position renumbered p ≡ Some (pos n))
+    × (number < n → cell_at_position renumbered p ≡ Some (pos (n - 1)))

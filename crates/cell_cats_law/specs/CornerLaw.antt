@@ -2,7 +2,7 @@
 use Rattle.std.specs.Prelude.{ℕ, pos, ◌≡◌, ◌≤◌, [], ◌∷◌, Some, IsSome, Contains}
 use Rattle.cell_core.specs.Grid.{Grid, CellValue}
 use Rattle.cell_cats_areas.specs.declared.clump.Joining.TheVariants.{Edges, EdgesAndCorners}
-use Rattle.cell_cats_areas.specs.Areas.{Position, cell_at_spot, IsClumping}
+use Rattle.cell_cats_areas.specs.Areas.{Position, cell_at_position, IsClumping}
 use Rattle.cell_cats_areas.specs.ClumpLaw.{Occurs}
 use Rattle.cell_stats_counts.specs.declared.skip.Skip.{Skip}
 use Rattle.cell_stats_counts.specs.Combinations.{all_combinations}
@@ -16,13 +16,13 @@ pub record AreBothClumpings (m edges corners : Grid) : Type 0 where
 -- cells of one area by edges are of one area by corners
 abbrev pub CornersOnlyJoin : Type 0
 CornersOnlyJoin = (m edges corners : Grid) → AreBothClumpings m edges corners → (p q : Position)
-    → IsSome (cell_at_spot edges p) → cell_at_spot edges p ≡ cell_at_spot edges q
-    → cell_at_spot corners p ≡ cell_at_spot corners q
+    → IsSome (cell_at_position edges p) → cell_at_position edges p ≡ cell_at_position edges q
+    → cell_at_position corners p ≡ cell_at_position corners q
 
 -- no cell has a greater number by corners than by edges
 abbrev pub NumbersOnlyFall : Type 0
 NumbersOnlyFall = (m edges corners : Grid) → AreBothClumpings m edges corners → (p : Position) (n k : ℕ)
-    → cell_at_spot edges p ≡ Some (pos n) → cell_at_spot corners p ≡ Some (pos k) → k ≤ n
+    → cell_at_position edges p ≡ Some (pos n) → cell_at_position corners p ≡ Some (pos k) → k ≤ n
 
 -- there are no more areas by corners than by edges: each number by corners is one by edges
 abbrev pub CornersAddNoArea : Type 0

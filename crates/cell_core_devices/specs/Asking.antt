@@ -11,7 +11,7 @@ after_take Ended answer = Again
 after_take Failed answer = Again
 after_take Again answer = Again
 
--- whether a source is where its reader takes it to be: going on, at an end that was told, or failed
+-- whether a source is where its reader takes it to be: going on, at an end that was reported, or failed
 abbrev pub is_at : Asked → (ended failed : Bool) → Bool
 is_at Going false false = true
 is_at Ended true false = true

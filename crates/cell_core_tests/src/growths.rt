@@ -21,7 +21,7 @@ const NAMES: [&[u8]; 15] = [
 ];
 
 // Tells that a call was refused and is made again.
-fn tell_again<R: Eprint>(rt: &R) {
+fn report_again<R: Eprint>(rt: &R) {
     let _ = eprintln!(rt; "made again");
 }
 
@@ -38,7 +38,7 @@ fn push_row<R: Abort + AllocGlobal + Eprint>(
         return Err("no row is left".into());
     }
     if builder.push_row(row).is_err() {
-        tell_again(rt);
+        report_again(rt);
         assert_same!(rt; builder.rows_left(), left);
         builder.push_row(row)?;
     }
@@ -91,7 +91,7 @@ fn set_label<R: Abort + AllocGlobal + Eprint>(
         return Err("no category".into());
     }
     if map.set_label(category, text).is_err() {
-        tell_again(rt);
+        report_again(rt);
         assert_same!(rt; map.label(category), before, "category {category}");
         map.set_label(category, text)?;
     }
@@ -121,7 +121,7 @@ fn push_again<R: Abort + Eprint>(
     count: usize,
     name: Name,
 ) -> Result<(), Fail> {
-    tell_again(rt);
+    report_again(rt);
     assert_same!(rt; names.len(), count);
     if names.find(name.bytes()).is_some() {
         return Err("a part of a name".into());
@@ -168,7 +168,7 @@ fn add_again<R: Abort + Eprint>(
     text: &[u8],
     refused: ShelfRefused,
 ) {
-    tell_again(rt);
+    report_again(rt);
     assert_same!(rt; (refused.fault, refused.name.bytes()), (ShelfFault::Memory, text));
     assert_same!(rt; (shelf.len(), shelf.find(text)), (count, None));
     assert_holds!(rt; shelf.add(refused.name, refused.map).is_ok());

@@ -6,7 +6,7 @@ use cell_core::region::{Region, RegionFault};
 const FAR: i64 = 1000000000000000000;
 
 #[test]
-fn tells_the_first_fault(rt: HostRuntime) {
+fn reports_the_first_fault(rt: HostRuntime) {
     let table = [
         (1, 0, 1, 0, 46340, 46341, None),
         (1, 0, 1, 0, 46341, 46341, Some(RegionFault::TooManyCells)),

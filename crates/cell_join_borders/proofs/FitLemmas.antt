@@ -9,13 +9,13 @@ use Rattle.std.proofs.lemmas.List.{get_or-replicate, length-replicate}
 use Rattle.cell_core_values.specs.Region.{region_fault}
 use Rattle.cell_core.specs.Grid.{CellValue, Grid}
 use Rattle.cell_cats_areas.specs.declared.clump.Joining.{Joining}
-use Rattle.cell_cats_areas.specs.Areas.{IsClumping, Position, cell_at_spot}
+use Rattle.cell_cats_areas.specs.Areas.{IsClumping, Position, cell_at_position}
 use Rattle.cell_cats_areas.specs.parts.CellPlaces.{position}
 use Rattle.cell_join_tiles.specs.parts.Greatest.{greater_of, greatest_in, greatest_of}
-use Rattle.cell_join_tiles.proofs.SpotLemmas.{spot-of}
+use Rattle.cell_join_tiles.proofs.ListedAtLemmas.{listed_at-of}
 use Rattle.cell_join_tiles.proofs.GreatestLemmas.{has-areas}
 use Rattle.cell_join_tiles.specs.Borders.{Rises}
-use Rattle.cell_join_tiles.specs.Joined.{HasBorder}
+use Rattle.cell_join_tiles.specs.JoinedBorders.{HasBorder}
 use Rattle.cell_join_tiles.specs.SeamLines.{HasSide}
 use Rattle.cell_join_tiles.specs.Values.{border_value}
 use Rattle.cell_join_tiles.specs.declared.border.Border.{Border}
@@ -74,23 +74,23 @@ number-good most n few = good most (n + 1) (omega arith) few
 module _ (j : Joining) (rows : ℕ) (m numbers : Grid) (begun : List ℕ) (clumping : IsClumping j m numbers)
     (rises : Rises rows numbers begun) where
   pair-fit : (p : Position) → p.row < rows
-      → pair_fault (sum (take (p.row + 1) begun)) (cell_at_spot m p) (cell_at_spot numbers p) ≡ None
-  pair-fit p inside = by (cell_at_spot m p) refl
+      → pair_fault (sum (take (p.row + 1) begun)) (cell_at_position m p) (cell_at_position numbers p) ≡ None
+  pair-fit p inside = by (cell_at_position m p) refl
     where
       most : ℕ
       most = sum (take (p.row + 1) begun)
 
-      by : (c : CellValue) → cell_at_spot m p ≡ c
-          → pair_fault (sum (take (p.row + 1) begun)) (cell_at_spot m p) (cell_at_spot numbers p) ≡ None
+      by : (c : CellValue) → cell_at_position m p ≡ c
+          → pair_fault (sum (take (p.row + 1) begun)) (cell_at_position m p) (cell_at_position numbers p) ≡ None
       by None e =
-          ap (λ (c : CellValue). pair_fault most c (cell_at_spot numbers p)) e
+          ap (λ (c : CellValue). pair_fault most c (cell_at_position numbers p)) e
           ∙ ap (λ (c : CellValue). pair_fault most None c) (clumping.nulls p e)
       by (Some v) e =
           let areas = has-areas j m numbers clumping in
-          let s = spot-of j m areas.0 areas.1 numbers clumping p (rw e refl) in
+          let s = listed_at-of j m areas.0 areas.1 numbers clumping p (rw e refl) in
           let few = of-bound 0 (s.place + 1) (p.row + 1) numbers.rows p.row p.col (omega arith) s.number in
           let same = rises.most (p.row + 1) (omega (arith, inside)) in
-          ap (λ (c : CellValue). pair_fault most c (cell_at_spot numbers p)) e
+          ap (λ (c : CellValue). pair_fault most c (cell_at_position numbers p)) e
           ∙ ap (λ (c : CellValue). pair_fault most (Some v) c) s.number
           ∙ number-good most s.place (omega (arith, few, same))
 
@@ -108,7 +108,7 @@ module _ (j : Joining) (rows : ℕ) (m numbers : Grid) (begun : List ℕ) (clump
             (get_or-replicate cols k (sum (take (row + 1) begun)) 0 within)
             ∙ ap (λ (c : CellValue). pair_fault (sum (take (row + 1) begun)) c (get_or side.numbers.items k None))
             (has.each_cell k within)
-            ∙ ap (λ (c : CellValue). pair_fault (sum (take (row + 1) begun)) (cell_at_spot m (position row k)) c)
+            ∙ ap (λ (c : CellValue). pair_fault (sum (take (row + 1) begun)) (cell_at_position m (position row k)) c)
             (has.each_number k within)
             ∙ pair-fit (position row k) inside;
       }
@@ -128,7 +128,7 @@ module _ (j : Joining) (rows : ℕ) (m numbers : Grid) (begun : List ℕ) (clump
             (down-at begun k 0 here)
             ∙ ap (λ (c : CellValue). pair_fault (sum (take (k + 1) begun)) c (get_or side.numbers.items k None))
             (has.each_cell k within)
-            ∙ ap (λ (c : CellValue). pair_fault (sum (take (k + 1) begun)) (cell_at_spot m (position k col)) c)
+            ∙ ap (λ (c : CellValue). pair_fault (sum (take (k + 1) begun)) (cell_at_position m (position k col)) c)
             (has.each_number k within)
             ∙ pair-fit (position k col) within;
       }

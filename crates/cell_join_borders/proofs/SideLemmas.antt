@@ -12,7 +12,7 @@ use Rattle.cell_core.specs.Grid.{CellValue, Grid, IsFilled, row_at}
 use Rattle.cell_cats_areas.specs.declared.clump.Joining.{Joining}
 use Rattle.cell_join_tiles.specs.declared.border.Side.{Side}
 use Rattle.cell_join_borders.specs.BorderText.{filled_row}
-use Rattle.cell_join_borders.specs.BorderFaults.{AreRowsRight, HasBoth, HasEnded, most_down, most_in_row, side_places}
+use Rattle.cell_join_borders.specs.BorderFaults.{AreRowsRight, HasBoth, AreNullFrom, most_down, most_in_row, side_places}
 use Rattle.cell_join_borders.specs.PairFaults.{AreLinesFit, pair_fault}
 use Rattle.cell_join_borders.specs.parts.ReadBorder.{AreMosts, IsSideIn, most_places}
 use Rattle.cell_join_borders.specs.declared.sides.SideMosts.{SideMosts}
@@ -34,7 +34,7 @@ from-places d xs n f long each =
 
 -- a row that is null behind so many cells is these, filled up
 pub filled-of : (row : List CellValue) (count width : ℕ) → length row ≡ width → count ≤ width
-    → HasEnded count row → row ≡ filled_row width (take count row)
+    → AreNullFrom count row → row ≡ filled_row width (take count row)
 filled-of row count width long few ended =
     from-places None row width (λ col. get_or (take count row) col None) long
     (λ i lt.

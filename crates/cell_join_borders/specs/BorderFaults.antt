@@ -78,19 +78,19 @@ pub record IsFirstBehind (count : ℕ) (cells : List CellValue) (col : ℕ) : Ty
   pub before : (k : ℕ) → count ≤ k → k < col → slice_index_or cells k None ≡ None
 
 -- all cells of a row behind so many are null
-abbrev pub HasEnded : ℕ → List CellValue → Type 0
-HasEnded count cells = (k : ℕ) → count ≤ k → slice_index_or cells k None ≡ None
+abbrev pub AreNullFrom : ℕ → List CellValue → Type 0
+AreNullFrom count cells = (k : ℕ) → count ≤ k → slice_index_or cells k None ≡ None
 
 -- a row and the one below it are the cells and the numbers of a side
 pub record AreRowsRight (m : Grid) (row : ℕ) (most : List ℕ) : Type 0 where
-  pub cells : HasEnded (length most) (row_at m row)
-  pub numbers : HasEnded (length most) (row_at m (row + 1))
+  pub cells : AreNullFrom (length most) (row_at m row)
+  pub numbers : AreNullFrom (length most) (row_at m (row + 1))
   pub fit : AreLinesFit most (row_at m row) (row_at m (row + 1))
 
 -- why they are not: a cell behind the end; or none, and a number there; or none, and a cell and a number that do not go together
 abbrev pub AreRowsWrong : Grid → (row : ℕ) → (most : List ℕ) → BorderFault → Type 0
-AreRowsWrong m row most (End place) = ((place.row ≡ row) × IsFirstBehind (length most) (row_at m row) place.col) ⊎ ((place.row ≡ row + 1) × HasEnded (length most) (row_at m row) × IsFirstBehind (length most) (row_at m (row + 1)) place.col)
-AreRowsWrong m row most (Pair fault) = (fault.row ≡ row + 1) × HasEnded (length most) (row_at m row) × HasEnded (length most) (row_at m (row + 1)) × IsFirstPair most (row_at m row) (row_at m (row + 1)) fault.col fault.kind
+AreRowsWrong m row most (End place) = ((place.row ≡ row) × IsFirstBehind (length most) (row_at m row) place.col) ⊎ ((place.row ≡ row + 1) × AreNullFrom (length most) (row_at m row) × IsFirstBehind (length most) (row_at m (row + 1)) place.col)
+AreRowsWrong m row most (Pair fault) = (fault.row ≡ row + 1) × AreNullFrom (length most) (row_at m row) × AreNullFrom (length most) (row_at m (row + 1)) × IsFirstPair most (row_at m row) (row_at m (row + 1)) fault.col fault.kind
 AreRowsWrong m row most fault = ⊥
 
 -- all sides are right up to one, which is wrong

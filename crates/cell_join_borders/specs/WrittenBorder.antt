@@ -5,7 +5,7 @@ use Rattle.cell_core.specs.Grid.{Grid}
 use Rattle.cell_ascii_meaning.specs.FaultPlaces.{text_fault}
 use Rattle.cell_ascii_meaning.specs.GridText.{Denotes}
 use Rattle.cell_cats_areas.specs.declared.clump.Joining.{Joining}
-use Rattle.cell_join_tiles.specs.Joined.{HasBorder}
+use Rattle.cell_join_tiles.specs.JoinedBorders.{HasBorder}
 use Rattle.cell_join_tiles.specs.Values.{border_value}
 use Rattle.cell_join_tiles.specs.declared.border.Border.{Border}
 use Rattle.cell_join_borders.specs.BorderFaults.{IsBorderFit}
@@ -20,7 +20,7 @@ pub record IsBorderOfText (j : Joining) (text : Coming) (m : Grid) (border : Bor
   pub has : HasBorder j m.region.rows m.region.cols m numbers (border_value border)
   pub fit : IsBorderFit m.region border
 
--- the sink took exactly the text of the border of a map, and its length is told
+-- the sink took exactly the text of the border of a map, and its length is reported
 pub record HasWrittenBorder (j : Joining) (text : Coming) (before now : Option (List ℕ)) (written : ℕ) : Type 0 where
   pub m : Grid
   pub border : Border
@@ -28,7 +28,7 @@ pub record HasWrittenBorder (j : Joining) (text : Coming) (before now : Option (
   pub taken : now ≡ append_known before (border_text j m.region border)
   pub count : written ≡ length (border_text j m.region border)
 
--- the sink took a prefix of that text, and its length is told
+-- the sink took a prefix of that text, and its length is reported
 pub record HasBorderPrefix (j : Joining) (text : Coming) (before now : Option (List ℕ)) (written : ℕ) : Type 0 where
   pub m : Grid
   pub border : Border

@@ -75,7 +75,8 @@ fn border_sized(
 ) -> Result<BorderText, BorderFault>
     requires both { HasBoth map.now size.joining size.region begun.items }
     requires few { sum begun.items ≤ most_clumps }
-    ensures border { IfOk result (λ told. IsGridOf map.now told.joining told.region told.border) }
+    ensures border { IfOk result
+        (λ reported. IsGridOf map.now reported.joining reported.region reported.border) }
     ensures fault { IfErr result (IsNoBorderMap map.now) }
 {
     map_is_filled(map);
@@ -99,7 +100,8 @@ fn border_counted(
     requires size { HasSize map.now size.joining size.region size.clumps }
     requires few { size.clumps ≤ most_clumps }
     requires counts { HasCounts map.now size.region.rows begun.items }
-    ensures border { IfOk result (λ told. IsGridOf map.now told.joining told.region told.border) }
+    ensures border { IfOk result
+        (λ reported. IsGridOf map.now reported.joining reported.region reported.border) }
     ensures fault { IfErr result (IsNoBorderMap map.now) }
 {
     if adds_up(&begun, size.clumps) {
@@ -114,7 +116,8 @@ fn border_counted(
 ///
 /// The first [`BorderFault`] in the order that its variants have, but no [`BorderFault::Text`].
 pub fn border_in(alloc: Global, map: &CellMap) -> Result<BorderText, BorderFault>
-    ensures border { IfOk result (λ told. IsGridOf map.now told.joining told.region told.border) }
+    ensures border { IfOk result
+        (λ reported. IsGridOf map.now reported.joining reported.region reported.border) }
     ensures fault { IfErr result (IsNoBorderMap map.now) }
 {
     map_is_filled(map);
@@ -147,9 +150,9 @@ fn of_border_text(fault: GridFault) -> BorderFault
 ///
 /// [`BorderFault::Text`] with the first fault of a text that is no grid, and then those of [`border_in`].
 pub fn read_border<R: Source + Drop>(alloc: Global, source: R) -> Result<BorderText, BorderFault>
-    ensures spelled { IfOk result (λ told. IfSome (R.coming source)
-        (λ text. SpellsBorder text told.joining told.region told.border)) }
-    ensures fit { IfOk result (λ told. IsBorderFit told.region told.border) }
+    ensures spelled { IfOk result (λ reported. IfSome (R.coming source)
+        (λ text. SpellsBorder text reported.joining reported.region reported.border)) }
+    ensures fit { IfOk result (λ reported. IsBorderFit reported.region reported.border) }
     ensures fault { IfErr result (λ fault. IfSome (R.coming source)
         (λ text. IsBorderFault text fault)) }
 {
@@ -157,9 +160,9 @@ pub fn read_border<R: Source + Drop>(alloc: Global, source: R) -> Result<BorderT
         Ok(map) => map,
         Err(fault) => return Err(of_border_text(fault)),
     };
-    let told = match border_in(alloc, &map) {
-        Ok(told) => told,
+    let reported = match border_in(alloc, &map) {
+        Ok(reported) => reported,
         Err(fault) => return Err(fault),
     };
-    Ok(told)
+    Ok(reported)
 }

@@ -5,7 +5,7 @@ ghost use Rattle.cell_core_devices.specs.Device.{after_flush, has_failed};
 ghost use Rattle.cell_core.specs.Grid.{cell_at};
 ghost use Rattle.cell_cats_areas.specs.Areas.{IsClumping};
 ghost use Rattle.cell_cats_areas.specs.parts.CellPlaces.{position};
-ghost use Rattle.cell_join_tiles.specs.Joined.{HasBorder};
+ghost use Rattle.cell_join_tiles.specs.JoinedBorders.{HasBorder};
 ghost use Rattle.cell_join_tiles.specs.SeamLines.{HasSide};
 ghost use Rattle.cell_join_tiles.specs.Values.{border_value};
 ghost use Rattle.cell_join_borders.specs.BorderFaults.{most_clumps};

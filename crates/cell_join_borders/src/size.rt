@@ -5,7 +5,7 @@ ghost use Rattle.cell_core_values.specs.Region.{IsRegion, RegionValue};
 ghost use Rattle.cell_core.specs.Grid.{IsFilled, row_at};
 ghost use Rattle.cell_cats_areas.specs.declared.clump.Joining.{Joining};
 ghost use Rattle.cell_join_borders.specs.BorderText.{connectivity};
-ghost use Rattle.cell_join_borders.specs.BorderFaults.{HasCounts, HasEnded, HasSize, IsFirstBehind, most_clumps};
+ghost use Rattle.cell_join_borders.specs.BorderFaults.{HasCounts, AreNullFrom, HasSize, IsFirstBehind, most_clumps};
 ghost use Rattle.cell_join_borders.specs.parts.ReadBorder.{IsSized};
 
 use crate::drawn::{SIZE_CELLS, border_width};
@@ -67,7 +67,7 @@ fn joining_of(cell: Cell) -> Option<Joining>
 /// The first column behind so many with a cell that is not null.
 pub(crate) fn first_behind(map: &CellMap, row: u32, count: u32) -> Option<u32>
     requires { row < map.now.region.rows }
-    ensures none { IfNone result (HasEnded count (row_at map.now row)) }
+    ensures none { IfNone result (AreNullFrom count (row_at map.now row)) }
     ensures some { IfSome result (IsFirstBehind count (row_at map.now row)) }
 {
     map_is_filled(map);

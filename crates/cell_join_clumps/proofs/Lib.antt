@@ -2,6 +2,6 @@
 pub mod SideLemmas
 pub mod RowLemmas
 pub mod KeptLemmas
-pub mod SpotLemmas
+pub mod PlacementLemmas
 pub mod ReadLemmas
 pub mod PutLemmas

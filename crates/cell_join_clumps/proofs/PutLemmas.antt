@@ -18,8 +18,8 @@ no-fault true start mid good is = cc
 
 fails : (failed : Bool) (start mid last : Faults) → mid ≡ after_put start failed → (failed ≡ true → last ≡ mid)
     → (failed ≡ false → has_failed last ≡ true) → has_failed last ≡ true
-fails false start mid last is same told = told refl
-fails true start mid last is same told = ap has_failed (same refl ∙ is)
+fails false start mid last is same reported = reported refl
+fails true start mid last is same reported = ap has_failed (same refl ∙ is)
 
 both : (fault : Option ClumpsFault) (P : ClumpsFault → Type 0) (A B : Type 0) → IfSome fault P
     → IfSome fault (λ f. A)
@@ -36,7 +36,7 @@ pub put : (text : List ℕ) (before now : Option (List ℕ)) (start mid last : F
     → IfSome fault (λ f. block.failed ≡ false → has_failed last ≡ true)
     → (block.failed ≡ true → last ≡ mid)
     → HasPut text before now start last block.written fault
-put text before now start mid last block fault added held flushed write told kept = record {
+put text before now start mid last block fault added held flushed write reported kept = record {
   front = added.front;
   rest = added.rest;
   whole = added.whole;
@@ -47,6 +47,6 @@ put text before now start mid last block fault added held flushed write told kep
     so.1 ∙ ap (λ (f : Faults). after_flush f false) (no-fault block.failed start mid so.0 added.fails),
   );
   write = both fault (λ f. f ≡ Write) (block.failed ≡ false → has_failed last ≡ true)
-      (has_failed last ≡ true) write told
+      (has_failed last ≡ true) write reported
       (fails block.failed start mid last added.fails kept);
 }

@@ -10,7 +10,7 @@ use Rattle.cell_cats_areas.specs.declared.clump.Joining.{Joining}
 use Rattle.cell_join_lines.specs.declared.stretch.Stretch.{Stretch}
 use Rattle.cell_join_tables.specs.JoinedTexts.{Give}
 use Rattle.cell_join_tiles.specs.Beginnings.{clumps_in_grid, clumps_in_row}
-use Rattle.cell_join_tiles.specs.Joined.{begun_in}
+use Rattle.cell_join_tiles.specs.JoinedBorders.{begun_in}
 use Rattle.cell_join_tiles.specs.JoinedTiles.{AreJoinedTiles, AreRunsOf, TileJoinerValue}
 use Rattle.cell_join_tiles.specs.Values.{BorderValue, border_value, border_values}
 use Rattle.cell_join_tiles.specs.declared.border.Border.{Border}
@@ -22,8 +22,8 @@ use Rattle.cell_join_clumps.specs.ClumpsOfTiles.{IsFirstTextFault, faulty_text}
 use Rattle.cell_join_clumps.specs.TileTexts.{SpellsJoined, border_rows_of, borders_of, region_rows, regions_of}
 use Rattle.cell_join_clumps.specs.parts.ReadTiles.{AreFinished, AreNoTiles, HasAddedTile, HasManyClumps, HasReadTiles}
 use Rattle.cell_join_clumps.specs.parts.ReadTiles.{HaveBeenJoined, HaveBeenRead, IsFaultAtTile, IsTileAdded, IsTooShort}
-use Rattle.cell_join_clumps.specs.parts.Spots.{IsTileSpot, IsWholeRow}
-use Rattle.cell_join_clumps.specs.declared.arrangement.TileSpot.TheVariants.{InRow, NextRow}
+use Rattle.cell_join_clumps.specs.parts.Placements.{IsTilePlacement, IsWholeRow}
+use Rattle.cell_join_clumps.specs.declared.arrangement.TilePlacement.TheVariants.{InRow, NextRow}
 use Rattle.cell_join_clumps.specs.declared.clumps_fault.ClumpsFault.{ClumpsFault}
 use Rattle.cell_join_clumps.specs.declared.clumps_fault.ClumpsFault.TheVariants.{Border as NoBorder, Connectivity}
 use Rattle.cell_join_clumps.specs.declared.clumps_fault.ClumpsFault.TheVariants.{Apart, NotBeside, NotBelow, FewTiles}
@@ -31,7 +31,7 @@ use Rattle.cell_join_clumps.specs.declared.clumps_fault.ClumpsFault.TheVariants.
 use Rattle.cell_join_clumps.specs.declared.tile_grid.TileGrid.{TileGrid}
 use Rattle.cell_join_clumps.proofs.RowLemmas.{begun-in-row, begun-next-row, begun-none, empty-grid, last_row-push}
 use Rattle.cell_join_clumps.proofs.RowLemmas.{region_rows-push, regions-push, whole-grid}
-use Rattle.cell_join_clumps.proofs.SpotLemmas.{spot-at}
+use Rattle.cell_join_clumps.proofs.PlacementLemmas.{placement-at}
 
 if-known : (o : Option Coming) (c : Coming) (P : Coming → Type 0) → o ≡ Some c → IfSome o P → P c
 if-known o c P is so = rw is at so
@@ -77,8 +77,8 @@ module _ (j : Joining) (texts : List Coming) (read : TileGrid) (so : HaveBeenRea
   module _ (text : Coming) (tile : BorderText) (new : TileGrid) (spells : SpellsJoined j text tile) where
     pub more-read : IsTileAdded tile read new → HaveBeenRead j (texts ++ text ∷ []) new
     more-read (inl (fits, added)) =
-        let here : IsTileSpot (last_row [] (region_rows so.rows)) (regions_of so.row) tile.region InRow =
-        spot-at read.above.items (last_row [] (region_rows so.rows)) read.row.items (regions_of so.row)
+        let here : IsTilePlacement (last_row [] (region_rows so.rows)) (regions_of so.row) tile.region InRow =
+        placement-at read.above.items (last_row [] (region_rows so.rows)) read.row.items (regions_of so.row)
         tile.region InRow so.held.above so.held.row_is fits in
         record {
           rows = so.rows;
@@ -95,8 +95,8 @@ module _ (j : Joining) (texts : List Coming) (read : TileGrid) (so : HaveBeenRea
           };
         }
     more-read (inr (begins, added)) =
-        let here : IsTileSpot (last_row [] (region_rows so.rows)) (regions_of so.row) tile.region NextRow =
-        spot-at read.above.items (last_row [] (region_rows so.rows)) read.row.items (regions_of so.row)
+        let here : IsTilePlacement (last_row [] (region_rows so.rows)) (regions_of so.row) tile.region NextRow =
+        placement-at read.above.items (last_row [] (region_rows so.rows)) read.row.items (regions_of so.row)
         tile.region NextRow so.held.above so.held.row_is begins in
         record {
           rows = so.rows ++ so.row ∷ [];
@@ -180,11 +180,11 @@ pub numbered : (j : Joining) (texts : List Coming) (joiner : TileJoinerValue) (r
     → HaveBeenJoined j texts joiner
     → ((grid : List (List BorderValue)) → AreJoinedTiles grid joiner → AreRunsOf joiner.joining grid runs)
     → AreRunsOfTexts j texts runs
-numbered j texts joiner runs so told = record {
+numbered j texts joiner runs so reported = record {
   rows = so.rows;
   are = so.are;
   numbered = subst (λ (k : Joining). AreRunsOf k (border_rows_of so.rows) runs) so.joining
-      (told (border_rows_of so.rows) so.joined);
+      (reported (border_rows_of so.rows) so.joined);
 }
 
 module _ {R : Type 0} (j : Joining) (coming : R → Option Coming) (texts : List Coming) where
@@ -242,7 +242,7 @@ module _ {R : Type 0} (j : Joining) (coming : R → Option Coming) (texts : List
         by [] give whole = cc
         by (one ∷ others) give whole =
             let here : coming source ≡ Some one = cc in
-            told fault (if-known (coming source) one (λ (t : Coming). IsFaultAtTile j place old t fault) here wrong)
+            reported fault (if-known (coming source) one (λ (t : Coming). IsFaultAtTile j place old t fault) here wrong)
           where
             first : (f : ClumpsFault) (at : ℕ) → faulty_text f ≡ Some at → at ≡ place
                 → IsFaultOfTile j place old.above.items old.row.items one f → IsFirstTextFault j texts f
@@ -267,14 +267,14 @@ module _ {R : Type 0} (j : Joining) (coming : R → Option Coming) (texts : List
                     (subst (λ (l : List RegionValue). IsFaultOfTile j place old.above.items l one f)
                     so.so.held.row_is w)
 
-            told : (f : ClumpsFault) → IsFaultAtTile j place old one f → IsClumpsFault j texts f
-            told (NoBorder at fault) w = first (NoBorder at fault) at refl w.0 w.1
-            told (Connectivity at found) w = first (Connectivity at found) at refl w.0 w.1
-            told (Apart at beside below) w = first (Apart at beside below) at refl w.0 w.1
-            told (NotBeside at misfit) w = first (NotBeside at misfit) at refl w.0 w.1
-            told (NotBelow at other misfit) w = first (NotBelow at other misfit) at refl w.0 w.1
-            told (FewTiles other) w = absurd w
-            told TooManyClumps w = record {
+            reported : (f : ClumpsFault) → IsFaultAtTile j place old one f → IsClumpsFault j texts f
+            reported (NoBorder at fault) w = first (NoBorder at fault) at refl w.0 w.1
+            reported (Connectivity at found) w = first (Connectivity at found) at refl w.0 w.1
+            reported (Apart at beside below) w = first (Apart at beside below) at refl w.0 w.1
+            reported (NotBeside at misfit) w = first (NotBeside at misfit) at refl w.0 w.1
+            reported (NotBelow at other misfit) w = first (NotBelow at other misfit) at refl w.0 w.1
+            reported (FewTiles other) w = absurd w
+            reported TooManyClumps w = record {
               before = so.before;
               after = one ∷ others;
               rows = so.so.rows ++ so.so.row ∷ [];
@@ -282,8 +282,8 @@ module _ {R : Type 0} (j : Joining) (coming : R → Option Coming) (texts : List
               are = whole-grid j so.before so.so.rows so.so.row so.so.begun (whole-row j so.before old so.so w.0);
               many = many-in j so.before old so.so w.1;
             }
-            told Memory w = tt
-            told Write w = absurd w
+            reported Memory w = tt
+            reported Write w = absurd w
 
   pub read-all : (left : List R) (place : ℕ) (read : TileGrid) → left ≡ [] → HasReadTiles j coming texts left place read
       → HaveBeenRead j texts read

@@ -14,7 +14,7 @@ use Rattle.cell_join_borders.specs.declared.border_text.BorderText.{BorderText}
 use Rattle.cell_join_clumps.specs.TileTexts.{AreGridOf, AreTileRows, FitsBeside, IsBelow, LieBeside, RowFitsBelow}
 use Rattle.cell_join_clumps.specs.TileTexts.{RowsLieBelow, SpellsJoined, region_rows, regions_of, tiles_in}
 use Rattle.cell_join_clumps.specs.BegunGrids.{AreGridSoFar, LieUnder, RowFitsUnder, last_row}
-use Rattle.cell_join_clumps.specs.parts.Spots.{BeginsNextRow, FitsUnder, IsWhole, IsWholeRow}
+use Rattle.cell_join_clumps.specs.parts.Placements.{BeginsNextRow, FitsUnder, IsWhole, IsWholeRow}
 
 last-at : (tile : RegionValue) (row : List RegionValue) → slice_get (tile ∷ row) (length row) ≡ last_or (Some tile) row
 last-at tile [] = refl

@@ -8,7 +8,7 @@ use Rattle.cell_cats_areas.specs.declared.clump.Joining.{Joining}
 use Rattle.cell_join_lines.specs.AreasText.{areas_text}
 use Rattle.cell_join_lines.specs.declared.stretch.Stretch.{Stretch}
 use Rattle.cell_join_tiles.specs.Beginnings.{clumps_in_grid}
-use Rattle.cell_join_tiles.specs.Joined.{begun_in}
+use Rattle.cell_join_tiles.specs.JoinedBorders.{begun_in}
 use Rattle.cell_join_tiles.specs.JoinedTiles.{AreRunsOf}
 use Rattle.cell_join_borders.specs.BorderFaults.{IsBorderFault}
 use Rattle.cell_join_borders.specs.declared.border_text.BorderText.{BorderText}

@@ -1,4 +1,4 @@
 -- What only private functions and proofs cite.
-pub mod Spots
+pub mod Placements
 pub mod ReadTiles
 pub mod PutRuns

@@ -3,14 +3,14 @@
 ghost use Rattle.std.specs.Prelude.{◌≡◌, ◌↔◌, [], IfNone, IfSome, IsTrue};
 ghost use Rattle.cell_join_clumps.specs.Misfits.{IsBelowMisfit, IsBesideMisfit};
 ghost use Rattle.cell_join_clumps.specs.TileTexts.{IsBelow, IsBeside};
-ghost use Rattle.cell_join_clumps.specs.parts.Spots.{IsFirstRowSpot, IsNextRowSpot, IsSpotBelow, IsTileSpot};
+ghost use Rattle.cell_join_clumps.specs.parts.Placements.{IsFirstRowPlacement, IsNextRowPlacement, IsPlacementBelow, IsTilePlacement};
 
 use crate::clumps_fault::Misfit;
 use cell_core::region::Region;
 
 /// Where a tile goes after those of a row that has begun, or why it goes nowhere.
 #[derive(Clone, Copy, Debug, PartialEq, Eq)]
-pub(crate) enum TileSpot {
+pub(crate) enum TilePlacement {
     /// It is the next in the row.
     InRow,
     /// It is the first of the next row.
@@ -79,57 +79,57 @@ fn below_misfit(above: Region, below: Region) -> Option<Misfit>
 }
 
 // After tiles of the first row, from the first to the last.
-fn spot_in_first_row(first: Region, last: Region, tile: Region) -> TileSpot
-    ensures { IsFirstRowSpot first last tile result }
+fn placement_in_first_row(first: Region, last: Region, tile: Region) -> TilePlacement
+    ensures { IsFirstRowPlacement first last tile result }
 {
     let Some(beside) = beside_misfit(last, tile) else {
-        return TileSpot::InRow;
+        return TilePlacement::InRow;
     };
     match below_misfit(first, tile) {
-        Some(below) => TileSpot::Apart { beside, below },
-        None => TileSpot::NextRow,
+        Some(below) => TilePlacement::Apart { beside, below },
+        None => TilePlacement::NextRow,
     }
 }
 
 // After the last tile of a row, where a tile is above, which came so many tiles before.
-fn spot_below(upper: Region, last: Region, tile: Region, back: usize) -> TileSpot
-    ensures { IsSpotBelow upper last tile back result }
+fn placement_below(upper: Region, last: Region, tile: Region, back: usize) -> TilePlacement
+    ensures { IsPlacementBelow upper last tile back result }
 {
     if let Some(misfit) = beside_misfit(last, tile) {
-        return TileSpot::NotBeside { misfit };
+        return TilePlacement::NotBeside { misfit };
     }
     match below_misfit(upper, tile) {
-        Some(misfit) => TileSpot::NotBelow { misfit, back },
-        None => TileSpot::InRow,
+        Some(misfit) => TilePlacement::NotBelow { misfit, back },
+        None => TilePlacement::InRow,
     }
 }
 
 // After a whole row that begins with this tile, which came so many tiles before.
-fn spot_in_next_row(first: Region, tile: Region, back: usize) -> TileSpot
-    ensures { IsNextRowSpot first tile back result }
+fn placement_in_next_row(first: Region, tile: Region, back: usize) -> TilePlacement
+    ensures { IsNextRowPlacement first tile back result }
 {
     match below_misfit(first, tile) {
-        Some(misfit) => TileSpot::NotBelow { misfit, back },
-        None => TileSpot::NextRow,
+        Some(misfit) => TilePlacement::NotBelow { misfit, back },
+        None => TilePlacement::NextRow,
     }
 }
 
 /// After the tiles of a row that has begun, below this one; above the first row is none.
-pub(crate) fn spot_of(above: &[Region], row: &[Region], tile: Region) -> TileSpot
+pub(crate) fn placement_of(above: &[Region], row: &[Region], tile: Region) -> TilePlacement
     requires { row.now ≡ [] → above.now ≡ [] }
-    ensures { IsTileSpot above.now row.now tile result }
+    ensures { IsTilePlacement above.now row.now tile result }
 {
     let Some(first) = row.first() else {
-        return TileSpot::InRow;
+        return TilePlacement::InRow;
     };
     let Some(last) = row.last() else {
-        return TileSpot::InRow;
+        return TilePlacement::InRow;
     };
     if above.is_empty() {
-        return spot_in_first_row(*first, *last, tile);
+        return placement_in_first_row(*first, *last, tile);
     }
     match above.get(row.len()) {
-        Some(upper) => spot_below(*upper, *last, tile, above.len()),
-        None => spot_in_next_row(*first, tile, row.len()),
+        Some(upper) => placement_below(*upper, *last, tile, above.len()),
+        None => placement_in_next_row(*first, tile, row.len()),
     }
 }

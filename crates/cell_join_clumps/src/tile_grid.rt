@@ -7,7 +7,7 @@ ghost use Rattle.cell_join_clumps.specs.parts.ReadTiles.{AreFinished, AreTilesKe
 ghost use Rattle.cell_join_tiles.specs.JoinedTiles.{AreJoinedTiles};
 ghost use Rattle.cell_join_tiles.specs.Values.{BorderValue, border_values};
 
-use crate::arrangement::{TileSpot, spot_of};
+use crate::arrangement::{TilePlacement, placement_of};
 use crate::clumps_fault::ClumpsFault;
 use cell_cats_areas::clump::Joining;
 use cell_core::memory::Memory;
@@ -16,7 +16,7 @@ use cell_core::source::Source;
 use cell_join_borders::border_fault::BorderFault;
 use cell_join_borders::border_text::{BorderText, read_border};
 use cell_join_tiles::border::Border;
-use cell_join_tiles::joiner::{JoinFault, TileJoiner};
+use cell_join_tiles::joiner::{JoinerFault, TileJoiner};
 use std::alloc::Global;
 
 // Why a text is no border, or memory.
@@ -74,7 +74,7 @@ fn add_row(alloc: Global, joiner: TileJoiner, row: Vec<Border>) -> Result<TileJo
 {
     match joiner.add(alloc, row) {
         Ok(more) => Ok(more),
-        Err(JoinFault::Memory) => Err(ClumpsFault::Memory),
+        Err(JoinerFault::Memory) => Err(ClumpsFault::Memory),
         Err(_) => Err(ClumpsFault::TooManyClumps),
     }
 }
@@ -176,19 +176,19 @@ impl TileGrid {
         ensures unwritten { IfErr result (λ fault. fault ≢ ClumpsFault.Write) }
     {
         let tile = read_tile(alloc, joining, place, source)?;
-        match spot_of(&self.above, &self.row, tile.region) {
-            TileSpot::InRow => Ok(self.with_tile_in_row(tile)?),
-            TileSpot::NextRow => self.with_tile_below(alloc, tile),
-            TileSpot::Apart { beside, below } => Err(ClumpsFault::Apart {
+        match placement_of(&self.above, &self.row, tile.region) {
+            TilePlacement::InRow => Ok(self.with_tile_in_row(tile)?),
+            TilePlacement::NextRow => self.with_tile_below(alloc, tile),
+            TilePlacement::Apart { beside, below } => Err(ClumpsFault::Apart {
                 text: place,
                 beside,
                 below,
             }),
-            TileSpot::NotBeside { misfit } => Err(ClumpsFault::NotBeside {
+            TilePlacement::NotBeside { misfit } => Err(ClumpsFault::NotBeside {
                 text: place,
                 misfit,
             }),
-            TileSpot::NotBelow { misfit, back } => Err(ClumpsFault::NotBelow {
+            TilePlacement::NotBelow { misfit, back } => Err(ClumpsFault::NotBelow {
                 text: place,
                 other: place.saturating_sub(back),
                 misfit,

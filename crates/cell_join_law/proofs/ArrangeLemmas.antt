@@ -310,15 +310,15 @@ module _ (u v row g : List RegionValue) (grid : List (List RegionValue)) (above 
       subst (MayGoOn u row) (sym on.next) (inl (in-row on.front on.tile on.back on.is (sym on.same)))
 
 -- what comes behind a whole row of tiles that were told
-next-told : (r : List RegionValue) (rows : List (List RegionValue)) (row : List RegionValue) (rest : List RegionValue)
+next-reported : (r : List RegionValue) (rows : List (List RegionValue)) (row : List RegionValue) (rest : List RegionValue)
     → 0 < length row → AreRows r rows → RowFitsUnder (last_row r rows) row
     → NextBelow r (all_regions rows ++ (row ++ rest))
-next-told r (next ∷ rows) row rest some are under first region more is e =
+next-reported r (next ∷ rows) row rest some are under first region more is e =
     first-below r next first region more (all_regions rows ++ (row ++ rest)) are.0.some are.0.fits is
     (sym (append_assoc next (all_regions rows) (row ++ rest)) ∙ e)
-next-told [] [] row rest some are under first region more is e = absurd (cc)
-next-told (s ∷ r) [] [] rest some are under first region more is e = absurd (omega (arith, some))
-next-told (s ∷ r) [] (t ∷ row) rest some are under first region more is e =
+next-reported [] [] row rest some are under first region more is e = absurd (cc)
+next-reported (s ∷ r) [] [] rest some are under first region more is e = absurd (omega (arith, some))
+next-reported (s ∷ r) [] (t ∷ row) rest some are under first region more is e =
     let one : s ≡ first = cc in
     let two : t ≡ region = cc in
     subst (λ (z : RegionValue). IsBelow first z) two
@@ -340,7 +340,7 @@ one-row-then r g rows grid row rest u v are good some under then (inr (inl on)) 
     (next-rows g grid good.1) on)
 one-row-then r g rows grid row rest u v are good some under then (inr (inr on)) =
     absurd (not-longer g r (all_regions grid) (all_regions rows ++ (row ++ rest)) good.0.wide good.0.beside are.0.some
-    (next-told r rows row rest some are.1 under) on)
+    (next-reported r rows row rest some are.1 under) on)
 
 none-more : (u row : List RegionValue) (rest : List RegionValue) → (row ≡ [] → u ≡ []) → row ++ rest ≡ []
     → MayGoOn u row rest

@@ -21,7 +21,7 @@ use Rattle.cell_join_tiles.specs.declared.border.Side.{Side}
 use Rattle.cell_join_borders.specs.BorderText.{border_grid, border_width, connectivity, count_line, filled_row}
 use Rattle.cell_join_borders.specs.BorderText.{size_line}
 use Rattle.cell_join_borders.specs.BorderFaults.{AreRowsRight, AreRowsWrong, AreSidesWrong, HasBoth, HasCounts}
-use Rattle.cell_join_borders.specs.BorderFaults.{HasEnded}
+use Rattle.cell_join_borders.specs.BorderFaults.{AreNullFrom}
 use Rattle.cell_join_borders.specs.BorderFaults.{HasSize, IsBorderFault, IsBorderFit, IsNoBorderMap}
 use Rattle.cell_join_borders.specs.BorderFaults.{IsSideFit}
 use Rattle.cell_join_borders.specs.BorderFaults.{most_down, most_in_row, side_places}
@@ -60,13 +60,13 @@ filled-past width cells k past =
     get_or_past (filled_row width cells) k None (let long = filled-long width cells in omega (arith, long, past))
 
 -- behind its cells it is null
-pub filled-ends : (width : ℕ) (cells : List CellValue) → HasEnded (length cells) (filled_row width cells)
+pub filled-ends : (width : ℕ) (cells : List CellValue) → AreNullFrom (length cells) (filled_row width cells)
 filled-ends width cells k past =
     ⊎_elim (λ lt. filled-at width cells k lt ∙ get_or_past cells k None past)
     (λ out. filled-past width cells k out) (cases_lt k width)
 
-ends : (width count : ℕ) (cells : List CellValue) → length cells ≡ count → HasEnded count (filled_row width cells)
-ends width count cells long = subst (λ (n : ℕ). HasEnded n (filled_row width cells)) long (filled-ends width cells)
+ends : (width count : ℕ) (cells : List CellValue) → length cells ≡ count → AreNullFrom count (filled_row width cells)
+ends width count cells long = subst (λ (n : ℕ). AreNullFrom n (filled_row width cells)) long (filled-ends width cells)
 
 none-some : (c : CellValue) → c ≡ None → IsSome c → ⊥
 none-some None none some = cc
@@ -77,8 +77,8 @@ side-right : (m : Grid) (row width : ℕ) (most : List ℕ) (side : Side) → le
     → row_at m row ≡ filled_row width side.cells.items → row_at m (row + 1) ≡ filled_row width side.numbers.items
     → AreRowsRight m row most
 side-right m row width most side few fit cells numbers = record {
-  cells = subst (HasEnded (length most)) (sym cells) (ends width (length most) side.cells.items fit.cells);
-  numbers = subst (HasEnded (length most)) (sym numbers) (ends width (length most) side.numbers.items fit.numbers);
+  cells = subst (AreNullFrom (length most)) (sym cells) (ends width (length most) side.cells.items fit.cells);
+  numbers = subst (AreNullFrom (length most)) (sym numbers) (ends width (length most) side.numbers.items fit.numbers);
   fit = λ col lt.
       let within : col < width = omega (arith, lt, few) in
       let upper = ap (λ (l : List CellValue). get_or l col None) cells ∙ filled-at width side.cells.items col within in
@@ -247,14 +247,14 @@ none-wrong text j tile border is fault not wrong = by fault not wrong
         (one-map text n (border_grid j tile border) denotes is.spelled) faulty)
 
     by : (f : BorderFault) → f ≢ Memory → IsBorderFault text f → ⊥
-    by (Text f) other told = no-fault text (border_grid j tile border) f is.spelled told
-    by Rows other told = right Rows other told.0 told.1 told.2
-    by Size other told = right Size other told.0 told.1 told.2
-    by Counts other told = right Counts other told.0 told.1 told.2
-    by Sum other told = right Sum other told.0 told.1 told.2
-    by (End place) other told = right (End place) other told.0 told.1 told.2
-    by (Pair f) other told = right (Pair f) other told.0 told.1 told.2
-    by Memory other told = other refl
+    by (Text f) other reported = no-fault text (border_grid j tile border) f is.spelled reported
+    by Rows other reported = right Rows other reported.0 reported.1 reported.2
+    by Size other reported = right Size other reported.0 reported.1 reported.2
+    by Counts other reported = right Counts other reported.0 reported.1 reported.2
+    by Sum other reported = right Sum other reported.0 reported.1 reported.2
+    by (End place) other reported = right (End place) other reported.0 reported.1 reported.2
+    by (Pair f) other reported = right (Pair f) other reported.0 reported.1 reported.2
+    by Memory other reported = other refl
 
 -- ---- a text is that of one border
 

@@ -13,7 +13,7 @@ use Rattle.cell_stats_counts.specs.LeftOut.{is_left_out}
 use Rattle.cell_stats.specs.CategoryTables.{Pairs}
 use Rattle.cell_join_law.specs.NumberTables.{entry_of_null, number_table}
 use Rattle.cell_join_lines.specs.declared.stretch.Stretch.{Stretch}
-use Rattle.cell_join_lines.specs.AreasText.{numbers_told, stretch_numbers, stretches_behind, stretches_from}
+use Rattle.cell_join_lines.specs.AreasText.{numbers_read, stretch_numbers, stretches_behind, stretches_from}
 use Rattle.cell_join_lines.specs.AreasText.{stretches_in}
 use Rattle.cell_join_sizes.specs.SizeTexts.{AreTablesOfBands, BandSizes, IsNullEntry, IsTableOfBand, entries_of_areas}
 use Rattle.cell_join_sizes.specs.SizeTexts.{number_entries, sizes_of_parts, stretch_areas, stretches_of_parts}
@@ -45,14 +45,14 @@ IsOf band s = s.band ≡ band
 -- runs of a tile, whose clumps from the first on have these sizes
 record AreOfBand (band first : ℕ) (sizes : List ℕ) (stretches : List Stretch) : Type 0 where
   own : All (λ (s : Stretch). s.band ≡ band) stretches
-  many : length sizes ≡ length (numbers_told stretches)
+  many : length sizes ≡ length (numbers_read stretches)
   lists : entries_of_areas stretches sizes ≡ number_entries first sizes
 
 many-first : (s : Stretch) (stretches : List Stretch)
-    → length (numbers_told (s ∷ stretches)) ≡ stretch_areas s + length (numbers_told stretches)
+    → length (numbers_read (s ∷ stretches)) ≡ stretch_areas s + length (numbers_read stretches)
 many-first s stretches =
-    length-append (stretch_numbers s) (numbers_told stretches)
-    ∙ ap (λ (k : ℕ). k + length (numbers_told stretches)) (length-range_with_len s.number (stretch_areas s))
+    length-append (stretch_numbers s) (numbers_read stretches)
+    ∙ ap (λ (k : ℕ). k + length (numbers_read stretches)) (length-range_with_len s.number (stretch_areas s))
 
 one-more : (band first last number : ℕ) (sizes : List ℕ) (stretches : List Stretch) → first ≤ last
     → last + 1 - first ≤ length sizes → AreOfBand band (last + 1) (drop (last + 1 - first) sizes) stretches

@@ -28,7 +28,7 @@ use Rattle.cell_join_law.specs.SizeLaw.{size_of_number, sizes_of_areas}
 use Rattle.cell_join_law.specs.NumberTables.{entries_from, entry_of_null, listed_sizes, number_table}
 use Rattle.cell_join_law.proofs.NumberTableLemmas.{numbers-are-listed}
 use Rattle.cell_join_lines.specs.AreasText.{stretches_of}
-use Rattle.cell_join_lines.proofs.ToldLemmas.{numbers-are-told}
+use Rattle.cell_join_lines.proofs.ReportedLemmas.{numbers-are-read}
 use Rattle.cell_join_sizes.specs.SizeTexts.{HasTally, sizes_of_parts}
 use Rattle.cell_join_law.specs.ExistingSizes.{HaveSizesUpTo, table_read}
 use Rattle.cell_join_law.proofs.EntryLemmas.{Lists, have-parts}
@@ -123,7 +123,7 @@ have-sizes j whole numbered is filled skip counts numbers tables many are area g
         all = parts.all;
         listed = parts.listed;
         tally = subst (λ (l : List ℕ). HasTally l (sizes_of_parts parts.parts) own)
-            (sym (numbers-are-told counts numbers many))
+            (sym (numbers-are-read counts numbers many))
             (subst (λ (l : List ℕ). HasTally numbers l own) (sym same)
             (tally j whole numbered is filled numbers listed area good as_many));
       };

@@ -93,28 +93,28 @@ grid-good rows lie wide = rows-good [] rows lie.some lie.beside lie.below wide
 
 module _ (j : Joining) where
   -- the tiles that texts of a row are the borders of, and the texts behind them
-  record IsRowTold (row others : List NumberedTile) (texts : List Coming) : Type 0 where
-    told : List BorderText
-    regions : regions_of told ≡ map_regions row
+  record IsRowReported (row others : List NumberedTile) (texts : List Coming) : Type 0 where
+    reported : List BorderText
+    regions : regions_of reported ≡ map_regions row
     after : List Coming
     rest : DenoteBorders j others after
     spelled : (more : List BorderText) → AllZip (SpellsJoined j) after more
-        → AllZip (SpellsJoined j) texts (told ++ more)
+        → AllZip (SpellsJoined j) texts (reported ++ more)
 
-  row-told : (row others : List NumberedTile) (texts : List Coming) → DenoteBorders j (row ++ others) texts
-      → IsRowTold row others texts
-  row-told [] others texts are = record {
-    told = [];
+  row-reported : (row others : List NumberedTile) (texts : List Coming) → DenoteBorders j (row ++ others) texts
+      → IsRowReported row others texts
+  row-reported [] others texts are = record {
+    reported = [];
     regions = refl;
     after = texts;
     rest = are;
     spelled = λ more all. all;
   }
-  row-told (tile ∷ row) others [] are = absurd are
-  row-told (tile ∷ row) others (text ∷ texts) are =
-      let behind = row-told row others texts are.1 in
+  row-reported (tile ∷ row) others [] are = absurd are
+  row-reported (tile ∷ row) others (text ∷ texts) are =
+      let behind = row-reported row others texts are.1 in
       record {
-        told = record { region = tile.map.region; joining = j; border = are.0.border } ∷ behind.told;
+        reported = record { region = tile.map.region; joining = j; border = are.0.border } ∷ behind.reported;
         regions = ap (λ (l : List RegionValue). tile.map.region ∷ l) behind.regions;
         after = behind.after;
         rest = behind.rest;
@@ -127,31 +127,31 @@ module _ (j : Joining) where
         );
       }
 
-  pub record AreRowsTold (tiles : List (List NumberedTile)) (texts : List Coming) : Type 0 where
-    pub told : List (List BorderText)
-    pub regions : region_rows told ≡ tile_regions tiles
-    pub spelled : AllZip (SpellsJoined j) texts (tiles_in told)
+  pub record AreRowsRead (tiles : List (List NumberedTile)) (texts : List Coming) : Type 0 where
+    pub reported : List (List BorderText)
+    pub regions : region_rows reported ≡ tile_regions tiles
+    pub spelled : AllZip (SpellsJoined j) texts (tiles_in reported)
 
-  pub rows-told : (tiles : List (List NumberedTile)) (texts : List Coming) → DenoteBorders j (all_tiles tiles) texts
-      → AreRowsTold tiles texts
-  rows-told [] [] are = record { told = []; regions = refl; spelled = tt }
-  rows-told [] (text ∷ texts) are = absurd are
-  rows-told (row ∷ tiles) texts are =
-      let first = row-told row (all_tiles tiles) texts
+  pub rows-read : (tiles : List (List NumberedTile)) (texts : List Coming) → DenoteBorders j (all_tiles tiles) texts
+      → AreRowsRead tiles texts
+  rows-read [] [] are = record { reported = []; regions = refl; spelled = tt }
+  rows-read [] (text ∷ texts) are = absurd are
+  rows-read (row ∷ tiles) texts are =
+      let first = row-reported row (all_tiles tiles) texts
       (subst (λ (l : List NumberedTile). DenoteBorders j l texts)
       (flat_map-cons (λ (r : List NumberedTile). r) row tiles) are) in
-      let others = rows-told tiles first.after first.rest in
+      let others = rows-read tiles first.after first.rest in
       record {
-        told = first.told ∷ others.told;
+        reported = first.reported ∷ others.reported;
         regions = λ i. first.regions i ∷ others.regions i;
         spelled = subst (AllZip (SpellsJoined j) texts)
-            (sym (flat_map-cons (λ (r : List BorderText). r) first.told others.told))
-            (first.spelled (tiles_in others.told) others.spelled);
+            (sym (flat_map-cons (λ (r : List BorderText). r) first.reported others.reported))
+            (first.spelled (tiles_in others.reported) others.spelled);
       }
 
 pub borders-make-grids : BordersMakeGrids
 borders-make-grids j tiles texts are make =
-    let all = rows-told j tiles texts are in (
-      all.told,
+    let all = rows-read j tiles texts are in (
+      all.reported,
       record { spelled = all.spelled; lie = subst AreTileRows (sym all.regions) make },
     )

@@ -11,7 +11,7 @@ use Rattle.std.proofs.lemmas.List.Elements.{All-append, All-from_get_or, All-get
 use Rattle.std.proofs.lemmas.List.FromFn.{get_or-map-range_with_len, length-map-range_with_len}
 use Rattle.std.proofs.lemmas.List.Sums.{sum_by-cons}
 use Rattle.cell_core.specs.Grid.{CellValue, Grid, IsFilled, row_at}
-use Rattle.cell_cats_areas.specs.Areas.{Position, cell_at_spot}
+use Rattle.cell_cats_areas.specs.Areas.{Position, cell_at_position}
 use Rattle.cell_parts.specs.Parts.{Rectangle}
 use Rattle.cell_parts.specs.AreaParts.{IsTile, moved_position}
 use Rattle.cell_join_tiles.specs.Beginnings.{tile_place}
@@ -204,7 +204,7 @@ module _ (whole : Grid) (widths : List ℕ) (tiles : List (List NumberedTile)) (
   high = height-at tiles r row row_at_r
 
   cell-there : (p : Position) → p.row < get_or (tile_heights tiles) r 0 → p.col < get_or widths c 0
-      → cell_at_spot tile.map p ≡ cell_at_spot whole (moved_position place p)
+      → cell_at_position tile.map p ≡ cell_at_position whole (moved_position place p)
   cell-there p row_in col_in =
       let less : p.row < row_height row = omega (arith, row_in, high) in
       sym (ap (λ (l : List (List CellValue)). get_or (get_or l (sum (take r (tile_heights tiles)) + p.row) [])

@@ -11,7 +11,7 @@ use Rattle.cell_core_devices.specs.Device.{Coming}
 use Rattle.cell_core_values.specs.Region.{RegionValue}
 use Rattle.cell_cats_areas.specs.declared.clump.Joining.{Joining}
 use Rattle.cell_join_tiles.specs.Beginnings.{clumps_in_grid, clumps_in_row}
-use Rattle.cell_join_tiles.specs.Joined.{begun_in}
+use Rattle.cell_join_tiles.specs.JoinedBorders.{begun_in}
 use Rattle.cell_join_borders.specs.BorderFaults.{most_clumps}
 use Rattle.cell_join_borders.specs.declared.border_text.BorderText.{BorderText}
 use Rattle.cell_join_clumps.specs.BegunGrids.{AreGridSoFar, last_row}
@@ -87,19 +87,20 @@ goes-somewhere place above row tile Write goes wrong = wrong
 
 module _ (j : Joining) where
   -- the tiles of texts that come behind others
-  record AreThen (after : List Coming) (told all : List BorderText) : Type 0 where
+  record AreThen (after : List Coming) (reported all : List BorderText) : Type 0 where
     more : List BorderText
     spelled : AllZip (SpellsJoined j) after more
-    same : regions_of told ++ regions_of more ≡ regions_of all
+    same : regions_of reported ++ regions_of more ≡ regions_of all
 
-  told-then : (before after : List Coming) (told all : List BorderText) → AllZip (SpellsJoined j) before told
-      → AllZip (SpellsJoined j) (before ++ after) all → AreThen after told all
-  told-then [] after [] all are others = record { more = all; spelled = others; same = refl }
-  told-then [] after (t ∷ told) all are others = absurd are
-  told-then (text ∷ before) after [] all are others = absurd are
-  told-then (text ∷ before) after (t ∷ told) [] are others = absurd others
-  told-then (text ∷ before) after (t ∷ told) (s ∷ all) are others =
-      let rest = told-then before after told all are.1 others.1 in
+  reported-then : (before after : List Coming) (reported all : List BorderText)
+      → AllZip (SpellsJoined j) before reported
+      → AllZip (SpellsJoined j) (before ++ after) all → AreThen after reported all
+  reported-then [] after [] all are others = record { more = all; spelled = others; same = refl }
+  reported-then [] after (t ∷ reported) all are others = absurd are
+  reported-then (text ∷ before) after [] all are others = absurd are
+  reported-then (text ∷ before) after (t ∷ reported) [] are others = absurd others
+  reported-then (text ∷ before) after (t ∷ reported) (s ∷ all) are others =
+      let rest = reported-then before after reported all are.1 others.1 in
       let first = one-region text t s are.0.tile_is others.0.tile_is in
       record { more = rest.more; spelled = rest.spelled; same = λ i. first i ∷ rest.same i }
 
@@ -112,7 +113,7 @@ module _ (j : Joining) (texts : List Coming) (grid : List (List BorderText)) (ar
   module _ (before after : List Coming) (rows : List (List BorderText)) (row : List BorderText)
       (all : texts ≡ before ++ after) (begun : AreGridSoFar j before rows row) where
     behind : AreThen j after (tiles_in rows ++ row) (tiles_in grid)
-    behind = told-then j before after (tiles_in rows ++ row) (tiles_in grid) begun.spelled
+    behind = reported-then j before after (tiles_in rows ++ row) (tiles_in grid) begun.spelled
         (subst (λ (l : List Coming). AllZip (SpellsJoined j) l (tiles_in grid)) all are.spelled)
 
     split : regions_of (tiles_in rows ++ row) ≡ all_regions (region_rows rows) ++ regions_of row

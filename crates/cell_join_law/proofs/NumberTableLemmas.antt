@@ -11,7 +11,7 @@ use Rattle.std.proofs.lemmas.List.Elements.{Contains-append_left, Contains-appen
 use Rattle.std.proofs.lemmas.List.FromFn.{length-map-range_with_len, get_or-map-range_with_len}
 use Rattle.cell_core.specs.Grid.{Grid, CellValue}
 use Rattle.cell_cats_areas.specs.declared.clump.Joining.{Joining}
-use Rattle.cell_cats_areas.specs.Areas.{Position, cell_at_spot, IsClumping}
+use Rattle.cell_cats_areas.specs.Areas.{Position, cell_at_position, IsClumping}
 use Rattle.cell_cats_areas.specs.parts.CellPlaces.{position}
 use Rattle.cell_cats_areas.proofs.CountLemmas.{numbers_count_areas}
 use Rattle.cell_stats_counts.specs.declared.skip.Skip.{Skip}
@@ -158,7 +158,7 @@ number-kept AllNull n = refl
 
 module _ (j : Joining) (m numbers : Grid) (is : IsClumping j m numbers) (areas : ℕ) (has : HasAreas j m areas)
     (rows cols : ℕ)
-    (inside : (p : Position) → IsSome (cell_at_spot m p) → (p.row < rows) × (p.col < cols)) (skip : Skip) where
+    (inside : (p : Position) → IsSome (cell_at_position m p) → (p.row < rows) × (p.col < cols)) (skip : Skip) where
   abbrev cells : List Combination
   cells = cells_of numbers rows cols
 
@@ -184,7 +184,7 @@ module _ (j : Joining) (m numbers : Grid) (is : IsClumping j m numbers) (areas :
       let p = occurs.0 in
       let at = inside p (some-below j m numbers is p (pos k) occurs.1) in
       counted-cell (numbers ∷ []) (0 ∷ []) (eq_by_cmp combination_cmp (Some (pos k) ∷ [])) rows cols p.row p.col at.0
-      at.1 (equal-itself (Some (pos k) ∷ []) (cell_at_spot numbers p ∷ [])
+      at.1 (equal-itself (Some (pos k) ∷ []) (cell_at_position numbers p ∷ [])
       (ap (λ (c : CellValue). c ∷ []) (sym occurs.1)))
 
   entry-counted : (k : Combination) (n : ℕ) → IsEntry 1 sizes k n → IsCounted k n
@@ -204,7 +204,7 @@ module _ (j : Joining) (m numbers : Grid) (is : IsClumping j m numbers) (areas :
   )
 
   -- what is counted is a number, or null
-  counted-there : (c : CellValue) (p : Position) → cell_at_spot numbers p ≡ c →
+  counted-there : (c : CellValue) (p : Position) → cell_at_position numbers p ≡ c →
       IsCounted (c ∷ []) (count_of (c ∷ []) cells) →
       Contains (number_table skip sizes nulls) (c ∷ [], count_of (c ∷ []) cells)
   counted-there None p here counted =
@@ -230,7 +230,7 @@ module _ (j : Joining) (m numbers : Grid) (is : IsClumping j m numbers) (areas :
       let at = counted-at (numbers ∷ []) (0 ∷ []) (eq_by_cmp combination_cmp k) rows cols
       (omega (arith, counted.1.0, counted.1.1)) in
       let p : Position = position at.row at.col in
-      let c : CellValue = cell_at_spot numbers p in
+      let c : CellValue = cell_at_position numbers p in
       let same : c ∷ [] ≡ k = sym (equal-only k (c ∷ []) at.passes) in
       let count : n ≡ count_of (c ∷ []) cells = counted.1.1 ∙ ap (λ (x : Combination). count_of x cells) (sym same) in
       let there = counted-there c p refl (
@@ -261,4 +261,4 @@ module _ (j : Joining) (m numbers : Grid) (is : IsClumping j m numbers) (areas :
 pub numbers-are-listed : NumbersAreListed
 numbers-are-listed j m numbers is filled areas has skip table =
     one-number-table j m numbers is areas has m.region.rows m.region.cols
-    (λ p some. let v = some_of (cell_at_spot m p) some in in-region m filled p v.0 v.1) skip table
+    (λ p some. let v = some_of (cell_at_position m p) some in in-region m filled p v.0 v.1) skip table

@@ -2,7 +2,7 @@
 use Rattle.std.proofs.Common.{◌≡◌, ℕ, zero, suc, pos, negsuc, ◌-◌, map, [], ◌∷◌, List, get_or, Some, None, refl, ap, sym, ◌∙◌}
 use Rattle.cell_core.specs.Grid.{Grid, CellValue}
 use Rattle.cell_cats_areas.specs.declared.clump.Joining.{Joining}
-use Rattle.cell_cats_areas.specs.Areas.{Position, cell_at_spot, HasNumber, IsClumping}
+use Rattle.cell_cats_areas.specs.Areas.{Position, cell_at_position, HasNumber, IsClumping}
 use Rattle.cell_cats_areas.proofs.LawLemmas.{HasNumber-one}
 use Rattle.cell_parts.proofs.AreaLemmas.{is-some}
 
@@ -29,22 +29,22 @@ module _ (f : CellValue → CellValue) (null : f None ≡ None) where
   rows-mapped (row ∷ rows) (suc r) c = rows-mapped rows r c
 
 pub cell-renumbered : (numbers : List ℕ) (m : Grid) (p : Position) →
-    cell_at_spot (renumbered numbers m) p ≡ number_there numbers (cell_at_spot m p)
+    cell_at_position (renumbered numbers m) p ≡ number_there numbers (cell_at_position m p)
 cell-renumbered numbers m p = rows-mapped (number_there numbers) refl m.rows p.row p.col
 
 module _ (j : Joining) (whole numbered : Grid) (clumping : IsClumping j whole numbered) where
   -- a cell of a tile has, by its own number, that of the whole
   pub number-here : (m numbers_map : Grid) → IsClumping j m numbers_map → (numbers : List ℕ) (p q : Position) →
-      cell_at_spot whole q ≡ cell_at_spot m p →
-      ((k : ℕ) → cell_at_spot numbers_map p ≡ Some (pos k) → HasNumber j whole q (get_or numbers (k - 1) 0)) →
-      number_there numbers (cell_at_spot numbers_map p) ≡ cell_at_spot numbered q
-  number-here m numbers_map has numbers p q cell tells = by (cell_at_spot m p) refl
+      cell_at_position whole q ≡ cell_at_position m p →
+      ((k : ℕ) → cell_at_position numbers_map p ≡ Some (pos k) → HasNumber j whole q (get_or numbers (k - 1) 0)) →
+      number_there numbers (cell_at_position numbers_map p) ≡ cell_at_position numbered q
+  number-here m numbers_map has numbers p q cell reports = by (cell_at_position m p) refl
     where
-      by : (c : CellValue) → cell_at_spot m p ≡ c →
-          number_there numbers (cell_at_spot numbers_map p) ≡ cell_at_spot numbered q
+      by : (c : CellValue) → cell_at_position m p ≡ c →
+          number_there numbers (cell_at_position numbers_map p) ≡ cell_at_position numbered q
       by None none = ap (number_there numbers) (has.nulls p none) ∙ sym (clumping.nulls q (cell ∙ none))
       by (Some v) some =
-          let t = has.numbered p (is-some (cell_at_spot m p) v some) in
-          let u = clumping.numbered q (is-some (cell_at_spot whole q) v (cell ∙ some)) in
-          let same = HasNumber-one j whole q (get_or numbers (t.0 - 1) 0) u.0 (tells t.0 t.2) u.1 in
+          let t = has.numbered p (is-some (cell_at_position m p) v some) in
+          let u = clumping.numbered q (is-some (cell_at_position whole q) v (cell ∙ some)) in
+          let same = HasNumber-one j whole q (get_or numbers (t.0 - 1) 0) u.0 (reports t.0 t.2) u.1 in
           ap (number_there numbers) t.2 ∙ ap (λ (n : ℕ). Some (pos n)) same ∙ sym u.2

@@ -20,7 +20,7 @@ use Rattle.cell_join_lines.specs.declared.stretch.Stretch.{Stretch}
 use Rattle.cell_join_lines.specs.AreasReading.{AreasReading, areas_format, areas_reading_of, comes_next}
 use Rattle.cell_join_lines.specs.AreasReading.{in_sequence, next_stretch, stretch_of_entry, stretches_read}
 use Rattle.cell_join_lines.specs.AreasReading.{then_stretches}
-use Rattle.cell_join_lines.specs.AreasText.{numbers_told, stretch_numbers}
+use Rattle.cell_join_lines.specs.AreasText.{numbers_read, stretch_numbers}
 use Rattle.cell_join_sizes.specs.SizeTexts.{AreTablesOfBands, BandSizes, HasSums, HaveSizes, IsNullEntry}
 use Rattle.cell_join_sizes.specs.SizeTexts.{entries_of_areas, number_entries, sizes_of_parts}
 use Rattle.cell_join_sizes.specs.SizeTexts.{stretch_areas, stretches_of_parts}
@@ -56,11 +56,11 @@ forward-behind (s ∷ before) after is = forward-behind before after is.1
 
 -- ---- the numbers that stretches tell
 
--- the number of the last clump of a run is told
-last-told : (stretches : List Stretch) (place : ℕ) (s : Stretch) → AreForward stretches → slice_get stretches place ≡ Some s
-    → Contains (numbers_told stretches) (last_number s)
-last-told [] place s on at = cc
-last-told (t ∷ stretches) zero s on at =
+-- the number of the last clump of a run is reported
+last-reported : (stretches : List Stretch) (place : ℕ) (s : Stretch) → AreForward stretches → slice_get stretches place ≡ Some s
+    → Contains (numbers_read stretches) (last_number s)
+last-reported [] place s on at = cc
+last-reported (t ∷ stretches) zero s on at =
     let same : t ≡ s = cc in
     let forward : s.first ≤ s.last = subst (λ (u : Stretch). u.first ≤ u.last) same on.0 in
     let own : Contains (stretch_numbers s) (last_number s) = (
@@ -68,10 +68,10 @@ last-told (t ∷ stretches) zero s on at =
       omega (arith, length-range_with_len s.number (s.last + 1 - s.first), forward),
       get_or-range_with_len s.number (s.last + 1 - s.first) (s.last - s.first) (last_number s) (omega (arith, forward)),
     ) in
-    Contains-append_left (stretch_numbers t) (numbers_told stretches) (last_number s)
+    Contains-append_left (stretch_numbers t) (numbers_read stretches) (last_number s)
     (subst (λ (u : Stretch). Contains (stretch_numbers u) (last_number s)) (sym same) own)
-last-told (t ∷ stretches) (suc place) s on at = Contains-append_right (stretch_numbers t) (numbers_told stretches) (last_number s)
-    (last-told stretches place s on.1 at)
+last-reported (t ∷ stretches) (suc place) s on at = Contains-append_right (stretch_numbers t) (numbers_read stretches) (last_number s)
+    (last-reported stretches place s on.1 at)
 
 same-counts : (stretches : List Stretch) → sum_by (λ (s : Stretch). length (stretch_numbers s)) stretches ≡ sum_by stretch_areas stretches
 same-counts [] = refl
@@ -170,30 +170,30 @@ cut-number a (x ∷ xs) (y ∷ ys) rest others few is =
       is = next.is ∙ ap (λ (n : ℕ). number_entries n next.more ++ others) (omega arith);
     }
 
-many-first : (s : Stretch) (stretches : List Stretch) → length (numbers_told (s ∷ stretches)) ≡ stretch_areas s + length
-    (numbers_told stretches)
+many-first : (s : Stretch) (stretches : List Stretch) → length (numbers_read (s ∷ stretches)) ≡ stretch_areas s + length
+    (numbers_read stretches)
 many-first s stretches =
-    length-append (stretch_numbers s) (numbers_told stretches)
-    ∙ ap (λ (k : ℕ). k + length (numbers_told stretches)) (length-range_with_len s.number (stretch_areas s))
+    length-append (stretch_numbers s) (numbers_read stretches)
+    ∙ ap (λ (k : ℕ). k + length (numbers_read stretches)) (length-range_with_len s.number (stretch_areas s))
 
 -- those of fewer runs
 record AreCutAt (stretches : List Stretch) (xs ys : List ℕ) (more : List Stretch) (rest others : Pairs) : Type 0 where
   sizes : List ℕ
   all : ys ≡ xs ++ sizes
-  many : length sizes ≡ length (numbers_told more)
+  many : length sizes ≡ length (numbers_read more)
   is : rest ≡ entries_of_areas more sizes ++ others
 
 cut-areas : (stretches : List Stretch) (xs ys : List ℕ) (more : List Stretch) (rest others : Pairs)
-    → length xs ≡ length (numbers_told stretches)
-    → length ys ≡ length (numbers_told (stretches ++ more)) → entries_of_areas stretches xs ++ rest ≡ entries_of_areas
+    → length xs ≡ length (numbers_read stretches)
+    → length ys ≡ length (numbers_read (stretches ++ more)) → entries_of_areas stretches xs ++ rest ≡ entries_of_areas
     (stretches ++ more) ys ++ others
     → AreCutAt stretches xs ys more rest others
 cut-areas [] [] ys more rest others many all is = record { sizes = ys; all = refl; many = all; is = is }
 cut-areas [] (x ∷ xs) ys more rest others many all is = absurd (omega arith)
 cut-areas (s ∷ stretches) xs ys more rest others many all is =
     let n = stretch_areas s in
-    let own : length xs ≡ n + length (numbers_told stretches) = many ∙ many-first s stretches in
-    let whole : length ys ≡ n + length (numbers_told (stretches ++ more)) = all ∙ many-first s (stretches ++ more) in
+    let own : length xs ≡ n + length (numbers_read stretches) = many ∙ many-first s stretches in
+    let whole : length ys ≡ n + length (numbers_read (stretches ++ more)) = all ∙ many-first s (stretches ++ more) in
     let front_xs : length (take n xs) ≡ n = length-of-take n xs (omega arith) in
     let front_ys : length (take n ys) ≡ n = length-of-take n ys (omega arith) in
     let first = cut-number s.first (take n xs) (take n ys) (entries_of_areas stretches (drop n xs) ++ rest)
@@ -236,7 +236,7 @@ cut-areas (s ∷ stretches) xs ys more rest others many all is =
 
 -- the entries of clumps begin with one that is not of null
 no-areas : (more : List Stretch) (sizes : List ℕ) (nulls others : Pairs) → AreForward more
-    → length sizes ≡ length (numbers_told more) → IsNullEntry nulls
+    → length sizes ≡ length (numbers_read more) → IsNullEntry nulls
     → nulls ≡ entries_of_areas more sizes ++ others → more ≡ []
 no-areas [] sizes nulls others forward many null is = refl
 no-areas (s ∷ more) [] nulls others forward many null is = absurd (omega (arith, many-first s more))
@@ -322,7 +322,7 @@ walk band (reading ∷ before) rest behind (part ∷ parts) (own ∷ all) good a
     (other-band band (band + 1) all (before ++ rest) are.1 (omega arith))
     (sym (append_assoc part.stretches (stretches_of_parts parts) behind) ∙ is) in
     let cut = cut-areas part.stretches part.sizes own.sizes front.more good.0.nulls are.0.nulls good.0.many
-    (are.0.many ∙ ap (λ (l : List Stretch). length (numbers_told l)) front.all)
+    (are.0.many ∙ ap (λ (l : List Stretch). length (numbers_read l)) front.all)
     (sym good.0.lists ∙ are.0.lists ∙ ap (λ (l : List Stretch). entries_of_areas l own.sizes ++ are.0.nulls)
     front.all) in
     let on = forward-behind part.stretches (stretches_of_parts parts ++ behind)
@@ -334,7 +334,7 @@ walk band (reading ∷ before) rest behind (part ∷ parts) (own ∷ all) good a
     (front.is ∙ ap (λ (l : List Stretch). l ++ stretches_of_parts all) none)
     (forward-behind own.stretches (stretches_of_parts all) forward) in
     let same : own.sizes ≡ part.sizes = cut.all ∙ ap (λ (l : List ℕ). part.sizes ++ l)
-    (no-length cut.sizes (omega (arith, cut.many, ap (λ (l : List Stretch). length (numbers_told l)) none)))
+    (no-length cut.sizes (omega (arith, cut.many, ap (λ (l : List Stretch). length (numbers_read l)) none)))
     ∙ append-nil part.sizes in
     record {
       post = next.post;
@@ -397,7 +397,7 @@ record IsToCome (place : ReadingPlace) (table : TableReading) (counted all : Lis
   other : IsOtherBand (place.table + 1) behind
   forward : AreForward more
   sizes : List ℕ
-  many : length sizes ≡ length (numbers_told more)
+  many : length sizes ≡ length (numbers_read more)
   nulls : Pairs
   null : IsNullEntry nulls
   left : number_entries (first_area place.areas.stretches) place.counted ++ place.left.entries
@@ -466,7 +466,7 @@ module _ (place : ReadingPlace) (table : TableReading) (counted all : List ℕ)
       }
 
       by : (more : List Stretch) (left : List ℕ) → place.areas.stretches ≡ more ++ at.behind → AreForward more
-          → length left ≡ length (numbers_told more)
+          → length left ≡ length (numbers_read more)
           → number_entries (first_area place.areas.stretches) place.counted ++ place.left.entries
           ≡ entries_of_areas more left ++ at.nulls → HasNext place area left
       by [] left coming on many entries = absurd (other at.behind coming at.other)
@@ -529,7 +529,7 @@ module _ (areas : AreasReading) (tables : List TableReading) (sizes : List ℕ) 
           let cut = cut-areas read.part.stretches read.part.sizes one.sizes front.more
           (number_entries (first_area place.areas.stretches) place.counted ++ place.left.entries) are.0.nulls
           read.many
-          (are.0.many ∙ ap (λ (l : List Stretch). length (numbers_told l)) front.all)
+          (are.0.many ∙ ap (λ (l : List Stretch). length (numbers_read l)) front.all)
           (sym (append_assoc (entries_of_areas read.part.stretches read.part.sizes)
           (number_entries (first_area place.areas.stretches) place.counted) place.left.entries)
           ∙ sym read.entries ∙ are.0.lists ∙ ap (λ (l : List Stretch). entries_of_areas l one.sizes ++ are.0.nulls)
@@ -581,12 +581,12 @@ module _ (areas : AreasReading) (tables : List TableReading) (sizes : List ℕ) 
   stretches_before {place} read = stretches_of_parts read.parts ++ read.part.stretches
 
   abbrev numbers_before : {place : ReadingPlace} → AreReadTo areas tables place → List ℕ
-  numbers_before {place} read = numbers_told (stretches_of_parts read.parts ++ read.part.stretches) ++ range_with_len
+  numbers_before {place} read = numbers_read (stretches_of_parts read.parts ++ read.part.stretches) ++ range_with_len
       (first_number place.areas.stretches) (length place.counted)
 
   record HasNumber (before : List ℕ) (number : ℕ) : Type 0 where
     more : List ℕ
-    is : numbers_told areas.stretches ≡ before ++ number ∷ more
+    is : numbers_read areas.stretches ≡ before ++ number ∷ more
 
   next-number : (place : ReadingPlace) (read : AreReadTo areas tables place) (area number : ℕ)
       → IsNextArea (place.table + 1) (length place.counted) place.areas.stretches area number
@@ -595,31 +595,31 @@ module _ (areas : AreasReading) (tables : List TableReading) (sizes : List ℕ) 
     where
       by : (stretches : List Stretch) → place.areas.stretches ≡ stretches
           → IsNextArea (place.table + 1) (length place.counted) stretches area number
-          → HasNumber (numbers_told (stretches_before read) ++ range_with_len (first_number stretches)
+          → HasNumber (numbers_read (stretches_before read) ++ range_with_len (first_number stretches)
           (length place.counted)) number
       by [] coming is = absurd is
       by (s ∷ stretches) coming is =
           let cut = range-cut s.number (length place.counted) (stretch_areas s) is.1 in
           record {
-            more = cut.more ++ numbers_told stretches;
-            is = ap numbers_told (read.stretches ∙ ap (λ (l : List Stretch). stretches_before read ++ l) coming)
+            more = cut.more ++ numbers_read stretches;
+            is = ap numbers_read (read.stretches ∙ ap (λ (l : List Stretch). stretches_before read ++ l) coming)
                 ∙ flat_map-append stretch_numbers (stretches_before read) (s ∷ stretches)
-                ∙ ap (λ (l : List ℕ). numbers_told (stretches_before read) ++ (l ++ numbers_told stretches))
+                ∙ ap (λ (l : List ℕ). numbers_read (stretches_before read) ++ (l ++ numbers_read stretches))
                 (cut.is ∙ ap (λ (n : ℕ). range_with_len s.number (length place.counted) ++ n ∷ cut.more) (sym is.3))
-                ∙ ap (λ (l : List ℕ). numbers_told (stretches_before read) ++ l)
+                ∙ ap (λ (l : List ℕ). numbers_read (stretches_before read) ++ l)
                 (append_assoc (range_with_len s.number (length place.counted)) (number ∷ cut.more)
-                (numbers_told stretches))
-                ∙ sym (append_assoc (numbers_told (stretches_before read))
-                (range_with_len s.number (length place.counted)) (number ∷ (cut.more ++ numbers_told stretches)));
+                (numbers_read stretches))
+                ∙ sym (append_assoc (numbers_read (stretches_before read))
+                (range_with_len s.number (length place.counted)) (number ∷ (cut.more ++ numbers_read stretches)));
           }
 
-  -- each number up to the greatest is told, so that none is above the count
+  -- each number up to the greatest is reported, so that none is above the count
   no-line-beyond : (line : ℕ) → IsLineBeyond areas.stretches line → ⊥
   no-line-beyond line is =
-      let numbers = numbers_told areas.stretches in
-      let told = last-told areas.stretches is.place is.stretch forward is.at in
+      let numbers = numbers_read areas.stretches in
+      let reported = last-reported areas.stretches is.place is.stretch forward is.at in
       let low : last_number is.stretch ≤ length sizes = (All-contains (λ (n : ℕ). (0 < n) × (n ≤ length sizes)) numbers
-      (last_number is.stretch) have.tally.sums.within told).1 in
+      (last_number is.stretch) have.tally.sums.within reported).1 in
       omega (
         arith,
         is.beyond,
@@ -632,15 +632,15 @@ module _ (areas : AreasReading) (tables : List TableReading) (sizes : List ℕ) 
   no-number-left-out : (number : ℕ) → HasNumberLeftOut areas tables number → ⊥
   no-number-left-out number is =
       let read = is.read in
-      let told : areas.stretches ≡ stretches_of_parts read.parts = read.stretches
+      let reported : areas.stretches ≡ stretches_of_parts read.parts = read.stretches
       ∙ append-nil (stretches_of_parts read.parts) in
-      let greatest : Contains (numbers_told areas.stretches) (length read.sizes) =
-      subst (λ (l : List Stretch). Contains (numbers_told l) (length read.sizes)) (sym told)
+      let greatest : Contains (numbers_read areas.stretches) (length read.sizes) =
+      subst (λ (l : List Stretch). Contains (numbers_read l) (length read.sizes)) (sym reported)
       (read.sums.greatest (omega (arith, is.below))) in
       let few : length read.sizes ≤ length sizes =
-      (All-contains (λ (n : ℕ). (0 < n) × (n ≤ length sizes)) (numbers_told areas.stretches) (length read.sizes)
+      (All-contains (λ (n : ℕ). (0 < n) × (n ≤ length sizes)) (numbers_read areas.stretches) (length read.sizes)
       have.tally.sums.within greatest).1 in
-      is.none (subst (Contains (numbers_told areas.stretches)) (omega (arith, is.below))
+      is.none (subst (Contains (numbers_read areas.stretches)) (omega (arith, is.below))
       (have.tally.each (number - 1) (omega (arith, is.below, few))))
 
   no-sum-too-great : All (λ size. size < 2 ^ 64) sizes → (place : ReadingPlace) (number : ℕ)

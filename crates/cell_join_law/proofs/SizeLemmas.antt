@@ -8,7 +8,7 @@ use Rattle.std.specs.Ordering.{eq_by_cmp, is_eq}
 use Rattle.std.specs.Cmp.{tied_itself}
 use Rattle.cell_core.specs.Grid.{Grid, CellValue}
 use Rattle.cell_cats_areas.specs.declared.clump.Joining.{Joining}
-use Rattle.cell_cats_areas.specs.Areas.{Position, cell_at_spot, IsClumping}
+use Rattle.cell_cats_areas.specs.Areas.{Position, cell_at_position, IsClumping}
 use Rattle.cell_cats_areas.specs.parts.CellPlaces.{position}
 use Rattle.cell_cats_areas.proofs.CountLemmas.{numbers_count_areas}
 use Rattle.cell_stats_counts.specs.Combinations.{Combination, combination_cmp, combination_cmp_total}
@@ -208,7 +208,7 @@ count-stands n (number ∷ numbers) from (suc count) cells =
 module _ (j : Joining) (m numbers_map : Grid) (is : IsClumping j m numbers_map) (areas : ℕ)
     (has : HasAreas j m areas) (numbers : List ℕ) (n : ℕ) (some : 1 ≤ n) where
   -- a cell has the number in the whole exactly where its own stands for it
-  stands-there : (c : CellValue) (p : Position) → cell_at_spot numbers_map p ≡ c →
+  stands-there : (c : CellValue) (p : Position) → cell_at_position numbers_map p ≡ c →
       number_there numbers c ≡ Some (pos n) → StandsFor n numbers 1 areas (c ∷ [])
   stands-there None p here e = cc
   stands-there (Some (negsuc k)) p here e = cc
@@ -230,11 +230,11 @@ module _ (j : Joining) (m numbers_map : Grid) (is : IsClumping j m numbers_map) 
       ∙ ap (λ (i : ℕ). Some (pos i)) s.is
 
   tests-there : (p : Position) →
-      eq_by_cmp combination_cmp (Some (pos n) ∷ []) (cell_at_spot (renumbered numbers numbers_map) p ∷ [])
-      ≡ stands_for n numbers 1 areas (cell_at_spot numbers_map p ∷ [])
+      eq_by_cmp combination_cmp (Some (pos n) ∷ []) (cell_at_position (renumbered numbers numbers_map) p ∷ [])
+      ≡ stands_for n numbers 1 areas (cell_at_position numbers_map p ∷ [])
   tests-there p =
-      let c = cell_at_spot numbers_map p in
-      let d = cell_at_spot (renumbered numbers numbers_map) p in
+      let c = cell_at_position numbers_map p in
+      let d = cell_at_position (renumbered numbers numbers_map) p in
       let same_there : d ≡ number_there numbers c = cell-renumbered numbers numbers_map p in
       same-answer (eq_by_cmp combination_cmp (Some (pos n) ∷ []) (d ∷ [])) (stands_for n numbers 1 areas (c ∷ []))
       (λ e. stands-from n numbers 1 areas (c ∷ []) some (stands-there c p refl

@@ -4,7 +4,7 @@ use Rattle.std.proofs.Common.{Some, None, Bool, true, false, cond, refl, ap, sym
 use Rattle.std.specs.Ordering.{eq_by_cmp}
 use Rattle.cell_core.specs.Grid.{Grid, CellValue}
 use Rattle.cell_cats_areas.specs.declared.clump.Joining.{Joining}
-use Rattle.cell_cats_areas.specs.Areas.{Position, cell_at_spot, IsClumping}
+use Rattle.cell_cats_areas.specs.Areas.{Position, cell_at_position, IsClumping}
 use Rattle.cell_cats_areas.specs.parts.CellPlaces.{position}
 use Rattle.cell_stats_counts.specs.declared.skip.Skip.{Skip}
 use Rattle.cell_stats_counts.specs.Combinations.{combination_cmp}
@@ -61,7 +61,7 @@ same-null skip one other same = by (is_left_out skip (None ∷ [])) refl
 -- ---- the cells of a tile that are null
 
 module _ (j : Joining) (m numbers_map : Grid) (is : IsClumping j m numbers_map) (numbers : List ℕ) where
-  null-there : (c : CellValue) (p : Position) → cell_at_spot numbers_map p ≡ c → number_there numbers c ≡ None →
+  null-there : (c : CellValue) (p : Position) → cell_at_position numbers_map p ≡ c → number_there numbers c ≡ None →
       c ≡ None
   null-there None p here e = refl
   null-there (Some (pos k)) p here e = cc
@@ -71,11 +71,11 @@ module _ (j : Joining) (m numbers_map : Grid) (is : IsClumping j m numbers_map) 
       sym number ∙ here in cc)
 
   nulls-there : (p : Position) →
-      eq_by_cmp combination_cmp (None ∷ []) (cell_at_spot (renumbered numbers numbers_map) p ∷ [])
-      ≡ eq_by_cmp combination_cmp (None ∷ []) (cell_at_spot numbers_map p ∷ [])
+      eq_by_cmp combination_cmp (None ∷ []) (cell_at_position (renumbered numbers numbers_map) p ∷ [])
+      ≡ eq_by_cmp combination_cmp (None ∷ []) (cell_at_position numbers_map p ∷ [])
   nulls-there p =
-      let c = cell_at_spot numbers_map p in
-      let d = cell_at_spot (renumbered numbers numbers_map) p in
+      let c = cell_at_position numbers_map p in
+      let d = cell_at_position (renumbered numbers numbers_map) p in
       let same_there : d ≡ number_there numbers c = cell-renumbered numbers numbers_map p in
       same-answer (eq_by_cmp combination_cmp (None ∷ []) (d ∷ [])) (eq_by_cmp combination_cmp (None ∷ []) (c ∷ []))
       (λ e. equal-itself (None ∷ []) (c ∷ []) (ap (λ (x : CellValue). x ∷ []) (sym (null-there c p refl

@@ -25,7 +25,7 @@ use Rattle.cell_parts.proofs.SumLemmas.{parts-add-up}
 use Rattle.cell_join_sizes.specs.Sizes.{AddUp, size_of_area}
 use Rattle.cell_join_law.specs.SizeLaw.{size_of_number, sizes_of_areas}
 use Rattle.cell_join_law.specs.NumberTables.{entries_from, number_table, listed_sizes}
-use Rattle.cell_join_law.specs.TileSizes.{JoinedTile, IsJoinedTile, AreJoinedTiles, place_of_tile}
+use Rattle.cell_join_law.specs.TileSizes.{JoinedTile, IsJoinedTile, AreTilesOfWhole, place_of_tile}
 use Rattle.cell_join_law.specs.TileSizes.{numbers_of_tiles, sizes_of_tile, IsTileTable}
 use Rattle.cell_join_law.specs.TileSizes.{TileSizesCountCells, TileTablesGiveTheWhole}
 use Rattle.cell_join_law.proofs.NumberedTiles.{renumbered, cell-renumbered, number-here}
@@ -52,7 +52,7 @@ module _ (j : Joining) (whole numbered : Grid) (clumping : IsClumping j whole nu
       let p : Position = position row col in
       cell-renumbered t.there t.numbered.numbers p
       ∙ number-here j whole numbered clumping t.numbered.tile.map t.numbered.numbers is.clumping t.there p
-      (moved_position (place_of_tile t) p) (sym (is.cells.cells p high wide)) (λ k here. is.tells p k here)
+      (moved_position (place_of_tile t) p) (sym (is.cells.cells p high wide)) (λ k here. is.reports p k here)
   tile-part t is row col (suc place) high wide = refl
 
   tile-parts : (tiles : List JoinedTile) → All (IsJoinedTile j whole) tiles → All IsNumbersPart (map part_of tiles)
@@ -61,7 +61,7 @@ module _ (j : Joining) (whole numbered : Grid) (clumping : IsClumping j whole nu
       All-cons IsNumbersPart (part_of t) (map part_of tiles) (tile-part t (All-head (IsJoinedTile j whole) t tiles are))
       (tile-parts tiles (All-tail (IsJoinedTile j whole) t tiles are))
 
-  pub counts-in-tiles : (rows cols : ℕ) (tiles : List JoinedTile) → AreJoinedTiles j whole rows cols tiles →
+  pub counts-in-tiles : (rows cols : ℕ) (tiles : List JoinedTile) → AreTilesOfWhole j whole rows cols tiles →
       (k : Combination) →
       count_of k (cells_of numbered rows cols)
       ≡ sum_by (λ (part : Part). count_of k (combinations_of_part (0 ∷ []) part)) (map part_of tiles)

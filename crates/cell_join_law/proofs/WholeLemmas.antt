@@ -24,10 +24,10 @@ use Rattle.cell_join_law.specs.SizeLaw.{size_of_number, sizes_of_areas}
 use Rattle.cell_join_law.specs.NumberTables.{entries_from, entry_of_null, listed_sizes, number_table}
 use Rattle.cell_join_law.proofs.NumberTableLemmas.{entry-only, entry-there, numbers-are-listed}
 use Rattle.cell_join_lines.specs.declared.stretch.Stretch.{Stretch}
-use Rattle.cell_join_lines.specs.AreasText.{numbers_told, stretch_numbers, stretches_of}
-use Rattle.cell_join_lines.proofs.ToldLemmas.{numbers-are-told}
+use Rattle.cell_join_lines.specs.AreasText.{numbers_read, stretch_numbers, stretches_of}
+use Rattle.cell_join_lines.proofs.ReportedLemmas.{numbers-are-read}
 use Rattle.cell_join_sizes.specs.SizeTexts.{AreTablesOfBands, BandSizes, HasTally, HaveSizes, IsNullEntry, entries_of_areas, number_entries, stretch_areas}
-use Rattle.cell_join_sizes.proofs.TallyLemmas.{size-other, size-some, told-with-size}
+use Rattle.cell_join_sizes.proofs.TallyLemmas.{size-other, size-some, reported-with-size}
 use Rattle.cell_join_law.specs.ExistingSizes.{table_read}
 
 -- ---- the entries of numbers are listed as they are printed
@@ -47,15 +47,15 @@ numbers-list : (n : ℕ) (sizes : List ℕ) (others : Pairs) → listed_sizes (n
 numbers-list n [] others = refl
 numbers-list n (size ∷ sizes) others = ap (λ (l : List ℕ). size ∷ l) (numbers-list (n + 1) sizes others)
 
-areas-list : (stretches : List Stretch) (sizes : List ℕ) (nulls : Pairs) → length sizes ≡ length (numbers_told stretches) → IsNullEntry nulls
+areas-list : (stretches : List Stretch) (sizes : List ℕ) (nulls : Pairs) → length sizes ≡ length (numbers_read stretches) → IsNullEntry nulls
     → listed_sizes (entries_of_areas stretches sizes ++ nulls) ≡ sizes
 areas-list [] [] nulls many null = null-lists nulls null
 areas-list [] (size ∷ sizes) nulls many null = absurd (omega arith)
 areas-list (s ∷ stretches) sizes nulls many null =
     let n = stretch_areas s in
-    let long : length (numbers_told (s ∷ stretches)) ≡ n + length (numbers_told stretches) =
-    length-append (stretch_numbers s) (numbers_told stretches) ∙ ap (λ (k : ℕ). k + length (numbers_told stretches)) (length-range_with_len s.number n) in
-    let rest : length (drop n sizes) ≡ length (numbers_told stretches) = omega (arith, length-drop n sizes) in
+    let long : length (numbers_read (s ∷ stretches)) ≡ n + length (numbers_read stretches) =
+    length-append (stretch_numbers s) (numbers_read stretches) ∙ ap (λ (k : ℕ). k + length (numbers_read stretches)) (length-range_with_len s.number n) in
+    let rest : length (drop n sizes) ≡ length (numbers_read stretches) = omega (arith, length-drop n sizes) in
     ap listed_sizes (append_assoc (number_entries s.first (take n sizes)) (entries_of_areas stretches (drop n sizes)) nulls)
     ∙ numbers-list s.first (take n sizes) (entries_of_areas stretches (drop n sizes) ++ nulls)
     ∙ ap (λ (l : List ℕ). take n sizes ++ l) (areas-list stretches (drop n sizes) nulls rest null)
@@ -138,7 +138,7 @@ pub tally-of : (areas numbers : List ℕ) → length numbers ≡ sum areas → (
 tally-of areas numbers many tables sizes have =
     subst (λ (l : List ℕ). HasTally numbers l sizes) (parts-list 1 have.parts tables have.listed)
     (subst (λ (l : List ℕ). HasTally l (flat_map (λ (part : BandSizes). part.sizes) have.parts) sizes)
-    (numbers-are-told areas numbers many) have.tally)
+    (numbers-are-read areas numbers many) have.tally)
 
 -- where each number has in the whole as many cells as its sizes are together, they are listed as the table of the whole
 module _ (j : Joining) (whole numbered : Grid) (is : IsClumping j whole numbered)
@@ -204,4 +204,4 @@ has-size j whole numbered is filled areas has numbers sizes area n one most =
     let next : 1 + (n - 1) ≡ n = omega (arith, one) in
     let some : 0 < size_of_number numbered whole.region.rows whole.region.cols n =
     subst (λ (k : ℕ). 0 < size_of_number numbered whole.region.rows whole.region.cols k) next cell in
-    told-with-size n numbers sizes (subst (λ (k : ℕ). 0 < k) (area n one) some)
+    reported-with-size n numbers sizes (subst (λ (k : ℕ). 0 < k) (area n one) some)

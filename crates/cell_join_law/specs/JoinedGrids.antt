@@ -4,7 +4,7 @@ use Rattle.std.specs.List.{AllZip}
 use Rattle.cell_core_devices.specs.Device.{Coming}
 use Rattle.cell_core.specs.Grid.{Grid}
 use Rattle.cell_cats_areas.specs.declared.clump.Joining.{Joining}
-use Rattle.cell_cats_areas.specs.Areas.{HasNumber, Position, cell_at_spot}
+use Rattle.cell_cats_areas.specs.Areas.{HasNumber, Position, cell_at_position}
 use Rattle.cell_parts.specs.AreaParts.{moved_position}
 use Rattle.cell_join_lines.specs.AreasText.{areas_text, stretches_of}
 use Rattle.cell_join_numbers.specs.Labelled.{HasAreas}
@@ -36,7 +36,7 @@ clumps_before counts r c = sum (all_counts (take r counts)) + sum (take c (slice
 
 -- each cell of each tile has in the full map the number that stands for its own in the tile
 abbrev pub AreNumbersOfTiles : Joining → Grid → List (List NumberedTile) → List (List ℕ) → List ℕ → Type 0
-AreNumbersOfTiles j whole tiles counts numbers = (r c : ℕ) (row : List NumberedTile) (tile : NumberedTile) → slice_get tiles r ≡ Some row → slice_get row c ≡ Some tile → (p : Position) (k : ℕ) → cell_at_spot tile.numbers p ≡ Some (pos k) → HasNumber j whole (moved_position (tile_place (tile_heights tiles) (tile_widths tiles) r c) p) (slice_index numbers (clumps_before counts r c + (k - 1)))
+AreNumbersOfTiles j whole tiles counts numbers = (r c : ℕ) (row : List NumberedTile) (tile : NumberedTile) → slice_get tiles r ≡ Some row → slice_get row c ≡ Some tile → (p : Position) (k : ℕ) → cell_at_position tile.numbers p ≡ Some (pos k) → HasNumber j whole (moved_position (tile_place (tile_heights tiles) (tile_widths tiles) r c) p) (slice_index numbers (clumps_before counts r c + (k - 1)))
 
 -- the numbering of the clumps of tiles: the numbers that they have in the full map
 pub record IsNumberingOfGrid (j : Joining) (whole : Grid) (tiles : List (List NumberedTile)) (text : List ℕ) : Type 0 where

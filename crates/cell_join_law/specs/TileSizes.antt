@@ -4,7 +4,7 @@ use Rattle.std.specs.Prelude.{slice_index}
 use Rattle.std.specs.List.{AllZip}
 use Rattle.cell_core.specs.Grid.{Grid, IsFilled}
 use Rattle.cell_cats_areas.specs.declared.clump.Joining.{Joining}
-use Rattle.cell_cats_areas.specs.Areas.{Position, cell_at_spot, HasNumber, IsClumping}
+use Rattle.cell_cats_areas.specs.Areas.{Position, cell_at_position, HasNumber, IsClumping}
 use Rattle.cell_stats_counts.specs.declared.skip.Skip.{Skip}
 use Rattle.cell_stats.specs.CategoryTables.{Pairs, IsTable}
 use Rattle.cell_cats_law.specs.AreaLaw.{cells_of}
@@ -29,11 +29,11 @@ pub record IsJoinedTile (j : Joining) (whole : Grid) (t : JoinedTile) : Type 0 w
   pub cells : IsTile whole t.numbered.tile
   pub clumping : IsClumping j t.numbered.tile.map t.numbered.numbers
   pub areas : HasAreas j t.numbered.tile.map (length t.there)
-  pub tells : (p : Position) (k : ℕ) → cell_at_spot t.numbered.numbers p ≡ Some (pos k)
+  pub reports : (p : Position) (k : ℕ) → cell_at_position t.numbered.numbers p ≡ Some (pos k)
       → HasNumber j whole (moved_position (place_of_tile t) p) (slice_index t.there (k - 1))
 
 -- tiles that have each cell of so many rows and columns once
-pub record AreJoinedTiles (j : Joining) (whole : Grid) (rows cols : ℕ) (tiles : List JoinedTile) : Type 0 where
+pub record AreTilesOfWhole (j : Joining) (whole : Grid) (rows cols : ℕ) (tiles : List JoinedTile) : Type 0 where
   pub tiling : AreTiling rows cols (map place_of_tile tiles)
   pub joined : All (IsJoinedTile j whole) tiles
 
@@ -49,7 +49,7 @@ sizes_of_tile t =
 -- added up, they are the sizes of the clumps of the whole
 abbrev pub TileSizesCountCells : Type 0
 TileSizesCountCells = (j : Joining) (whole : Grid) (rows cols : ℕ) (tiles : List JoinedTile)
-    → AreJoinedTiles j whole rows cols tiles → (numbered : Grid) → IsClumping j whole numbered
+    → AreTilesOfWhole j whole rows cols tiles → (numbered : Grid) → IsClumping j whole numbered
     → (areas : ℕ) (sizes : List ℕ) → AddUp (numbers_of_tiles tiles) (flat_map sizes_of_tile tiles) areas sizes
     → sizes ≡ sizes_of_areas areas numbered rows cols
 
@@ -61,7 +61,7 @@ IsTileTable skip t table =
 -- the sizes that the tables of tiles list, joined, are the table of the numbers of the undivided map
 abbrev pub TileTablesGiveTheWhole : Type 0
 TileTablesGiveTheWhole = (j : Joining) (whole : Grid) (tiles : List JoinedTile)
-    → AreJoinedTiles j whole whole.region.rows whole.region.cols tiles → IsFilled whole.region whole.rows
+    → AreTilesOfWhole j whole whole.region.rows whole.region.cols tiles → IsFilled whole.region whole.rows
     → (skip : Skip) (tables : List Pairs) → AllZip (IsTileTable skip) tiles tables
     → (areas : ℕ) → HasAreas j whole areas → (sizes : List ℕ)
     → AddUp (numbers_of_tiles tiles) (flat_map listed_sizes tables) areas sizes

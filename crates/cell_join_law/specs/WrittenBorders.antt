@@ -5,7 +5,7 @@ use Rattle.cell_core_values.specs.Region.{RegionValue}
 use Rattle.cell_core.specs.Grid.{Grid}
 use Rattle.cell_ascii_meaning.specs.GridText.{Denotes}
 use Rattle.cell_cats_areas.specs.declared.clump.Joining.{Joining}
-use Rattle.cell_join_tiles.specs.Joined.{HasBorder}
+use Rattle.cell_join_tiles.specs.JoinedBorders.{HasBorder}
 use Rattle.cell_join_tiles.specs.Values.{border_value}
 use Rattle.cell_join_tiles.specs.declared.border.Border.{Border}
 use Rattle.cell_join_borders.specs.BorderFaults.{IsBorderFault}

@@ -12,7 +12,7 @@ use Rattle.cell_stats.specs.TableText.{FormatValue}
 use Rattle.cell_join_lines.specs.LineFields.{spelled_entry}
 use Rattle.cell_join_lines.specs.LineLabels.{before_count, labelled_in, labelled_in_lines, labelled_then}
 use Rattle.cell_join_lines.specs.LineLabels.{up_to_separator}
-use Rattle.cell_join_lines.specs.LineReading.{is_line_feed}
+use Rattle.cell_join_lines.specs.LineReading.{is_newline}
 use Rattle.cell_join_lines.specs.SourceLines.{IsFirstLine, LinesValue, first_line, lines_coming}
 use Rattle.cell_join_lines.specs.declared.table_fault.TableKind.{TableKind}
 use Rattle.cell_join_lines.specs.declared.table_fault.TableKind.TheVariants.{LongLine, CutOff, Read}
@@ -66,10 +66,10 @@ module _ (separator : ℕ) where
 
 module _ (format : FormatValue) where
   -- a line with others behind it
-  pub more-labelled : (line bytes : List ℕ) → labelled_in_lines format (line ∷ slice_split is_line_feed bytes)
+  pub more-labelled : (line bytes : List ℕ) → labelled_in_lines format (line ∷ slice_split is_newline bytes)
       ≡ labelled_then format line (spelled_entry format line) (labelled_in format bytes)
   more-labelled line [] = refl
-  more-labelled line (b ∷ bs) = by (is_line_feed b) (slice_split is_line_feed bs)
+  more-labelled line (b ∷ bs) = by (is_newline b) (slice_split is_newline bs)
     where
       by : (t : Bool) (parts : List (List ℕ))
           → labelled_in_lines format (line ∷ cond t ([] ∷ parts) (onto_first b parts))
@@ -79,10 +79,10 @@ module _ (format : FormatValue) where
       by false [] = refl
       by false (part ∷ parts) = refl
 
-  abbrev told-part : List ℕ × Coming → Result (Option (List ℕ × Coming)) TableKind → List ℕ × Coming
-  told-part other (Err kind) = other
-  told-part other (Ok None) = other
-  told-part other (Ok (Some part)) = part
+  abbrev reported-part : List ℕ × Coming → Result (Option (List ℕ × Coming)) TableKind → List ℕ × Coming
+  reported-part other (Err kind) = other
+  reported-part other (Ok None) = other
+  reported-part other (Ok (Some part)) = part
 
   abbrev AreLines : Coming → List ℕ → Coming → Type 0
   AreLines coming line rest = labelled_in format coming.bytes
@@ -90,26 +90,26 @@ module _ (format : FormatValue) where
 
   cut-labelled : (coming rest : Coming) (line : List ℕ) → first_line coming ≡ Ok (Some (line, rest))
       → AreLines coming line rest
-  cut-labelled coming rest line is = by (nat_lt MOST_BYTES (length (before_first is_line_feed coming.bytes)))
-      (nat_lt (position_or_len is_line_feed coming.bytes) (length coming.bytes)) coming.fails
+  cut-labelled coming rest line is = by (nat_lt MOST_BYTES (length (before_first is_newline coming.bytes)))
+      (nat_lt (position_or_len is_newline coming.bytes) (length coming.bytes)) coming.fails
       (length coming.bytes == 0)
-      (λ t. ltb-true (position_or_len is_line_feed coming.bytes) (length coming.bytes) t) is
+      (λ t. ltb-true (position_or_len is_newline coming.bytes) (length coming.bytes) t) is
     where
       whole-line : Result (Option (List ℕ × Coming)) TableKind
       whole-line = Ok (Some (
-        before_first is_line_feed coming.bytes,
-        record { bytes = after_first is_line_feed coming.bytes; fails = coming.fails },
+        before_first is_newline coming.bytes,
+        record { bytes = after_first is_newline coming.bytes; fails = coming.fails },
       ))
 
       by : (long some fails none : Bool)
-          → (some ≡ true → position_or_len is_line_feed coming.bytes < length coming.bytes)
+          → (some ≡ true → position_or_len is_newline coming.bytes < length coming.bytes)
           → cond long (Err LongLine) (cond some whole-line (cond fails (Err Read) (cond none (Ok None) (Err CutOff))))
           ≡ Ok (Some (line, rest)) → AreLines coming line rest
       by true some fails none within e = cc
       by false true fails none within e =
-          let parts = ap (told-part (line, rest)) e in
-          ap (labelled_in_lines format) (slice_split_first is_line_feed coming.bytes 0 (within refl))
-          ∙ more-labelled (before_first is_line_feed coming.bytes) (after_first is_line_feed coming.bytes)
+          let parts = ap (reported-part (line, rest)) e in
+          ap (labelled_in_lines format) (slice_split_first is_newline coming.bytes 0 (within refl))
+          ∙ more-labelled (before_first is_newline coming.bytes) (after_first is_newline coming.bytes)
           ∙ (λ i. labelled_then format (parts i).0 (spelled_entry format (parts i).0)
           (labelled_in format ((parts i).1).bytes))
       by false false true none within e = cc

@@ -6,5 +6,5 @@ pub mod LinePartLemmas
 pub mod PlaceLemmas
 pub mod SequenceLemmas
 pub mod TextLemmas
-pub mod ToldLemmas
+pub mod ReportedLemmas
 pub mod WritingLemmas

@@ -18,8 +18,8 @@ next-number : (n m count : ℕ) → n ≡ min (count + 2) (2 ^ 64 - 1) → m ≡
     → m ≡ min ((count + 1) + 2) (2 ^ 64 - 1)
 next-number n m count is next = omega (arith, is, next)
 
-told-number : (n m count : ℕ) → n ≡ min (count + 2) (2 ^ 64 - 1) → m ≡ n - 1 → m ≡ min (count + 1) (2 ^ 64 - 2)
-told-number n m count is told = omega (arith, is, told)
+reported-number : (n m count : ℕ) → n ≡ min (count + 2) (2 ^ 64 - 1) → m ≡ n - 1 → m ≡ min (count + 1) (2 ^ 64 - 2)
+reported-number n m count is reported = omega (arith, is, reported)
 
 module _ (format : FormatValue) where
   abbrev labelled_by : List ℕ → Combination × ℕ → Labelled
@@ -85,5 +85,5 @@ module _ (format : FormatValue) where
         before = was.passed;
         behind = at.behind;
         is = was.is ∙ ap (λ ls. was.passed ++ ls) (at.lines ∙ ap (λ (l : Labelled). l ∷ at.behind) same);
-        numbered = told-number text.number n (length was.passed) was.number number;
+        numbered = reported-number text.number n (length was.passed) was.number number;
       }

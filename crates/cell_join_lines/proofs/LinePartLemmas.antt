@@ -10,7 +10,7 @@ use Rattle.std.specs.List.{position_or_len, before_first, after_first}
 use Rattle.std.specs.Option.{option_map}
 use Rattle.std.specs.Prelude.{IfSome}
 use Rattle.cell_core_devices.specs.Device.{Coming}
-use Rattle.cell_join_lines.specs.LineReading.{is_line_feed}
+use Rattle.cell_join_lines.specs.LineReading.{is_newline}
 use Rattle.cell_join_lines.specs.SourceLines.{LinesValue, IsFirstLine, IsPassed, held_before, first_line, lines_coming}
 use Rattle.cell_join_lines.specs.declared.table_fault.TableKind.{TableKind}
 use Rattle.cell_join_lines.specs.declared.table_fault.TableKind.TheVariants.{LongLine, CutOff, Read}
@@ -67,50 +67,50 @@ module _ (p : ℕ → Bool) where
       cases_lt-then m n most other = ⊎_elim (λ less. omega arith) (λ more. absurd (other (omega arith))) (cases_lt m n)
 
 -- the first line of what is to come
-first-long : (coming : Coming) → MOST_BYTES < length (before_first is_line_feed coming.bytes) → first_line coming ≡ Err LongLine
-first-long coming h = ap (λ t. cond t (Err LongLine) (cond (nat_lt (position_or_len is_line_feed coming.bytes) (length coming.bytes)) (Ok (Some (before_first is_line_feed coming.bytes, record { bytes = after_first is_line_feed coming.bytes; fails = coming.fails }))) (cond coming.fails (Err Read) (cond (length coming.bytes == 0) (Ok None) (Err CutOff))))) (lt-ltb MOST_BYTES (length (before_first is_line_feed coming.bytes)) h)
+first-long : (coming : Coming) → MOST_BYTES < length (before_first is_newline coming.bytes) → first_line coming ≡ Err LongLine
+first-long coming h = ap (λ t. cond t (Err LongLine) (cond (nat_lt (position_or_len is_newline coming.bytes) (length coming.bytes)) (Ok (Some (before_first is_newline coming.bytes, record { bytes = after_first is_newline coming.bytes; fails = coming.fails }))) (cond coming.fails (Err Read) (cond (length coming.bytes == 0) (Ok None) (Err CutOff))))) (lt-ltb MOST_BYTES (length (before_first is_newline coming.bytes)) h)
 
-abbrev Told : Type 0
-Told = Result (Option (List ℕ × Coming)) TableKind
+abbrev Reported : Type 0
+Reported = Result (Option (List ℕ × Coming)) TableKind
 
-abbrev whole_line : List ℕ → Coming → Told
+abbrev whole_line : List ℕ → Coming → Reported
 whole_line line rest = cond (nat_lt MOST_BYTES (length line)) (Err LongLine) (Ok (Some (line, rest)))
 
-first-whole : (coming : Coming) (line after : List ℕ) → before_first is_line_feed coming.bytes ≡ line → after_first is_line_feed coming.bytes ≡ after → position_or_len is_line_feed coming.bytes < length coming.bytes → first_line coming ≡ whole_line line (record { bytes = after; fails = coming.fails })
+first-whole : (coming : Coming) (line after : List ℕ) → before_first is_newline coming.bytes ≡ line → after_first is_newline coming.bytes ≡ after → position_or_len is_newline coming.bytes < length coming.bytes → first_line coming ≡ whole_line line (record { bytes = after; fails = coming.fails })
 first-whole coming line after before behind h =
-    ap (λ t. cond (nat_lt MOST_BYTES (length (before_first is_line_feed coming.bytes))) (Err LongLine) (cond t (Ok (Some (before_first is_line_feed coming.bytes, record { bytes = after_first is_line_feed coming.bytes; fails = coming.fails }))) (cond coming.fails (Err Read) (cond (length coming.bytes == 0) (Ok None) (Err CutOff))))) (lt-ltb (position_or_len is_line_feed coming.bytes) (length coming.bytes) h)
+    ap (λ t. cond (nat_lt MOST_BYTES (length (before_first is_newline coming.bytes))) (Err LongLine) (cond t (Ok (Some (before_first is_newline coming.bytes, record { bytes = after_first is_newline coming.bytes; fails = coming.fails }))) (cond coming.fails (Err Read) (cond (length coming.bytes == 0) (Ok None) (Err CutOff))))) (lt-ltb (position_or_len is_newline coming.bytes) (length coming.bytes) h)
     ∙ (λ i. whole_line (before i) (record { bytes = behind i; fails = coming.fails }))
 
 abbrev lf : List ℕ → ℕ
-lf bytes = position_or_len is_line_feed bytes
+lf bytes = position_or_len is_newline bytes
 
 if-some : (o x : Option Coming) → option_map first_line o ≡ option_map (λ rest. Err LongLine) x → IfSome o (λ coming. first_line coming ≡ Err LongLine)
 if-some None x e = tt
 if-some (Some c) None e = cc
 if-some (Some c) (Some d) e = cc
 
-from-told : (two : LinesValue) (old : Option Coming) (t : Bool) → option_map first_line old ≡ option_map (λ rest. cond t (Err LongLine) (Ok (Some (two.line, rest)))) (lines_coming two) → IsFirstLine old (cond t (Err LongLine) (Ok true)) two
-from-told two old true e = λ n. if-some old (lines_coming two) e
-from-told two old false e = e
+from-reported : (two : LinesValue) (old : Option Coming) (t : Bool) → option_map first_line old ≡ option_map (λ rest. cond t (Err LongLine) (Ok (Some (two.line, rest)))) (lines_coming two) → IsFirstLine old (cond t (Err LongLine) (Ok true)) two
+from-reported two old true e = λ n. if-some old (lines_coming two) e
+from-reported two old false e = e
 
 -- a line feed among the bytes held
-pub whole-told : (old : Option Coming) (one two : LinesValue) (r : Result Bool TableKind) → lf one.line ≡ length one.line → old ≡ option_map (held_before one.line) (lines_coming one) → IsPassed one true two → two.rest ≡ one.rest → r ≡ cond (nat_lt MOST_BYTES (length two.line)) (Err LongLine) (Ok true) → IsFirstLine old r two
-whole-told old one two r clean is passed same told =
-    subst (λ (x : Result Bool TableKind). IsFirstLine old x two) (sym told) (from-told two old (nat_lt MOST_BYTES (length two.line)) (ap (option_map first_line) is ∙ by one.rest ∙ ap (λ o. option_map (whole_line two.line) (option_map (held_before two.held) o)) (sym same)))
+pub whole-reported : (old : Option Coming) (one two : LinesValue) (r : Result Bool TableKind) → lf one.line ≡ length one.line → old ≡ option_map (held_before one.line) (lines_coming one) → IsPassed one true two → two.rest ≡ one.rest → r ≡ cond (nat_lt MOST_BYTES (length two.line)) (Err LongLine) (Ok true) → IsFirstLine old r two
+whole-reported old one two r clean is passed same reported =
+    subst (λ (x : Result Bool TableKind). IsFirstLine old x two) (sym reported) (from-reported two old (nat_lt MOST_BYTES (length two.line)) (ap (option_map first_line) is ∙ by one.rest ∙ ap (λ o. option_map (whole_line two.line) (option_map (held_before two.held) o)) (sym same)))
   where
     by : (o : Option Coming) → option_map first_line (option_map (held_before one.line) (option_map (held_before one.held) o)) ≡ option_map (whole_line two.line) (option_map (held_before two.held) o)
     by None = refl
     by (Some c) =
         let bytes = one.held ++ c.bytes in
-        let before = before-behind is_line_feed one.line bytes clean ∙ ap (λ part. one.line ++ part) (before-within is_line_feed one.held c.bytes passed.0) ∙ sym passed.1 in
-        let behind = after-behind is_line_feed one.line bytes clean ∙ after-within is_line_feed one.held c.bytes passed.0 ∙ ap (λ part. part ++ c.bytes) (sym passed.2) in
-        let place = place-behind is_line_feed one.line bytes clean ∙ ap (λ n. length one.line + n) (place-within is_line_feed one.held c.bytes passed.0) in
-        let most : lf one.held < length one.held = ⊎_elim (λ less. less) (λ more. absurd (passed.0 (let l = low is_line_feed one.held in omega arith))) (cases_lt (lf one.held) (length one.held)) in
+        let before = before-behind is_newline one.line bytes clean ∙ ap (λ part. one.line ++ part) (before-within is_newline one.held c.bytes passed.0) ∙ sym passed.1 in
+        let behind = after-behind is_newline one.line bytes clean ∙ after-within is_newline one.held c.bytes passed.0 ∙ ap (λ part. part ++ c.bytes) (sym passed.2) in
+        let place = place-behind is_newline one.line bytes clean ∙ ap (λ n. length one.line + n) (place-within is_newline one.held c.bytes passed.0) in
+        let most : lf one.held < length one.held = ⊎_elim (λ less. less) (λ more. absurd (passed.0 (let l = low is_newline one.held in omega arith))) (cases_lt (lf one.held) (length one.held)) in
         ap Some (first-whole (held_before one.line (held_before one.held c)) two.line (two.held ++ c.bytes) before behind (omega (arith, place, length-append one.line bytes, length-append one.held c.bytes, most)))
 
 -- none among them
 pub part-clean : (one two : LinesValue) → lf one.line ≡ length one.line → IsPassed one false two → lf two.line ≡ length two.line
-part-clean one two clean passed = ap lf passed.1 ∙ place-behind is_line_feed one.line one.held clean ∙ ap (λ n. length one.line + n) passed.0 ∙ sym (length-append one.line one.held) ∙ ap length (sym passed.1)
+part-clean one two clean passed = ap lf passed.1 ∙ place-behind is_newline one.line one.held clean ∙ ap (λ n. length one.line + n) passed.0 ∙ sym (length-append one.line one.held) ∙ ap length (sym passed.1)
 
 pub part-same : (old : Option Coming) (one two : LinesValue) → old ≡ option_map (held_before one.line) (lines_coming one) → IsPassed one false two → two.rest ≡ one.rest → old ≡ option_map (held_before two.line) (lines_coming two)
 part-same old one two is passed same = is ∙ by one.rest ∙ ap (λ o. option_map (held_before two.line) (option_map (held_before two.held) o)) (sym same)
@@ -123,9 +123,9 @@ part-same old one two is passed same = is ∙ by one.rest ∙ ap (λ o. option_m
         ap (λ (all : List ℕ). let o : Option Coming = Some (record { bytes = all; fails = c.fails }) in o) bytes
 
 -- more bytes than a line may have
-pub long-told : (old : Option Coming) (one : LinesValue) → lf one.line ≡ length one.line → old ≡ option_map (held_before one.line) (lines_coming one) → MOST_BYTES < length one.line → IfSome old (λ coming. first_line coming ≡ Err LongLine)
-long-told old one clean is most = subst (λ (o : Option Coming). IfSome o (λ coming. first_line coming ≡ Err LongLine)) (sym is) (by (lines_coming one))
+pub long-reported : (old : Option Coming) (one : LinesValue) → lf one.line ≡ length one.line → old ≡ option_map (held_before one.line) (lines_coming one) → MOST_BYTES < length one.line → IfSome old (λ coming. first_line coming ≡ Err LongLine)
+long-reported old one clean is most = subst (λ (o : Option Coming). IfSome o (λ coming. first_line coming ≡ Err LongLine)) (sym is) (by (lines_coming one))
   where
     by : (o : Option Coming) → IfSome (option_map (held_before one.line) o) (λ coming. first_line coming ≡ Err LongLine)
     by None = tt
-    by (Some c) = first-long (held_before one.line c) (omega (arith, most, ap length (before-behind is_line_feed one.line c.bytes clean), length-append one.line (before_first is_line_feed c.bytes)))
+    by (Some c) = first-long (held_before one.line c) (omega (arith, most, ap length (before-behind is_newline one.line c.bytes clean), length-append one.line (before_first is_newline c.bytes)))

@@ -12,14 +12,14 @@ use Rattle.cell_join_lines.specs.declared.stretch.Stretch.{Stretch}
 use Rattle.cell_join_lines.specs.declared.areas_fault.AreasKind.{AreasKind}
 use Rattle.cell_join_lines.specs.declared.areas_fault.AreasKind.TheVariants.{NotNumbers, Reversed, NotNext}
 
-told : (own kind : AreasKind) → is_read_areas own ≡ false → own ≡ kind → is_read_areas kind ≡ false
-told own kind unread same = subst (λ (k : AreasKind). is_read_areas k ≡ false) same unread
+reported : (own kind : AreasKind) → is_read_areas own ≡ false → own ≡ kind → is_read_areas kind ≡ false
+reported own kind unread same = subst (λ (k : AreasKind). is_read_areas k ≡ false) same unread
 
 stretch-unread : (band first last : Option ℕ) (n : ℕ) (kind : AreasKind) → stretch_if band first last n ≡ Err kind
     → is_read_areas kind ≡ false
-stretch-unread None first last n kind is = told NotNumbers kind refl cc
-stretch-unread (Some band) None last n kind is = told NotNumbers kind refl cc
-stretch-unread (Some band) (Some first) None n kind is = told NotNumbers kind refl cc
+stretch-unread None first last n kind is = reported NotNumbers kind refl cc
+stretch-unread (Some band) None last n kind is = reported NotNumbers kind refl cc
+stretch-unread (Some band) (Some first) None n kind is = reported NotNumbers kind refl cc
 stretch-unread (Some band) (Some first) (Some last) n kind is = cc
 
 sequence-unread : (before : Option Stretch) (s : Stretch) (kind : AreasKind) → in_sequence before s ≡ Err kind
@@ -28,9 +28,9 @@ sequence-unread before s kind is = by (nat_lt s.last s.first) (comes_next before
   where
     by : (reversed next : Bool) → cond reversed (Err Reversed) (cond next (Ok s) (Err NotNext)) ≡ Err kind
         → is_read_areas kind ≡ false
-    by true next e = told Reversed kind refl cc
+    by true next e = reported Reversed kind refl cc
     by false true e = cc
-    by false false e = told NotNext kind refl cc
+    by false false e = reported NotNext kind refl cc
 
 pub head-unread : (before : Option Stretch) (head : Option (Combination × ℕ)) (kind : AreasKind)
     → stretch_of_head before head ≡ Err kind → is_read_areas kind ≡ false
@@ -47,7 +47,7 @@ head-unread before (Some entry) kind is = by (stretch_of_entry entry)
 
     by : (r : Result Stretch AreasKind) → ((own : AreasKind) → r ≡ Err own → is_read_areas own ≡ false)
         → head_if (r >>= in_sequence before) ≡ Err kind → is_read_areas kind ≡ false
-    by (Err own) unread e = told own kind (unread own refl) cc
+    by (Err own) unread e = reported own kind (unread own refl) cc
     by (Ok s) unread e = then s (in_sequence before s) refl e
 
 -- a text whose first line spells no run

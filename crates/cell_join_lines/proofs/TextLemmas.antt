@@ -18,7 +18,7 @@ use Rattle.cell_core_values.specs.Answers.{◌>>=◌}
 use Rattle.cell_stats_counts.specs.Combinations.{Combination, combination_cmp}
 use Rattle.cell_stats.specs.TableText.{FormatValue}
 use Rattle.cell_join_lines.specs.LineFields.{spelled_entry}
-use Rattle.cell_join_lines.specs.LineReading.{TableReading, at_text_end, ended, in_order, is_as_wide, is_line_feed}
+use Rattle.cell_join_lines.specs.LineReading.{TableReading, at_text_end, ended, in_order, is_as_wide, is_newline}
 use Rattle.cell_join_lines.specs.LineReading.{line_after, next_entry, ordered_entry, reading_of_lines}
 use Rattle.cell_join_lines.specs.LineReading.{reading_of_rest, stopped, then_reads, with_entry}
 use Rattle.cell_join_lines.specs.SourceLines.{LinesValue, IsFirstLine, first_line, lines_coming}
@@ -36,9 +36,9 @@ module _ (format : FormatValue) (width number : ℕ) (last : Option Combination)
   one_line fails line lines = cond (nat_lt MOST_BYTES (length line)) (stopped number LongLine) (then_reads number (next_entry format width last line) (λ entry. reading_of_lines format width fails (line_after number) (Some entry.0) lines))
 
   -- a line with others behind it
-  pub more-lines : (fails : Bool) (line bytes : List ℕ) → by_lines fails (line ∷ slice_split is_line_feed bytes) ≡ one_line fails line (slice_split is_line_feed bytes)
+  pub more-lines : (fails : Bool) (line bytes : List ℕ) → by_lines fails (line ∷ slice_split is_newline bytes) ≡ one_line fails line (slice_split is_newline bytes)
   more-lines fails line [] = refl
-  more-lines fails line (b ∷ bs) = by (is_line_feed b) (slice_split is_line_feed bs)
+  more-lines fails line (b ∷ bs) = by (is_newline b) (slice_split is_newline bs)
     where
       by : (t : Bool) (parts : List (List ℕ)) → by_lines fails (line ∷ cond t ([] ∷ parts) (onto_first b parts)) ≡ one_line fails line (cond t ([] ∷ parts) (onto_first b parts))
       by true parts = refl
@@ -46,7 +46,7 @@ module _ (format : FormatValue) (width number : ℕ) (last : Option Combination)
       by false (part ∷ parts) = refl
 
   abbrev whole : Coming → Result (Option (List ℕ × Coming)) TableKind
-  whole coming = Ok (Some (before_first is_line_feed coming.bytes, record { bytes = after_first is_line_feed coming.bytes; fails = coming.fails }))
+  whole coming = Ok (Some (before_first is_newline coming.bytes, record { bytes = after_first is_newline coming.bytes; fails = coming.fails }))
 
   abbrev broken : Coming → Result (Option (List ℕ × Coming)) TableKind
   broken coming = cond coming.fails (Err Read) (cond (length coming.bytes == 0) (Ok None) (Err CutOff))
@@ -68,23 +68,23 @@ module _ (format : FormatValue) (width number : ℕ) (last : Option Combination)
       by false = refl
 
   pub by-first : (coming : Coming) → reading_of_rest format width number last coming ≡ reading_by format width number last (first_line coming)
-  by-first coming = ⊎_elim some none (cases_lt (position_or_len is_line_feed coming.bytes) (length coming.bytes))
+  by-first coming = ⊎_elim some none (cases_lt (position_or_len is_newline coming.bytes) (length coming.bytes))
     where
-      some : position_or_len is_line_feed coming.bytes < length coming.bytes → reading_of_rest format width number last coming ≡ reading_by format width number last (first_line coming)
+      some : position_or_len is_newline coming.bytes < length coming.bytes → reading_of_rest format width number last coming ≡ reading_by format width number last (first_line coming)
       some h =
-          ap (by_lines coming.fails) (slice_split_first is_line_feed coming.bytes 0 h)
-          ∙ more-lines coming.fails (before_first is_line_feed coming.bytes) (after_first is_line_feed coming.bytes)
-          ∙ pick coming (nat_lt MOST_BYTES (length (before_first is_line_feed coming.bytes)))
-          ∙ ap (λ t. reading_by format width number last (by_tests coming (nat_lt MOST_BYTES (length (before_first is_line_feed coming.bytes))) t)) (sym (lt-ltb (position_or_len is_line_feed coming.bytes) (length coming.bytes) h))
+          ap (by_lines coming.fails) (slice_split_first is_newline coming.bytes 0 h)
+          ∙ more-lines coming.fails (before_first is_newline coming.bytes) (after_first is_newline coming.bytes)
+          ∙ pick coming (nat_lt MOST_BYTES (length (before_first is_newline coming.bytes)))
+          ∙ ap (λ t. reading_by format width number last (by_tests coming (nat_lt MOST_BYTES (length (before_first is_newline coming.bytes))) t)) (sym (lt-ltb (position_or_len is_newline coming.bytes) (length coming.bytes) h))
 
-      none : length coming.bytes ≤ position_or_len is_line_feed coming.bytes → reading_of_rest format width number last coming ≡ reading_by format width number last (first_line coming)
+      none : length coming.bytes ≤ position_or_len is_newline coming.bytes → reading_of_rest format width number last coming ≡ reading_by format width number last (first_line coming)
       none h =
-          let at : position_or_len is_line_feed coming.bytes ≡ length coming.bytes = (let most = prefix_len-le-length (λ b. not (is_line_feed b)) coming.bytes in omega arith) in
-          let all : coming.bytes ≡ before_first is_line_feed coming.bytes = sym (take-length coming.bytes) ∙ ap (λ n. take n coming.bytes) (sym at) in
-          ap (by_lines coming.fails) (split-none is_line_feed coming.bytes at)
+          let at : position_or_len is_newline coming.bytes ≡ length coming.bytes = (let most = prefix_len-le-length (λ b. not (is_newline b)) coming.bytes in omega arith) in
+          let all : coming.bytes ≡ before_first is_newline coming.bytes = sym (take-length coming.bytes) ∙ ap (λ n. take n coming.bytes) (sym at) in
+          ap (by_lines coming.fails) (split-none is_newline coming.bytes at)
           ∙ end coming.fails coming.bytes (nat_lt MOST_BYTES (length coming.bytes))
           ∙ ap (λ (bytes : List ℕ). reading_by format width number last (cond (nat_lt MOST_BYTES (length bytes)) (Err LongLine) (broken coming))) all
-          ∙ ap (λ t. reading_by format width number last (by_tests coming (nat_lt MOST_BYTES (length (before_first is_line_feed coming.bytes))) t)) (sym (le-ltb (position_or_len is_line_feed coming.bytes) (length coming.bytes) h))
+          ∙ ap (λ t. reading_by format width number last (by_tests coming (nat_lt MOST_BYTES (length (before_first is_newline coming.bytes))) t)) (sym (le-ltb (position_or_len is_newline coming.bytes) (length coming.bytes) h))
 
   -- the same of a text that may be known
   pub by-first-known : (known : Option Coming) → option_map (reading_of_rest format width number last) known ≡ option_map (reading_by format width number last) (option_map first_line known)
@@ -107,15 +107,15 @@ module _ (format : FormatValue) (width number : ℕ) (last : Option Combination)
     pub end-read : IsFirstLine old (Ok false) new → option_map (reading_of_rest format width number last) old ≡ option_map (λ rest. ended) (lines_coming new)
     end-read first = by-first-known old ∙ ap (option_map (reading_by format width number last)) first ∙ twice (reading_by format width number last) (λ rest. Ok None) (lines_coming new)
 
-    told : (kind : TableKind) (o : Option TableReading) (x : Option Coming) → o ≡ option_map (λ rest. stopped number kind) x → IfSome o (λ reading. reading ≡ stopped number kind)
-    told kind None x e = tt
-    told kind (Some r) None e = cc
-    told kind (Some r) (Some c) e = cc
+    reported : (kind : TableKind) (o : Option TableReading) (x : Option Coming) → o ≡ option_map (λ rest. stopped number kind) x → IfSome o (λ reading. reading ≡ stopped number kind)
+    reported kind None x e = tt
+    reported kind (Some r) None e = cc
+    reported kind (Some r) (Some c) e = cc
 
     -- one was read that spells no entry
     pub line-refused : (kind : TableKind) → IsFirstLine old (Ok true) new → next_entry format width last new.line ≡ Err kind → IfSome (option_map (reading_of_rest format width number last) old) (λ reading. reading ≡ stopped number kind)
     line-refused kind first is =
-        told kind (option_map (reading_of_rest format width number last) old) (lines_coming new) (by-first-known old ∙ ap (option_map (reading_by format width number last)) first
+        reported kind (option_map (reading_of_rest format width number last) old) (lines_coming new) (by-first-known old ∙ ap (option_map (reading_by format width number last)) first
         ∙ twice (reading_by format width number last) (λ rest. Ok (Some (new.line, rest))) (lines_coming new)
         ∙ ap (λ r. option_map (λ rest. then_reads number r (λ entry. reading_of_rest format width (line_after number) (Some entry.0) rest)) (lines_coming new)) is)
 
@@ -126,62 +126,62 @@ module _ (format : FormatValue) (width number : ℕ) (last : Option Combination)
 
 -- ---- the bytes of a line
 
-line-feed-at : (bytes : List ℕ) → position_or_len is_line_feed bytes < length bytes
-    → bytes ≡ (before_first is_line_feed bytes ++ 10 ∷ []) ++ after_first is_line_feed bytes
+line-feed-at : (bytes : List ℕ) → position_or_len is_newline bytes < length bytes
+    → bytes ≡ (before_first is_newline bytes ++ 10 ∷ []) ++ after_first is_newline bytes
 line-feed-at bytes h =
-    let at = position_or_len is_line_feed bytes in
-    let feed : is_line_feed (get_or bytes at 0) ≡ true = not-not (is_line_feed (get_or bytes at 0)) (prefix_len_stops
-    (λ b. not (is_line_feed b)) bytes 0 h) in
+    let at = position_or_len is_newline bytes in
+    let feed : is_newline (get_or bytes at 0) ≡ true = not-not (is_newline (get_or bytes at 0)) (prefix_len_stops
+    (λ b. not (is_newline b)) bytes 0 h) in
     let is : get_or bytes at 0 ≡ 10 = (Decides-eqb (get_or bytes at 0) 10).0 feed in
-    split_at_first is_line_feed bytes 0 h
-    ∙ ap (λ (b : ℕ). before_first is_line_feed bytes ++ (b ∷ after_first is_line_feed bytes)) is
-    ∙ sym (append_assoc (before_first is_line_feed bytes) (10 ∷ []) (after_first is_line_feed bytes))
+    split_at_first is_newline bytes 0 h
+    ∙ ap (λ (b : ℕ). before_first is_newline bytes ++ (b ∷ after_first is_newline bytes)) is
+    ∙ sym (append_assoc (before_first is_newline bytes) (10 ∷ []) (after_first is_newline bytes))
   where
     not-not : (t : Bool) → not t ≡ false → t ≡ true
     not-not true e = refl
     not-not false e = cc
 
-abbrev told-part : List ℕ × Coming → Result (Option (List ℕ × Coming)) TableKind → List ℕ × Coming
-told-part other (Err kind) = other
-told-part other (Ok None) = other
-told-part other (Ok (Some part)) = part
+abbrev reported-part : List ℕ × Coming → Result (Option (List ℕ × Coming)) TableKind → List ℕ × Coming
+reported-part other (Err kind) = other
+reported-part other (Ok None) = other
+reported-part other (Ok (Some part)) = part
 
 cut-line : (coming rest : Coming) (line : List ℕ) → first_line coming ≡ Ok (Some (line, rest))
     → coming.bytes ≡ (line ++ 10 ∷ []) ++ rest.bytes
-cut-line coming rest line is = by (nat_lt MOST_BYTES (length (before_first is_line_feed coming.bytes))) (nat_lt
-    (position_or_len is_line_feed coming.bytes) (length coming.bytes)) coming.fails (length coming.bytes == 0) (λ t.
-    ltb-true (position_or_len is_line_feed coming.bytes) (length coming.bytes) t) is
+cut-line coming rest line is = by (nat_lt MOST_BYTES (length (before_first is_newline coming.bytes))) (nat_lt
+    (position_or_len is_newline coming.bytes) (length coming.bytes)) coming.fails (length coming.bytes == 0) (λ t.
+    ltb-true (position_or_len is_newline coming.bytes) (length coming.bytes) t) is
   where
     whole-line : Result (Option (List ℕ × Coming)) TableKind
     whole-line = Ok (Some (
-      before_first is_line_feed coming.bytes,
+      before_first is_newline coming.bytes,
       record {
-        bytes = after_first is_line_feed
+        bytes = after_first is_newline
             coming.bytes;
         fails = coming.fails;
       },
     ))
 
-    by : (long some fails none : Bool) → (some ≡ true → position_or_len is_line_feed coming.bytes < length
+    by : (long some fails none : Bool) → (some ≡ true → position_or_len is_newline coming.bytes < length
         coming.bytes) → cond long (Err LongLine) (cond some whole-line (cond fails (Err Read) (cond none (Ok None)
         (Err CutOff)))) ≡ Ok (Some (line, rest)) → coming.bytes ≡ (line ++ 10 ∷ []) ++ rest.bytes
     by true some fails none within e = cc
     by false true fails none within e =
-        let parts = ap (told-part (line, rest)) e in
+        let parts = ap (reported-part (line, rest)) e in
         line-feed-at coming.bytes (within refl) ∙ (λ i. ((parts i).0 ++ 10 ∷ []) ++ ((parts i).1).bytes)
     by false false true none within e = cc
     by false false false true within e = cc
     by false false false false within e = cc
 
 pub cut-end : (coming : Coming) → first_line coming ≡ Ok None → coming.bytes ≡ []
-cut-end coming is = by (nat_lt MOST_BYTES (length (before_first is_line_feed coming.bytes))) (nat_lt (position_or_len
-    is_line_feed coming.bytes) (length coming.bytes)) coming.fails (length coming.bytes == 0) refl is
+cut-end coming is = by (nat_lt MOST_BYTES (length (before_first is_newline coming.bytes))) (nat_lt (position_or_len
+    is_newline coming.bytes) (length coming.bytes)) coming.fails (length coming.bytes == 0) refl is
   where
     whole-line : Result (Option (List ℕ × Coming)) TableKind
     whole-line = Ok (Some (
-      before_first is_line_feed coming.bytes,
+      before_first is_newline coming.bytes,
       record {
-        bytes = after_first is_line_feed
+        bytes = after_first is_newline
             coming.bytes;
         fails = coming.fails;
       },

@@ -41,9 +41,9 @@ stretches_of areas numbers = stretches_from 1 areas numbers
 abbrev pub stretch_numbers : Stretch → List ℕ
 stretch_numbers s = range_with_len s.number (s.last + 1 - s.first)
 
-abbrev pub numbers_told : List Stretch → List ℕ
-numbers_told stretches = flat_map stretch_numbers stretches
+abbrev pub numbers_read : List Stretch → List ℕ
+numbers_read stretches = flat_map stretch_numbers stretches
 
 -- the runs of tiles tell their numbers, where there is one for each clump
-abbrev pub NumbersAreTold : Type 0
-NumbersAreTold = (areas numbers : List ℕ) → length numbers ≡ sum areas → numbers_told (stretches_of areas numbers) ≡ numbers
+abbrev pub NumbersAreRead : Type 0
+NumbersAreRead = (areas numbers : List ℕ) → length numbers ≡ sum areas → numbers_read (stretches_of areas numbers) ≡ numbers

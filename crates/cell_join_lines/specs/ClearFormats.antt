@@ -5,17 +5,17 @@ use Rattle.cell_core_values.specs.Digits.{is_digit}
 use Rattle.cell_core_values.specs.Letters.{byte}
 use Rattle.cell_stats.specs.TableText.{FormatValue}
 use Rattle.cell_join_lines.specs.LineFields.{category_of_field}
-use Rattle.cell_join_lines.specs.LineReading.{is_line_feed}
+use Rattle.cell_join_lines.specs.LineReading.{is_newline}
 
 -- a byte that no number is printed with, and no line feed
 abbrev pub is_clear_byte : ℕ → Bool
-is_clear_byte b = not (is_digit b || (b == byte (codes "-") || is_line_feed b))
+is_clear_byte b = not (is_digit b || (b == byte (codes "-") || is_newline b))
 
 -- a separator that stands in no field, nor in the label of null where labels are printed, and a null text that is no category
 abbrev pub is_clear : FormatValue → Bool
 is_clear format =
     is_clear_byte format.separator
     && (list_all (λ b. not (b == format.separator)) format.null_text
-    && (list_all (λ b. not (is_line_feed b)) format.null_text
+    && (list_all (λ b. not (is_newline b)) format.null_text
     && (is_none (category_of_field format.null_text)
     && (not format.labels || list_all (λ b. not (b == format.separator)) (codes "no data")))))

@@ -38,7 +38,7 @@ abbrev pub with_count : Option ℕ → Result (Combination × ℕ) TableKind
 with_count None = Err BadCount
 with_count (Some n) = Ok ([], n)
 
--- the entry of fields: all but the last are cells, and the last is a count; the first that is none is told
+-- the entry of fields: all but the last are cells, and the last is a count; the first that is none is reported
 abbrev pub entry_of_fields : List ℕ → List (List ℕ) → Result (Combination × ℕ) TableKind
 entry_of_fields null_text [] = Err BadCount
 entry_of_fields null_text (field ∷ []) = with_count (count_of_field field)

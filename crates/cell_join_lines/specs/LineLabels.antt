@@ -6,7 +6,7 @@ use Rattle.cell_core_devices.specs.Device.{Coming}
 use Rattle.cell_stats_counts.specs.Combinations.{Combination}
 use Rattle.cell_stats.specs.TableText.{FormatValue}
 use Rattle.cell_join_lines.specs.LineFields.{spelled_entry}
-use Rattle.cell_join_lines.specs.LineReading.{is_line_feed}
+use Rattle.cell_join_lines.specs.LineReading.{is_newline}
 use Rattle.cell_join_lines.specs.TextReading.{TextValue}
 use Rattle.cell_join_lines.specs.declared.table_fault.TableKind.{TableKind}
 
@@ -37,7 +37,7 @@ labelled_in_lines format (line ∷ next ∷ lines) = labelled_then format line (
 
 -- what the lines of a text have
 abbrev pub labelled_in : FormatValue → List ℕ → List Labelled
-labelled_in format bytes = labelled_in_lines format (slice_split is_line_feed bytes)
+labelled_in format bytes = labelled_in_lines format (slice_split is_newline bytes)
 
 -- what a head's line and those behind it have, and nothing where there is no head
 abbrev pub labelled_from_head : FormatValue → Option (Combination × ℕ) → List ℕ → Coming → List Labelled

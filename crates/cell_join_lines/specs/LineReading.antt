@@ -16,8 +16,8 @@ use Rattle.cell_join_lines.specs.declared.table_fault.TableKind.TheVariants.{Bad
 use Rattle.cell_join_lines.specs.declared.table_fault.TheConstants.{MOST_BYTES}
 
 -- a line feed
-abbrev pub is_line_feed : ℕ → Bool
-is_line_feed b = b == byte (codes "\n")
+abbrev pub is_newline : ℕ → Bool
+is_newline b = b == byte (codes "\n")
 
 -- whether so many cells are as many as wanted, or at least one where none are wanted
 abbrev pub is_as_wide : ℕ → ℕ → Bool
@@ -76,7 +76,7 @@ reading_of_lines format width fails number last (line ∷ next ∷ lines) = if n
 
 -- what is to come of a text
 abbrev pub reading_of_rest : FormatValue → ℕ → ℕ → Option Combination → Coming → TableReading
-reading_of_rest format width number last coming = reading_of_lines format width coming.fails number last (slice_split is_line_feed coming.bytes)
+reading_of_rest format width number last coming = reading_of_lines format width coming.fails number last (slice_split is_newline coming.bytes)
 
 -- a text of combinations of so many cells, or of any number where it is 0
 abbrev pub reading_of : FormatValue → ℕ → Coming → TableReading

@@ -4,7 +4,7 @@ use Rattle.std.specs.List.{position_or_len, before_first, after_first}
 use Rattle.std.specs.Option.{option_map}
 use Rattle.cell_core_devices.specs.Asking.{Heard}
 use Rattle.cell_core_devices.specs.Device.{Coming}
-use Rattle.cell_join_lines.specs.LineReading.{is_line_feed}
+use Rattle.cell_join_lines.specs.LineReading.{is_newline}
 use Rattle.cell_join_lines.specs.declared.table_fault.TableKind.{TableKind}
 use Rattle.cell_join_lines.specs.declared.table_fault.TableKind.TheVariants.{BadCell, BadCount, BadWidth, ListedTwice, OutOfOrder, LongLine, CutOff, Read, Memory}
 use Rattle.cell_join_lines.specs.declared.table_fault.TheConstants.{MOST_BYTES}
@@ -32,12 +32,12 @@ HasEnded fails known = IfSome known (λ coming. (coming.bytes ≡ []) × (coming
 -- the first line, without its line feed, and what comes behind it; or the end, or why there is neither
 abbrev pub first_line : Coming → Result (Option (List ℕ × Coming)) TableKind
 first_line coming =
-    if nat_lt MOST_BYTES (length (before_first is_line_feed coming.bytes)) then Err LongLine
-    else (if nat_lt (position_or_len is_line_feed coming.bytes) (length coming.bytes) then Ok (Some (before_first is_line_feed coming.bytes, record { bytes = after_first is_line_feed coming.bytes; fails = coming.fails }))
+    if nat_lt MOST_BYTES (length (before_first is_newline coming.bytes)) then Err LongLine
+    else (if nat_lt (position_or_len is_newline coming.bytes) (length coming.bytes) then Ok (Some (before_first is_newline coming.bytes, record { bytes = after_first is_newline coming.bytes; fails = coming.fails }))
     else (if coming.fails then Err Read
     else (if length coming.bytes == 0 then Ok None else Err CutOff)))
 
--- what is told of the first line: it was read, there is none, or a fault
+-- what is reported of the first line: it was read, there is none, or a fault
 abbrev pub IsFirstLine : Option Coming → Result Bool TableKind → LinesValue → Type 0
 IsFirstLine old (Ok true) new = option_map first_line old ≡ option_map (λ rest. Ok (Some (new.line, rest))) (lines_coming new)
 IsFirstLine old (Ok false) new = option_map first_line old ≡ option_map (λ rest. Ok None) (lines_coming new)
@@ -45,8 +45,8 @@ IsFirstLine old (Err kind) new = kind ≢ Memory → IfSome old (λ coming. firs
 
 -- what was added to a line from the bytes that are held: those before the first line feed, which is passed too, or all
 abbrev pub IsPassed : LinesValue → Bool → LinesValue → Type 0
-IsPassed old true new = (position_or_len is_line_feed old.held ≢ length old.held) × (new.line ≡ old.line ++ before_first is_line_feed old.held) × (new.held ≡ after_first is_line_feed old.held)
-IsPassed old false new = (position_or_len is_line_feed old.held ≡ length old.held) × (new.line ≡ old.line ++ old.held) × (new.held ≡ [])
+IsPassed old true new = (position_or_len is_newline old.held ≢ length old.held) × (new.line ≡ old.line ++ before_first is_newline old.held) × (new.held ≡ after_first is_newline old.held)
+IsPassed old false new = (position_or_len is_newline old.held ≡ length old.held) × (new.line ≡ old.line ++ old.held) × (new.held ≡ [])
 
 -- whether a fault says that the text cannot be read on
 abbrev pub is_read_fault : TableKind → Bool

@@ -1,8 +1,8 @@
 //! The law of the numbering.
 
-ghost use Rattle.cell_join_lines.specs.AreasText.{NumbersAreTold};
+ghost use Rattle.cell_join_lines.specs.AreasText.{NumbersAreRead};
 
 /// The runs of tiles tell the numbers that they were made of.
-pub fn numbers_are_told()
-    ensures { NumbersAreTold }
+pub fn numbers_are_read()
+    ensures { NumbersAreRead }
 {}

@@ -161,7 +161,7 @@ impl<R: Source> AreasText<R> {
         ensures line { IfOk result (λ areas. areas.line ≡ 2) }
         ensures sequence { IfOk result (λ areas. IfSome areas.head
             (λ stretch. in_sequence None stretch ≡ Ok stretch)) }
-        // The source is asked only while it goes on, and an `Err` of it is told as Read: so far none was.
+        // The source is asked only while it goes on, and an `Err` of it is reported as Read: so far none was.
         ensures heard { IfOk result (λ areas. areas.heard ≡ heard_first (R.asked source)) }
     {
         let text = match TableText::from_source(alloc, &areas_format(), 3, source) {
@@ -204,7 +204,7 @@ impl<R: Source> AreasText<R> {
         ensures line { OnOk result (self.new.line ≡ line_after self.old.line) }
         ensures sequence { OnOk result (IfSome self.new.head
             (λ stretch. in_sequence self.old.head stretch ≡ Ok stretch)) }
-        // The source is asked only while it goes on, and an `Err` of it is told as Read.
+        // The source is asked only while it goes on, and an `Err` of it is reported as Read.
         ensures heard { self.new.heard ≡ hears (says_read_areas result) self.old.heard }
     {
         let line = self.line;

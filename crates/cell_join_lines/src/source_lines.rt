@@ -82,7 +82,7 @@ impl<R: Source> Lines<R> {
     }
 
     // Whether there are more bytes, of which it then holds some. The source is not asked again after its end, nor after an `Err`,
-    // which is told from then on.
+    // which is reported from then on.
     fn fill(&mut self) -> Result<bool, DeviceFault>
         ensures same { lines_coming self.new ≡ lines_coming self.old }
         ensures line { self.new.line ≡ self.old.line }
@@ -170,7 +170,7 @@ impl<R: Source> Lines<R> {
     /// to be asked again.
     pub fn next_line(&mut self) -> Result<bool, TableKind>
         ensures first { IsFirstLine (lines_coming self.old) result self.new }
-        // The source is asked only while it goes on, and an `Err` of it is told as Read.
+        // The source is asked only while it goes on, and an `Err` of it is reported as Read.
         ensures heard { self.new.heard ≡ hears (says_read result) self.old.heard }
     {
         self.line.clear();

@@ -181,7 +181,7 @@ impl<R: Source> TableText<R> {
             ≡ labelled_from format.now text) }
         ensures width { IfOk result (λ text. text.width ≡ width) }
         ensures number { IfOk result (λ text. text.number ≡ 2) }
-        // The source is asked only while it goes on, and an `Err` of it is told as Read: so far none was.
+        // The source is asked only while it goes on, and an `Err` of it is reported as Read: so far none was.
         ensures heard { IfOk result (λ text. text.heard ≡ heard_first (R.asked source)) }
         ensures fault { IfErr result (λ fault. fault.kind ≢ TableKind.Memory → IfSome (R.coming
             source) (λ coming. reading_of format.now width coming ≡ stopped fault.line
@@ -243,7 +243,7 @@ impl<R: Source> TableText<R> {
             (labelled_behind format.now self.old ≡ labelled_from format.now self.new) }
         ensures width { self.new.width ≡ self.old.width }
         ensures number { OnOk result (self.new.number ≡ line_after self.old.number) }
-        // The source is asked only while it goes on, and an `Err` of it is told as Read.
+        // The source is asked only while it goes on, and an `Err` of it is reported as Read.
         ensures heard { self.new.heard ≡ hears (says_read_fault result) self.old.heard }
         ensures fault { IfErr result (λ fault. fault.kind ≢ TableKind.Memory → IfSome
             (reading_behind format.now self.old) (λ reading. reading ≡ stopped fault.line

@@ -8,7 +8,7 @@ use Rattle.std.proofs.lemmas.List.Quantifiers.{all_pairs_push}
 use Rattle.std.proofs.lemmas.Bool.{cases_lt, cases_Bool, cond-true, cond-false}
 use Rattle.cell_core.specs.Grid.{Grid}
 use Rattle.cell_cats_areas.specs.declared.clump.Joining.{Joining}
-use Rattle.cell_cats_areas.specs.Areas.{Position, cell_at_spot, IsEarlierCell, AreAdjacent, AreJoined, IsFirst, HasNumber}
+use Rattle.cell_cats_areas.specs.Areas.{Position, cell_at_position, IsEarlierCell, AreAdjacent, AreJoined, IsFirst, HasNumber}
 use Rattle.cell_cats_areas.specs.ClumpLaw.{AreFirsts}
 use Rattle.cell_cats_areas.specs.parts.CellPlaces.{position}
 use Rattle.cell_cats_areas.proofs.PathLemmas.{AreJoined-trans, AreJoined-sym, AreJoined-adjacent, AreJoined-first, AreJoined-along}
@@ -25,7 +25,7 @@ before-then p q s (inl a) (inr b) = inl (let e = b.0 in omega (arith, a, e))
 before-then p q s (inr a) (inl b) = inl (let e = a.0 in omega (arith, e, b))
 before-then p q s (inr a) (inr b) = inr (a.0 ∙ b.0, omega (arith, a.1, b.1))
 
-pub is-some : (m : Grid) (p : Position) (v : ℤ) → cell_at_spot m p ≡ Some v → IsSome (cell_at_spot m p)
+pub is-some : (m : Grid) (p : Position) (v : ℤ) → cell_at_position m p ≡ Some v → IsSome (cell_at_position m p)
 is-some m p v is = rw is refl
 
 -- the cells of the open ones of the first labels
@@ -81,10 +81,10 @@ module _ (j : Joining) (m : Grid) (starts : List Position) (label_of : Position 
   start-is : (k : ℕ) (d : Position) → k < length starts → get_or starts k d ≡ start k
   start-is k d lt = get_or_default starts k d (position 0 0) lt
 
-  joined-to : (p : Position) → IsSome (cell_at_spot m p) → AreJoined j m (start (label_of p)) p
+  joined-to : (p : Position) → IsSome (cell_at_position m p) → AreJoined j m (start (label_of p)) p
   joined-to p some = subst (λ (s : Position). AreJoined j m s p) (start-is (label_of p) p (labelled.few p some)) (labelled.joined p some)
 
-  not-before : (p : Position) → IsSome (cell_at_spot m p) → ¬ IsEarlierCell p (start (label_of p))
+  not-before : (p : Position) → IsSome (cell_at_position m p) → ¬ IsEarlierCell p (start (label_of p))
   not-before p some before = labelled.early p some (subst (λ (s : Position). IsEarlierCell p s) (sym (start-is (label_of p) p (labelled.few p some))) before)
 
   -- ---- what labels lead to
@@ -112,7 +112,7 @@ module _ (j : Joining) (m : Grid) (starts : List Position) (label_of : Position 
   linked : (k : ℕ) → Linked k (f k)
   linked k = after_all-linked Linked linking pairs (λ n. n) (λ n. inl refl) pair-linked k
 
-  met : (p q : Position) (v : ℤ) → AreAdjacent j p q → cell_at_spot m p ≡ Some v → cell_at_spot m q ≡ Some v → f (label_of p) ≡ f (label_of q)
+  met : (p q : Position) (v : ℤ) → AreAdjacent j p q → cell_at_position m p ≡ Some v → cell_at_position m q ≡ Some v → f (label_of p) ≡ f (label_of q)
   met p q v near one other =
       ⊎_elim (λ e. ap f e)
       (λ paired. ⊎_elim (λ c. after_all-meets pairs (λ n. n) (label_of p) (label_of q) c) (λ c. sym (after_all-meets pairs (λ n. n) (label_of q) (label_of p) c)) paired)
@@ -121,7 +121,7 @@ module _ (j : Joining) (m : Grid) (starts : List Position) (label_of : Position 
   same-open : (p q : Position) → AreJoined j m p q → f (label_of p) ≡ f (label_of q)
   same-open p q joined = AreJoined-along j m (λ s. f (label_of s)) met p q joined
 
-  to-first : (p : Position) → IsSome (cell_at_spot m p) → AreJoined j m (start (f (label_of p))) p
+  to-first : (p : Position) → IsSome (cell_at_position m p) → AreJoined j m (start (f (label_of p))) p
   to-first p some =
       ⊎_elim (λ e. subst (λ (n : ℕ). AreJoined j m (start n) p) e (joined-to p some))
       (λ far. AreJoined-trans j m (start (f (label_of p))) (start (label_of p)) p (AreJoined-sym j m (start (label_of p)) (start (f (label_of p))) far) (joined-to p some))
@@ -130,13 +130,13 @@ module _ (j : Joining) (m : Grid) (starts : List Position) (label_of : Position 
   -- ---- open labels, in a table
 
   module _ (table : List ℕ) (lead : LeadTo table f) (size : length table ≡ length starts) where
-    inside : (p : Position) → IsSome (cell_at_spot m p) → label_of p < length table
+    inside : (p : Position) → IsSome (cell_at_position m p) → label_of p < length table
     inside p some = omega (arith, size, labelled.few p some)
 
-    low : (p : Position) → IsSome (cell_at_spot m p) → f (label_of p) ≤ label_of p
-    low p some = lead.tells.low (label_of p) (inside p some)
+    low : (p : Position) → IsSome (cell_at_position m p) → f (label_of p) ≤ label_of p
+    low p some = lead.reports.low (label_of p) (inside p some)
 
-    start-some : (k : ℕ) → k < length table → IsSome (cell_at_spot m (start k))
+    start-some : (k : ℕ) → k < length table → IsSome (cell_at_position m (start k))
     start-some k lt = labelled.cells k (position 0 0) (omega (arith, size, lt))
 
     label-own : (k : ℕ) → k < length table → label_of (start k) ≡ k
@@ -145,11 +145,11 @@ module _ (j : Joining) (m : Grid) (starts : List Position) (label_of : Position 
     starts-before : (i n : ℕ) → i < n → n < length table → IsEarlierCell (start i) (start n)
     starts-before i n lt le = labelled.in_order i n (position 0 0) lt (omega (arith, size, le))
 
-    open-is-first : (p : Position) → IsSome (cell_at_spot m p) → is_open table (f (label_of p)) ≡ true
-    open-is-first p some = eq-eqb _ _ (lead.tells.is_open (label_of p) (inside p some))
+    open-is-first : (p : Position) → IsSome (cell_at_position m p) → is_open table (f (label_of p)) ≡ true
+    open-is-first p some = eq-eqb _ _ (lead.reports.is_open (label_of p) (inside p some))
 
     -- what comes before the cell of a label has a smaller one
-    label-before : (k : ℕ) (p : Position) → k < length table → IsSome (cell_at_spot m p) → IsEarlierCell p (start k) → label_of p < k
+    label-before : (k : ℕ) (p : Position) → k < length table → IsSome (cell_at_position m p) → IsEarlierCell p (start k) → label_of p < k
     label-before k p lt some before =
         ⊎_elim (λ less. less)
         (λ le. absurd (⊎_elim
@@ -160,7 +160,7 @@ module _ (j : Joining) (m : Grid) (starts : List Position) (label_of : Position 
 
     first-from : (k : ℕ) → k < length table → is_open table k ≡ true → IsFirst j m (start k)
     first-from k lt is =
-        let own : f k ≡ k = lead.tells.itself k lt (eqb-true _ _ is) in
+        let own : f k ≡ k = lead.reports.itself k lt (eqb-true _ _ is) in
         record {
           category = start-some k lt;
           none_before = λ q before joined.
@@ -197,7 +197,8 @@ module _ (j : Joining) (m : Grid) (starts : List Position) (label_of : Position 
         ap label_of (sym (first-is p first)) ∙ label-own (f (label_of p)) (omega (arith, below, in_table))
 
     -- the number of a cell is that of its label
-    pub has-number : (p : Position) → IsSome (cell_at_spot m p) → HasNumber j m p (label_number table (f (label_of p)))
+    pub has-number : (p : Position) → IsSome (cell_at_position m p)
+        → HasNumber j m p (label_number table (f (label_of p)))
     has-number p some =
         let g : ℕ = f (label_of p) in
         let below = low p some in

@@ -43,7 +43,7 @@ module _ (labels : ℕ) (pairs : List (ℕ × ℕ)) (paired joined table : List 
   root v here is =
       let own : get_or joined place 0 ≡ place = sym (h.later place (omega arith)) ∙ here in
       let lead = h.is.leads in
-      let itself : f place ≡ place = lead.tells.itself place in_joined own in
+      let itself : f place ≡ place = lead.reports.itself place in_joined own in
       let more : length (open_below joined (suc place)) ≡ length (open_below joined place) + 1 = count-more joined place (eq-eqb _ _ own) in
       let number : sparse_number pairs paired joined (get_or paired place 0) ≡ number_to paired joined place =
       number-at place (omega (arith, inside, long)) ∙ ap (number_to paired joined) itself in
@@ -54,7 +54,7 @@ module _ (labels : ℕ) (pairs : List (ℕ × ℕ)) (paired joined table : List 
       let up = get_or table place 0 in
       let same_up : up ≡ get_or joined place 0 = h.later place (omega arith) in
       let lead = h.is.leads in
-      let leads : f up ≡ f place = ap f same_up ∙ lead.tells.points place in_joined in
+      let leads : f up ≡ f place = ap f same_up ∙ lead.reports.points place in_joined in
       let number : get_or table up 0 + 1 ≡ sparse_number pairs paired joined (get_or paired place 0) =
       h.done up less
       ∙ number-at up (omega (arith, less, inside, long))

@@ -8,9 +8,9 @@ use Rattle.std.proofs.lemmas.List.{get_or_append_left, get_or_push}
 use Rattle.std.proofs.lemmas.List.Elements.{Contains-get_or}
 use Rattle.cell_join_numbers.specs.UnionFind.{LeadTo}
 use Rattle.cell_join_numbers.specs.SparseLabels.{AreTouching}
-use Rattle.cell_join_numbers.specs.SparseNumbers.{labels_of, AreLabelsOf}
+use Rattle.cell_join_numbers.specs.SparseNumbers.{labels_of_pairs, AreLabelsOf}
 
-pub labels-append : (xs ys : List (ℕ × ℕ)) → labels_of (xs ++ ys) ≡ labels_of xs ++ labels_of ys
+pub labels-append : (xs ys : List (ℕ × ℕ)) → labels_of_pairs (xs ++ ys) ≡ labels_of_pairs xs ++ labels_of_pairs ys
 labels-append [] ys = refl
 labels-append (x ∷ xs) ys = ap (λ (l : List ℕ). x.0 ∷ x.1 ∷ l) (labels-append xs ys)
 
@@ -19,7 +19,7 @@ pub record HasBoth (labels : List ℕ) (pair : ℕ × ℕ) : Type 0 where
   pub other : Contains labels pair.1
 
 -- both labels of a pair are among them
-pair-labels : (pairs : List (ℕ × ℕ)) (i : ℕ) (d : ℕ × ℕ) → i < length pairs → HasBoth (labels_of pairs) (get_or pairs i d)
+pair-labels : (pairs : List (ℕ × ℕ)) (i : ℕ) (d : ℕ × ℕ) → i < length pairs → HasBoth (labels_of_pairs pairs) (get_or pairs i d)
 pair-labels [] i d lt = absurd (omega (arith, lt))
 pair-labels (x ∷ pairs) zero d lt = record { one = (0, omega arith, refl); other = (1, omega arith, refl) }
 pair-labels (x ∷ pairs) (suc i) d lt =
@@ -33,7 +33,7 @@ all-paired pairs paired are i d lt =
     let t = pair-labels pairs i d lt in
     ((are (get_or pairs i d).0).1 t.one, (are (get_or pairs i d).1).1 t.other)
 
-labels-few : (n : ℕ) (pairs : List (ℕ × ℕ)) → All (λ pair. (pair.0 < n) × (pair.1 < n)) pairs → (i l : ℕ) → i < length (labels_of pairs) → get_or (labels_of pairs) i l ≡ l → l < n
+labels-few : (n : ℕ) (pairs : List (ℕ × ℕ)) → All (λ pair. (pair.0 < n) × (pair.1 < n)) pairs → (i l : ℕ) → i < length (labels_of_pairs pairs) → get_or (labels_of_pairs pairs) i l ≡ l → l < n
 labels-few n [] few i l lt is = absurd (omega (arith, lt))
 labels-few n (x ∷ pairs) few zero l lt is = let t = few 0 x (omega arith) in omega (arith, t.0, is)
 labels-few n (x ∷ pairs) few (suc zero) l lt is = let t = few 0 x (omega arith) in omega (arith, t.1, is)
@@ -60,7 +60,7 @@ all-touching pairs paired order are = record { in_order = order; few = λ i d lt
 -- no label yet
 pub no-labels : LeadTo [] (λ k. k)
 no-labels = record {
-  tells = record {
+  reports = record {
     points = λ k lt. absurd (omega (arith, lt));
     itself = λ k lt e. absurd (omega (arith, lt));
     is_open = λ k lt. absurd (omega (arith, lt));

@@ -127,7 +127,7 @@ module _ (ts : List ℕ) (order : AllPairs ◌<◌ ts) where
 
 first-table : (n : ℕ) → LeadTo (range_with_len 0 n) (λ k. k)
 first-table n = record {
-  tells = record {
+  reports = record {
     points = λ k lt. own k (omega (arith, lt, length-range_with_len 0 n));
     itself = λ k lt e. refl;
     is_open = λ k lt. own k (omega (arith, lt, length-range_with_len 0 n));
@@ -165,10 +165,10 @@ joined-table n (p ∷ pairs) f few h =
 open-is : (table : List ℕ) (f : ℕ → ℕ) → LeadTo table f → (k : ℕ) → k < length table → is_open table k ≡ eqb (f k) k
 open-is table f lead k within =
     same-answer (is_open table k) (eqb (f k) k)
-    (λ e. eq-eqb (f k) k (lead.tells.itself k within (eqb-true (get_or table k 0) k e)))
+    (λ e. eq-eqb (f k) k (lead.reports.itself k within (eqb-true (get_or table k 0) k e)))
     (λ e. let own = eqb-true (f k) k e in
     eq-eqb (get_or table k 0) k
-    (ap (λ (n : ℕ). get_or table n 0) (sym own) ∙ lead.tells.is_open k within ∙ own))
+    (ap (λ (n : ℕ). get_or table n 0) (sym own) ∙ lead.reports.is_open k within ∙ own))
 
 open-step : (table : List ℕ) (k : ℕ) →
     length (open_below table (suc k)) ≡ length (open_below table k) + one-if (is_open table k)
@@ -225,7 +225,7 @@ module _ (n : ℕ) (pairs : List (ℕ × ℕ)) (ts sparse : List ℕ) (touching 
       ∙ ap (λ (i : ℕ). get_or ts (place_leads i) 0) own in
       let there : labels_before ts (get_or ts q 0) ≡ q =
       place-is ts touching.in_order q 0 (follows.few r within) in
-      let q_open : get_or sparse q 0 ≡ q = is.leads.tells.is_open r (omega (arith, within, is.long)) in
+      let q_open : get_or sparse q 0 ≡ q = is.leads.reports.is_open r (omega (arith, within, is.long)) in
       let one : one-if (is_open sparse q) ≡ 1 = ap one-if (eq-eqb (get_or sparse q 0) q q_open) in
       let before : length (open_below sparse (labels_before ts (get_or ts q 0))) ≡ length (open_below sparse q) =
       ap (λ (i : ℕ). length (open_below sparse i)) there in
@@ -308,8 +308,8 @@ module _ (n : ℕ) (pairs : List (ℕ × ℕ)) (ts sparse : List ℕ) (touching 
     number-of-label l within =
         let in_full : l < length full = omega (arith, within, long) in
         let g = full_leads l in
-        let below : g ≤ l = lead.tells.low l in_full in
-        let g_open : get_or full g 0 ≡ g = lead.tells.is_open l in_full in
+        let below : g ≤ l = lead.reports.low l in_full in
+        let g_open : get_or full g 0 ≡ g = lead.reports.is_open l in_full in
         let one : one-if (is_open full g) ≡ 1 = ap one-if (eq-eqb (get_or full g 0) g g_open) in
         let number : label_number full g ≡ number_among ts sparse g =
         omega (arith, open-step full g, one, count-open g (omega (arith, below, within))) in

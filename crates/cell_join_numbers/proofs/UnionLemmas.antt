@@ -4,7 +4,7 @@ use Rattle.std.proofs.Math.ListN.{length-set}
 use Rattle.std.proofs.lemmas.Bool.{cases_eq}
 use Rattle.std.specs.Prelude.{Contains}
 use Rattle.cell_cats_areas.specs.parts.Labels.{PointDown, closed_labels, after_join}
-use Rattle.cell_cats_areas.proofs.LabelLemmas.{closed_high, closed_other, by_order, TellsOpen-halved, TellsOpen-joined}
+use Rattle.cell_cats_areas.proofs.LabelLemmas.{closed_high, closed_other, by_order, LeadsToOpen-halved, LeadsToOpen-joined}
 use Rattle.cell_cats_areas.proofs.MeetingLemmas.{after_join_one, after_join_keeps}
 use Rattle.cell_join_numbers.specs.UnionFind.{LeadTo, after_all}
 
@@ -16,7 +16,7 @@ use Rattle.cell_join_numbers.specs.UnionFind.{LeadTo, after_all}
 
 pub LeadTo-halved : (table : List ℕ) (x : ℕ) (f : ℕ → ℕ) → PointDown table → x < length table → LeadTo table f → LeadTo (set table x (get_or table (get_or table x 0) 0)) f
 LeadTo-halved table x f down inside h = record {
-  tells = TellsOpen-halved table x f down inside h.tells;
+  reports = LeadsToOpen-halved table x f down inside h.reports;
   beyond = λ k le. h.beyond k (omega (arith, le, length-set table x (get_or table (get_or table x 0) 0)));
 }
 
@@ -30,10 +30,10 @@ join-other f a b k own one other =
 
 pub LeadTo-joined : (table : List ℕ) (a b first second high low : ℕ) (f : ℕ → ℕ) → a < length table → b < length table → LeadTo table f → first ≡ f a → second ≡ f b → high ≡ max first second → low ≡ min first second → LeadTo (set table high low) (after_join f a b)
 LeadTo-joined table a b first second high low f a_in b_in h one other high_is low_is = record {
-  tells = TellsOpen-joined table a b first second high low f a_in b_in h.tells one other high_is low_is;
+  reports = LeadsToOpen-joined table a b first second high low f a_in b_in h.reports one other high_is low_is;
   beyond = λ k le.
       let past : length table ≤ k = omega (arith, le, length-set table high low) in
-      join-other f a b k (h.beyond k past) (omega (arith, h.tells.low a a_in, a_in, past)) (omega (arith, h.tells.low b b_in, b_in, past));
+      join-other f a b k (h.beyond k past) (omega (arith, h.reports.low a a_in, a_in, past)) (omega (arith, h.reports.low b b_in, b_in, past));
 }
 
 -- ---- pairs

@@ -3,7 +3,7 @@ use Rattle.std.specs.Prelude.{ℕ, ℤ, ◌<◌, ◌≡◌, ◌⊎◌, List, len
 use Rattle.std.specs.List.{AllPairs}
 use Rattle.cell_core.specs.Grid.{Grid}
 use Rattle.cell_cats_areas.specs.declared.clump.Joining.{Joining}
-use Rattle.cell_cats_areas.specs.Areas.{Position, cell_at_spot, IsEarlierCell, AreAdjacent, AreJoined, HasNumber}
+use Rattle.cell_cats_areas.specs.Areas.{Position, cell_at_position, IsEarlierCell, AreAdjacent, AreJoined, HasNumber}
 use Rattle.cell_cats_areas.specs.ClumpLaw.{AreFirsts}
 
 -- how many clumps a map has
@@ -16,8 +16,8 @@ pub record IsMeeting (j : Joining) (m : Grid) (label_of : Position → ℕ) (a b
   pub other : Position
   pub category : ℤ
   pub adjacent : AreAdjacent j one other
-  pub first : cell_at_spot m one ≡ Some category
-  pub second : cell_at_spot m other ≡ Some category
+  pub first : cell_at_position m one ≡ Some category
+  pub second : cell_at_position m other ≡ Some category
   pub first_label : a ≡ label_of one
   pub second_label : b ≡ label_of other
 
@@ -25,17 +25,17 @@ pub record IsMeeting (j : Joining) (m : Grid) (label_of : Position → ℕ) (a b
 -- that does not come after it; adjacent cells of one category bear one label, or two that are paired, and no others are
 pub record AreLabelled (j : Joining) (m : Grid) (starts : List Position) (label_of : Position → ℕ) (pairs : List (ℕ × ℕ)) : Type 0 where
   pub in_order : AllPairs IsEarlierCell starts
-  pub cells : (k : ℕ) (d : Position) → k < length starts → IsSome (cell_at_spot m (slice_index_or starts k d))
+  pub cells : (k : ℕ) (d : Position) → k < length starts → IsSome (cell_at_position m (slice_index_or starts k d))
   pub own : (k : ℕ) (d : Position) → k < length starts → label_of (slice_index_or starts k d) ≡ k
-  pub few : (p : Position) → IsSome (cell_at_spot m p) → label_of p < length starts
-  pub joined : (p : Position) → IsSome (cell_at_spot m p) → AreJoined j m (slice_index_or starts (label_of p) p) p
-  pub early : (p : Position) → IsSome (cell_at_spot m p) → ¬ IsEarlierCell p (slice_index_or starts (label_of p) p)
-  pub meet : (p q : Position) (v : ℤ) → AreAdjacent j p q → cell_at_spot m p ≡ Some v → cell_at_spot m q ≡ Some v → (label_of p ≡ label_of q) ⊎ (Contains pairs (label_of p, label_of q) ⊎ Contains pairs (label_of q, label_of p))
+  pub few : (p : Position) → IsSome (cell_at_position m p) → label_of p < length starts
+  pub joined : (p : Position) → IsSome (cell_at_position m p) → AreJoined j m (slice_index_or starts (label_of p) p) p
+  pub early : (p : Position) → IsSome (cell_at_position m p) → ¬ IsEarlierCell p (slice_index_or starts (label_of p) p)
+  pub meet : (p q : Position) (v : ℤ) → AreAdjacent j p q → cell_at_position m p ≡ Some v → cell_at_position m q ≡ Some v → (label_of p ≡ label_of q) ⊎ (Contains pairs (label_of p, label_of q) ⊎ Contains pairs (label_of q, label_of p))
   pub only : (a b : ℕ) → Contains pairs (a, b) → IsMeeting j m label_of a b
 
 -- a number for each of so many labels: wherever cells bear such labels, each has the number of its own
 abbrev pub NumberLabels : ℕ → List (ℕ × ℕ) → (ℕ → ℕ) → Type 0
-NumberLabels labels pairs number = (j : Joining) (m : Grid) (starts : List Position) (label_of : Position → ℕ) → AreLabelled j m starts label_of pairs → length starts ≡ labels → (p : Position) → IsSome (cell_at_spot m p) → HasNumber j m p (number (label_of p))
+NumberLabels labels pairs number = (j : Joining) (m : Grid) (starts : List Position) (label_of : Position → ℕ) → AreLabelled j m starts label_of pairs → length starts ≡ labels → (p : Position) → IsSome (cell_at_position m p) → HasNumber j m p (number (label_of p))
 
 -- and the map has so many clumps
 abbrev pub CountLabels : ℕ → List (ℕ × ℕ) → ℕ → Type 0

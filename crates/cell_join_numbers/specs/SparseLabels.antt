@@ -4,7 +4,7 @@ use Rattle.std.specs.Prelude.{nat_eq, nat_lt, slice_index, IsSome, if◌then◌e
 use Rattle.std.specs.List.{AllPairs, list_any}
 use Rattle.cell_core.specs.Grid.{Grid}
 use Rattle.cell_cats_areas.specs.declared.clump.Joining.{Joining}
-use Rattle.cell_cats_areas.specs.Areas.{Position, cell_at_spot, HasNumber}
+use Rattle.cell_cats_areas.specs.Areas.{Position, cell_at_position, HasNumber}
 use Rattle.cell_join_numbers.specs.Labelled.{HasAreas}
 use Rattle.cell_join_numbers.specs.Labelled.{AreLabelled}
 use Rattle.cell_join_numbers.specs.UnionFind.{LeadTo, after_all}
@@ -73,5 +73,5 @@ abbrev pub SparseLabelsNumber : Type 0
 SparseLabelsNumber = (j : Joining) (m : Grid) (starts : List Position) (label_of : Position → ℕ)
     (pairs : List (ℕ × ℕ)) → AreLabelled j m starts label_of pairs → (touching table : List ℕ)
     → AreTouching (length starts) pairs touching → IsSparse pairs touching table
-    → ((p : Position) → IsSome (cell_at_spot m p) → HasNumber j m p (sparse_number pairs touching table (label_of p)))
+    → ((p : Position) → IsSome (cell_at_position m p) → HasNumber j m p (sparse_number pairs touching table (label_of p)))
     × HasAreas j m (sparse_areas (length starts) touching table)

@@ -5,13 +5,13 @@ use Rattle.cell_join_numbers.specs.Labelled.{NumberLabels, CountLabels}
 use Rattle.cell_join_numbers.specs.SparseLabels.{AreTouching, IsSparse, labels_before, is_touching, sparse_number}
 
 -- the labels of pairs
-abbrev pub labels_of : List (ℕ × ℕ) → List ℕ
-labels_of [] = []
-labels_of (pair ∷ pairs) = pair.0 ∷ pair.1 ∷ labels_of pairs
+abbrev pub labels_of_pairs : List (ℕ × ℕ) → List ℕ
+labels_of_pairs [] = []
+labels_of_pairs (pair ∷ pairs) = pair.0 ∷ pair.1 ∷ labels_of_pairs pairs
 
 -- a list has these labels and no others
 abbrev pub AreLabelsOf : List (ℕ × ℕ) → List ℕ → Type 0
-AreLabelsOf pairs paired = (label : ℕ) → Contains paired label ↔ Contains (labels_of pairs) label
+AreLabelsOf pairs paired = (label : ℕ) → Contains paired label ↔ Contains (labels_of_pairs pairs) label
 
 -- a table of nodes in which the first are replaced by the numbers of their labels, from 0
 pub record ArePlacesNumbered (labels : ℕ) (pairs : List (ℕ × ℕ)) (paired joined : List ℕ) (place : ℕ) (table : List ℕ) (count : ℕ) : Type 0 where

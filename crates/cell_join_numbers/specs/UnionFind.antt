@@ -1,10 +1,10 @@
 -- Labels of the areas of bands, and what they lead to once some were joined. A label is a number from 0 on.
 use Rattle.std.specs.Prelude.{ℕ, ◌≤◌, ◌≡◌, List, [], ◌∷◌, length}
-use Rattle.cell_cats_areas.specs.parts.Labels.{TellsOpen, after_join}
+use Rattle.cell_cats_areas.specs.parts.Labels.{LeadsToOpen, after_join}
 
 -- a function tells which open label each label leads to, and a label that the table does not have leads to itself
 pub record LeadTo (table : List ℕ) (open_of : ℕ → ℕ) : Type 0 where
-  pub tells : TellsOpen table open_of
+  pub reports : LeadsToOpen table open_of
   pub beyond : (k : ℕ) → length table ≤ k → open_of k ≡ k
 
 -- whatever tells where labels led tells it still

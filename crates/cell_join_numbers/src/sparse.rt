@@ -4,15 +4,15 @@ ghost use Rattle.std.specs.Prelude.{◌≡◌, ◌<◌, AllPairs, IfOk, length, 
 ghost use Rattle.cell_cats_areas.specs.parts.Labels.{PointDown};
 ghost use Rattle.cell_join_numbers.specs.UnionFind.{JoinsEach};
 ghost use Rattle.cell_join_numbers.specs.SparseLabels.{labels_before, pair_places};
-ghost use Rattle.cell_join_numbers.specs.SparseNumbers.{AreLabelsOf, labels_of};
+ghost use Rattle.cell_join_numbers.specs.SparseNumbers.{AreLabelsOf, labels_of_pairs};
 
 use crate::union_find::unite;
 use cell_core::memory::Memory;
 use std::alloc::Global;
 
 // The labels of all pairs.
-fn labels_of(alloc: Global, pairs: &[(u64, u64)]) -> Result<Vec<u64>, Memory>
-    ensures { IfOk result (λ labels. labels.items ≡ labels_of pairs.now) }
+fn labels_of_pairs(alloc: Global, pairs: &[(u64, u64)]) -> Result<Vec<u64>, Memory>
+    ensures { IfOk result (λ labels. labels.items ≡ labels_of_pairs pairs.now) }
 {
     let mut labels = Vec::new(alloc);
     for pair in pairs {
@@ -27,7 +27,7 @@ pub(crate) fn paired_labels(alloc: Global, pairs: &[(u64, u64)]) -> Result<Vec<u
     ensures ascending { IfOk result (λ paired. AllPairs ◌<◌ paired.items) }
     ensures same { IfOk result (λ paired. AreLabelsOf pairs.now paired.items) }
 {
-    let mut paired = labels_of(alloc, pairs)?;
+    let mut paired = labels_of_pairs(alloc, pairs)?;
     paired.sort_unstable();
     paired.dedup();
     Ok(paired)

@@ -10,7 +10,7 @@ use Rattle.cell_stats.specs.TableText.{FormatValue}
 use Rattle.cell_join_lines.specs.LineReading.{TableReading, reading_of}
 use Rattle.cell_join_lines.specs.declared.stretch.Stretch.{Stretch}
 use Rattle.cell_join_lines.specs.AreasReading.{AreasReading, areas_ended, areas_reading_of}
-use Rattle.cell_join_lines.specs.AreasText.{numbers_told, stretch_numbers}
+use Rattle.cell_join_lines.specs.AreasText.{numbers_read, stretch_numbers}
 use Rattle.cell_join_sizes.specs.parts.Held.{HeldValue, held_from, held_from_head}
 use Rattle.cell_join_sizes.specs.Sizes.{size_of_area}
 use Rattle.cell_join_tables.specs.JoinedTexts.{Give}
@@ -19,7 +19,7 @@ use Rattle.cell_join_sizes.specs.SizeFaults.{HasNumberLeftOut}
 use Rattle.cell_join_sizes.specs.parts.Counting.{HasAddedTables, HasReadBand, with_stretches}
 use Rattle.cell_join_sizes.specs.parts.Tally.{IsFirstWithoutSize, Tallies}
 use Rattle.cell_join_sizes.proofs.CountLemmas.{readings-counted, sizes-counted}
-use Rattle.cell_join_sizes.proofs.TallyLemmas.{size-some, tallied, tallies-none, tallies-then, told-with-size}
+use Rattle.cell_join_sizes.proofs.TallyLemmas.{size-some, tallied, tallies-none, tallies-then, reported-with-size}
 use Rattle.cell_join_sizes.proofs.CountingLemmas.{stretches-both, stretches-none}
 
 pub flat-push : {A B : Type 0} (f : A → List B) (xs : List A) (x : A) → flat_map f (xs ++ x ∷ []) ≡ flat_map f xs ++ f x
@@ -54,7 +54,7 @@ module _ {R : Type 0} (coming : R → Option Coming) (format : FormatValue) (tex
     parts = [];
     count = refl;
     listed = tt;
-    told = opened ∙ sym (stretches-none (held_from areas));
+    reported = opened ∙ sym (stretches-none (held_from areas));
     areas_line = line;
     tallies = tallies-none [];
   }
@@ -87,7 +87,7 @@ module _ {R : Type 0} (coming : R → Option Coming) (format : FormatValue) (tex
             count = length_push so.parts band.part ∙ ap (λ (k : ℕ). k + 1) so.count;
             listed = tables-push 1 so.parts so.first band.part reading so.listed
                 (subst (λ (b : ℕ). IsTableOfBand b band.part reading) (omega (arith, so.count)) listed);
-            told = so.told ∙ ap (option_map (with_stretches (stretches_of_parts so.parts))) band.told
+            reported = so.reported ∙ ap (option_map (with_stretches (stretches_of_parts so.parts))) band.reported
                 ∙ stretches-both (stretches_of_parts so.parts) band.part.stretches (held_from after)
                 ∙ ap (λ (l : List Stretch). option_map (with_stretches l) (held_from after))
                 (sym (flat-push (λ (part : BandSizes). part.stretches) so.parts band.part));
@@ -98,12 +98,12 @@ module _ {R : Type 0} (coming : R → Option Coming) (format : FormatValue) (tex
                 omega (arith, so.areas_line, band.areas_line, long);
             tallies =
                 let stretches = stretches_of_parts so.parts in
-                let together = tallies-then [] old new (numbers_told stretches) (numbers_told band.part.stretches)
+                let together = tallies-then [] old new (numbers_read stretches) (numbers_read band.part.stretches)
                 (sizes_of_parts so.parts) band.part.sizes so.tallies band.tallies in
                 subst (λ (l : List ℕ). Tallies [] l (sizes_of_parts (so.parts ++ band.part ∷ [])) new)
                 (sym (flat_map-append stretch_numbers stretches band.part.stretches)
-                ∙ ap numbers_told (sym (flat-push (λ (part : BandSizes). part.stretches) so.parts band.part)))
-                (subst (λ (l : List ℕ). Tallies [] (numbers_told stretches ++ numbers_told band.part.stretches) l new)
+                ∙ ap numbers_read (sym (flat-push (λ (part : BandSizes). part.stretches) so.parts band.part)))
+                (subst (λ (l : List ℕ). Tallies [] (numbers_read stretches ++ numbers_read band.part.stretches) l new)
                 (sym (flat-push (λ (part : BandSizes). part.sizes) so.parts band.part)) together);
           }
 
@@ -116,8 +116,8 @@ module _ {R : Type 0} (coming : R → Option Coming) (format : FormatValue) (tex
         ∙ ap (λ (l : List Coming). so.first ++ map (reading_of format 1) l) empty ∙ append-nil so.first in
         subst (AreTablesOfBands 1 so.parts) (sym readings) so.listed
 
-    pub all-told : areas_reading_of text ≡ record { stretches = stretches_of_parts so.parts; fault = None }
-    all-told = by (so.told ∙ ap (λ (head : Option Stretch). option_map (with_stretches (stretches_of_parts so.parts))
+    pub all-read : areas_reading_of text ≡ record { stretches = stretches_of_parts so.parts; fault = None }
+    all-read = by (so.reported ∙ ap (λ (head : Option Stretch). option_map (with_stretches (stretches_of_parts so.parts))
         (held_from_head areas head)) ended)
       where
         by : Some (areas_reading_of text) ≡ option_map (with_stretches (stretches_of_parts so.parts)) (Some areas_ended)
@@ -130,24 +130,24 @@ module _ {R : Type 0} (coming : R → Option Coming) (format : FormatValue) (tex
 
     -- as the text tells them
     abbrev pub numbers : List ℕ
-    numbers = numbers_told (areas_reading_of text).stretches
+    numbers = numbers_read (areas_reading_of text).stretches
 
     pub all-sums : HasSums numbers (sizes_of_parts so.parts) sizes
-    all-sums = subst (λ (l : List Stretch). HasSums (numbers_told l) (sizes_of_parts so.parts) sizes)
-        (sym (ap (λ (r : AreasReading). r.stretches) all-told))
-        (tallied (numbers_told (stretches_of_parts so.parts)) (sizes_of_parts so.parts) sizes so.tallies)
+    all-sums = subst (λ (l : List Stretch). HasSums (numbers_read l) (sizes_of_parts so.parts) sizes)
+        (sym (ap (λ (r : AreasReading). r.stretches) all-read))
+        (tallied (numbers_read (stretches_of_parts so.parts)) (sizes_of_parts so.parts) sizes so.tallies)
 
     -- every number has a size
     pub added-all : ((n : ℕ) → n < length sizes → 0 < get_or sizes n 0)
         → HaveSizes (areas_reading_of text) (map (reading_of format 1) texts) sizes
     added-all some = record {
-      whole = ap (λ (r : AreasReading). r.fault) all-told;
+      whole = ap (λ (r : AreasReading). r.fault) all-read;
       parts = so.parts;
-      all = ap (λ (r : AreasReading). r.stretches) all-told;
+      all = ap (λ (r : AreasReading). r.stretches) all-read;
       listed = all-listed;
       tally = record {
         sums = all-sums;
-        each = λ n lt. told-with-size (n + 1) numbers (sizes_of_parts so.parts)
+        each = λ n lt. reported-with-size (n + 1) numbers (sizes_of_parts so.parts)
             (omega (arith, some n lt, all-sums.adds.each n lt));
       };
     }
@@ -162,18 +162,18 @@ module _ {R : Type 0} (coming : R → Option Coming) (format : FormatValue) (tex
         let zero : size_of_area number numbers all ≡ 0 =
         ap (λ (k : ℕ). size_of_area k numbers all) (omega (arith, is.within))
         ∙ sym (all-sums.adds.each (number - 1) (omega (arith, is.within))) ∙ is.none in
-        let none : Contains numbers number → ⊥ = λ told.
-        omega (arith, zero, size-some number numbers all told.0 told.1 told.2 all-sums.same counted) in
+        let none : Contains numbers number → ⊥ = λ reported.
+        omega (arith, zero, size-some number numbers all reported.0 reported.1 reported.2 all-sums.same counted) in
         record {
           read = record {
             parts = so.parts;
             good = all-listed;
-            stretches = ap (λ (r : AreasReading). r.stretches) all-told
+            stretches = ap (λ (r : AreasReading). r.stretches) all-read
                 ∙ sym (append-nil (stretches_of_parts so.parts));
             sizes = sizes;
-            sums = tallied (numbers_told (stretches_of_parts so.parts)) all sizes so.tallies;
+            sums = tallied (numbers_read (stretches_of_parts so.parts)) all sizes so.tallies;
           };
-          ended = ap (λ (r : AreasReading). r.fault) all-told;
+          ended = ap (λ (r : AreasReading). r.fault) all-read;
           below =
               let last : (number ≡ length sizes) → ⊥ = λ at.
               none (subst (Contains numbers) (sym at) (all-sums.greatest (omega (arith, is.within)))) in (
@@ -182,7 +182,7 @@ module _ {R : Type 0} (coming : R → Option Coming) (format : FormatValue) (tex
                     (cases_lt number (length sizes)),
               );
           none = none;
-          before = λ n one less. told-with-size n numbers all (omega (
+          before = λ n one less. reported-with-size n numbers all (omega (
             arith,
             ap (λ (k : ℕ). size_of_area k numbers all) (let e : n - 1 + 1 ≡ n = omega (arith, one) in e),
             all-sums.adds.each (n - 1) (omega (arith, one, less, is.within)),

@@ -11,7 +11,7 @@ use Rattle.cell_stats.specs.CategoryTables.{Pairs}
 use Rattle.cell_stats.specs.TableText.{FormatValue}
 use Rattle.cell_join_lines.specs.LineReading.{TableReading, reading_of}
 use Rattle.cell_join_lines.specs.declared.stretch.Stretch.{Stretch}
-use Rattle.cell_join_lines.specs.AreasText.{numbers_told, stretch_numbers}
+use Rattle.cell_join_lines.specs.AreasText.{numbers_read, stretch_numbers}
 use Rattle.cell_join_tables.proofs.ReadingLemmas.{reading-listing}
 use Rattle.cell_join_sizes.specs.SizeTexts.{AreTablesOfBands, BandSizes, entries_of_areas, number_entries, sizes_of_parts, stretch_areas}
 use Rattle.cell_join_sizes.specs.parts.Counting.{area_entry}
@@ -31,16 +31,16 @@ numbers-counted n (size ∷ sizes) others all =
     (All-cons IsSize size sizes (All-head IsCount (area_entry n size) rest all) both.0, both.1)
 
 areas-counted : (stretches : List Stretch) (sizes : List ℕ) (nulls : Pairs)
-    → length sizes ≡ length (numbers_told stretches) → All IsCount (entries_of_areas stretches sizes ++ nulls)
+    → length sizes ≡ length (numbers_read stretches) → All IsCount (entries_of_areas stretches sizes ++ nulls)
     → All IsSize sizes
 areas-counted [] [] nulls many all = All-nil IsSize
 areas-counted [] (size ∷ sizes) nulls many all = absurd (omega arith)
 areas-counted (s ∷ stretches) sizes nulls many all =
     let n = stretch_areas s in
-    let long : length (numbers_told (s ∷ stretches)) ≡ n + length (numbers_told stretches) =
-    length-append (stretch_numbers s) (numbers_told stretches)
-    ∙ ap (λ (k : ℕ). k + length (numbers_told stretches)) (length-range_with_len s.number n) in
-    let rest : length (drop n sizes) ≡ length (numbers_told stretches) = omega (arith, length-drop n sizes) in
+    let long : length (numbers_read (s ∷ stretches)) ≡ n + length (numbers_read stretches) =
+    length-append (stretch_numbers s) (numbers_read stretches)
+    ∙ ap (λ (k : ℕ). k + length (numbers_read stretches)) (length-range_with_len s.number n) in
+    let rest : length (drop n sizes) ≡ length (numbers_read stretches) = omega (arith, length-drop n sizes) in
     let both = numbers-counted s.first (take n sizes) (entries_of_areas stretches (drop n sizes) ++ nulls)
     (subst (All IsCount) (append_assoc (number_entries s.first (take n sizes))
     (entries_of_areas stretches (drop n sizes)) nulls) all) in

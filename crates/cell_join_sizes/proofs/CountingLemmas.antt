@@ -14,7 +14,7 @@ use Rattle.cell_join_lines.specs.LineReading.{TableReading, ended, line_after, r
 use Rattle.cell_join_lines.specs.TextReading.{TextValue, reading_behind, reading_from, reading_from_head}
 use Rattle.cell_join_lines.specs.declared.stretch.Stretch.{Stretch}
 use Rattle.cell_join_lines.specs.AreasReading.{AreasReading, areas_read, with_stretch}
-use Rattle.cell_join_lines.specs.AreasText.{numbers_told, stretch_numbers}
+use Rattle.cell_join_lines.specs.AreasText.{numbers_read, stretch_numbers}
 use Rattle.cell_join_sizes.specs.parts.Held.{HeldValue, held_behind, held_from, held_from_head}
 use Rattle.cell_join_sizes.specs.SizeTexts.{IsTableOfBand, entries_of_areas, number_entries, stretch_areas}
 use Rattle.cell_join_sizes.specs.parts.Tally.{Tallies}
@@ -124,13 +124,13 @@ counted-more format first number count table mid left old added new size so head
 
 -- ---- the stretches of a band
 
-told-push : (stretches : List Stretch) (s : Stretch) → numbers_told
-    (stretches ++ s ∷ []) ≡ numbers_told stretches ++ stretch_numbers s
-told-push stretches s = flat_map-append stretch_numbers stretches (s ∷ [])
-    ∙ ap (λ (l : List ℕ). numbers_told stretches ++ l) (append-nil (stretch_numbers s))
+reported-push : (stretches : List Stretch) (s : Stretch) → numbers_read
+    (stretches ++ s ∷ []) ≡ numbers_read stretches ++ stretch_numbers s
+reported-push stretches s = flat_map-append stretch_numbers stretches (s ∷ [])
+    ∙ ap (λ (l : List ℕ). numbers_read stretches ++ l) (append-nil (stretch_numbers s))
 
 areas-push : (stretches : List Stretch) (s : Stretch) (sizes own : List ℕ)
-    → length sizes ≡ length (numbers_told stretches) → length own ≡ stretch_areas s
+    → length sizes ≡ length (numbers_read stretches) → length own ≡ stretch_areas s
     → entries_of_areas (stretches ++ s ∷ []) (sizes ++ own) ≡ entries_of_areas stretches sizes ++ number_entries s.first
     own
 areas-push [] s [] own many count =
@@ -139,11 +139,11 @@ areas-push [] s [] own many count =
 areas-push [] s (size ∷ sizes) own many count = absurd (omega arith)
 areas-push (t ∷ stretches) s sizes own many count =
     let n = stretch_areas t in
-    let long : length (numbers_told (t ∷ stretches)) ≡ n + length (numbers_told stretches) =
-    length-append (stretch_numbers t) (numbers_told stretches)
-    ∙ ap (λ (k : ℕ). k + length (numbers_told stretches)) (length-range_with_len t.number n) in
+    let long : length (numbers_read (t ∷ stretches)) ≡ n + length (numbers_read stretches) =
+    length-append (stretch_numbers t) (numbers_read stretches)
+    ∙ ap (λ (k : ℕ). k + length (numbers_read stretches)) (length-range_with_len t.number n) in
     let few : n ≤ length sizes = omega arith in
-    let rest : length (drop n sizes) ≡ length (numbers_told stretches) = omega (arith, length-drop n sizes) in
+    let rest : length (drop n sizes) ≡ length (numbers_read stretches) = omega (arith, length-drop n sizes) in
     (λ i. number_entries t.first (take-append-le n sizes own few i) ++ entries_of_areas (stretches ++ s ∷ [])
     (drop-append-le n sizes own few i))
     ∙ ap (λ (l : Pairs). number_entries t.first (take n sizes) ++ l)
@@ -157,7 +157,7 @@ pub band-none : (band start : ℕ) (areas : Option AreasReading) (table : Option
 band-none band start areas table old less = record {
   part = record { stretches = []; sizes = [] };
   own = All-nil (λ (s : Stretch). s.band ≡ band);
-  told = sym (stretches-none areas);
+  reported = sym (stretches-none areas);
   areas_line = omega arith;
   many = refl;
   table_line = refl;
@@ -179,21 +179,21 @@ band-more band line start now areas mid after table between left old added new s
     record {
       part = record { stretches = stretches ++ s ∷ []; sizes = sizes ++ counted.sizes };
       own = All-push (λ (t : Stretch). t.band ≡ band) stretches s so.own own;
-      told = so.told ∙ ap (option_map (with_stretches stretches))
+      reported = so.reported ∙ ap (option_map (with_stretches stretches))
           (stretch-first mid s head ∙ ap (option_map (with_stretches (s ∷ []))) next)
           ∙ stretches-both stretches (s ∷ []) after;
       areas_line = omega (arith, on, so.areas_line, length_push stretches s);
       table_line = omega (arith, first, most, so.table_line, counted.many, length-append sizes counted.sizes);
       many = length-append sizes counted.sizes ∙ (λ i. so.many i +
           (counted.many ∙ sym (length-range_with_len s.number (stretch_areas s))) i)
-          ∙ sym (length-append (numbers_told stretches) (stretch_numbers s))
-          ∙ ap (λ (l : List ℕ). length l) (sym (told-push stretches s));
+          ∙ sym (length-append (numbers_read stretches) (stretch_numbers s))
+          ∙ ap (λ (l : List ℕ). length l) (sym (reported-push stretches s));
       reads = so.reads ∙ ap (option_map (with_entries (entries_of_areas stretches sizes))) counted.reads
           ∙ with-both (entries_of_areas stretches sizes) (number_entries s.first counted.sizes) left
           ∙ ap (λ (l : Pairs). option_map (with_entries l) left)
           (sym (areas-push stretches s sizes counted.sizes so.many counted.many));
-      tallies = subst (λ (l : List ℕ). Tallies old l (sizes ++ counted.sizes) new) (sym (told-push stretches s))
-          (tallies-then old added new (numbers_told stretches)
+      tallies = subst (λ (l : List ℕ). Tallies old l (sizes ++ counted.sizes) new) (sym (reported-push stretches s))
+          (tallies-then old added new (numbers_read stretches)
           (stretch_numbers s) sizes counted.sizes so.tallies counted.tallies);
     }
 
@@ -241,7 +241,7 @@ pub read-band : (band line start now : ℕ) (areas after : Option AreasReading) 
     → HasReadBand band start now areas after source old new
 read-band band line start now areas after source table left old new opened so over = record {
   part = so.part;
-  told = so.told;
+  reported = so.reported;
   areas_line = so.areas_line;
   listed = subst (λ (o : Option TableReading). IfSome o (IsTableOfBand band so.part)) (sym (opened ∙ so.reads))
       (by left over);

@@ -8,7 +8,7 @@ use Rattle.cell_stats.specs.TableText.{FormatValue}
 use Rattle.cell_join_lines.specs.LineReading.{TableReading, reading_of}
 use Rattle.cell_join_lines.specs.declared.stretch.Stretch.{Stretch}
 use Rattle.cell_join_lines.specs.AreasReading.{AreasReading, areas_reading_of}
-use Rattle.cell_join_lines.specs.AreasText.{numbers_told, stretch_numbers}
+use Rattle.cell_join_lines.specs.AreasText.{numbers_read, stretch_numbers}
 use Rattle.cell_join_sizes.specs.parts.Held.{HeldValue, held_behind, held_from}
 use Rattle.cell_join_sizes.specs.SizeTexts.{AreTablesOfBands, BandSizes, sizes_of_parts, stretches_of_parts}
 use Rattle.cell_join_sizes.specs.SizeFaults.{HasNoTable, IsFirstSizesFault, IsSizesFault, first_number}
@@ -55,14 +55,14 @@ module _ {R : Type 0} (coming : R → Option Coming) (format : FormatValue) (tex
       (λ reading. HasStoppedInBand place areas.line a reading old fault))
       → IsSizesFault whole tables fault
   first-fault source left all areas place old fault is so stop =
-      by so.others (sym (ap (map coming) is) ∙ so.give) so.readings (held_from areas) so.told stop
+      by so.others (sym (ap (map coming) is) ∙ so.give) so.readings (held_from areas) so.reported stop
     where
       at-one : (others : List Coming) (one : Coming) (a : AreasReading)
           → tables ≡ so.first ++ (reading_of format 1 one ∷ map (reading_of format 1) others)
           → whole ≡ with_stretches (stretches_of_parts so.parts) a
           → HasStoppedInBand place areas.line a (reading_of format 1 one) old fault
           → IsFirstSizesFault whole tables fault
-      at-one others one a readings told stop =
+      at-one others one a readings reported stop =
           let part = stop.part in
           record {
             place = stop.at;
@@ -78,10 +78,10 @@ module _ {R : Type 0} (coming : R → Option Coming) (format : FormatValue) (tex
               own = stop.own;
               many = stop.many;
               begun = stop.begun;
-              stretches = ap (λ (r : AreasReading). r.stretches) told
+              stretches = ap (λ (r : AreasReading). r.stretches) reported
                   ∙ ap (λ (l : List Stretch). stretches_of_parts so.parts ++ l) stop.stretches
                   ∙ sym (append_assoc (stretches_of_parts so.parts) part.stretches stop.at.areas.stretches);
-              areas_end = ap (λ (r : AreasReading). r.fault) told ∙ stop.areas_end;
+              areas_end = ap (λ (r : AreasReading). r.fault) reported ∙ stop.areas_end;
               areas_line = omega (
                 arith,
                 stop.areas_line,
@@ -96,15 +96,15 @@ module _ {R : Type 0} (coming : R → Option Coming) (format : FormatValue) (tex
                   let stretches = stretches_of_parts so.parts in
                   let sizes = sizes_of_parts so.parts in
                   let next = range_with_len (first_number stop.at.areas.stretches) (length stop.at.counted) in
-                  let all = tallies-then [] old stop.at.sizes (numbers_told stretches)
-                  (numbers_told part.stretches ++ next) sizes
+                  let all = tallies-then [] old stop.at.sizes (numbers_read stretches)
+                  (numbers_read part.stretches ++ next) sizes
                   (part.sizes ++ stop.at.counted) so.tallies stop.tallies in
-                  tallied (numbers_told (stretches ++ part.stretches) ++ next)
+                  tallied (numbers_read (stretches ++ part.stretches) ++ next)
                   ((sizes ++ part.sizes) ++ stop.at.counted) stop.at.sizes
                   (subst (λ (l : List ℕ). Tallies [] l ((sizes ++ part.sizes) ++ stop.at.counted) stop.at.sizes)
-                  (sym (append_assoc (numbers_told stretches) (numbers_told part.stretches) next)
+                  (sym (append_assoc (numbers_read stretches) (numbers_read part.stretches) next)
                   ∙ ap (λ (l : List ℕ). l ++ next) (sym (flat_map-append stretch_numbers stretches part.stretches)))
-                  (subst (λ (l : List ℕ). Tallies [] (numbers_told stretches ++ (numbers_told part.stretches ++ next)) l
+                  (subst (λ (l : List ℕ). Tallies [] (numbers_read stretches ++ (numbers_read part.stretches ++ next)) l
                   stop.at.sizes) (sym (append_assoc sizes part.sizes stop.at.counted)) all));
             };
             wrong = stop.wrong;
@@ -116,9 +116,9 @@ module _ {R : Type 0} (coming : R → Option Coming) (format : FormatValue) (tex
           → IfSome o (λ a. IfSome (option_map (reading_of format 1) (coming source))
           (λ reading. HasStoppedInBand place areas.line a reading old fault))
           → IsSizesFault whole tables fault
-      by [] give readings o told stop = cc
-      by (one ∷ others) give readings None told stop = cc
-      by (one ∷ others) give readings (Some a) told stop =
+      by [] give readings o reported stop = cc
+      by (one ∷ others) give readings None reported stop = cc
+      by (one ∷ others) give readings (Some a) reported stop =
           let here : coming source ≡ Some one = cc in
           let same : whole ≡ with_stretches (stretches_of_parts so.parts) a = cc in
           of-first whole tables fault (at-one others one a readings same
@@ -153,7 +153,7 @@ module _ {R : Type 0} (coming : R → Option Coming) (format : FormatValue) (tex
               good = subst (AreTablesOfBands 1 so.parts) (sym readings) so.listed;
               stretches = ap (λ (r : AreasReading). r.stretches) same;
               sizes = sizes;
-              sums = tallied (numbers_told (stretches_of_parts so.parts)) (sizes_of_parts so.parts) sizes so.tallies;
+              sums = tallied (numbers_read (stretches_of_parts so.parts)) (sizes_of_parts so.parts) sizes so.tallies;
             };
             other = subst (λ (n : ℕ). 0 < n → s.band ≢ n) (sym many) other;
             at = omega (arith, at, so.areas_line);
@@ -163,5 +163,5 @@ module _ {R : Type 0} (coming : R → Option Coming) (format : FormatValue) (tex
           → HasNoTable whole tables line
       by None is some start = cc
       by (Some s) is some start =
-          at-one s (held_behind areas) start.2 (so.told ∙ ap
+          at-one s (held_behind areas) start.2 (so.reported ∙ ap
           (option_map (with_stretches (stretches_of_parts so.parts))) (stretch-first areas s is))

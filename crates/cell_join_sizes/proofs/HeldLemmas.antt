@@ -17,7 +17,7 @@ use Rattle.cell_join_sizes.specs.declared.size_fault.SizesFault.{SizesFault}
 use Rattle.cell_join_sizes.specs.declared.size_fault.SizesFault.TheVariants.{Areas, NumberBeyond, NumberLeftOut, NoTable, Table, OtherArea, TooGreat, TooLong, Memory, Write}
 use Rattle.cell_join_sizes.specs.parts.Counting.{with_stretches}
 use Rattle.cell_join_sizes.specs.parts.Held.{AreInSequence, HeldValue, held_from, last_of}
-use Rattle.cell_join_sizes.specs.parts.Stops.{TellsAreasFault}
+use Rattle.cell_join_sizes.specs.parts.Stops.{ReportsAreasFault}
 use Rattle.cell_join_sizes.proofs.CountingLemmas.{stretches-both}
 
 -- ---- stretch by stretch
@@ -117,24 +117,24 @@ abbrev pub NoneBeyond : List Stretch → (count place : ℕ) → Type 0
 NoneBeyond stretches count place = (i : ℕ) (other : Stretch) → i < place → slice_get stretches i ≡ Some other
     → last_number other ≤ count
 
--- ---- what is told
+-- ---- what is reported
 
-pub told-by : {R : Type 0} (coming : R → Option Coming) (text : Coming) (source : R) (held : HeldValue)
+pub reported-by : {R : Type 0} (coming : R → Option Coming) (text : Coming) (source : R) (held : HeldValue)
     → IfSome (coming source) (λ c. areas_reading_of c ≡ record { stretches = held.all; fault = None })
     → coming source ≡ Some text → areas_reading_of text ≡ record { stretches = held.all; fault = None }
-told-by coming text source held is gives = subst (λ (o : Option Coming). IfSome o (λ (c : Coming).
+reported-by coming text source held is gives = subst (λ (o : Option Coming). IfSome o (λ (c : Coming).
     areas_reading_of c ≡ record { stretches = held.all; fault = None })) gives is
 
-pub tells-areas : (areas : AreasReading) (tables : List TableReading) (fault : AreasFault) (told : SizesFault)
-    → TellsAreasFault fault told → (fault.kind ≢ areas_kinds.Memory → areas.fault ≡ Some fault)
-    → IsSizesFault areas tables told
-tells-areas areas tables fault (Areas at) tells is = is tells.1 ∙ ap (λ (f : AreasFault). Some f) (sym tells.0)
-tells-areas areas tables fault (NumberBeyond line) tells is = absurd tells
-tells-areas areas tables fault (NumberLeftOut number) tells is = absurd tells
-tells-areas areas tables fault (NoTable line) tells is = absurd tells
-tells-areas areas tables fault (Table table at) tells is = absurd tells
-tells-areas areas tables fault (OtherArea table line) tells is = absurd tells
-tells-areas areas tables fault (TooGreat number) tells is = absurd tells
-tells-areas areas tables fault TooLong tells is = absurd tells
-tells-areas areas tables fault Memory tells is = tt
-tells-areas areas tables fault Write tells is = absurd tells
+pub reports-areas : (areas : AreasReading) (tables : List TableReading) (fault : AreasFault) (reported : SizesFault)
+    → ReportsAreasFault fault reported → (fault.kind ≢ areas_kinds.Memory → areas.fault ≡ Some fault)
+    → IsSizesFault areas tables reported
+reports-areas areas tables fault (Areas at) reports is = is reports.1 ∙ ap (λ (f : AreasFault). Some f) (sym reports.0)
+reports-areas areas tables fault (NumberBeyond line) reports is = absurd reports
+reports-areas areas tables fault (NumberLeftOut number) reports is = absurd reports
+reports-areas areas tables fault (NoTable line) reports is = absurd reports
+reports-areas areas tables fault (Table table at) reports is = absurd reports
+reports-areas areas tables fault (OtherArea table line) reports is = absurd reports
+reports-areas areas tables fault (TooGreat number) reports is = absurd reports
+reports-areas areas tables fault TooLong reports is = absurd reports
+reports-areas areas tables fault Memory reports is = tt
+reports-areas areas tables fault Write reports is = absurd reports

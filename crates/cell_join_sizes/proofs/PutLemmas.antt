@@ -23,8 +23,8 @@ no-fault true start mid good is = cc
 
 fails : (failed : Bool) (start mid last : Faults) → mid ≡ after_put start failed → (failed ≡ true → last ≡ mid)
     → (failed ≡ false → has_failed last ≡ true) → has_failed last ≡ true
-fails false start mid last is same told = told refl
-fails true start mid last is same told = ap has_failed (same refl ∙ is)
+fails false start mid last is same reported = reported refl
+fails true start mid last is same reported = ap has_failed (same refl ∙ is)
 
 both : (fault : Option SizesFault) (P Q : SizesFault → Type 0) → IfSome fault P → IfSome fault Q
     → IfSome fault (λ f. P f × Q f)
@@ -44,7 +44,7 @@ pub put : (format : FormatValue) (sizes : List ℕ) (before now : Option (List �
     → IfSome fault (λ f. block.failed ≡ false → has_failed last ≡ true)
     → (block.failed ≡ true → last ≡ mid)
     → HasPutSizes format sizes before now start last block.written fault
-put format sizes before now start mid last block fault added held flushed write told kept = record {
+put format sizes before now start mid last block fault added held flushed write reported kept = record {
   front = added.front;
   rest = added.rest;
   whole = added.whole;
@@ -55,7 +55,7 @@ put format sizes before now start mid last block fault added held flushed write 
     so.1 ∙ ap (λ (f : Faults). after_flush f false) (no-fault block.failed start mid so.0 added.fails),
   );
   write = both fault (λ f. f ≡ Write) (λ f. has_failed last ≡ true) write
-      (later fault (block.failed ≡ false → has_failed last ≡ true) (has_failed last ≡ true) told
+      (later fault (block.failed ≡ false → has_failed last ≡ true) (has_failed last ≡ true) reported
       (fails block.failed start mid last added.fails kept));
 }
 

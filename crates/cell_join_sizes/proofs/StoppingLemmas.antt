@@ -12,7 +12,7 @@ use Rattle.cell_join_lines.specs.declared.table_fault.TableFault.{TableFault}
 use Rattle.cell_join_lines.specs.declared.table_fault.TableKind.TheVariants as table_kinds
 use Rattle.cell_join_lines.specs.declared.stretch.Stretch.{Stretch}
 use Rattle.cell_join_lines.specs.AreasReading.{AreasReading, areas_ended, areas_read, areas_stopped, with_stretch}
-use Rattle.cell_join_lines.specs.AreasText.{numbers_told}
+use Rattle.cell_join_lines.specs.AreasText.{numbers_read}
 use Rattle.cell_join_sizes.specs.parts.Held.{HeldValue, held_behind, held_from, held_from_head}
 use Rattle.cell_join_lines.specs.declared.areas_fault.AreasFault.{AreasFault}
 use Rattle.cell_join_lines.specs.declared.areas_fault.AreasKind.TheVariants as areas_kinds
@@ -23,7 +23,7 @@ use Rattle.cell_join_sizes.specs.declared.size_fault.SizesFault.TheVariants.{Are
 use Rattle.cell_join_sizes.specs.declared.tally.TallyFault.{TallyFault}
 use Rattle.cell_join_sizes.specs.declared.tally.TallyFault.TheVariants as tally_faults
 use Rattle.cell_join_sizes.specs.parts.Counting.{HasCountedAreas, HasCountedBand, IsHeadOfNull, IsHeadOfOther, area_entry, with_entries, with_stretches}
-use Rattle.cell_join_sizes.specs.parts.Stops.{HasStoppedAtEnd, HasStoppedInBand, HasStoppedInStretch, IsBandStart, TellsAreasFault, TellsTableFault, TellsTallyFault, place_at_end, place_in_stretch}
+use Rattle.cell_join_sizes.specs.parts.Stops.{HasStoppedAtEnd, HasStoppedInBand, HasStoppedInStretch, IsBandStart, ReportsAreasFault, ReportsTableFault, ReportsTallyFault, place_at_end, place_in_stretch}
 use Rattle.cell_join_sizes.specs.parts.Tally.{IsTallyFault, Tallies}
 use Rattle.cell_join_sizes.proofs.CountingLemmas.{head-first, stretch-first}
 use Rattle.cell_join_sizes.proofs.SequenceLemmas.{not-own}
@@ -130,10 +130,10 @@ module _ (place line : ℕ) (s : Stretch) (sizes : List ℕ) (own : s.band ≡ p
 
   pub tally-fault : (area size number : ℕ) (kind : TallyFault) (fault : SizesFault) → length counted < stretch_areas s
       → area ≡ s.first + length counted → number ≡ s.number + length counted
-      → IsEntryOf area size r.entries → IsTallyFault sizes number size kind → TellsTallyFault number kind fault
+      → IsEntryOf area size r.entries → IsTallyFault sizes number size kind → ReportsTallyFault number kind fault
       → IsFaultAt here fault
-  tally-fault area size number tally_faults.TooGreat fault more is own_number entry why told =
-      subst (IsFaultAt here) (sym told) (record {
+  tally-fault area size number tally_faults.TooGreat fault more is own_number entry why reported =
+      subst (IsFaultAt here) (sym reported) (record {
         area = area;
         next = (own, more, is, own_number);
         size = size;
@@ -141,31 +141,31 @@ module _ (place line : ℕ) (s : Stretch) (sizes : List ℕ) (own : s.band ≡ p
         one = (why.0, why.1);
         great = why.2;
       })
-  tally-fault area size number tally_faults.Memory fault more is own_number entry why told = subst (IsFaultAt here)
-      (sym told) tt
+  tally-fault area size number tally_faults.Memory fault more is own_number entry why reported = subst (IsFaultAt here)
+      (sym reported) tt
 
 -- the next line of a table has a fault
-pub table-fault : (place : ReadingPlace) (fault : TableFault) (told : SizesFault)
-    → TellsTableFault place.table fault told → IsReadOn place.areas.stretches place.areas.fault
-    → (fault.kind ≢ table_kinds.Memory → place.left ≡ stopped fault.line fault.kind) → IsFaultAt place told
-table-fault place fault (Areas at) tells on is = absurd tells
-table-fault place fault (NumberBeyond line) tells on is = absurd tells
-table-fault place fault (NumberLeftOut number) tells on is = absurd tells
-table-fault place fault (NoTable line) tells on is = absurd tells
-table-fault place fault (Table table at) tells on is =
-    let left = is tells.2 in (
-      tells.0,
+pub table-fault : (place : ReadingPlace) (fault : TableFault) (reported : SizesFault)
+    → ReportsTableFault place.table fault reported → IsReadOn place.areas.stretches place.areas.fault
+    → (fault.kind ≢ table_kinds.Memory → place.left ≡ stopped fault.line fault.kind) → IsFaultAt place reported
+table-fault place fault (Areas at) reports on is = absurd reports
+table-fault place fault (NumberBeyond line) reports on is = absurd reports
+table-fault place fault (NumberLeftOut number) reports on is = absurd reports
+table-fault place fault (NoTable line) reports on is = absurd reports
+table-fault place fault (Table table at) reports on is =
+    let left = is reports.2 in (
+      reports.0,
       record {
         on = on;
-        fault_is = ap (λ (r : TableReading). r.fault) left ∙ ap (λ (f : TableFault). Some f) (sym tells.1);
+        fault_is = ap (λ (r : TableReading). r.fault) left ∙ ap (λ (f : TableFault). Some f) (sym reports.1);
         behind = inl (ap (λ (r : TableReading). r.entries) left);
       },
     )
-table-fault place fault (OtherArea table line) tells on is = absurd tells
-table-fault place fault (TooGreat number) tells on is = absurd tells
-table-fault place fault TooLong tells on is = absurd tells
-table-fault place fault Memory tells on is = tt
-table-fault place fault Write tells on is = absurd tells
+table-fault place fault (OtherArea table line) reports on is = absurd reports
+table-fault place fault (TooGreat number) reports on is = absurd reports
+table-fault place fault TooLong reports on is = absurd reports
+table-fault place fault Memory reports on is = tt
+table-fault place fault Write reports on is = absurd reports
 
 -- ---- within a band
 
@@ -179,7 +179,7 @@ pub stopped-in-next : (place band line start : ℕ) (areas : Option AreasReading
 stopped-in-next place band line start areas mid table between old added s fault so head own is first stop =
     subst (λ (o : Option AreasReading). IfSome o (λ text. IfSome table
     (λ reading. HasStoppedInBand place start text reading old fault)))
-    (sym (so.told ∙ ap (option_map (with_stretches so.part.stretches)) (stretch-first mid s head)))
+    (sym (so.reported ∙ ap (option_map (with_stretches so.part.stretches)) (stretch-first mid s head)))
     (subst (λ (o : Option TableReading). IfSome (option_map (with_stretches so.part.stretches)
     (option_map (with_stretches (s ∷ [])) (held_behind mid)))
     (λ text. IfSome o (λ reading. HasStoppedInBand place start text reading old fault))) (sym so.reads)
@@ -207,7 +207,7 @@ stopped-in-next place band line start areas mid table between old added s fault 
           (number_entries s.first stop.counted) stop.left.entries);
       table_end = stop.table_end;
       table_line = omega (arith, first, so.table_line);
-      tallies = tallies-then old added stop.sizes (numbers_told so.part.stretches)
+      tallies = tallies-then old added stop.sizes (numbers_read so.part.stretches)
           (range_with_len s.number (length stop.counted)) so.part.sizes stop.counted so.tallies stop.tallies;
       wrong = stop.wrong (mid.line - 1) a;
     }
@@ -226,7 +226,7 @@ pub stopped-behind : (place band line start now : ℕ) (areas after : Option Are
     → IfSome areas (λ text. IfSome table (λ reading. HasStoppedInBand place start text reading old fault))
 stopped-behind place band line start now areas after table left old sizes fault so is wrong =
     subst (λ (o : Option AreasReading). IfSome o (λ text. IfSome table
-    (λ reading. HasStoppedInBand place start text reading old fault))) (sym so.told)
+    (λ reading. HasStoppedInBand place start text reading old fault))) (sym so.reported)
     (subst (λ (o : Option TableReading). IfSome (option_map (with_stretches so.part.stretches) after)
     (λ text. IfSome o (λ reading. HasStoppedInBand place start text reading old fault))) (sym so.reads)
     (by after left refl refl))
@@ -235,9 +235,9 @@ stopped-behind place band line start now areas after table left old sizes fault 
         → IfSome (option_map (with_stretches so.part.stretches) a)
         (λ text. IfSome (option_map (with_entries (entries_of_areas so.part.stretches so.part.sizes)) o)
         (λ reading. HasStoppedInBand place start text reading old fault))
-    by None o told_is left_is = tt
-    by (Some a) None told_is left_is = tt
-    by (Some a) (Some r) told_is left_is = record {
+    by None o reported_is left_is = tt
+    by (Some a) None reported_is left_is = tt
+    by (Some a) (Some r) reported_is left_is = record {
       at = place_at_end place line a (now - 1) r sizes;
       own_table = refl;
       part = so.part;
@@ -252,10 +252,10 @@ stopped-behind place band line start now areas after table left old sizes fault 
       table_end = refl;
       table_line = omega (arith, so.table_line);
       tallies = subst (λ (l : List ℕ). Tallies old l (so.part.sizes ++ []) sizes)
-          (sym (append-nil (numbers_told so.part.stretches)))
-          (subst (λ (l : List ℕ). Tallies old (numbers_told so.part.stretches) l sizes)
+          (sym (append-nil (numbers_read so.part.stretches)))
+          (subst (λ (l : List ℕ). Tallies old (numbers_read so.part.stretches) l sizes)
           (sym (append-nil so.part.sizes)) so.tallies);
-      wrong = wrong a r told_is left_is;
+      wrong = wrong a r reported_is left_is;
     }
 
 pub too-long : (stretches : List Stretch) (line : ℕ) → line ≡ 2 ^ 64 - 2 → IsTooLong stretches line
@@ -377,7 +377,7 @@ stopped-at-end place line start areas after source table left old sizes fault is
     subst (λ (o : Option TableReading). IfSome areas (λ text. IfSome o
     (λ reading. HasStoppedInBand place start text reading old fault))) (sym is)
     (stopped-behind place (place + 1) line start after.line areas (held_from after) table left old sizes fault so refl
-    (λ a r told_is left_is. subst (λ (o : Option TableReading). IfSome o
+    (λ a r reported_is left_is. subst (λ (o : Option TableReading). IfSome o
     (λ reading. HasStoppedAtEnd place line reading fault)) left_is stop
-    a (after.line - 1) sizes (over-of (place + 1) after a told_is
+    a (after.line - 1) sizes (over-of (place + 1) after a reported_is
     (not-own (place + 1) after.head (omega arith) begins))))

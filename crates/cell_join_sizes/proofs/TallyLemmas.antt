@@ -51,11 +51,11 @@ size-some n (number ∷ numbers) (size ∷ sizes) (suc i) within is same all =
     )
 
 -- a number with a size is one of them
-pub told-with-size : (n : ℕ) (numbers sizes : List ℕ) → 0 < size_of_area n numbers sizes → Contains numbers n
-told-with-size n [] sizes some = absurd (omega arith)
-told-with-size n (number ∷ numbers) [] some = absurd (omega arith)
-told-with-size n (number ∷ numbers) (size ∷ sizes) some =
-    by (cases_eq n number) (told-with-size n numbers sizes)
+pub reported-with-size : (n : ℕ) (numbers sizes : List ℕ) → 0 < size_of_area n numbers sizes → Contains numbers n
+reported-with-size n [] sizes some = absurd (omega arith)
+reported-with-size n (number ∷ numbers) [] some = absurd (omega arith)
+reported-with-size n (number ∷ numbers) (size ∷ sizes) some =
+    by (cases_eq n number) (reported-with-size n numbers sizes)
   where
     by : (n ≡ number) ⊎ (n ≢ number) → (0 < size_of_area n numbers sizes → Contains numbers n)
         → Contains (number ∷ numbers) n

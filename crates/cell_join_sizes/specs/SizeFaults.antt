@@ -1,4 +1,4 @@
--- Why sizes are not added up: the numbering is read, then it and the tables side by side, and the first that is wrong is told.
+-- Why sizes are not added up: the numbering is read, then it and the tables side by side, and the first that is wrong is reported.
 use Rattle.std.specs.Prelude.{ℕ, pos, ◌≡◌, ◌≢◌, ◌+◌, ◌-◌, ◌^◌, ◌<◌, ◌≤◌, ◌⊎◌, min, List, [], ◌∷◌, ◌++◌, length, slice_get, slice_index, sum_by, All, Option, Some, None}
 use Rattle.std.specs.List.{Contains, range_with_len}
 use Rattle.cell_stats_counts.specs.Combinations.{Combination}
@@ -6,7 +6,7 @@ use Rattle.cell_stats.specs.CategoryTables.{Pairs}
 use Rattle.cell_join_lines.specs.LineReading.{TableReading}
 use Rattle.cell_join_lines.specs.declared.table_fault.TableFault.{TableFault}
 use Rattle.cell_join_lines.specs.AreasReading.{AreasReading}
-use Rattle.cell_join_lines.specs.AreasText.{numbers_told}
+use Rattle.cell_join_lines.specs.AreasText.{numbers_read}
 use Rattle.cell_join_lines.specs.declared.stretch.Stretch.{Stretch}
 use Rattle.cell_join_lines.specs.declared.areas_fault.AreasFault.{AreasFault}
 use Rattle.cell_join_sizes.specs.SizeTexts.{AreTablesOfBands, BandSizes, HasSums, IsNullEntry, entries_of_areas, number_entries, sizes_of_parts, stretch_areas, stretches_of_parts}
@@ -57,7 +57,7 @@ pub record AreReadTo (areas : AreasReading) (tables : List TableReading) (place 
   pub good : AreTablesOfBands 1 parts before
   pub part : BandSizes
   pub own : All (λ (s : Stretch). s.band ≡ place.table + 1) part.stretches
-  pub many : length part.sizes ≡ length (numbers_told part.stretches)
+  pub many : length part.sizes ≡ length (numbers_read part.stretches)
   pub begun : AreOfNextStretch (place.table + 1) place.counted place.areas.stretches
   pub stretches : areas.stretches ≡ (stretches_of_parts parts ++ part.stretches) ++ place.areas.stretches
   pub areas_end : areas.fault ≡ place.areas.fault
@@ -65,7 +65,7 @@ pub record AreReadTo (areas : AreasReading) (tables : List TableReading) (place 
   pub entries : table.entries ≡ (entries_of_areas part.stretches part.sizes ++ number_entries (first_area place.areas.stretches) place.counted) ++ place.left.entries
   pub table_end : table.fault ≡ place.left.fault
   pub table_line : place.table_line ≡ length part.sizes + length place.counted + 1
-  pub sums : HasSums (numbers_told (stretches_of_parts parts ++ part.stretches) ++ range_with_len (first_number place.areas.stretches) (length place.counted))
+  pub sums : HasSums (numbers_read (stretches_of_parts parts ++ part.stretches) ++ range_with_len (first_number place.areas.stretches) (length place.counted))
       ((sizes_of_parts parts ++ part.sizes) ++ place.counted) place.sizes
 
 -- ---- what comes next
@@ -164,7 +164,7 @@ pub record AreAllRead (areas : AreasReading) (tables : List TableReading) (left 
   pub good : AreTablesOfBands 1 parts tables
   pub stretches : areas.stretches ≡ stretches_of_parts parts ++ left
   pub sizes : List ℕ
-  pub sums : HasSums (numbers_told (stretches_of_parts parts)) (sizes_of_parts parts) sizes
+  pub sums : HasSums (numbers_read (stretches_of_parts parts)) (sizes_of_parts parts) sizes
 
 -- all tables are read, and the numbering goes on with a run of another tile than the last of them
 pub record HasNoTable (areas : AreasReading) (tables : List TableReading) (line : ℕ) : Type 0 where
@@ -179,8 +179,8 @@ pub record HasNumberLeftOut (areas : AreasReading) (tables : List TableReading) 
   pub read : AreAllRead areas tables []
   pub ended : areas.fault ≡ None
   pub below : (0 < number) × (number < length read.sizes)
-  pub none : Contains (numbers_told areas.stretches) number → ⊥
-  pub before : (n : ℕ) → 0 < n → n < number → Contains (numbers_told areas.stretches) n
+  pub none : Contains (numbers_read areas.stretches) number → ⊥
+  pub before : (n : ℕ) → 0 < n → n < number → Contains (numbers_read areas.stretches) n
 
 -- how many clumps runs list
 abbrev pub listed_count : List Stretch → ℕ

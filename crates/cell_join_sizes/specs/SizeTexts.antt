@@ -12,7 +12,7 @@ use Rattle.cell_join_lines.specs.declared.stretch.Stretch.{Stretch}
 use Rattle.cell_join_sizes.specs.declared.size_fault.SizesFault.{SizesFault}
 use Rattle.cell_join_sizes.specs.declared.size_fault.SizesFault.TheVariants.{Areas, NumberBeyond, NumberLeftOut, NoTable, Table, OtherArea, TooGreat, TooLong, Memory, Write}
 use Rattle.cell_join_lines.specs.AreasReading.{AreasReading}
-use Rattle.cell_join_lines.specs.AreasText.{numbers_told}
+use Rattle.cell_join_lines.specs.AreasText.{numbers_read}
 
 -- entries of numbers from one on, with the sizes of their clumps
 abbrev pub number_entries : ℕ → List ℕ → Pairs
@@ -43,7 +43,7 @@ pub record BandSizes : Type 0 where
 -- a table, to its end, of the clumps of the tile in this place and of no others, and of null
 pub record IsTableOfBand (band : ℕ) (part : BandSizes) (reading : TableReading) : Type 0 where
   pub own : All (λ (s : Stretch). s.band ≡ band) part.stretches
-  pub many : length part.sizes ≡ length (numbers_told part.stretches)
+  pub many : length part.sizes ≡ length (numbers_read part.stretches)
   pub nulls : Pairs
   pub null : IsNullEntry nulls
   pub lists : reading.entries ≡ entries_of_areas part.stretches part.sizes ++ nulls
@@ -81,7 +81,7 @@ pub record HaveSizes (areas : AreasReading) (tables : List TableReading) (sizes 
   pub parts : List BandSizes
   pub all : areas.stretches ≡ stretches_of_parts parts
   pub listed : AreTablesOfBands 1 parts tables
-  pub tally : HasTally (numbers_told areas.stretches) (sizes_of_parts parts) sizes
+  pub tally : HasTally (numbers_read areas.stretches) (sizes_of_parts parts) sizes
 
 -- the sink took exactly the lines of these sizes
 pub record HasWrittenSizes (format : FormatValue) (areas : AreasReading) (tables : List TableReading) (before now : Option (List ℕ)) (written : ℕ) : Type 0 where

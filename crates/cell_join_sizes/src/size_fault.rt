@@ -3,7 +3,7 @@
 use cell_join_lines::areas_fault::AreasFault;
 use cell_join_lines::table_fault::TableFault;
 
-/// Why sizes are not added up. Tables are told by their places, from 0, and lines are counted from 1.
+/// Why sizes are not added up. Tables are reported by their places, from 0, and lines are counted from 1.
 #[derive(Clone, Copy, Debug, PartialEq, Eq)]
 pub enum SizesFault {
     /// The first fault of the numbering.

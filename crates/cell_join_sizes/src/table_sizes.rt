@@ -11,7 +11,7 @@ ghost use Rattle.cell_join_sizes.specs.parts.Held.{held_from};
 ghost use Rattle.cell_join_sizes.specs.SizeTexts.{HasStopped, HasWrittenSizes, HaveSizes, stretch_areas};
 ghost use Rattle.cell_join_sizes.specs.SizeFaults.{IsSizesFault};
 ghost use Rattle.cell_join_sizes.specs.parts.Counting.{HasCountedAreas, HasCountedBand, HasPutSizes, HasReadBand, IsHeadOfNull, IsHeadOfOther, IsLeftOver, area_entry};
-ghost use Rattle.cell_join_sizes.specs.parts.Stops.{HasStoppedAtEnd, HasStoppedInBand, HasStoppedInStretch, IsBandStart, TellsAreasFault, TellsTableFault, TellsTallyFault};
+ghost use Rattle.cell_join_sizes.specs.parts.Stops.{HasStoppedAtEnd, HasStoppedInBand, HasStoppedInStretch, IsBandStart, ReportsAreasFault, ReportsTableFault, ReportsTallyFault};
 
 use crate::held_numbering::HeldNumbering;
 use crate::size_fault::SizesFault;
@@ -39,7 +39,7 @@ pub struct SizesOutcome {
 
 // The fault of a numbering.
 fn of_areas(fault: AreasFault) -> SizesFault
-    ensures { TellsAreasFault fault result }
+    ensures { ReportsAreasFault fault result }
 {
     match fault.kind {
         AreasKind::Memory => SizesFault::Memory,
@@ -49,7 +49,7 @@ fn of_areas(fault: AreasFault) -> SizesFault
 
 // The fault of a table.
 fn of_table(table: usize, fault: TableFault) -> SizesFault
-    ensures { TellsTableFault table fault result }
+    ensures { ReportsTableFault table fault result }
 {
     match fault.kind {
         TableKind::Memory => SizesFault::Memory,
@@ -59,7 +59,7 @@ fn of_table(table: usize, fault: TableFault) -> SizesFault
 
 // The fault of a sum.
 fn of_tally(number: u64, fault: TallyFault) -> SizesFault
-    ensures { TellsTallyFault number fault result }
+    ensures { ReportsTallyFault number fault result }
 {
     match fault {
         TallyFault::TooGreat => SizesFault::TooGreat { number },
@@ -361,7 +361,7 @@ pub fn join_table_sizes<R: Source + Drop, W: Sink>(
     // No fault comes only where no call of the sink failed and it was flushed once.
     ensures sound { result.fault ≡ None
         → W.faults out.new ≡ after_flush (W.faults out.old) false }
-    // A failed write is told only where the sink failed.
+    // A failed write is reported only where the sink failed.
     ensures write { result.fault ≡ Some SizesFault.Write → has_failed (W.faults out.new) ≡ true }
 {
     match add_tables(alloc, format, areas, tables) {

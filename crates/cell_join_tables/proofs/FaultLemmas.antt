@@ -19,9 +19,9 @@ memory-or : (kind : TableKind) → (kind ≡ kinds.Memory) ⊎ (kind ≢ kinds.M
 memory-or kinds.Memory = inl refl
 memory-or kind = inr (λ e. cc)
 
-module _ (fault : TableFault) (told : JoinFault) (memory : fault.kind ≡ kinds.Memory → told ≡ Memory) where
-  pub opening-fault : (readings : List TableReading) (text : ℕ) → (fault.kind ≢ kinds.Memory → told ≡ Text text fault)
-      → (fault.kind ≢ kinds.Memory → IsFirstFault readings text fault) → IsOpeningFault readings told
+module _ (fault : TableFault) (reported : JoinFault) (memory : fault.kind ≡ kinds.Memory → reported ≡ Memory) where
+  pub opening-fault : (readings : List TableReading) (text : ℕ) → (fault.kind ≢ kinds.Memory → reported ≡ Text text fault)
+      → (fault.kind ≢ kinds.Memory → IsFirstFault readings text fault) → IsOpeningFault readings reported
   opening-fault readings text so has = ⊎_elim
       (λ is. subst (IsOpeningFault readings) (sym (memory is)) tt)
       (λ not. subst (IsOpeningFault readings) (sym (so not)) (has not))

@@ -32,7 +32,7 @@ use Rattle.cell_join_tables.proofs.FaultOrderLemmas.{GoesOn, all-on, kept, none-
 use Rattle.cell_join_tables.proofs.HeadLemmas.{labelled-none, labelled-some, taken-fault, taken-some}
 use Rattle.cell_join_tables.proofs.StepLemmas.{least-first}
 use Rattle.cell_join_tables.proofs.TakingLemmas.{above-next, begins, beyond, first-counted, head-read, no-entry, past-listing, past-tables, sum-regrouped}
-use Rattle.cell_join_tables.specs.parts.HeadOrder.{BeginsWith, GoesFirst, IsFaultBehind, ReadsOn, goes_before, heads_of}
+use Rattle.cell_join_tables.specs.parts.HeadOrder.{BeginsWith, GoesFirst, IsFaultBehind, HeadReadsOn, goes_before, heads_of}
 use Rattle.cell_join_tables.specs.parts.LeastEntries.{HasGone, begin_count, one_if_any}
 use Rattle.cell_join_tables.proofs.OrderLemmas.{lesser-or-same}
 use Rattle.cell_join_tables.proofs.PlaceLemmas.{first-or}
@@ -356,7 +356,7 @@ module _ (format : FormatValue) (k : Combination) where
 
     -- one more was taken
     pub gone-more : (new : List TextValue) (first n : ℕ) → GoesFirst (heads_of now) first
-        → ((text : TextValue) → head_count k (get_or now first text).head ≡ Some n) → ReadsOn format now first new
+        → ((text : TextValue) → head_count k (get_or now first text).head ≡ Some n) → HeadReadsOn format now first new
         → HasGone read k readings new (sum_if_any total (Some n)) (taken + 1)
     gone-more new first n goes counted reads =
         let y = reads.text in
@@ -395,7 +395,7 @@ module _ (format : FormatValue) (k : Combination) where
 
     -- and its lines are those that were left
     pub lines-more : (new : List TextValue) (first n : ℕ) → GoesFirst (heads_of now) first
-        → ((text : TextValue) → head_count k (get_or now first text).head ≡ Some n) → ReadsOn format now first new
+        → ((text : TextValue) → head_count k (get_or now first text).head ≡ Some n) → HeadReadsOn format now first new
         → map (lines_past format k) new ≡ map (lines_past format k) now
     lines-more new first n goes counted reads =
         let y = reads.text in
@@ -573,7 +573,7 @@ module _ (format : FormatValue) (k : Combination) where
 
   -- the first entry of the least combination was taken
   pub gone-first : (texts new : List TextValue) (n : ℕ) (starts : BeginsWith texts (k, n))
-      → ReadsOn format texts starts.first new → (readings : List TableReading) → map read texts ≡ map Some readings
+      → HeadReadsOn format texts starts.first new → (readings : List TableReading) → map read texts ≡ map Some readings
       → AllByRecursion IsListing (tables_of readings) → HasGone read k readings new (Some n) 1
   gone-first texts new n starts reads readings known all =
       gone-more readings texts None 0 (gone-none texts readings known all
@@ -582,7 +582,7 @@ module _ (format : FormatValue) (k : Combination) where
 
   -- and its lines are those that were left
   pub lines-first : (texts new : List TextValue) (n : ℕ) (starts : BeginsWith texts (k, n))
-      → ReadsOn format texts starts.first new → (readings : List TableReading) → map read texts ≡ map Some readings
+      → HeadReadsOn format texts starts.first new → (readings : List TableReading) → map read texts ≡ map Some readings
       → AllByRecursion IsListing (tables_of readings) → map (lines_past format k) new ≡ map (lines_past format k) texts
   lines-first texts new n starts reads readings known all =
       lines-more readings texts None 0 (gone-none texts readings known all

@@ -67,7 +67,7 @@ module _ (answer : Result Unit JoinFault) (failed : Bool) (start faults last : F
     (puts : faults ≡ after_put start failed) where
   pub no-fault-sound : (fault : Option JoinFault) → IsAnswered (settled failed answer) faults last fault
       → fault ≡ None → last ≡ after_flush start false
-  no-fault-sound fault so none = by failed answer so.fails puts so.flushed (sym so.told ∙ none)
+  no-fault-sound fault so none = by failed answer so.fails puts so.flushed (sym so.reported ∙ none)
     where
       by : (b : Bool) (a : Result Unit JoinFault) (fails : Bool) → faults ≡ after_put start b
           → last ≡ after_answer faults (settled b a) fails → answered (settled b a) fails ≡ None
@@ -79,7 +79,7 @@ module _ (answer : Result Unit JoinFault) (failed : Bool) (start faults last : F
 
   pub write-failed : (fault : Option JoinFault) → (answer ≡ Err Write → failed ≡ true)
       → IsAnswered (settled failed answer) faults last fault → fault ≡ Some Write → has_failed last ≡ true
-  write-failed fault write so is = by failed answer so.fails puts so.flushed write (sym so.told ∙ is)
+  write-failed fault write so is = by failed answer so.fails puts so.flushed write (sym so.reported ∙ is)
     where
       or_true : (b : Bool) → (b || true) ≡ true
       or_true true = refl

@@ -104,19 +104,19 @@ labels-there format (x ∷ xs) (suc i) y labelled is so = labels-there format xs
 
 -- texts that go on with other labels stop the merge, where the combination is the least
 pub stops-at : (format : FormatValue) (k : Combination) (labelled : List ℕ) (texts : List TextValue) (first text : ℕ)
-    → DifferAt format k labelled texts first text → (told : OtherLabel) → told.first ≡ first → told.text ≡ text
-    → told.combo ≡ k → told.labelled.items ≡ labelled
+    → DifferAt format k labelled texts first text → (reported : OtherLabel) → reported.first ≡ first → reported.text ≡ text
+    → reported.combo ≡ k → reported.labelled.items ≡ labelled
     → slice_get (map (λ (text : TextValue). before_count format.separator text.line) texts) text
-    ≡ Some told.other.items
+    ≡ Some reported.other.items
     → All (λ text. IfSome text.head (λ entry. combination_cmp entry.0 k ≢ Less)) texts
-    → StopsAtLabels format texts told
-stops-at format k labelled texts first text differ told is_first is_text is_combo is_labelled is_other least =
+    → StopsAtLabels format texts reported
+stops-at format k labelled texts first text differ reported is_first is_text is_combo is_labelled is_other least =
     λ readings labels known all lines.
-    let other : differ.other ≡ told.other.items = labels-there format texts text (k, differ.other) told.other.items
+    let other : differ.other ≡ reported.other.items = labels-there format texts text (k, differ.other) reported.other.items
     differ.two is_other in
-    let here : (first, (k, labelled)) ≡ (told.first, (told.combo, told.labelled.items)) =
+    let here : (first, (k, labelled)) ≡ (reported.first, (reported.combo, reported.labelled.items)) =
     λ i. (sym is_first i, (sym is_combo i, sym is_labelled i)) in
-    let there : (text, (k, differ.other)) ≡ (told.text, (told.combo, told.other.items)) =
+    let there : (text, (k, differ.other)) ≡ (reported.text, (reported.combo, reported.other.items)) =
     λ i. (sym is_text i, (sym is_combo i, other i)) in
     record {
       before = omega (arith, differ.before, is_first, is_text);

@@ -34,15 +34,15 @@ text-more (x ∷ done) e = append_assoc (counted_line x) (counted_text done) (co
 
 -- a text's other label is one of the whole
 other-whole : (readings after : List TableReading) (done : List Labelled) (wholes lefts : List (List Labelled))
-    (told : OtherLabel) → ArePassed done wholes lefts
+    (reported : OtherLabel) → ArePassed done wholes lefts
     → map fault_place after ≡ map fault_place readings
-    → HasOtherLabel after lefts told → HasOtherLabel readings wholes told
-other-whole readings after done wholes lefts told passed places so = record {
+    → HasOtherLabel after lefts reported → HasOtherLabel readings wholes reported
+other-whole readings after done wholes lefts reported passed places so = record {
   before = so.before;
-  one = line-whole done wholes lefts (told.combo, told.labelled.items) passed told.first so.one;
-  other = line-whole done wholes lefts (told.combo, told.other.items) passed told.text so.other;
+  one = line-whole done wholes lefts (reported.combo, reported.labelled.items) passed reported.first so.one;
+  other = line-whole done wholes lefts (reported.combo, reported.other.items) passed reported.text so.other;
   differ = so.differ;
-  none = subst (AreNoneBefore told.combo) places so.none;
+  none = subst (AreNoneBefore reported.combo) places so.none;
 }
 
 module _ (format : FormatValue) where
@@ -121,16 +121,16 @@ module _ (format : FormatValue) where
       }
 
       -- two go on with other labels
-      pub labelled-other : (told : OtherLabel) → StopsAtLabels format mid told
-          → IsLabelledEnd format texts taken faults out block now after (Ok (Some told))
-      labelled-other told stops = record {
+      pub labelled-other : (reported : OtherLabel) → StopsAtLabels format mid reported
+          → IsLabelledEnd format texts taken faults out block now after (Ok (Some reported))
+      labelled-other reported stops = record {
         done = merged.done;
         appends = merged.appends;
         ends = λ readings wholes known all lines.
             let so = merged.takes readings known all in
             let passed = merged.passes readings known all wholes lines in (
               (
-                other-whole readings so.after (labelled_of merged.done) wholes passed.left told passed.passed so.places
+                other-whole readings so.after (labelled_of merged.done) wholes passed.left reported passed.passed so.places
                     (stops so.after passed.left so.known so.listings passed.known),
                 (merge_of (tables_of so.after), so.merged),
               ),

@@ -25,7 +25,7 @@ use Rattle.cell_join_tables.proofs.MergeLemmas.{one-merge}
 use Rattle.cell_join_tables.proofs.StepLemmas.{merges-all}
 use Rattle.cell_join_tables.specs.JoinedLabels.{AreFirst, AreJoinedLabels, AreLabelledSo, AreOfTexts, HasJoinWritten}
 use Rattle.cell_join_tables.specs.JoinedLabels.{HasLabelledLines, HasLabelledPrefix, HasLabelledWritten, HasLine}
-use Rattle.cell_join_tables.specs.JoinedLabels.{HasOtherLabel, IsLabelFault, IsLabelledMerge, IsOfTexts, IsTold}
+use Rattle.cell_join_tables.specs.JoinedLabels.{HasOtherLabel, IsLabelFault, IsLabelledMerge, IsOfTexts, IsReported}
 use Rattle.cell_join_tables.specs.JoinedLabels.{LabelledEntry, counted_text, plain_entries, plain_entry, labelled_of}
 use Rattle.cell_join_tables.specs.JoinedLabels.{labels_of_texts}
 use Rattle.cell_join_tables.specs.parts.LabelEnds.{EndsLabelled, HasOthers, answer_of, label_fault_of, other_of}
@@ -128,22 +128,22 @@ module _ (entries : List LabelledEntry) where
   all-stand texts [] all own = tt
   all-stand texts (e ∷ others) all own = (of-text texts e.0 all own.0, all-stand texts others all own.1)
 
--- ---- what holds by the fault that is told
+-- ---- what holds by the fault that is reported
 
 module _ (format : FormatValue) (texts : List Coming) (before now : Option (List ℕ)) (written : ℕ) where
-  pub fault-told : (fault : Option LabelFault) → IsTold format texts before now written fault → IfSome fault (IsLabelFault format texts)
-  fault-told None so = tt
-  fault-told (Some fault) so = so.0
+  pub fault-reported : (fault : Option LabelFault) → IsReported format texts before now written fault → IfSome fault (IsLabelFault format texts)
+  fault-reported None so = tt
+  fault-reported (Some fault) so = so.0
 
-  pub written-told : (fault : Option LabelFault) → IsTold format texts before now written fault
+  pub written-reported : (fault : Option LabelFault) → IsReported format texts before now written fault
       → IfSome fault (HasLabelledWritten format texts before now written)
-  written-told None so = tt
-  written-told (Some fault) so = so.1
+  written-reported None so = tt
+  written-reported (Some fault) so = so.1
 
-  pub joined-told : (fault : Option LabelFault) → IsTold format texts before now written fault → fault ≡ None
+  pub joined-reported : (fault : Option LabelFault) → IsReported format texts before now written fault → fault ≡ None
       → AreJoinedLabels format texts before now written
-  joined-told None so none = so
-  joined-told (Some fault) so none = cc
+  joined-reported None so none = so
+  joined-reported (Some fault) so none = cc
 
 pub answer-write : (answer : Result (Option OtherLabel) JoinFault) → answer_of answer ≡ Err Write → answer ≡ Err Write
 answer-write (Ok other) is = cc
@@ -221,33 +221,33 @@ module _ (format : FormatValue) (texts : List Coming)
   others-of : (answer : Result (Option OtherLabel) JoinFault)
       → EndsLabelled readings (labels_of_texts format texts) done answer → HasOthers readings done
   others-of (Ok None) ends = ([], ends.1.0 ∙ sym (append-nil (plain_entries done)))
-  others-of (Ok (Some told)) ends = ends.1
+  others-of (Ok (Some reported)) ends = ends.1
   others-of (Err fault) ends = ends.1
 
   module _ (answer : Result (Option OtherLabel) JoinFault)
       (ends : EndsLabelled readings (labels_of_texts format texts) done answer)
       (write : answer_of answer ≡ Err Write → block.failed ≡ true) (held : block.failed ≡ false → block.held ≡ [])
       (fails : Bool) where
-    told-by : (failed : Bool) → block.failed ≡ failed → (a : Result (Option OtherLabel) JoinFault) → answer ≡ a
+    reported-by : (failed : Bool) → block.failed ≡ failed → (a : Result (Option OtherLabel) JoinFault) → answer ≡ a
         → EndsLabelled readings (labels_of_texts format texts) done a → (fails : Bool)
-        → IsTold format texts before now block.written
+        → IsReported format texts before now block.written
         (label_fault_of (answered (settled failed (answer_of a)) fails) (other_of a))
-    told-by true failed a same so f = (tt, has-prefix (others-of a so))
-    told-by false good (Err fault) same so f = (
+    reported-by true failed a same so f = (tt, has-prefix (others-of a so))
+    reported-by false good (Err fault) same so f = (
       so.0,
       written-by good (held good) fault
           (λ is. let failed : block.failed ≡ true = write (ap answer_of same ∙ ap (λ x. Err x) is) in cc) so.1,
     )
-    told-by false good (Ok None) same so true = (tt, has-prefix (others-of (Ok None) so))
-    told-by false good (Ok None) same so false = is-joined good (held good) so
-    told-by false good (Ok (Some told)) same so true = (tt, has-prefix so.1)
-    told-by false good (Ok (Some told)) same so false = (so.0, has-lines good (held good) so.1)
+    reported-by false good (Ok None) same so true = (tt, has-prefix (others-of (Ok None) so))
+    reported-by false good (Ok None) same so false = is-joined good (held good) so
+    reported-by false good (Ok (Some reported)) same so true = (tt, has-prefix so.1)
+    reported-by false good (Ok (Some reported)) same so false = (so.0, has-lines good (held good) so.1)
 
-    pub told-so : (fault : Option LabelFault)
+    pub reported-so : (fault : Option LabelFault)
         → fault ≡ label_fault_of (answered (settled block.failed (answer_of answer)) fails) (other_of answer)
-        → IsTold format texts before now block.written fault
-    told-so fault is = subst (IsTold format texts before now block.written) (sym is)
-        (told-by block.failed refl answer refl ends fails)
+        → IsReported format texts before now block.written fault
+    reported-so fault is = subst (IsReported format texts before now block.written) (sym is)
+        (reported-by block.failed refl answer refl ends fails)
 
 -- ---- where all texts have the same labels
 
@@ -260,12 +260,12 @@ module _ (format : FormatValue) (texts : List Coming)
   up : IsStrictlySortedBy combination_cmp (keys_of merged)
   up = whole.whole.merge.ascending
 
-  none-other : (told : OtherLabel) → HasOtherLabel (readings_of format texts) tables told → ⊥
-  none-other told has =
-      let one = on-line merged tables told.first (told.combo, told.labelled.items) whole.labels has.one in
-      let other = on-line merged tables told.text (told.combo, told.other.items) whole.labels has.other in
-      has.differ (ap (λ (l : Labelled). l.1) (one-label merged up (told.combo, told.other.items)
-      (told.combo, told.labelled.items) other one refl))
+  none-other : (reported : OtherLabel) → HasOtherLabel (readings_of format texts) tables reported → ⊥
+  none-other reported has =
+      let one = on-line merged tables reported.first (reported.combo, reported.labelled.items) whole.labels has.one in
+      let other = on-line merged tables reported.text (reported.combo, reported.other.items) whole.labels has.other in
+      has.differ (ap (λ (l : Labelled). l.1) (one-label merged up (reported.combo, reported.other.items)
+      (reported.combo, reported.labelled.items) other one refl))
 
   -- what was joined is this merge
   pub one-labelled : (before now : Option (List ℕ)) (written : ℕ)
@@ -288,8 +288,8 @@ module _ (format : FormatValue) (texts : List Coming)
       absurd (refuted (readings_of format texts) all (plain_entries merged) whole.whole fault is
       (λ e. memory (ap (λ f. Some (faults.Join f)) e))
       (λ e. let bad : failed ≡ true = write (ap (λ f. Some (faults.Join f)) e) in cc))
-  wholly-labelled before now written failed (Some (faults.OtherLabel told)) is joined write memory good =
-      absurd (none-other told is)
+  wholly-labelled before now written failed (Some (faults.OtherLabel reported)) is joined write memory good =
+      absurd (none-other reported is)
 
 -- ---- where texts are not opened
 
@@ -301,7 +301,7 @@ label-none (Some fault) other is = cc
 pub label-write : (fault : Option JoinFault) (other : Option OtherLabel)
     → label_fault_of fault other ≡ Some (faults.Join Write) → fault ≡ Some Write
 label-write (Some fault) other is = cc
-label-write None (Some told) is = cc
+label-write None (Some reported) is = cc
 label-write None None is = cc
 
 module _ (format : FormatValue) (texts : List Coming)
@@ -330,6 +330,6 @@ module _ (format : FormatValue) (texts : List Coming)
   opening-labelled Memory is = nothing-written
   opening-labelled Write is = absurd is
 
-  pub opening-told : (fault : JoinFault) → IsOpeningFault (readings_of format texts) fault
-      → IsTold format texts before before 0 (Some (faults.Join fault))
-  opening-told fault is = (opening-join (readings_of format texts) fault is, opening-labelled fault is)
+  pub opening-reported : (fault : JoinFault) → IsOpeningFault (readings_of format texts) fault
+      → IsReported format texts before before 0 (Some (faults.Join fault))
+  opening-reported fault is = (opening-join (readings_of format texts) fault is, opening-labelled fault is)

@@ -11,7 +11,7 @@ use Rattle.cell_join_lines.specs.LineNumbers.{IsBehind}
 use Rattle.cell_join_lines.specs.TextReading.{TextValue}
 use Rattle.cell_join_lines.proofs.LineNumberLemmas.{first-behind, head-numbered, next-behind}
 use Rattle.cell_join_tables.specs.JoinedLabels.{HasNumberedLine, IsOnLine, labels_of_texts}
-use Rattle.cell_join_tables.specs.parts.HeadOrder.{ReadsOn}
+use Rattle.cell_join_tables.specs.parts.HeadOrder.{HeadReadsOn}
 use Rattle.cell_join_tables.specs.parts.LabelEnds.{label_fault_of, other_of}
 use Rattle.cell_join_tables.specs.parts.LabelSteps.{AreBehind, StopsOnLine, labelled_head, labelled_heads}
 use Rattle.cell_join_tables.specs.declared.join_fault.JoinFault.{JoinFault}
@@ -29,7 +29,7 @@ module _ (format : FormatValue) where
 
   -- the first text read its next entry
   pub behind-on : (wholes : List (List Labelled)) (old new : List TextValue) (first : ℕ)
-      → ((text : TextValue) → (get_or old first text).head ≢ None) → ReadsOn format old first new
+      → ((text : TextValue) → (get_or old first text).head ≢ None) → HeadReadsOn format old first new
       → AreBehind format wholes old → AreBehind format wholes new
   behind-on wholes old new first has on was = subst (λ (ts : List TextValue). AreBehind format wholes ts)
       (sym on.others)
@@ -61,16 +61,16 @@ module _ (format : FormatValue) where
   numbered-line (w ∷ ws) [] i y n was head number = absurd was
   numbered-line (w ∷ ws) (x ∷ xs) zero y n was head number =
       let own : labelled_head format x ≡ Some y = cc in
-      let told : x.number - 1 ≡ n = cc in
-      (w, (refl, head-numbered format w x y n was.0 own (sym told)))
+      let reported : x.number - 1 ≡ n = cc in
+      (w, (refl, head-numbered format w x y n was.0 own (sym reported)))
   numbered-line (w ∷ ws) (x ∷ xs) (suc i) y n was head number = numbered-line ws xs i y n was.1 head number
 
--- what is told in the end
-pub line-told : (wholes : List (List Labelled)) (format : FormatValue) (texts : List TextValue)
+-- what is reported in the end
+pub line-reported : (wholes : List (List Labelled)) (format : FormatValue) (texts : List TextValue)
     → AreBehind format wholes texts → (fault : Option JoinFault) (merged : Result (Option OtherLabel) JoinFault)
     → IfOk merged (λ other. IfSome other (StopsOnLine format texts))
     → IfSome (label_fault_of fault (other_of merged)) (IsOnLine wholes)
-line-told wholes format texts behind (Some fault) merged stops = tt
-line-told wholes format texts behind None (Ok None) stops = tt
-line-told wholes format texts behind None (Ok (Some told)) stops = stops wholes behind
-line-told wholes format texts behind None (Err fault) stops = tt
+line-reported wholes format texts behind (Some fault) merged stops = tt
+line-reported wholes format texts behind None (Ok None) stops = tt
+line-reported wholes format texts behind None (Ok (Some reported)) stops = stops wholes behind
+line-reported wholes format texts behind None (Err fault) stops = tt

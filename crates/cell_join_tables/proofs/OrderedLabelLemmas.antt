@@ -196,12 +196,12 @@ module _ (format : FormatValue) (texts : List TextValue) where
 
     -- a text with other labels stops the merge
     pub stops-here : (text : ℕ) → text < length texts
-        → ((t : TextValue) → is_other format k labelled (get_or texts text t) ≡ true) → (told : OtherLabel)
-        → told.first ≡ place → told.text ≡ text → told.combo ≡ k → told.labelled.items ≡ labelled
-        → slice_get (map (λ (t : TextValue). before_count format.separator t.line) texts) text ≡ Some told.other.items
-        → StopsAtLabels format texts told
-    stops-here text inside other told is_first is_text is_combo is_labelled is_other_text =
-        stops-at format k labelled texts place text differ told is_first is_text is_combo is_labelled is_other_text least
+        → ((t : TextValue) → is_other format k labelled (get_or texts text t) ≡ true) → (reported : OtherLabel)
+        → reported.first ≡ place → reported.text ≡ text → reported.combo ≡ k → reported.labelled.items ≡ labelled
+        → slice_get (map (λ (t : TextValue). before_count format.separator t.line) texts) text ≡ Some reported.other.items
+        → StopsAtLabels format texts reported
+    stops-here text inside other reported is_first is_text is_combo is_labelled is_other_text =
+        stops-at format k labelled texts place text differ reported is_first is_text is_combo is_labelled is_other_text least
       where
         y : TextValue
         y = get_or texts text x
@@ -235,19 +235,19 @@ module _ (format : FormatValue) (texts : List TextValue) where
           differ = apart;
         }
 
-    -- and its line is told
+    -- and its line is reported
     pub line-here : (text : ℕ) → text < length texts
         → ((t : TextValue) → is_other format k labelled (get_or texts text t) ≡ true)
-        → (told : OtherLabel) → told.text ≡ text → told.combo ≡ k
-        → slice_get (map (λ (t : TextValue). before_count format.separator t.line) texts) text ≡ Some told.other.items
-        → slice_get (map (λ (t : TextValue). t.number - 1) texts) text ≡ Some told.line → StopsOnLine format texts told
-    line-here text inside other told is_text is_combo is_other_text is_line = λ wholes was.
+        → (reported : OtherLabel) → reported.text ≡ text → reported.combo ≡ k
+        → slice_get (map (λ (t : TextValue). before_count format.separator t.line) texts) text ≡ Some reported.other.items
+        → slice_get (map (λ (t : TextValue). t.number - 1) texts) text ≡ Some reported.line → StopsOnLine format texts reported
+    line-here text inside other reported is_text is_combo is_other_text is_line = λ wholes was.
         let y : TextValue = get_or texts text x in
         let line : Labelled = (k, before_count format.separator y.line) in
         let goes_on = both-of (goes_on_with k y) (not (bytes_eq (before_count format.separator y.line) labelled)) (other x) in
         let head = slice-head format k texts text x inside ∙ ap Some (at-head format k y goes_on.0) in
-        let own : line.1 ≡ told.other.items = labels-there format texts text line told.other.items head is_other_text in
-        let same : (text, line) ≡ (told.text, (told.combo, told.other.items)) =
+        let own : line.1 ≡ reported.other.items = labels-there format texts text line reported.other.items head is_other_text in
+        let same : (text, line) ≡ (reported.text, (reported.combo, reported.other.items)) =
         λ i. (sym is_text i, (sym is_combo i, own i)) in
-        subst (λ (p : ℕ × Labelled). HasNumberedLine wholes p.0 told.line p.1) same
-        (numbered-line format wholes texts text line told.line was head is_line)
+        subst (λ (p : ℕ × Labelled). HasNumberedLine wholes p.0 reported.line p.1) same
+        (numbered-line format wholes texts text line reported.line was head is_line)

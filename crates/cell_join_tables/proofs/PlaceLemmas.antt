@@ -17,7 +17,7 @@ use Rattle.cell_join_lines.specs.declared.table_fault.TableKind.{TableKind}
 use Rattle.cell_join_lines.specs.declared.table_fault.TableKind.TheVariants as kinds
 use Rattle.cell_join_tables.specs.declared.join_fault.JoinFault.{JoinFault}
 use Rattle.cell_join_tables.specs.declared.join_fault.JoinFault.TheVariants.{Text, Memory}
-use Rattle.cell_join_tables.specs.parts.HeadOrder.{AreBefore, Ascends, BeginsWith, GoesFirst, IsFaultBehind, IsOrder, ReadsOn, before, goes_before, heads_of}
+use Rattle.cell_join_tables.specs.parts.HeadOrder.{AreBefore, Ascends, BeginsWith, GoesFirst, IsFaultBehind, IsOrder, HeadReadsOn, before, goes_before, heads_of}
 use Rattle.cell_join_tables.proofs.OrderLemmas.{before-itself, before-other, before-trans}
 
 -- ---- elements of a list
@@ -270,8 +270,8 @@ module _ (texts : List TextValue) where
       → place < length texts → other < length texts → x ≡ get_or texts place x → y ≡ get_or texts other y
       → a ≡ x.head → b ≡ y.head → goes_before (combination_of a) place (combination_of b) other ≡ t
       → before (heads_of texts) place other ≡ t
-  seen-before place other x y a b t within inside at there first second told =
-      (λ j. goes_before (seen place x a within at first j) place (seen other y b inside there second j) other) ∙ told
+  seen-before place other x y a b t within inside at there first second reported =
+      (λ j. goes_before (seen place x a within at first j) place (seen other y b inside there second j) other) ∙ reported
 
   none-head : (h : Option (Combination × ℕ)) → combination_of h ≡ None → h ≡ None
   none-head None e = refl
@@ -318,8 +318,8 @@ module _ (texts : List TextValue) where
 
       pub reads-on : (format : FormatValue) (y : TextValue) → reading_behind format x ≡ reading_from format y
           → labelled_behind format x ≡ labelled_from format y → y.number ≡ line_after x.number
-          → (first : ℕ) → GoesFirst (heads_of texts) first → ReadsOn format texts first (set texts place y)
-      reads-on format y read lines number first other = subst (λ (p : ℕ). ReadsOn format texts p (set texts place y))
+          → (first : ℕ) → GoesFirst (heads_of texts) first → HeadReadsOn format texts first (set texts place y)
+      reads-on format y read lines number first other = subst (λ (p : ℕ). HeadReadsOn format texts p (set texts place y))
           (one-first (heads_of texts) place first goes other)
           (record {
             text = y;
@@ -329,11 +329,11 @@ module _ (texts : List TextValue) where
             others = refl;
           })
 
-      pub stops-behind : (format : FormatValue) (fault : TableFault) (told : JoinFault)
-          → (fault.kind ≡ kinds.Memory → told ≡ Memory) → (fault.kind ≢ kinds.Memory → told ≡ Text place fault)
+      pub stops-behind : (format : FormatValue) (fault : TableFault) (reported : JoinFault)
+          → (fault.kind ≡ kinds.Memory → reported ≡ Memory) → (fault.kind ≢ kinds.Memory → reported ≡ Text place fault)
           → (fault.kind ≢ kinds.Memory → IfSome (reading_behind format x) (λ reading. reading ≡ stopped fault.line fault.kind))
-          → (first : ℕ) → GoesFirst (heads_of texts) first → IsFaultBehind format texts first told
-      stops-behind format fault told memory text stops first other = ⊎_elim
+          → (first : ℕ) → GoesFirst (heads_of texts) first → IsFaultBehind format texts first reported
+      stops-behind format fault reported memory text stops first other = ⊎_elim
           (λ of. subst (IsFaultBehind format texts first) (sym (memory of)) tt)
           (λ not. subst (IsFaultBehind format texts first) (sym (text not)) (
             one-first (heads_of texts) place first goes other,

@@ -21,10 +21,10 @@ use Rattle.cell_parts.specs.TableParts.{IsMerge}
 use Rattle.cell_parts.specs.Merging.{IsListing}
 use Rattle.cell_join_lines.specs.LineFields.{category_of_field, cell_before, cell_of_field, count_of_field, entry_of_fields, labelled_entry_of_line, spelled_entry, with_count}
 use Rattle.cell_join_lines.specs.LineLabels.{Labelled, before_count, labelled_in, labelled_in_lines, labelled_then, up_to_separator}
-use Rattle.cell_join_lines.specs.LineReading.{is_line_feed}
+use Rattle.cell_join_lines.specs.LineReading.{is_newline}
 use Rattle.cell_join_lines.specs.TableLines.{entries_text, entry_line}
 use Rattle.cell_join_lines.specs.declared.table_fault.TableKind.{TableKind}
-use Rattle.cell_join_tables.specs.JoinedLabels.{AreFirst, AreJoinedLabels, AreOfTexts, HasJoinWritten, HasLabelledLines, HasLabelledPrefix, HasLabelledWritten, HasLine, HasOtherLabel, IsLabelFault, IsOfTexts, IsPlainly, IsTold, LabelledEntry, counted_line, counted_text, labels_of_texts, plain_entries, plain_entry}
+use Rattle.cell_join_tables.specs.JoinedLabels.{AreFirst, AreJoinedLabels, AreOfTexts, HasJoinWritten, HasLabelledLines, HasLabelledPrefix, HasLabelledWritten, HasLine, HasOtherLabel, IsLabelFault, IsOfTexts, IsPlainly, IsReported, LabelledEntry, counted_line, counted_text, labels_of_texts, plain_entries, plain_entry}
 use Rattle.cell_join_tables.specs.JoinedTexts.{AreJoinedTexts, HasLines, HasPrefix, HasWritten, IsJoinFault, IsMergeOf, readings_of, tables_of}
 use Rattle.cell_join_tables.specs.declared.join_fault.JoinFault.{JoinFault}
 use Rattle.cell_join_tables.specs.declared.join_fault.JoinFault.TheVariants.{Text, TooMany, TooLong, Memory, Write}
@@ -110,12 +110,12 @@ module _ (null_text : List ℕ) where
       in-range : (o : Option ℤ) → option_map Some (option_and_then (λ n. cond (bytes_eq (signed_decimal n) field) (Some n) None) o)
           ≡ Some cell → field ≡ cell_text null_text cell
       in-range None e = cc
-      in-range (Some n) e = told (bytes_eq (signed_decimal n) field) (λ t. (bytes_eq-Decides (signed_decimal n) field).0 t) e
+      in-range (Some n) e = reported (bytes_eq (signed_decimal n) field) (λ t. (bytes_eq-Decides (signed_decimal n) field).0 t) e
         where
-          told : (t : Bool) → (t ≡ true → signed_decimal n ≡ field)
+          reported : (t : Bool) → (t ≡ true → signed_decimal n ≡ field)
               → option_map Some (let o : Option ℤ = cond t (Some n) None in o) ≡ Some cell → field ≡ cell_text null_text cell
-          told false same e = cc
-          told true same e = (let own : Some n ≡ cell = cc in sym (same refl) ∙ ap (cell_text null_text) own)
+          reported false same e = cc
+          reported true same e = (let own : Some n ≡ cell = cc in sym (same refl) ∙ ap (cell_text null_text) own)
 
       by : (t : Bool) → (t ≡ true → field ≡ null_text)
           → cond t (Some None) (option_map Some (category_of_field field)) ≡ Some cell → field ≡ cell_text null_text cell
@@ -199,7 +199,7 @@ module _ (format : FormatValue) (plain : format.labels ≡ false) where
 
   texts-plain : (texts : List Coming) → AllByRecursion (AllByRecursion IsPlain) (labels_of_texts format texts)
   texts-plain [] = tt
-  texts-plain (text ∷ texts) = (lines-plain (slice_split is_line_feed text.bytes), texts-plain texts)
+  texts-plain (text ∷ texts) = (lines-plain (slice_split is_newline text.bytes), texts-plain texts)
 
   all-at : {X : Type 0} (P : X → Type 0) (xs : List X) (x : X) → AllByRecursion P xs → Contains xs x → P x
   all-at {X = X} P xs x all at = by xs all at.0 at.1 at.2
@@ -284,23 +284,23 @@ module _ (format : FormatValue) (plain : format.labels ≡ false) where
     written-so Memory so = lines-so so
     written-so Write so = prefix-so so
 
-    none-other : (told : OtherLabel) → HasOtherLabel (readings_of format texts) (labels_of_texts format texts) told → ⊥
-    none-other told so =
+    none-other : (reported : OtherLabel) → HasOtherLabel (readings_of format texts) (labels_of_texts format texts) reported → ⊥
+    none-other reported so =
         let all = texts-plain texts in
-        let one = on-line (labels_of_texts format texts) told.first (told.combo, told.labelled.items) all so.one in
-        let other = on-line (labels_of_texts format texts) told.text (told.combo, told.other.items) all so.other in
+        let one = on-line (labels_of_texts format texts) reported.first (reported.combo, reported.labelled.items) all so.one in
+        let other = on-line (labels_of_texts format texts) reported.text (reported.combo, reported.other.items) all so.other in
         so.differ (other ∙ sym one)
 
-    pub plain-so : (fault : Option LabelFault) → IsTold format texts before now written fault
+    pub plain-so : (fault : Option LabelFault) → IsReported format texts before now written fault
         → IsPlainly format texts before now written fault
-    plain-so None told = joined-plain told
-    plain-so (Some (faults.Join fault)) told = (told.0, written-so fault told.1)
-    plain-so (Some (faults.OtherLabel other)) told = none-other other told.0
+    plain-so None reported = joined-plain reported
+    plain-so (Some (faults.Join fault)) reported = (reported.0, written-so fault reported.1)
+    plain-so (Some (faults.OtherLabel other)) reported = none-other other reported.0
 
 module _ (format : FormatValue) (texts : List Coming) (before now : Option (List ℕ)) (written : ℕ) (plain : format.labels ≡ false) where
-  pub plain-told : (fault : Option LabelFault) → IsTold format texts before now written fault
+  pub plain-reported : (fault : Option LabelFault) → IsReported format texts before now written fault
       → IsPlainly format texts before now written fault
-  plain-told fault told = plain-so format plain texts before now written fault told
+  plain-reported fault reported = plain-so format plain texts before now written fault reported
 
   module _ (all : AllByRecursion IsListing (tables_of (readings_of format texts))) (merged : Pairs)
       (whole : IsMergeOf (readings_of format texts) merged) (failed : Bool) where
@@ -318,9 +318,9 @@ module _ (format : FormatValue) (texts : List Coming) (before now : Option (List
         let end = wholly (readings_of format texts) all merged whole format before now written failed (Some fault) so.0
         (λ none. cc) (λ e. write (ap (option_map of-join) e)) (λ e. memory (ap (option_map of-join) e)) good in
         (let none = end.0 in cc)
-    by-plain (Some (faults.OtherLabel told)) so write memory good = absurd so
+    by-plain (Some (faults.OtherLabel reported)) so write memory good = absurd so
 
-    pub plainly-whole : (fault : Option LabelFault) → IsTold format texts before now written fault
+    pub plainly-whole : (fault : Option LabelFault) → IsReported format texts before now written fault
         → (fault ≡ Some (faults.Join Write) → failed ≡ true) → fault ≢ Some (faults.Join Memory) → failed ≡ false
         → (fault ≡ None) × (now ≡ append_known before (entries_text format merged))
-    plainly-whole fault told write memory good = by-plain fault (plain-told fault told) write memory good
+    plainly-whole fault reported write memory good = by-plain fault (plain-reported fault reported) write memory good

@@ -14,7 +14,7 @@ use Rattle.cell_stats_counts.specs.Combinations.{Combination, combination_cmp, c
 use Rattle.cell_stats.specs.CategoryTables.{Pairs}
 use Rattle.cell_stats.specs.TableText.{FormatValue}
 use Rattle.cell_join_lines.specs.LineFields.{capped_value, cell_before, cell_of_field, entry_of_fields, entry_of_labelled, entry_of_line, labelled_cell, labelled_entry_of_line, spelled_entry, with_count}
-use Rattle.cell_join_lines.specs.LineReading.{TableReading, at_text_end, in_order, is_as_wide, is_line_feed, line_after, next_entry, ordered_entry, reading_of, reading_of_lines, stopped, then_reads}
+use Rattle.cell_join_lines.specs.LineReading.{TableReading, at_text_end, in_order, is_as_wide, is_newline, line_after, next_entry, ordered_entry, reading_of, reading_of_lines, stopped, then_reads}
 use Rattle.cell_join_lines.specs.declared.table_fault.TableKind.{TableKind}
 use Rattle.cell_join_lines.specs.declared.table_fault.TableKind.TheVariants.{BadWidth, LongLine}
 use Rattle.cell_join_lines.specs.declared.table_fault.TheConstants.{MOST_BYTES}
@@ -75,24 +75,24 @@ Follows (Some last) k = combination_cmp last k ≡ Less
 
 ordered : (last : Combination) (o : Ordering) (x e : Combination × ℕ) → combination_cmp last x.0 ≡ o
     → ordered_entry o x ≡ Ok e → (x ≡ e) × Follows (Some last) e.0
-ordered last Less x e is told = let same : x ≡ e = cc in
+ordered last Less x e is reported = let same : x ≡ e = cc in
     (same, subst (λ (y : Combination × ℕ). Follows (Some last) y.0) same is)
-ordered last Equal x e is told = cc
-ordered last Greater x e is told = cc
+ordered last Equal x e is reported = cc
+ordered last Greater x e is reported = cc
 
 as-wide : (t : Bool) (x e : Combination × ℕ) → cond t (Ok x) (Err BadWidth) ≡ Ok e → x ≡ e
-as-wide true x e told = cc
-as-wide false x e told = cc
+as-wide true x e reported = cc
+as-wide false x e reported = cc
 
 wide : (last : Combination) (t : Bool) (x e : Combination × ℕ)
     → cond t (ordered_entry (combination_cmp last x.0) x) (Err BadWidth) ≡ Ok e → (x ≡ e) × Follows (Some last) e.0
-wide last true x e told = ordered last (combination_cmp last x.0) x e refl told
-wide last false x e told = cc
+wide last true x e reported = ordered last (combination_cmp last x.0) x e refl reported
+wide last false x e reported = cc
 
 ordered-behind : (width : ℕ) (last : Option Combination) (x e : Combination × ℕ) → in_order width last x ≡ Ok e
     → (x ≡ e) × Follows last e.0
-ordered-behind width None x e told = (as-wide (is_as_wide width (length x.0)) x e told, tt)
-ordered-behind width (Some last) x e told = wide last (length x.0 == length last) x e told
+ordered-behind width None x e reported = (as-wide (is_as_wide width (length x.0)) x e reported, tt)
+ordered-behind width (Some last) x e reported = wide last (length x.0 == length last) x e reported
 
 read-so : (width : ℕ) (last : Option Combination) (r : Result (Combination × ℕ) TableKind)
     → ((e : Combination × ℕ) → r ≡ Ok e → 0 < e.1) → (e : Combination × ℕ) → (r >>= in_order width last) ≡ Ok e
@@ -180,7 +180,7 @@ lines-listed format width fails number last (line ∷ next ∷ lines) =
 pub reading-listing : (format : FormatValue) (width : ℕ) (text : Coming)
     → IsListing (reading_of format width text).entries
 reading-listing format width text =
-    (lines-listed format width text.fails 1 None (slice_split is_line_feed text.bytes)).listing
+    (lines-listed format width text.fails 1 None (slice_split is_newline text.bytes)).listing
 
 pub readings-listing : (format : FormatValue) (width : ℕ) (texts : List Coming)
     → AllByRecursion IsListing (tables_of (readings_from format width texts))

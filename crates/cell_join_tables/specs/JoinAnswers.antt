@@ -52,5 +52,5 @@ after_answer old (Err fault) fails = after_fault old fault fails
 -- an answer is given, and the sink flushed
 pub record IsAnswered (answer : Result Unit JoinFault) (old new : Faults) (fault : Option JoinFault) : Type 0 where
   pub fails : Bool
-  pub told : fault ≡ answered answer fails
+  pub reported : fault ≡ answered answer fails
   pub flushed : new ≡ after_answer old answer fails

@@ -77,26 +77,26 @@ HasLine texts text line = (lines : List Labelled) × ((slice_get texts text ≡ 
 
 -- two texts have the combination with other labels, the first of them before the second, and no fault stands behind a lesser
 -- combination
-pub record HasOtherLabel (readings : List TableReading) (texts : List (List Labelled)) (told : OtherLabel) : Type 0 where
-  pub before : told.first < told.text
-  pub one : HasLine texts told.first (told.combo, told.labelled.items)
-  pub other : HasLine texts told.text (told.combo, told.other.items)
-  pub differ : told.other.items ≢ told.labelled.items
-  pub none : AreNoneBefore told.combo (map fault_place readings)
+pub record HasOtherLabel (readings : List TableReading) (texts : List (List Labelled)) (reported : OtherLabel) : Type 0 where
+  pub before : reported.first < reported.text
+  pub one : HasLine texts reported.first (reported.combo, reported.labelled.items)
+  pub other : HasLine texts reported.text (reported.combo, reported.other.items)
+  pub differ : reported.other.items ≢ reported.labelled.items
+  pub none : AreNoneBefore reported.combo (map fault_place readings)
 
 -- the text at this place has this on the line of this number
 abbrev pub HasNumberedLine : List (List Labelled) → (text number : ℕ) → Labelled → Type 0
 HasNumberedLine texts text number line = (lines : List Labelled) × ((slice_get texts text ≡ Some lines) × IsNumberedLine lines number line)
 
--- other labels are on the line that is told
+-- other labels are on the line that is reported
 abbrev pub IsOnLine : List (List Labelled) → LabelFault → Type 0
 IsOnLine texts (faults.Join fault) = Unit {0}
-IsOnLine texts (faults.OtherLabel told) = HasNumberedLine texts told.text told.line (told.combo, told.other.items)
+IsOnLine texts (faults.OtherLabel reported) = HasNumberedLine texts reported.text reported.line (reported.combo, reported.other.items)
 
 -- why texts with labels are not joined
 abbrev pub IsLabelFault : FormatValue → List Coming → LabelFault → Type 0
 IsLabelFault format texts (faults.Join fault) = IsJoinFault (readings_of format texts) fault
-IsLabelFault format texts (faults.OtherLabel told) = HasOtherLabel (readings_of format texts) (labels_of_texts format texts) told
+IsLabelFault format texts (faults.OtherLabel reported) = HasOtherLabel (readings_of format texts) (labels_of_texts format texts) reported
 
 -- the first entries of the merge of all that was read, with the labels of their lines
 pub record AreFirst (format : FormatValue) (texts : List Coming) (first : List LabelledEntry) : Type 0 where
@@ -131,15 +131,15 @@ HasJoinWritten format texts before now written Write = HasLabelledPrefix format 
 
 abbrev pub HasLabelledWritten : FormatValue → List Coming → Option (List ℕ) → Option (List ℕ) → ℕ → LabelFault → Type 0
 HasLabelledWritten format texts before now written (faults.Join fault) = HasJoinWritten format texts before now written fault
-HasLabelledWritten format texts before now written (faults.OtherLabel told) = HasLabelledLines format texts before now written
+HasLabelledWritten format texts before now written (faults.OtherLabel reported) = HasLabelledLines format texts before now written
 
--- what is told of texts with labels, and what the sink took
-abbrev pub IsTold : FormatValue → List Coming → (before now : Option (List ℕ)) → (written : ℕ) → Option LabelFault → Type 0
-IsTold format texts before now written None = AreJoinedLabels format texts before now written
-IsTold format texts before now written (Some fault) = IsLabelFault format texts fault × HasLabelledWritten format texts before now written fault
+-- what is reported of texts with labels, and what the sink took
+abbrev pub IsReported : FormatValue → List Coming → (before now : Option (List ℕ)) → (written : ℕ) → Option LabelFault → Type 0
+IsReported format texts before now written None = AreJoinedLabels format texts before now written
+IsReported format texts before now written (Some fault) = IsLabelFault format texts fault × HasLabelledWritten format texts before now written fault
 
 -- the same of texts without labels, which are never told to have others
 abbrev pub IsPlainly : FormatValue → List Coming → (before now : Option (List ℕ)) → (written : ℕ) → Option LabelFault → Type 0
 IsPlainly format texts before now written None = AreJoinedTexts format (readings_of format texts) before now written
 IsPlainly format texts before now written (Some (faults.Join fault)) = IsJoinFault (readings_of format texts) fault × HasWritten format (readings_of format texts) before now written fault
-IsPlainly format texts before now written (Some (faults.OtherLabel told)) = ⊥
+IsPlainly format texts before now written (Some (faults.OtherLabel reported)) = ⊥

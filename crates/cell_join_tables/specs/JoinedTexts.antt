@@ -97,7 +97,7 @@ IsJoinFault readings TooLong = 2 ^ 64 - 1 ≤ length (merge_of (tables_of readin
 IsJoinFault readings Memory = Unit {0}
 IsJoinFault readings Write = Unit {0}
 
--- each text is a table to its end, and the sink took exactly the text of their merge, and its length is told
+-- each text is a table to its end, and the sink took exactly the text of their merge, and its length is reported
 pub record AreJoinedTexts (format : FormatValue) (readings : List TableReading) (before now : Option (List ℕ)) (written : ℕ) : Type 0 where
   pub tables : AreTables readings
   pub merged : Pairs

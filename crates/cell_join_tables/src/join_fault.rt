@@ -3,7 +3,7 @@
 use cell_join_lines::table_fault::TableFault;
 use cell_stats_counts::combination::Combo;
 
-/// Why texts are not joined. Texts are told by their places, from 0.
+/// Why texts are not joined. Texts are reported by their places, from 0.
 #[derive(Debug, Drop)]
 pub enum JoinFault {
     /// The first fault of this text.

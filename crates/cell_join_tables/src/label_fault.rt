@@ -3,7 +3,7 @@
 use crate::join_fault::JoinFault;
 use cell_stats_counts::combination::Combo;
 
-/// Two texts that have a combination with other labels. Texts are told by their places, from 0.
+/// Two texts that have a combination with other labels. Texts are reported by their places, from 0.
 #[derive(Debug, Drop)]
 pub struct OtherLabel {
     /// The first text that has the combination.

@@ -74,13 +74,13 @@ pub(crate) fn other_label<R: Source>(
     text: usize,
 ) -> Result<OtherLabel, JoinFault>
     requires { text < length texts.now }
-    ensures told { IfOk result (λ told. (told.first ≡ first) × (told.text ≡ text)
-        × (told.combo ≡ combo.now) × (told.labelled.items ≡ labelled.now)) }
-    ensures other { IfOk result (λ told. slice_get
+    ensures reported { IfOk result (λ reported. (reported.first ≡ first) × (reported.text ≡ text)
+        × (reported.combo ≡ combo.now) × (reported.labelled.items ≡ labelled.now)) }
+    ensures other { IfOk result (λ reported. slice_get
         (map (λ text. before_count format.now.separator text.line) texts.now) text
-        ≡ Some told.other.items) }
-    ensures line { IfOk result (λ told. slice_get (map (λ text. text.number - 1) texts.now) text
-        ≡ Some told.line) }
+        ≡ Some reported.other.items) }
+    ensures line { IfOk result (λ reported. slice_get (map (λ text. text.number - 1) texts.now) text
+        ≡ Some reported.line) }
     ensures memory { IfErr result (λ fault. fault ≡ JoinFault.Memory) }
 {
     let at = &texts[text];

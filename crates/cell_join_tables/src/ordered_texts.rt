@@ -6,7 +6,7 @@ ghost use Rattle.cell_stats_counts.specs.Combinations.{Combination};
 ghost use Rattle.cell_join_lines.specs.TextReading.{combination_of};
 ghost use Rattle.cell_join_tables.specs.parts.LabelEnds.{StopsAtLabels};
 ghost use Rattle.cell_join_tables.specs.parts.LabelSteps.{AllAgree, StopsOnLine, labelled_heads};
-ghost use Rattle.cell_join_tables.specs.parts.HeadOrder.{Ascends, AreBefore, BeginsWith, GoesFirst, IsFaultBehind, ReadsOn, goes_before, heads_of};
+ghost use Rattle.cell_join_tables.specs.parts.HeadOrder.{Ascends, AreBefore, BeginsWith, GoesFirst, IsFaultBehind, HeadReadsOn, goes_before, heads_of};
 
 use crate::join_fault::JoinFault;
 use crate::label_fault::OtherLabel;
@@ -169,8 +169,8 @@ impl<R: Source> OrderedTexts<R> {
         ensures own { result ≡ Ok None → (entry : Combination × ℕ) → BeginsWith self.now entry
             → Contains (labelled_heads format.now self.now)
             (Some (entry.0, labelled.new.items)) }
-        ensures other { IfOk result (λ told. IfSome told
-            (λ told. StopsAtLabels format.now self.now told × StopsOnLine format.now self.now told)) }
+        ensures other { IfOk result (λ reported. IfSome reported
+            (λ reported. StopsAtLabels format.now self.now reported × StopsOnLine format.now self.now reported)) }
         ensures memory { IfErr result (λ fault. fault ≡ JoinFault.Memory) }
     {
         let Some(first) = self.order.as_slice().first() else {
@@ -191,7 +191,7 @@ impl<R: Source> OrderedTexts<R> {
             return Ok(None);
         };
         match other_label(alloc, format, texts, combo, labelled, first, other) {
-            Ok(told) => Ok(Some(told)),
+            Ok(reported) => Ok(Some(reported)),
             Err(fault) => Err(fault),
         }
     }
@@ -203,7 +203,7 @@ impl<R: Source> OrderedTexts<R> {
     /// [`JoinFault::Text`], where the text has a fault there, and [`JoinFault::Memory`].
     pub(crate) fn advance(&mut self, alloc: Global, format: &Format) -> Result<(), JoinFault>
         ensures reads { OnOk result ((first : ℕ) → GoesFirst (heads_of self.old) first
-            → ReadsOn format.now self.old first self.new) }
+            → HeadReadsOn format.now self.old first self.new) }
         ensures fault { IfErr result (λ fault. (first : ℕ) → GoesFirst (heads_of self.old) first
             → IsFaultBehind format.now self.old first fault) }
         ensures unwritten { IfErr result (λ fault. fault ≢ JoinFault.Write) }

@@ -10,7 +10,7 @@ ghost use Rattle.cell_join_lines.specs.LineLabels.{Labelled, labelled_from, labe
 ghost use Rattle.cell_join_lines.specs.LineReading.{TableReading};
 ghost use Rattle.cell_join_lines.specs.TableLines.{entries_text};
 ghost use Rattle.cell_join_lines.specs.TextReading.{reading_from};
-ghost use Rattle.cell_join_tables.specs.JoinedLabels.{AreJoinedLabels, HasLabelledWritten, IsLabelFault, IsLabelledMerge, IsOnLine, IsPlainly, IsTold, LabelledEntry, counted_line, counted_text, labels_of_texts};
+ghost use Rattle.cell_join_tables.specs.JoinedLabels.{AreJoinedLabels, HasLabelledWritten, IsLabelFault, IsLabelledMerge, IsOnLine, IsPlainly, IsReported, LabelledEntry, counted_line, counted_text, labels_of_texts};
 ghost use Rattle.cell_join_tables.specs.JoinedTexts.{Give, IsFaultyAtOnce, IsMergeOf, readings_of};
 ghost use Rattle.cell_join_tables.specs.parts.LabelEnds.{IsLabelledEnd, StopsAtLabels, answer_of, label_fault_of, other_of};
 ghost use Rattle.cell_join_tables.specs.parts.LabelSteps.{AreBehind, HasLabelledStep, StopsOnLine};
@@ -72,8 +72,8 @@ fn write_least<R: Source, W: Sink>(
         → AreEnded (λ text. reading_from format.now text) texts.old
         × All (λ text. text.head ≡ None) texts.old
         × (out.new ≡ out.old) × (block.new ≡ block.old) }
-    ensures other { (told : OtherLabel) → result ≡ Ok (JoinStep.Other told)
-        → (StopsAtLabels format.now texts.old told × StopsOnLine format.now texts.old told)
+    ensures other { (reported : OtherLabel) → result ≡ Ok (JoinStep.Other reported)
+        → (StopsAtLabels format.now texts.old reported × StopsOnLine format.now texts.old reported)
         × (out.new ≡ out.old) × (block.new ≡ block.old) }
     ensures behind { (wholes : List (List Labelled)) → AreBehind format.now wholes texts.old
         → result ≡ Ok JoinStep.Line → AreBehind format.now wholes texts.new }
@@ -83,7 +83,7 @@ fn write_least<R: Source, W: Sink>(
 {
     match texts.compare_labels(alloc, format, labelled) {
         Ok(None) => {}
-        Ok(Some(told)) => return Ok(JoinStep::Other(told)),
+        Ok(Some(reported)) => return Ok(JoinStep::Other(reported)),
         Err(fault) => return Err(fault),
     }
     match take_least(alloc, format, texts) {
@@ -114,7 +114,7 @@ fn merge_texts<R: Source, W: Sink>(
         match write_least(alloc, format, texts, &mut labelled, block, out) {
             Ok(JoinStep::Line) => {}
             Ok(JoinStep::End) => return Ok(None),
-            Ok(JoinStep::Other(told)) => return Ok(Some(told)),
+            Ok(JoinStep::Other(reported)) => return Ok(Some(reported)),
             Err(fault) => return Err(fault),
         }
         if block.has_failed() {
@@ -156,13 +156,13 @@ fn parted(
     }
 }
 
-// The fault that is told: other labels where there is no fault else.
+// The fault that is reported: other labels where there is no fault else.
 fn label_fault(fault: Option<JoinFault>, other: Option<OtherLabel>) -> Option<LabelFault>
     ensures { result ≡ label_fault_of fault other }
 {
     match (fault, other) {
         (Some(fault), _) => Some(LabelFault::Join(fault)),
-        (None, Some(told)) => Some(LabelFault::OtherLabel(told)),
+        (None, Some(reported)) => Some(LabelFault::OtherLabel(reported)),
         (None, None) => None,
     }
 }
@@ -174,12 +174,12 @@ fn join_opened<R: Source + Drop, W: Sink>(
     texts: Vec<TableText<R>>,
     out: &mut W,
 ) -> JoinOutcome
-    ensures told { (comings : List Coming)
+    ensures reported { (comings : List Coming)
         → map (λ text. reading_from format.now text) texts.items
         ≡ map Some (readings_of format.now comings)
         → map (λ text. labelled_from format.now text) texts.items
         ≡ map (λ coming. Some (labelled_in format.now coming.bytes)) comings
-        → IsTold format.now comings (W.taken out.old) (W.taken out.new) result.written
+        → IsReported format.now comings (W.taken out.old) (W.taken out.new) result.written
         result.fault }
     ensures line { (wholes : List (List Labelled)) → AreBehind format.now wholes texts.items
         → IfSome result.fault (IsOnLine wholes) }
@@ -204,7 +204,7 @@ fn join_opened<R: Source + Drop, W: Sink>(
 /// source, the line and the entry that each text goes on with, and no table.
 ///
 /// The first entry of each text is read before the first byte is written. The sink is flushed once at the end, unless it
-/// refused a put. Texts that have one combination with other labels are told where no fault stands behind a lesser one.
+/// refused a put. Texts that have one combination with other labels are reported where no fault stands behind a lesser one.
 pub fn join_texts<R: Source + Drop, W: Sink>(
     alloc: Global,
     format: &Format,
@@ -221,7 +221,7 @@ pub fn join_texts<R: Source + Drop, W: Sink>(
     // lesser combination than one whose counts are; or two texts have other labels for a combination.
     ensures fault { (texts : List Coming) → Give R.coming sources.items texts
         → IfSome result.fault (IsLabelFault format.now texts) }
-    // Other labels are told with the line that has them in its text.
+    // Other labels are reported with the line that has them in its text.
     ensures line { (texts : List Coming) → Give R.coming sources.items texts
         → IfSome result.fault (IsOnLine (labels_of_texts format.now texts)) }
     // With a fault the sink has taken the lines of the first entries, or a prefix of them where a write failed.

@@ -17,7 +17,7 @@ use Rattle.cell_stats.specs.CategoryTables.{Pairs}
 use Rattle.cell_stats.specs.TableText.{FormatValue}
 use Rattle.cell_join_lines.specs.LineLabels.{before_count, labelled_in, labelled_in_lines, labelled_then}
 use Rattle.cell_join_lines.specs.LineLabels.{up_to_separator}
-use Rattle.cell_join_lines.specs.LineReading.{is_line_feed}
+use Rattle.cell_join_lines.specs.LineReading.{is_newline}
 use Rattle.cell_join_lines.specs.TableLines.{Labelling, label_in, labelled_entry_fields, labelled_fields}
 use Rattle.cell_join_lines.specs.TableLines.{labelled_line, labelled_text}
 use Rattle.cell_join_lines.proofs.LabelLemmas.{more-labelled}
@@ -71,8 +71,8 @@ module _ (format : FormatValue) (labels : Labelling) where
     text-labelled (entry ∷ entries) are =
         let is = All-head IsGood entry entries are in
         let rest = labelled_text format labels entries in
-        ap (labelled_in_lines format) (ap (slice_split is_line_feed) (append_assoc (bytes_of entry) (10 ∷ []) rest)
-        ∙ slice_split_at is_line_feed (bytes_of entry) 10 rest
+        ap (labelled_in_lines format) (ap (slice_split is_newline) (append_assoc (bytes_of entry) (10 ∷ []) rest)
+        ∙ slice_split_at is_newline (bytes_of entry) 10 rest
         (line-free format labels clear with_labels apart width entry is) refl)
         ∙ more-labelled format (bytes_of entry) rest
         ∙ ap (λ r. labelled_then format (bytes_of entry) r (labelled_in format rest))

@@ -18,7 +18,7 @@ use Rattle.cell_stats.specs.TableText.{FormatValue, cell_fields, combination_fie
 use Rattle.cell_stats.specs.TableText.{line_text}
 use Rattle.cell_join_lines.specs.LineFields.{category_of_field, cell_before, entry_of_labelled, entry_of_line}
 use Rattle.cell_join_lines.specs.LineFields.{labelled_cell, labelled_entry_of_line, spelled_entry, with_count}
-use Rattle.cell_join_lines.specs.LineReading.{is_line_feed}
+use Rattle.cell_join_lines.specs.LineReading.{is_newline}
 use Rattle.cell_join_lines.specs.TableLines.{Labelling, label_in, labelled_entry_fields, labelled_fields}
 use Rattle.cell_join_lines.specs.TableLines.{labelled_line}
 use Rattle.cell_join_tables_law.specs.PrintedTables.{AreClearLabels, IsClear, IsLabelledEntry}
@@ -87,18 +87,18 @@ module _ (format : FormatValue) (labels : Labelling) (clear : IsClear format) (w
 
   abbrev IsNeither : List ℕ → Type 0
   IsNeither text = (list_all (λ b. not (is_separator b)) text ≡ true)
-      × (list_all (λ b. not (is_line_feed b)) text ≡ true)
+      × (list_all (λ b. not (is_newline b)) text ≡ true)
 
-  neither : (text : List ℕ) → list_all (λ b. not (b == format.separator || is_line_feed b)) text ≡ true
+  neither : (text : List ℕ) → list_all (λ b. not (b == format.separator || is_newline b)) text ≡ true
       → IsNeither text
   neither [] all = (refl, refl)
-  neither (b ∷ bs) all = by (is_separator b) (is_line_feed b) (neither bs) all
+  neither (b ∷ bs) all = by (is_separator b) (is_newline b) (neither bs) all
     where
       by : (s l : Bool)
-          → (list_all (λ b. not (b == format.separator || is_line_feed b)) bs ≡ true → IsNeither bs)
-          → (not (s || l) && list_all (λ b. not (b == format.separator || is_line_feed b)) bs) ≡ true
+          → (list_all (λ b. not (b == format.separator || is_newline b)) bs ≡ true → IsNeither bs)
+          → (not (s || l) && list_all (λ b. not (b == format.separator || is_newline b)) bs) ≡ true
           → ((not s && list_all (λ b. not (is_separator b)) bs) ≡ true)
-          × ((not l && list_all (λ b. not (is_line_feed b)) bs) ≡ true)
+          × ((not l && list_all (λ b. not (is_newline b)) bs) ≡ true)
       by true l rest h = cc
       by false true rest h = cc
       by false false rest h = rest h
@@ -108,9 +108,9 @@ module _ (format : FormatValue) (labels : Labelling) (clear : IsClear format) (w
   no-separator column (Some z) = null-free is_separator (labels column z) (neither (labels column z) (clear_labels
       column z)).0
 
-  no-line-feed : (column : ℕ) (cell : CellValue) → All (λ b. is_line_feed b ≡ false) (label_in labels column cell)
-  no-line-feed column None = null-free is_line_feed (codes "no data") refl
-  no-line-feed column (Some z) = null-free is_line_feed (labels column z) (neither (labels column z) (clear_labels
+  no-line-feed : (column : ℕ) (cell : CellValue) → All (λ b. is_newline b ≡ false) (label_in labels column cell)
+  no-line-feed column None = null-free is_newline (codes "no data") refl
+  no-line-feed column (Some z) = null-free is_newline (labels column z) (neither (labels column z) (clear_labels
       column z)).1
 
   cut-again : (cells : Combination) (n : ℕ) → All (λ text. All (λ b. (b == format.separator) ≡ false) text)
@@ -132,11 +132,11 @@ module _ (format : FormatValue) (labels : Labelling) (clear : IsClear format) (w
       ∙ labelled-back format.null_text labels clear.null 0 entry.0 entry.1 is.cells is.some is.fits
 
   pub line-free : (entry : Combination × ℕ) → IsLabelledEntry format labels width entry
-      → All (λ b. is_line_feed b ≡ false) (line_bytes entry)
+      → All (λ b. is_newline b ≡ false) (line_bytes entry)
   line-free entry is =
-      joined-free is_line_feed digit-feed refl format.separator (feed-apart format.separator clear.separator)
+      joined-free is_newline digit-feed refl format.separator (feed-apart format.separator clear.separator)
       (labelled_entry_fields format labels entry)
-      (labelled-free is_line_feed digit-feed refl format labels (null-free is_line_feed format.null_text
+      (labelled-free is_newline digit-feed refl format labels (null-free is_newline format.null_text
       clear.one_line) no-line-feed 0 entry.0 entry.1 is.cells is.fits)
 
 pub labelled-reads : LabelledReadsAsItself

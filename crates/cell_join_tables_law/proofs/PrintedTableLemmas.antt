@@ -20,7 +20,7 @@ use Rattle.cell_stats.specs.CategoryTables.{Pairs}
 use Rattle.cell_stats.specs.TableText.{FormatValue, combination_fields, count_fields, line_text, pair_line, table_text}
 use Rattle.cell_join_lines.specs.ClearFormats.{is_clear, is_clear_byte}
 use Rattle.cell_join_lines.specs.LineFields.{category_of_field, entry_of_fields, entry_of_line, labelled_entry_of_line, spelled_entry}
-use Rattle.cell_join_lines.specs.LineReading.{TableReading, ordered_entry, in_order, is_as_wide, is_line_feed, line_after, next_entry, reading_of_lines, reading_of, then_reads, with_entry, stopped}
+use Rattle.cell_join_lines.specs.LineReading.{TableReading, ordered_entry, in_order, is_as_wide, is_newline, line_after, next_entry, reading_of_lines, reading_of, then_reads, with_entry, stopped}
 use Rattle.cell_join_lines.specs.TableLines.{entries_text, entry_fields, entry_line}
 use Rattle.cell_join_lines.specs.declared.table_fault.TableKind.{TableKind}
 use Rattle.cell_join_lines.specs.declared.table_fault.TableKind.TheVariants.{LongLine, BadWidth}
@@ -58,7 +58,7 @@ no-category (Some z) e = cc
 pub clear-tested : ClearIsTested
 clear-tested format tested =
     let apart : Bool = list_all (λ b. not (b == format.separator)) format.null_text in
-    let one : Bool = list_all (λ b. not (is_line_feed b)) format.null_text in
+    let one : Bool = list_all (λ b. not (is_newline b)) format.null_text in
     let none : Bool = is_none (category_of_field format.null_text) in
     let blank : Bool = list_all (λ b. not (b == format.separator)) (codes "no data") in
     let no_data : Bool = not format.labels || blank in
@@ -77,7 +77,7 @@ clear-tested format tested =
 -- entries whose lines are printed so are read back, line by line
 module _ (format : FormatValue) (width : ℕ) (line_bytes : Combination × ℕ → List ℕ) (IsGood : Combination × ℕ → Type 0)
     (spelled : (e : Combination × ℕ) → IsGood e → spelled_entry format (line_bytes e) ≡ Ok e)
-    (free : (e : Combination × ℕ) → IsGood e → All (λ b. is_line_feed b ≡ false) (line_bytes e))
+    (free : (e : Combination × ℕ) → IsGood e → All (λ b. is_newline b ≡ false) (line_bytes e))
     (wide : (e : Combination × ℕ) → IsGood e → length e.0 ≡ width)
     (short : (e : Combination × ℕ) → IsGood e → length (line_bytes e) ≤ MOST_BYTES) where
   abbrev text_of : Pairs → List ℕ
@@ -85,11 +85,11 @@ module _ (format : FormatValue) (width : ℕ) (line_bytes : Combination × ℕ �
 
   -- the lines of entries
   split-lines : (entry : Combination × ℕ) (entries : Pairs) → IsGood entry
-      → slice_split is_line_feed (text_of (entry ∷ entries)) ≡ line_bytes entry ∷ slice_split is_line_feed (text_of
+      → slice_split is_newline (text_of (entry ∷ entries)) ≡ line_bytes entry ∷ slice_split is_newline (text_of
       entries)
   split-lines entry entries is =
-      ap (slice_split is_line_feed) (append_assoc (line_bytes entry) (10 ∷ []) (text_of entries))
-      ∙ slice_split_at is_line_feed (line_bytes entry) 10 (text_of entries) (free entry is) refl
+      ap (slice_split is_newline) (append_assoc (line_bytes entry) (10 ∷ []) (text_of entries))
+      ∙ slice_split_at is_newline (line_bytes entry) 10 (text_of entries) (free entry is) refl
 
   -- entries that may stand behind a combination, if there is one
   abbrev MayFollow : ℕ → Option Combination → Pairs → Type 0
@@ -112,7 +112,7 @@ module _ (format : FormatValue) (width : ℕ) (line_bytes : Combination × ℕ �
 
   pub read-all : (wanted number : ℕ) (last : Option Combination) (entries : Pairs) → All IsGood entries
       → IsStrictlySortedBy combination_cmp (map (λ (e : Combination × ℕ). e.0) entries)
-      → MayFollow wanted last entries → reading_of_lines format wanted false number last (slice_split is_line_feed
+      → MayFollow wanted last entries → reading_of_lines format wanted false number last (slice_split is_newline
       (text_of entries)) ≡ all_read entries
   unfolding IsStrictlySortedBy
   read-all wanted number last [] are up may = refl
@@ -125,7 +125,7 @@ module _ (format : FormatValue) (width : ℕ) (line_bytes : Combination × ℕ �
       ap (reading_of_lines format wanted false number last) (split-lines entry entries is)
       ∙ more-lines format wanted number last false (line_bytes entry) (text_of entries)
       ∙ (λ i. cond (small i) (stopped number LongLine) (then_reads number (entry_is i) (λ e. reading_of_lines format
-      wanted false (line_after number) (Some e.0) (slice_split is_line_feed (text_of entries)))))
+      wanted false (line_after number) (Some e.0) (slice_split is_newline (text_of entries)))))
       ∙ ap (with_entry entry) (read-all wanted (line_after number) (Some entry.0) entries (All-tail IsGood entry
       entries are) up.1 (wide entry is, up.0))
 
@@ -153,11 +153,11 @@ module _ (format : FormatValue) (clear : IsClear format) (plain : format.labels 
       ∙ fields-back format entry.0 entry.1 clear.null is.cells is.some is.fits
 
   line-free : (entry : Combination × ℕ) → IsPrintedEntry format width entry
-      → All (λ b. is_line_feed b ≡ false) (line_bytes entry)
+      → All (λ b. is_newline b ≡ false) (line_bytes entry)
   line-free entry is =
-      joined-free is_line_feed digit-feed refl format.separator (feed-apart format.separator clear.separator)
+      joined-free is_newline digit-feed refl format.separator (feed-apart format.separator clear.separator)
       (entry_fields format entry)
-      (fields-free is_line_feed digit-feed refl format entry.0 entry.1 (null-free is_line_feed format.null_text
+      (fields-free is_newline digit-feed refl format entry.0 entry.1 (null-free is_newline format.null_text
       clear.one_line) is.cells is.fits)
 
 pub width-wanted : (wanted width : ℕ) → 0 < width → (wanted ≡ 0) ⊎ (wanted ≡ width) → is_as_wide wanted width ≡ true

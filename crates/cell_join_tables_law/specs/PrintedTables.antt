@@ -9,7 +9,7 @@ use Rattle.cell_stats.specs.CategoryTables.{Pairs}
 use Rattle.cell_stats.specs.TableText.{FormatValue, label_of_cell, table_text}
 use Rattle.cell_join_lines.specs.ClearFormats.{is_clear, is_clear_byte}
 use Rattle.cell_join_lines.specs.LineFields.{category_of_field}
-use Rattle.cell_join_lines.specs.LineReading.{is_line_feed, reading_of}
+use Rattle.cell_join_lines.specs.LineReading.{is_newline, reading_of}
 use Rattle.cell_join_lines.specs.TableLines.{Labelling, entries_text, entry_fields, labelled_entry_fields, labelled_text}
 use Rattle.cell_join_lines.specs.declared.table_fault.TheConstants.{MOST_BYTES}
 
@@ -18,7 +18,7 @@ use Rattle.cell_join_lines.specs.declared.table_fault.TheConstants.{MOST_BYTES}
 pub record IsClear (format : FormatValue) : Type 0 where
   pub separator : is_clear_byte format.separator ≡ true
   pub apart : list_all (λ b. not (b == format.separator)) format.null_text ≡ true
-  pub one_line : list_all (λ b. not (is_line_feed b)) format.null_text ≡ true
+  pub one_line : list_all (λ b. not (is_newline b)) format.null_text ≡ true
   pub null : category_of_field format.null_text ≡ None
   pub no_data : format.labels ≡ true → list_all (λ b. not (b == format.separator)) (codes "no data") ≡ true
 
@@ -45,7 +45,7 @@ PrintsAsTables = (format : FormatValue) (maps : List Grid) (picks : List ℕ) (e
 
 -- labels that hold neither the separator nor a line feed
 abbrev pub AreClearLabels : FormatValue → Labelling → Type 0
-AreClearLabels format labels = (column : ℕ) (category : ℤ) → list_all (λ b. not (b == format.separator || is_line_feed b)) (labels column category) ≡ true
+AreClearLabels format labels = (column : ℕ) (category : ℤ) → list_all (λ b. not (b == format.separator || is_newline b)) (labels column category) ≡ true
 
 -- an entry of so many cells, with a count from 1 to 2^64 - 1, whose line with labels is not too long
 pub record IsLabelledEntry (format : FormatValue) (labels : Labelling) (width : ℕ) (entry : Combination × ℕ) : Type 0 where

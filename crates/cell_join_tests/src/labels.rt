@@ -53,12 +53,12 @@ fn join_plain(
 // What other labels were told.
 fn other_labels(outcome: &JoinOutcome) -> Option<(usize, usize, u64, &[u8], &[u8])> {
     match &outcome.fault {
-        Some(LabelFault::OtherLabel(told)) => Some((
-            told.first,
-            told.text,
-            told.line,
-            told.labelled.as_slice(),
-            told.other.as_slice(),
+        Some(LabelFault::OtherLabel(reported)) => Some((
+            reported.first,
+            reported.text,
+            reported.line,
+            reported.labelled.as_slice(),
+            reported.other.as_slice(),
         )),
         _ => None,
     }
@@ -88,7 +88,7 @@ fn labels_are_carried(rt: HostRuntime) -> Result<(), Fail> {
 }
 
 #[test]
-fn other_labels_are_told_with_their_line(rt: HostRuntime) -> Result<(), Fail> {
+fn other_labels_are_reported_with_their_line(rt: HostRuntime) -> Result<(), Fail> {
     let north = b"1;forest;5;clay;5\n2;lake;5;clay;2\n".as_slice();
     let west = b"1;forest;5;clay;1\n".as_slice();
     let south = b"1;forest;5;clay;7\n2;lake;5;loam;1\n".as_slice();
@@ -110,7 +110,7 @@ fn other_labels_are_told_with_their_line(rt: HostRuntime) -> Result<(), Fail> {
 }
 
 #[test]
-fn a_fault_before_other_labels_is_told(rt: HostRuntime) -> Result<(), Fail> {
+fn a_fault_before_other_labels_is_reported(rt: HostRuntime) -> Result<(), Fail> {
     let north = b"1;forest;5\n2;lake\n".as_slice();
     let south = b"3;moor;7\n".as_slice();
     let west = b"3;bog;7\n".as_slice();
@@ -125,7 +125,7 @@ fn a_fault_before_other_labels_is_told(rt: HostRuntime) -> Result<(), Fail> {
 }
 
 #[test]
-fn a_full_sink_is_told(rt: HostRuntime) -> Result<(), Fail> {
+fn a_full_sink_is_reported(rt: HostRuntime) -> Result<(), Fail> {
     let mut out = MemorySink::new(vec![in rt.alloc(); 0u8; 8]?, 4096, false);
     let outcome = join(rt.alloc(), &[b"1;forest;5\n".as_slice()], 3, &mut out)?;
     let failed = match &outcome.fault {

@@ -75,7 +75,7 @@ fn texts_are_read(rt: HostRuntime) -> Result<(), Fail> {
 }
 
 #[test]
-fn a_failure_is_told_with_its_line(rt: HostRuntime) -> Result<(), Fail> {
+fn a_failure_is_reported_with_its_line(rt: HostRuntime) -> Result<(), Fail> {
     let sum = sum_of(rt.alloc(), b"1 5\n2 4\n", 3, true);
     assert!(rt; sum == Err((3, TableKind::Read)));
     let sum = sum_of(rt.alloc(), b"1 5\n2 4", 3, true);
@@ -174,11 +174,11 @@ fn a_source_is_not_asked_after_it_failed_or_ended(rt: HostRuntime) -> Result<(),
         (4, false, Ok(())),
         (5, false, cut_off),
     ] {
-        let told = asked_oddly(rt.alloc(), odd_call, fails);
+        let reported = asked_oddly(rt.alloc(), odd_call, fails);
         let calls = odd_call + 1;
         assert!(rt;
-            told == Ok((wanted, calls, calls)),
-            "{odd_call} {fails}: {told:?}"
+            reported == Ok((wanted, calls, calls)),
+            "{odd_call} {fails}: {reported:?}"
         );
     }
     Ok(())

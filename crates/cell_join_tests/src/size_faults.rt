@@ -77,7 +77,7 @@ fn numbers_are_refused(rt: HostRuntime) -> Result<(), Fail> {
 }
 
 #[test]
-fn the_first_fault_of_the_texts_is_told(rt: HostRuntime) -> Result<(), Fail> {
+fn the_first_fault_of_the_texts_is_reported(rt: HostRuntime) -> Result<(), Fail> {
     let two: &[u8] = b"1 5\n2 7\nx\n";
     let great: &[u8] = b"1 1\n2 18446744073709551615\n";
     let cases: [(&[u8], &[&[u8]], SizesFault); 8] = [

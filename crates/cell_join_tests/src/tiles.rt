@@ -9,7 +9,7 @@ use cell_core_test_maps::maps::{NULL, categories_of, map_of};
 use cell_join_lines::stretch::Stretch;
 use cell_join_tiles::begun::begun_by_row;
 use cell_join_tiles::border::{Border, Side};
-use cell_join_tiles::joiner::{JoinFault, TileJoiner};
+use cell_join_tiles::joiner::{JoinerFault, TileJoiner};
 use std::alloc::{AllocGlobal, Global};
 use std::process::Abort;
 use std::test::Fail;
@@ -161,7 +161,7 @@ fn put_numbers(found: &mut [u64], cols: u32, tile: &Numbered, runs: &[Stretch]) 
 }
 
 // What a joiner refuses, as a test does.
-fn joined(answer: Result<TileJoiner, JoinFault>) -> Result<TileJoiner, Fail> {
+fn joined(answer: Result<TileJoiner, JoinerFault>) -> Result<TileJoiner, Fail> {
     match answer {
         Ok(joiner) => Ok(joiner),
         Err(_) => Err(Fail::from("a row of tiles is refused")),

@@ -26,11 +26,11 @@ fn worked_borders(rt: HostRuntime) -> Result<(), Fail> {
 
 #[test]
 fn borders_are_read(rt: HostRuntime) -> Result<(), Fail> {
-    let told = read(rt.alloc(), WIDE)?.ok().ok_or("no border")?;
-    assert!(rt; told.region.rows() == 2 && told.region.cols() == 5);
-    assert!(rt; told.joining == Joining::EdgesAndCorners);
-    assert!(rt; told.border.begun.as_slice() == [2, 0].as_slice());
-    assert!(rt; told.border.right.cells.len() == 2);
+    let reported = read(rt.alloc(), WIDE)?.ok().ok_or("no border")?;
+    assert!(rt; reported.region.rows() == 2 && reported.region.cols() == 5);
+    assert!(rt; reported.joining == Joining::EdgesAndCorners);
+    assert!(rt; reported.border.begun.as_slice() == [2, 0].as_slice());
+    assert!(rt; reported.border.right.cells.len() == 2);
     Ok(())
 }
 

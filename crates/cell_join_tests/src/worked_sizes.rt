@@ -40,7 +40,7 @@ fn sizes_are_added_up(rt: HostRuntime) -> Result<(), Fail> {
 }
 
 #[test]
-fn a_failing_sink_is_told(rt: HostRuntime) -> Result<(), Fail> {
+fn a_failing_sink_is_reported(rt: HostRuntime) -> Result<(), Fail> {
     let joined = join_to(rt.alloc(), AREAS, &[FIRST, SECOND], 3)?;
     assert!(rt; joined.outcome.fault == Some(SizesFault::Write));
     assert!(rt; joined.outcome.written == 3);

@@ -5,12 +5,12 @@ use Rattle.std.specs.List.{AllPairs}
 use Rattle.std.proofs.lemmas.List.{get_or_default, get_or-map, length-map}
 use Rattle.cell_core.specs.Grid.{Grid, CellValue}
 use Rattle.cell_cats_areas.specs.declared.clump.Joining.{Joining}
-use Rattle.cell_cats_areas.specs.Areas.{Position, cell_at_spot, IsEarlierCell, AreJoined}
+use Rattle.cell_cats_areas.specs.Areas.{Position, cell_at_position, IsEarlierCell, AreJoined}
 use Rattle.cell_cats_areas.specs.parts.CellPlaces.{position}
 use Rattle.cell_parts.specs.Parts.{Rectangle}
 use Rattle.cell_parts.specs.AreaParts.{moved_position}
 use Rattle.cell_join_numbers.specs.Labelled.{AreLabelled}
-use Rattle.cell_join_tiles.proofs.SpotLemmas.{Spot, spot-of, spot-own, first-some}
+use Rattle.cell_join_tiles.proofs.ListedAtLemmas.{ListedAt, listed_at-of, listed_at-own, first-some}
 use Rattle.cell_join_tiles.proofs.MovedLemmas.{before-moved, joined-moved}
 use Rattle.cell_join_tiles.specs.Beginnings.{Begun, stretch_of, clumps_in_grid, clump_label, IsCutIntoTiles, HasBegun, HaveBegun, BearLabels, ArePaired, LabelsFollowFirstCells, ClumpLabelsAreLabels, tile_place}
 use Rattle.cell_join_tiles.proofs.StretchLemmas.{Lies, lies, stretch-is, ends-before}
@@ -24,7 +24,7 @@ moved-before : (r : Rectangle) (p q : Position) → IsEarlierCell p q → IsEarl
 moved-before r p q (inl h) = inl (omega (arith, h))
 moved-before r p q (inr h) = inr (ap (λ i. r.top + i) h.0, omega (arith, h.1))
 
-module _ (j : Joining) (whole : Grid) (heights widths : List ℕ) (map_of numbers_of : ℕ → ℕ → Grid) (firsts_of : ℕ → ℕ → List Position) (grid : List (List Begun)) (cut : IsCutIntoTiles whole heights widths map_of) (tell : HaveBegun j heights widths map_of numbers_of firsts_of grid) where
+module _ (j : Joining) (whole : Grid) (heights widths : List ℕ) (map_of numbers_of : ℕ → ℕ → Grid) (firsts_of : ℕ → ℕ → List Position) (grid : List (List Begun)) (cut : IsCutIntoTiles whole heights widths map_of) (report : HaveBegun j heights widths map_of numbers_of firsts_of grid) where
   abbrev high_of : ℕ → ℕ
   high_of r = get_or heights r 0
 
@@ -36,9 +36,9 @@ module _ (j : Joining) (whole : Grid) (heights widths : List ℕ) (map_of number
 
   short : (r c : ℕ) → r < length grid → c < length (get_or grid r []) → length (begun_of r c) ≤ high_of r
   short r c r_lt c_lt =
-      let r_in : r < length heights = omega (arith, r_lt, tell.high) in
-      let c_in : c < length widths = omega (arith, c_lt, tell.wide r r_in) in
-      let t = tell.tiles r c r_in c_in in
+      let r_in : r < length heights = omega (arith, r_lt, report.high) in
+      let c_in : c < length widths = omega (arith, c_lt, report.wide r r_in) in
+      let t = report.tiles r c r_in c_in in
       omega (arith, t.long)
 
   -- ---- a clump of a tile, and its first cell
@@ -55,8 +55,8 @@ module _ (j : Joining) (whole : Grid) (heights widths : List ℕ) (map_of number
   first_of r c k = moved_position (place r c) (first_in r c k)
 
   pub record At (r c k : ℕ) : Type 0 where
-    pub tells : HasBegun j (get_or heights r 0) (map_of r c) (numbers_of r c) (firsts_of r c) (begun_of r c)
-    pub some : IsSome (cell_at_spot (map_of r c) (first_in r c k))
+    pub reports : HasBegun j (get_or heights r 0) (map_of r c) (numbers_of r c) (firsts_of r c) (begun_of r c)
+    pub some : IsSome (cell_at_position (map_of r c) (first_in r c k))
     pub row : (first_in r c k).row < high_of r
     pub col : (first_in r c k).col < get_or widths c 0
     pub begins : Lies (begun_of r c) k (first_in r c k).row
@@ -65,22 +65,22 @@ module _ (j : Joining) (whole : Grid) (heights widths : List ℕ) (map_of number
 
   pub at-of : (r c k : ℕ) → Clump r c k → At r c k
   at-of r c k x =
-      let t = tell.tiles r c x.r_in x.c_in in
+      let t = report.tiles r c x.r_in x.c_in in
       let tile = cut.tiles r c x.r_in x.c_in in
       let some = first-some j (map_of r c) (firsts_of r c) t.all (numbers_of r c) t.clumping k (position 0 0) x.k_in in
       let inside = tile.outside (first_in r c k) some in
       let all = t.all in
       let b = begun-at (firsts_of r c) all.in_order (begun_of r c) (high_of r) t.long t.counts k (position 0 0) x.k_in inside.0 in
       record {
-        tells = t;
+        reports = t;
         some = some;
         row = inside.0;
         col = inside.1;
         begins = b;
         line = stretch-is (begun_of r c) (first_in r c k).row k b;
         clump = record {
-          r_in = omega (arith, x.r_in, tell.high);
-          c_in = omega (arith, x.c_in, tell.wide r x.r_in);
+          r_in = omega (arith, x.r_in, report.high);
+          c_in = omega (arith, x.c_in, report.wide r x.r_in);
           k_in = omega (arith, b.high, begun-next (begun_of r c) (first_in r c k).row, sum_by-take-le (λ (n : ℕ). n) (begun_of r c) (suc (first_in r c k).row));
         };
       }
@@ -95,7 +95,7 @@ module _ (j : Joining) (whole : Grid) (heights widths : List ℕ) (map_of number
         omega (arith, a.col, ends-before widths c d h (let t = y.c_in in omega (arith, t))),
       )
   in-order r c k s d l x y a b (inr (e, inr (f, inr (g, h)))) =
-      let all = (a.tells).all in
+      let all = (a.reports).all in
       let same : get_or (firsts_of r c) l (position 0 0) ≡ get_or (firsts_of s d) l (position 0 0) = ap (λ (n : ℕ). get_or (firsts_of n c) l (position 0 0)) e ∙ ap (λ (n : ℕ). get_or (firsts_of s n) l (position 0 0)) g in
       let places : place r c ≡ place s d = ap (λ (n : ℕ). place n c) e ∙ ap (place s) g in
       let l_in : l < length (firsts_of r c) = subst (λ (n : ℕ). l < length (firsts_of n c)) (sym e) (subst (λ (n : ℕ). l < length (firsts_of s n)) (sym g) y.k_in) in
@@ -113,16 +113,16 @@ module _ (j : Joining) (whole : Grid) (heights widths : List ℕ) (map_of number
 
   first-inside : (r c k : ℕ) (d : Position) (r_in : r < length heights) (c_in : c < length widths) → k < length (firsts_of r c) → (get_or (firsts_of r c) k d).row < high_of r
   first-inside r c k d r_in c_in k_in =
-      let t = tell.tiles r c r_in c_in in
+      let t = report.tiles r c r_in c_in in
       let tile = cut.tiles r c r_in c_in in
       let inside = tile.outside (get_or (firsts_of r c) k d) (first-some j (map_of r c) (firsts_of r c) t.all (numbers_of r c) t.clumping k d k_in) in
       inside.0
 
   clump-of : (r c k : ℕ) → IsClump grid r c k → Clump r c k
   clump-of r c k x =
-      let r_in : r < length heights = omega (arith, x.r_in, tell.high) in
-      let c_in : c < length widths = omega (arith, x.c_in, tell.wide r r_in) in
-      let t = tell.tiles r c r_in c_in in
+      let r_in : r < length heights = omega (arith, x.r_in, report.high) in
+      let c_in : c < length widths = omega (arith, x.c_in, report.wide r r_in) in
+      let t = report.tiles r c r_in c_in in
       let many = sum-begun (firsts_of r c) (begun_of r c) (high_of r) t.long t.counts (λ i d lt. first-inside r c i d r_in c_in lt) in
       record { r_in = r_in; c_in = c_in; k_in = omega (arith, x.k_in, many) }
 
@@ -182,14 +182,14 @@ module _ (j : Joining) (whole : Grid) (heights widths : List ℕ) (map_of number
       (subst (λ (p : Position). IsEarlierCell (cell_of a.name) p) (sym (b.is d))
       (follow (a.name).r (a.name).c (a.name).k (b.name).r (b.name).c (b.name).k a.clump b.clump (omega (arith, a.label, b.label, lt))))
 
-  starts-cells : (k : ℕ) (d : Position) → k < length starts → IsSome (cell_at_spot whole (get_or starts k d))
+  starts-cells : (k : ℕ) (d : Position) → k < length starts → IsSome (cell_at_position whole (get_or starts k d))
   starts-cells k d lt =
       let s = start k (omega (arith, lt, many-starts)) in
       let x = s.name in
       let clump = s.clump in
       let a = at-of x.r x.c x.k clump in
       let tile = cut.tiles x.r x.c clump.r_in clump.c_in in
-      subst (λ (p : Position). IsSome (cell_at_spot whole p)) (sym (s.is d))
+      subst (λ (p : Position). IsSome (cell_at_position whole p)) (sym (s.is d))
       (subst (λ (v : CellValue). IsSome v) (tile.cells (first_in x.r x.c x.k) a.row a.col) a.some)
 
   module _ (label_of : Position → ℕ) (bear : BearLabels heights widths numbers_of grid label_of) where
@@ -201,16 +201,16 @@ module _ (j : Joining) (whole : Grid) (heights widths : List ℕ) (map_of number
       pub r_in : r < length heights
       pub c_in : c < length widths
       pub is : p ≡ moved_position (tile_place heights widths r c) a
-      pub tells : HasBegun j (get_or heights r 0) (map_of r c) (numbers_of r c) (firsts_of r c) (get_or (get_or grid r []) c [])
-      pub spot : Spot j (map_of r c) (firsts_of r c) tells.all (numbers_of r c) tells.clumping a
-      pub label : label_of p ≡ clump_label grid r c spot.place
+      pub reports : HasBegun j (get_or heights r 0) (map_of r c) (numbers_of r c) (firsts_of r c) (get_or (get_or grid r []) c [])
+      pub listed_at : ListedAt j (map_of r c) (firsts_of r c) reports.all (numbers_of r c) reports.clumping a
+      pub label : label_of p ≡ clump_label grid r c listed_at.place
 
-    spot-label : (r c : ℕ) (r_in : r < length heights) (c_in : c < length widths) (a : Position) → a.row < high_of r → a.col < get_or widths c 0 → (k : ℕ) → cell_at_spot (numbers_of r c) a ≡ Some (pos (k + 1)) → label_of (moved_position (tile_place heights widths r c) a) ≡ clump_label grid r c k
-    spot-label r c r_in c_in a row col k number =
+    listed_at-label : (r c : ℕ) (r_in : r < length heights) (c_in : c < length widths) (a : Position) → a.row < high_of r → a.col < get_or widths c 0 → (k : ℕ) → cell_at_position (numbers_of r c) a ≡ Some (pos (k + 1)) → label_of (moved_position (tile_place heights widths r c) a) ≡ clump_label grid r c k
+    listed_at-label r c r_in c_in a row col k number =
         let same : k + 1 - 1 ≡ k = omega arith in
         bear r c r_in c_in a row col (k + 1) number ∙ ap (clump_label grid r c) same
 
-    in-tile : (p : Position) → IsSome (cell_at_spot whole p) → InTile p
+    in-tile : (p : Position) → IsSome (cell_at_position whole p) → InTile p
     in-tile p some =
         let inside = cut.within p some in
         let r = stretch_of heights p.row in
@@ -223,10 +223,10 @@ module _ (j : Joining) (whole : Grid) (heights widths : List ℕ) (map_of number
         let is : p ≡ moved_position (tile_place heights widths r c) a = λ i. record { row = row_is i; col = col_is i } in
         let row : a.row < high_of r = omega (arith, lr.low, lr.high) in
         let col : a.col < get_or widths c 0 = omega (arith, lc.low, lc.high) in
-        let tells = tell.tiles r c lr.inside lc.inside in
+        let reports = report.tiles r c lr.inside lc.inside in
         let tile = cut.tiles r c lr.inside lc.inside in
-        let own : IsSome (cell_at_spot (map_of r c) a) = subst (λ (v : CellValue). IsSome v) (sym (tile.cells a row col)) (subst (λ (q : Position). IsSome (cell_at_spot whole q)) is some) in
-        let spot = spot-of j (map_of r c) (firsts_of r c) tells.all (numbers_of r c) tells.clumping a own in
+        let own : IsSome (cell_at_position (map_of r c) a) = subst (λ (v : CellValue). IsSome v) (sym (tile.cells a row col)) (subst (λ (q : Position). IsSome (cell_at_position whole q)) is some) in
+        let listed_at = listed_at-of j (map_of r c) (firsts_of r c) reports.all (numbers_of r c) reports.clumping a own in
         record {
           r = r;
           c = c;
@@ -234,25 +234,25 @@ module _ (j : Joining) (whole : Grid) (heights widths : List ℕ) (map_of number
           r_in = lr.inside;
           c_in = lc.inside;
           is = is;
-          tells = tells;
-          spot = spot;
-          label = ap label_of is ∙ spot-label r c lr.inside lc.inside a row col spot.place spot.number;
+          reports = reports;
+          listed_at = listed_at;
+          label = ap label_of is ∙ listed_at-label r c lr.inside lc.inside a row col listed_at.place listed_at.number;
         }
 
-    clump-at : (p : Position) (t : InTile p) → Clump t.r t.c (t.spot).place
-    clump-at p t = let s = t.spot in record { r_in = t.r_in; c_in = t.c_in; k_in = s.inside }
+    clump-at : (p : Position) (t : InTile p) → Clump t.r t.c (t.listed_at).place
+    clump-at p t = let s = t.listed_at in record { r_in = t.r_in; c_in = t.c_in; k_in = s.inside }
 
-    starts-few : (p : Position) → IsSome (cell_at_spot whole p) → label_of p < length starts
+    starts-few : (p : Position) → IsSome (cell_at_position whole p) → label_of p < length starts
     starts-few p some =
         let t = in-tile p some in
-        let s = t.spot in
+        let s = t.listed_at in
         let a = at-of t.r t.c s.place (clump-at p t) in
         omega (arith, t.label, label-within grid high_of short t.r t.c s.place a.clump, many-starts)
 
     -- the first cell of its clump in its tile
-    first-at : (p : Position) (some : IsSome (cell_at_spot whole p)) (t : InTile p) → get_or starts (label_of p) p ≡ moved_position (tile_place heights widths t.r t.c) (get_or (firsts_of t.r t.c) (t.spot).place t.a)
+    first-at : (p : Position) (some : IsSome (cell_at_position whole p)) (t : InTile p) → get_or starts (label_of p) p ≡ moved_position (tile_place heights widths t.r t.c) (get_or (firsts_of t.r t.c) (t.listed_at).place t.a)
     first-at p some t =
-        let s = t.spot in
+        let s = t.listed_at in
         let a = at-of t.r t.c s.place (clump-at p t) in
         let b = start (label_of p) (omega (arith, starts-few p some, many-starts)) in
         let x = b.name in
@@ -264,18 +264,19 @@ module _ (j : Joining) (whole : Grid) (heights widths : List ℕ) (map_of number
         ∙ ap (λ (n : ℕ). first_of t.r t.c n) same.numbers
         ∙ ap (moved_position (tile_place heights widths t.r t.c)) (get_or_default (firsts_of t.r t.c) s.place (position 0 0) t.a s.inside)
 
-    starts-joined : (p : Position) → IsSome (cell_at_spot whole p) → AreJoined j whole (get_or starts (label_of p) p) p
+    starts-joined : (p : Position) → IsSome (cell_at_position whole p)
+        → AreJoined j whole (get_or starts (label_of p) p) p
     starts-joined p some =
         let t = in-tile p some in
-        let s = t.spot in
+        let s = t.listed_at in
         let first : Position = moved_position (tile_place heights widths t.r t.c) (get_or (firsts_of t.r t.c) s.place t.a) in
         let inner = joined-moved j whole (record { place = tile_place heights widths t.r t.c; map = map_of t.r t.c }) (cut.tiles t.r t.c t.r_in t.c_in) (get_or (firsts_of t.r t.c) s.place t.a) t.a s.joined in
         subst (λ (q : Position). AreJoined j whole q p) (sym (first-at p some t)) (subst (λ (q : Position). AreJoined j whole first q) (sym t.is) inner)
 
-    starts-early : (p : Position) → IsSome (cell_at_spot whole p) → ¬ IsEarlierCell p (get_or starts (label_of p) p)
+    starts-early : (p : Position) → IsSome (cell_at_position whole p) → ¬ IsEarlierCell p (get_or starts (label_of p) p)
     starts-early p some behind =
         let t = in-tile p some in
-        let s = t.spot in
+        let s = t.listed_at in
         let place = tile_place heights widths t.r t.c in
         let first : Position = get_or (firsts_of t.r t.c) s.place t.a in
         s.early (before-moved place t.a first
@@ -285,10 +286,10 @@ module _ (j : Joining) (whole : Grid) (heights widths : List ℕ) (map_of number
     own-label : (r c k : ℕ) → Clump r c k → label_of (first_of r c k) ≡ clump_label grid r c k
     own-label r c k x =
         let a = at-of r c k x in
-        let t = a.tells in
-        let spot = spot-of j (map_of r c) (firsts_of r c) t.all (numbers_of r c) t.clumping (first_in r c k) a.some in
-        let place = spot-own j (map_of r c) (firsts_of r c) t.all (numbers_of r c) t.clumping k (position 0 0) x.k_in spot in
-        spot-label r c x.r_in x.c_in (first_in r c k) a.row a.col spot.place spot.number ∙ ap (clump_label grid r c) place
+        let t = a.reports in
+        let listed_at = listed_at-of j (map_of r c) (firsts_of r c) t.all (numbers_of r c) t.clumping (first_in r c k) a.some in
+        let place = listed_at-own j (map_of r c) (firsts_of r c) t.all (numbers_of r c) t.clumping k (position 0 0) x.k_in listed_at in
+        listed_at-label r c x.r_in x.c_in (first_in r c k) a.row a.col listed_at.place listed_at.number ∙ ap (clump_label grid r c) place
 
     starts-own : (k : ℕ) (d : Position) → k < length starts → label_of (get_or starts k d) ≡ k
     starts-own k d lt =
@@ -309,13 +310,13 @@ module _ (j : Joining) (whole : Grid) (heights widths : List ℕ) (map_of number
     }
 
 pub labels-follow-first-cells : LabelsFollowFirstCells
-labels-follow-first-cells j whole heights widths map_of numbers_of firsts_of grid cut tell r c k s d l one other r_in c_in k_in s_in d_in l_in one_is other_is less =
-    let h = follow j whole heights widths map_of numbers_of firsts_of grid cut tell r c k s d l (record { r_in = r_in; c_in = c_in; k_in = k_in }) (record { r_in = s_in; c_in = d_in; k_in = l_in }) less in
+labels-follow-first-cells j whole heights widths map_of numbers_of firsts_of grid cut report r c k s d l one other r_in c_in k_in s_in d_in l_in one_is other_is less =
+    let h = follow j whole heights widths map_of numbers_of firsts_of grid cut report r c k s d l (record { r_in = r_in; c_in = c_in; k_in = k_in }) (record { r_in = s_in; c_in = d_in; k_in = l_in }) less in
     subst (λ (p : Position). IsEarlierCell p other) (sym one_is) (subst (λ (p : Position). IsEarlierCell (moved_position (tile_place heights widths r c) (get_or (firsts_of r c) k (position 0 0))) p) (sym other_is) h)
 
 pub clump-labels-are-labels : ClumpLabelsAreLabels
-clump-labels-are-labels j whole heights widths map_of numbers_of firsts_of grid cut tell label_of bear = (
-  starts j whole heights widths map_of numbers_of firsts_of grid cut tell,
-  many-starts j whole heights widths map_of numbers_of firsts_of grid cut tell,
-  are-labelled j whole heights widths map_of numbers_of firsts_of grid cut tell label_of bear,
+clump-labels-are-labels j whole heights widths map_of numbers_of firsts_of grid cut report label_of bear = (
+  starts j whole heights widths map_of numbers_of firsts_of grid cut report,
+  many-starts j whole heights widths map_of numbers_of firsts_of grid cut report,
+  are-labelled j whole heights widths map_of numbers_of firsts_of grid cut report label_of bear,
 )

@@ -11,7 +11,7 @@ use Rattle.std.proofs.lemmas.List.Elements.{Contains-get_or}
 use Rattle.std.proofs.lemmas.Grind.{flat_map-append}
 use Rattle.cell_core.specs.Grid.{Grid}
 use Rattle.cell_cats_areas.specs.declared.clump.Joining.{Joining}
-use Rattle.cell_cats_areas.specs.Areas.{Position, cell_at_spot, HasNumber}
+use Rattle.cell_cats_areas.specs.Areas.{Position, cell_at_position, HasNumber}
 use Rattle.cell_parts.specs.AreaParts.{moved_position}
 use Rattle.cell_join_lines.specs.AreasText.{stretches_from, stretches_in, stretches_of}
 use Rattle.cell_join_lines.specs.declared.stretch.Stretch.{Stretch}
@@ -21,12 +21,12 @@ use Rattle.cell_join_numbers.specs.SparseNumbers.{AreBelow, NumberPairs}
 use Rattle.cell_join_tiles.specs.Beginnings.{Begun, IsCutIntoTiles, clumps_in_grid, clump_label, tile_place}
 use Rattle.cell_join_tiles.specs.Borders.{cell_label, ArePairedAtSeams}
 use Rattle.cell_join_tiles.specs.Values.{BorderValue, no_border}
-use Rattle.cell_join_tiles.specs.Joined.{HaveBorders, begun_in, left_line, right_line, first_line, last_line}
-use Rattle.cell_join_tiles.specs.JoinedTiles.{TileJoinerValue, AreJoinedTiles, row_at, base_at, tiles_of, tiles_at, clumps_by_tile, GridClumps, AreRunsOf}
+use Rattle.cell_join_tiles.specs.JoinedBorders.{HaveBorders, begun_in, left_line, right_line, first_seam_line, last_line}
+use Rattle.cell_join_tiles.specs.JoinedTiles.{TileJoinerValue, AreJoinedTiles, tile_row_at, base_at, tiles_of, tiles_at, clumps_by_tile, GridClumps, AreRunsOf}
 use Rattle.cell_join_tiles.specs.TileNumbers.{numbers_of_tile, numbers_of_row, numbers_by_tile, clumps_before_tile}
 use Rattle.cell_join_tiles.specs.parts.RowLabels.{labels_in_tile, row_label}
 use Rattle.cell_join_tiles.specs.parts.RowMarks.{begun_of, border_in}
-use Rattle.cell_join_tiles.specs.parts.Runs.{runs_of_tiles}
+use Rattle.cell_join_tiles.specs.parts.LabelRuns.{runs_of_tiles}
 use Rattle.cell_join_tiles.proofs.SeamLemmas.{seam-lines-pair}
 use Rattle.cell_join_tiles.proofs.NumberLemmas.{borders-are-labelled, borders-number-the-whole, borders-count-the-whole}
 use Rattle.cell_join_tiles.proofs.TileNumberLemmas.{tile-numbers-are-listed}
@@ -116,7 +116,7 @@ module _ (grid : List (List BorderValue)) (joiner : TileJoinerValue) (are : AreJ
   counts =
       ap (map (λ (t : List ℕ). length t)) are.tiles
       ∙ map-lists (λ (t : List ℕ). length t) (tiles_at grid) (range_with_len 0 (length grid))
-      ∙ lists-same (λ r. map (λ (t : List ℕ). length t) (tiles_at grid r)) (λ r. map (λ border. sum border.begun) (row_at grid r)) 0 (length grid) (λ r lt. row-lengths (base_at grid r) (row_at grid r))
+      ∙ lists-same (λ r. map (λ (t : List ℕ). length t) (tiles_at grid r)) (λ r. map (λ border. sum border.begun) (tile_row_at grid r)) 0 (length grid) (λ r lt. row-lengths (base_at grid r) (tile_row_at grid r))
       ∙ by-place (λ (row : List BorderValue). map (λ border. sum border.begun) row) grid []
 
   module _ (number : ℕ → ℕ) where
@@ -130,18 +130,18 @@ module _ (grid : List (List BorderValue)) (joiner : TileJoinerValue) (are : AreJ
     runs = runs-are number 1 joiner.tiles ∙ ap (λ (l : List ℕ). stretches_from 1 l numbers) counts
 
     -- tile by tile
-    tile-numbers : (r c : ℕ) → r < length grid → map number (labels_in_tile (base_at grid r) (begun_of (row_at grid r)) c) ≡ numbers_of_tile number g r c
+    tile-numbers : (r c : ℕ) → r < length grid → map number (labels_in_tile (base_at grid r) (begun_of (tile_row_at grid r)) c) ≡ numbers_of_tile number g r c
     tile-numbers r c r_in =
-        let row : get_or g r [] ≡ begun_of (row_at grid r) = get_or-map begun_of grid r [] [] r_in in
+        let row : get_or g r [] ≡ begun_of (tile_row_at grid r) = get_or-map begun_of grid r [] [] r_in in
         (λ i. map number (labels_in_tile (base_at grid r) (sym row i) c))
         ∙ map-twice number (row_label (base_at grid r) (get_or g r []) c) (range_with_len 0 (sum (get_or (get_or g r []) c [])))
 
     row-numbers : (r : ℕ) → r < length grid → flat_map (map number) (tiles_at grid r) ≡ numbers_of_row number g r
     row-numbers r r_in =
-        let row : get_or g r [] ≡ begun_of (row_at grid r) = get_or-map begun_of grid r [] [] r_in in
-        let long : length (get_or g r []) ≡ length (row_at grid r) = ap (λ (l : List Begun). length l) row ∙ length-map (row_at grid r) (λ (border : BorderValue). border.begun) in
-        flat-of-map (map number) (labels_in_tile (base_at grid r) (begun_of (row_at grid r))) (range_with_len 0 (length (row_at grid r)))
-        ∙ lists-same (λ c. map number (labels_in_tile (base_at grid r) (begun_of (row_at grid r)) c)) (numbers_of_tile number g r) 0 (length (row_at grid r)) (λ c lt. tile-numbers r c r_in)
+        let row : get_or g r [] ≡ begun_of (tile_row_at grid r) = get_or-map begun_of grid r [] [] r_in in
+        let long : length (get_or g r []) ≡ length (tile_row_at grid r) = ap (λ (l : List Begun). length l) row ∙ length-map (tile_row_at grid r) (λ (border : BorderValue). border.begun) in
+        flat-of-map (map number) (labels_in_tile (base_at grid r) (begun_of (tile_row_at grid r))) (range_with_len 0 (length (tile_row_at grid r)))
+        ∙ lists-same (λ c. map number (labels_in_tile (base_at grid r) (begun_of (tile_row_at grid r)) c)) (numbers_of_tile number g r) 0 (length (tile_row_at grid r)) (λ c lt. tile-numbers r c r_in)
         ∙ ap (λ (n : ℕ). flat_map (numbers_of_tile number g r) (range_with_len 0 n)) (sym long)
       where
         flat-of-map : (h : List ℕ → List ℕ) (f : ℕ → List ℕ) (xs : List ℕ) → flat_map h (map f xs) ≡ flat_map (λ k. h (f k)) xs
@@ -172,7 +172,7 @@ module _ (grid : List (List BorderValue)) (joiner : TileJoinerValue) (are : AreJ
 
   at-seams : ArePairedAtSeams j whole heights widths (cell_label heights widths numbers_of counts_in) joiner.pairs
   at-seams =
-      seam-lines-pair j whole heights widths (cell_label heights widths numbers_of counts_in) (left_line grid) (right_line grid) (first_line grid) (last_line grid) joiner.pairs have.some_rows have.some_cols cut.within
+      seam-lines-pair j whole heights widths (cell_label heights widths numbers_of counts_in) (left_line grid) (right_line grid) (first_seam_line grid) (last_line grid) joiner.pairs have.some_rows have.some_cols cut.within
       (lines j whole heights widths map_of numbers_of grid cut have)
       (λ x. (
         λ h. to-seams j whole heights widths map_of numbers_of grid cut have x ((are.pairs x).0 h),
@@ -190,8 +190,8 @@ module _ (grid : List (List BorderValue)) (joiner : TileJoinerValue) (are : AreJ
       (omega (arith, one, labelled.1, meets.first_label), omega (arith, other, labelled.1, meets.second_label))
 
   module _ (paired list roots : List ℕ) (h : NumberPairs joiner.pairs paired list roots) where
-    pub tells : (r c : ℕ) → r < length heights → c < length widths → (p : Position) (k : ℕ) → cell_at_spot (numbers_of r c) p ≡ Some (pos k) → HasNumber j whole (moved_position (tile_place heights widths r c) p) (get_or (numbers grid joiner are h.number) (clumps_before_tile counts_in r c + (k - 1)) 0)
-    tells r c r_in c_in p k is =
+    pub reports : (r c : ℕ) → r < length heights → c < length widths → (p : Position) (k : ℕ) → cell_at_position (numbers_of r c) p ≡ Some (pos k) → HasNumber j whole (moved_position (tile_place heights widths r c) p) (get_or (numbers grid joiner are h.number) (clumps_before_tile counts_in r c + (k - 1)) 0)
+    reports r c r_in c_in p k is =
         let b = borders j whole heights widths map_of numbers_of grid cut have in
         let number = borders-number-the-whole j whole heights widths map_of numbers_of counts_in cut b joiner.pairs at-seams h.number (h.right (clumps_in_grid counts_in) below) r c r_in c_in p k is in
         let inside = number-inside j whole heights widths map_of numbers_of grid cut have r c r_in c_in p k is in
@@ -212,7 +212,7 @@ pub grid-runs : (grid : List (List BorderValue)) (joiner : TileJoinerValue) → 
 grid-runs grid joiner are paired list roots h all is = record {
   numbers = numbers grid joiner are h.number;
   many = many grid joiner are h.number;
-  join = λ whole heights widths map_of numbers_of cut have. tells grid joiner are whole heights widths map_of numbers_of cut have paired list roots h;
+  join = λ whole heights widths map_of numbers_of cut have. reports grid joiner are whole heights widths map_of numbers_of cut have paired list roots h;
   are = is ∙ runs grid joiner are h.number;
 }
 

@@ -8,7 +8,7 @@ use Rattle.std.proofs.lemmas.List.Quantifiers.{all_pairs_push}
 use Rattle.std.proofs.lemmas.List.Elements.{Contains-get_or}
 use Rattle.cell_core.specs.Grid.{Grid, CellValue}
 use Rattle.cell_cats_areas.specs.declared.clump.Joining.{Joining}
-use Rattle.cell_cats_areas.specs.Areas.{Position, cell_at_spot, IsEarlierCell, IsFirst, HasNumber, IsClumping}
+use Rattle.cell_cats_areas.specs.Areas.{Position, cell_at_position, IsEarlierCell, IsFirst, HasNumber, IsClumping}
 use Rattle.cell_cats_areas.specs.parts.CellPlaces.{position}
 use Rattle.cell_cats_areas.proofs.PathLemmas.{AreJoined-sym}
 use Rattle.cell_cats_areas.proofs.LawLemmas.{IsBefore-asym, cases_before, within_le}
@@ -73,7 +73,7 @@ some-numbered : (x y : CellValue) → (x ≡ None → y ≡ None) → IsSome y �
 some-numbered None y nulls some = subst IsSome (nulls refl) some
 some-numbered (Some v) y nulls some = refl
 
-module _ (j : Joining) (m numbers : Grid) (clumping : IsClumping j m numbers) (most : ℕ) (bound : (p : Position) (n : ℕ) → cell_at_spot numbers p ≡ Some (pos n) → n ≤ most) where
+module _ (j : Joining) (m numbers : Grid) (clumping : IsClumping j m numbers) (most : ℕ) (bound : (p : Position) (n : ℕ) → cell_at_position numbers p ≡ Some (pos n) → n ≤ most) where
   before-itself : (p : Position) → ¬ IsEarlierCell p p
   before-itself p before = IsBefore-asym p p before before
 
@@ -128,9 +128,9 @@ module _ (j : Joining) (m numbers : Grid) (clumping : IsClumping j m numbers) (m
       (Contains-push_cases h.firsts q s within)) in
       omega (arith, most_in, length_push h.firsts q, h.count, g.count, bound q t.0 t.2)
 
-  some-areas : (p : Position) → cell_at_spot numbers p ≡ Some (pos most) → HasAreas j m most
+  some-areas : (p : Position) → cell_at_position numbers p ≡ Some (pos most) → HasAreas j m most
   some-areas p is =
-      let t = clumping.numbered p (some-numbered (cell_at_spot m p) (cell_at_spot numbers p) (clumping.nulls p) (rw is refl)) in
+      let t = clumping.numbered p (some-numbered (cell_at_position m p) (cell_at_position numbers p) (clumping.nulls p) (rw is refl)) in
       let same : t.0 ≡ most = (let both : Some (pos t.0) ≡ Some (pos most) = sym t.2 ∙ is in cc) in
       let h = subst (HasNumber j m p) same t.1 in (
         h.firsts,
@@ -147,5 +147,5 @@ module _ (j : Joining) (m numbers : Grid) (clumping : IsClumping j m numbers) (m
 pub has-areas : (j : Joining) (m numbers : Grid) → IsClumping j m numbers → HasAreas j m (greatest_of 0 numbers.rows)
 has-areas j m numbers clumping =
     let most = greatest_of 0 numbers.rows in
-    let bound : (p : Position) (n : ℕ) → cell_at_spot numbers p ≡ Some (pos n) → n ≤ most = λ p n is. of-bound 0 n numbers.rows p.row p.col is in
+    let bound : (p : Position) (n : ℕ) → cell_at_position numbers p ≡ Some (pos n) → n ≤ most = λ p n is. of-bound 0 n numbers.rows p.row p.col is in
     ⊎_elim (λ none. no-areas j m numbers clumping most bound none) (λ here. some-areas j m numbers clumping most bound (position here.0 here.1) here.2) (of-reached 0 numbers.rows)

@@ -14,7 +14,7 @@ use Rattle.cell_join_tiles.specs.Beginnings.{Begun, IsCutIntoTiles, tile_place}
 use Rattle.cell_join_tiles.specs.Borders.{Rises, AreBorders, cell_label, ArePairedAtSeams}
 use Rattle.cell_join_tiles.specs.SeamLines.{line_meetings, IsLineOf, AreSeamLines, IsAtSide, IsAtRow, HasSide, side_marks, row_line}
 use Rattle.cell_join_tiles.specs.Values.{SideValue, BorderValue, no_border}
-use Rattle.cell_join_tiles.specs.Joined.{border_at, HaveBorders, begun_in, left_line, right_line, first_line, last_line, side_pairs, border_pairs, GridsAreLabelled}
+use Rattle.cell_join_tiles.specs.JoinedBorders.{border_at, HaveBorders, begun_in, left_line, right_line, first_seam_line, last_line, side_pairs, border_pairs, GridsAreLabelled}
 use Rattle.cell_join_tiles.proofs.MeetingLemmas.{places-have, places-only}
 use Rattle.cell_join_tiles.proofs.SeamLemmas.{seam-lines-pair}
 use Rattle.cell_join_tiles.proofs.LineLemmas.{sides-are-lines, rows-are-lines}
@@ -65,7 +65,7 @@ module _ (j : Joining) (whole : Grid) (heights widths : List ℕ) (map_of number
       let at : get_or (map one (range_with_len 0 (length (row_at r)))) c [] ≡ one c = get_or-map-range_with_len one 0 (length (row_at r)) c c [] (omega (arith, lt, have.wide r r_lt)) (omega arith) in
       subst (IsLineOf whole label_of (get_or widths c 0) (λ k. moved_position (tile_place heights widths r c) (position inner k))) (sym at) own)
 
-  pub lines : AreSeamLines whole heights widths label_of (left_line grid) (right_line grid) (first_line grid) (last_line grid)
+  pub lines : AreSeamLines whole heights widths label_of (left_line grid) (right_line grid) (first_seam_line grid) (last_line grid)
   lines = record {
     lefts = λ r c r_lt c_lt. side r c r_lt c_lt (get_or heights r 0) (λ k. position k 0) (border_at grid r c).left (λ k lt. (lt, width-some c c_lt)) (have.tiles r c r_lt c_lt).left;
     rights = λ r c r_lt c_lt. side r c r_lt c_lt (get_or heights r 0) (λ k. position k (get_or widths c 0 - 1)) (border_at grid r c).right (λ k lt. (lt, omega (arith, width-some c c_lt))) (have.tiles r c r_lt c_lt).right;
@@ -77,10 +77,10 @@ module _ (j : Joining) (whole : Grid) (heights widths : List ℕ) (map_of number
   sides r c = line_meetings j (right_line grid r c) (left_line grid r (suc c))
 
   abbrev rows : ℕ → List (ℕ × ℕ)
-  rows r = line_meetings j (last_line grid r) (first_line grid (suc r))
+  rows r = line_meetings j (last_line grid r) (first_seam_line grid (suc r))
 
   abbrev AtSeam : ℕ × ℕ → Type 0
-  AtSeam x = IsAtSide j heights widths (left_line grid) (right_line grid) x ⊎ IsAtRow j heights (first_line grid) (last_line grid) x
+  AtSeam x = IsAtSide j heights widths (left_line grid) (right_line grid) x ⊎ IsAtRow j heights (first_seam_line grid) (last_line grid) x
 
   only : (x : ℕ × ℕ) → Contains (border_pairs j grid) x → AtSeam x
   only x h =
@@ -105,7 +105,7 @@ module _ (j : Joining) (whole : Grid) (heights widths : List ℕ) (map_of number
       (places-have rows x 0 (length grid - 1) s.0 (omega arith) (omega (arith, s.1, have.high)) s.2)
 
   pub at-seams : ArePairedAtSeams j whole heights widths label_of (border_pairs j grid)
-  at-seams = seam-lines-pair j whole heights widths label_of (left_line grid) (right_line grid) (first_line grid) (last_line grid) (border_pairs j grid) have.some_rows have.some_cols cut.within lines (λ x. (only x, all x))
+  at-seams = seam-lines-pair j whole heights widths label_of (left_line grid) (right_line grid) (first_seam_line grid) (last_line grid) (border_pairs j grid) have.some_rows have.some_cols cut.within lines (λ x. (only x, all x))
 
 pub grids-are-labelled : GridsAreLabelled
 grids-are-labelled j whole heights widths map_of numbers_of grid cut have =

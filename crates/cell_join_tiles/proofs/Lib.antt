@@ -26,4 +26,4 @@ pub mod JoinRowLemmas
 pub mod GreatestLemmas
 pub mod LengthLemmas
 pub mod MovedLemmas
-pub mod SpotLemmas
+pub mod ListedAtLemmas

@@ -6,13 +6,13 @@ use Rattle.std.proofs.lemmas.Bool.{cases_lt}
 use Rattle.std.proofs.lemmas.List.{get_or_append_left, get_or-append_right, length-append}
 use Rattle.std.proofs.lemmas.List.FromFn.{length-map-range_with_len, get_or-map-range_with_len}
 use Rattle.cell_core.specs.Grid.{Grid, CellValue}
-use Rattle.cell_cats_areas.specs.Areas.{Position, cell_at_spot}
+use Rattle.cell_cats_areas.specs.Areas.{Position, cell_at_position}
 use Rattle.cell_cats_areas.specs.parts.CellPlaces.{position}
 use Rattle.cell_parts.specs.AreaParts.{moved_position}
 use Rattle.cell_join_tiles.specs.Beginnings.{clump_label, tile_place}
 use Rattle.cell_join_tiles.specs.Borders.{number_of, cell_label}
 use Rattle.cell_join_tiles.specs.declared.marks.Mark.{Mark}
-use Rattle.cell_join_tiles.specs.SeamLines.{Line, mark_of, IsLineOf, side_mark, row_line, SidesAreLines, RowsAreLines}
+use Rattle.cell_join_tiles.specs.SeamLines.{Line, seam_mark_of, IsLineOf, side_mark, row_line, SidesAreLines, RowsAreLines}
 use Rattle.cell_join_tiles.proofs.StretchLemmas.{sum-cons}
 use Rattle.cell_join_tiles.proofs.NumberLemmas.{label-moved}
 
@@ -33,7 +33,7 @@ sides-are-lines whole heights widths map_of numbers_of grid cut r c r_in c_in co
           let tile = cut.tiles r c r_in c_in in
           let label : clump_label grid r c (number_of (get_or ids k None) - 1) ≡ cell_label heights widths numbers_of grid q =
           ap (λ (n : CellValue). clump_label grid r c (number_of n - 1)) (side.each_number k lt) ∙ sym (label-moved heights widths numbers_of grid r c r_in c_in a within.0 within.1) in
-          let cell : get_or cells k None ≡ cell_at_spot whole q = side.each_cell k lt ∙ tile.cells a within.0 within.1 in
+          let cell : get_or cells k None ≡ cell_at_position whole q = side.each_cell k lt ∙ tile.cells a within.0 within.1 in
           get_or-map-range_with_len mark 0 (length cells) k k None (omega (arith, lt, side.long)) (omega arith)
           ∙ ap (λ (n : ℕ). marked n (get_or cells k None)) label
           ∙ ap (marked (cell_label heights widths numbers_of grid q)) cell;
@@ -57,7 +57,7 @@ module _ (whole : Grid) (label_of : Position → ℕ) where
         long = h.long;
         each = λ k k_lt.
             let from : base + sum (take (suc c) (w ∷ ws)) + k ≡ base + w + sum (take c ws) + k = omega (arith, sum-cons w (take c ws)) in
-            h.each k k_lt ∙ ap (λ (n : ℕ). mark_of whole label_of (position row n)) from;
+            h.each k k_lt ∙ ap (λ (n : ℕ). seam_mark_of whole label_of (position row n)) from;
       }) in
       let long : length line ≡ w = here.long in
       record {
@@ -66,10 +66,10 @@ module _ (whole : Grid) (label_of : Position → ℕ) where
             ⊎_elim
             (λ less.
             let from : base + sum (take 0 (w ∷ ws)) + k ≡ base + k = omega arith in
-            get_or_append_left line (row_line lines) None k (omega (arith, less, long)) ∙ here.each k less ∙ ap (λ (n : ℕ). mark_of whole label_of (position row n)) from)
+            get_or_append_left line (row_line lines) None k (omega (arith, less, long)) ∙ here.each k less ∙ ap (λ (n : ℕ). seam_mark_of whole label_of (position row n)) from)
             (λ past.
             let from : base + w + (k - w) ≡ base + k = omega (arith, past) in
-            get_or-append_right line (row_line lines) w k None long past ∙ rest.each (k - w) (omega (arith, past, lt, total)) ∙ ap (λ (n : ℕ). mark_of whole label_of (position row n)) from)
+            get_or-append_right line (row_line lines) w k None long past ∙ rest.each (k - w) (omega (arith, past, lt, total)) ∙ ap (λ (n : ℕ). seam_mark_of whole label_of (position row n)) from)
             (cases_lt k w);
       }
 
@@ -81,9 +81,9 @@ rows-are-lines whole label_of heights widths r inner row lines row_is same own =
       long = h.long;
       each = λ k k_lt.
           let col : sum (take c widths) + k ≡ 0 + sum (take c widths) + k = omega arith in
-          h.each k k_lt ∙ ap (λ (n : ℕ). mark_of whole label_of (position n (sum (take c widths) + k))) (sym row_is) ∙ ap (λ (n : ℕ). mark_of whole label_of (position row n)) col;
+          h.each k k_lt ∙ ap (λ (n : ℕ). seam_mark_of whole label_of (position n (sum (take c widths) + k))) (sym row_is) ∙ ap (λ (n : ℕ). seam_mark_of whole label_of (position row n)) col;
     }) in
     record {
       long = all.long;
-      each = λ k lt. let col : 0 + k ≡ k = omega arith in all.each k lt ∙ ap (λ (n : ℕ). mark_of whole label_of (position row n)) col;
+      each = λ k lt. let col : 0 + k ≡ k = omega arith in all.each k lt ∙ ap (λ (n : ℕ). seam_mark_of whole label_of (position row n)) col;
     }

@@ -4,7 +4,7 @@ use Rattle.std.specs.Prelude.{sum}
 use Rattle.std.proofs.lemmas.Bool.{cases_eq, cases_lt}
 use Rattle.cell_core.specs.Grid.{Grid, CellValue}
 use Rattle.cell_cats_areas.specs.declared.clump.Joining.{Joining}
-use Rattle.cell_cats_areas.specs.Areas.{Position, cell_at_spot, AreAdjacent, HasNumber}
+use Rattle.cell_cats_areas.specs.Areas.{Position, cell_at_position, AreAdjacent, HasNumber}
 use Rattle.cell_cats_areas.specs.parts.CellPlaces.{position}
 use Rattle.cell_cats_areas.proofs.PathLemmas.{AreJoined-adjacent}
 use Rattle.cell_parts.specs.AreaParts.{moved_position}
@@ -16,24 +16,24 @@ use Rattle.cell_join_tiles.proofs.MovedLemmas.{adjacent-back}
 use Rattle.cell_join_tiles.specs.Beginnings.{Begun, stretch_of, clump_label, IsCutIntoTiles, HasBegun, HaveBegun, ArePaired, tile_place}
 use Rattle.cell_join_tiles.specs.Borders.{AreBorders, number_of, cell_label, CellsBearLabels, AreInOneTile, ArePairedAtSeams, BordersAreLabelled, BordersNumberTheWhole, BordersCountTheWhole}
 use Rattle.cell_join_tiles.proofs.StretchLemmas.{Lies, lies, stretch-is}
-use Rattle.cell_join_tiles.proofs.RiseLemmas.{rises-tell-begun, some-numbered}
+use Rattle.cell_join_tiles.proofs.RiseLemmas.{rises-report-begun, some-numbered}
 use Rattle.cell_join_tiles.proofs.BorderLemmas.{starts, many-starts, are-labelled}
 
 -- ---- the label of a cell
 
-pub label-moved : (heights widths : List ℕ) (numbers_of : ℕ → ℕ → Grid) (grid : List (List Begun)) (r c : ℕ) → r < length heights → c < length widths → (p : Position) → p.row < get_or heights r 0 → p.col < get_or widths c 0 → cell_label heights widths numbers_of grid (moved_position (tile_place heights widths r c) p) ≡ clump_label grid r c (number_of (cell_at_spot (numbers_of r c) p) - 1)
+pub label-moved : (heights widths : List ℕ) (numbers_of : ℕ → ℕ → Grid) (grid : List (List Begun)) (r c : ℕ) → r < length heights → c < length widths → (p : Position) → p.row < get_or heights r 0 → p.col < get_or widths c 0 → cell_label heights widths numbers_of grid (moved_position (tile_place heights widths r c) p) ≡ clump_label grid r c (number_of (cell_at_position (numbers_of r c) p) - 1)
 label-moved heights widths numbers_of grid r c r_in c_in p row col =
     let place = tile_place heights widths r c in
     let q : Position = moved_position place p in
     let r_is : stretch_of heights q.row ≡ r = stretch-is heights r q.row (record { inside = r_in; low = omega arith; high = omega (arith, row) }) in
     let c_is : stretch_of widths q.col ≡ c = stretch-is widths c q.col (record { inside = c_in; low = omega arith; high = omega (arith, col) }) in
-    let label = λ (s d : ℕ). clump_label grid s d (number_of (cell_at_spot (numbers_of s d) (position (q.row - sum (take s heights)) (q.col - sum (take d widths)))) - 1) in
+    let label = λ (s d : ℕ). clump_label grid s d (number_of (cell_at_position (numbers_of s d) (position (q.row - sum (take s heights)) (q.col - sum (take d widths)))) - 1) in
     let row_is : q.row - sum (take r heights) ≡ p.row = omega arith in
     let col_is : q.col - sum (take c widths) ≡ p.col = omega arith in
-    let spot : position (q.row - sum (take r heights)) (q.col - sum (take c widths)) ≡ p = λ i. record { row = row_is i; col = col_is i } in
+    let listed_at : position (q.row - sum (take r heights)) (q.col - sum (take c widths)) ≡ p = λ i. record { row = row_is i; col = col_is i } in
     ap (λ (s : ℕ). label s (stretch_of widths q.col)) r_is
     ∙ ap (label r) c_is
-    ∙ ap (λ (s : Position). clump_label grid r c (number_of (cell_at_spot (numbers_of r c) s) - 1)) spot
+    ∙ ap (λ (s : Position). clump_label grid r c (number_of (cell_at_position (numbers_of r c) s) - 1)) listed_at
 
 pub cells-bear-labels : CellsBearLabels
 cells-bear-labels heights widths numbers_of grid r c r_in c_in p row col n is =
@@ -45,12 +45,12 @@ module _ (j : Joining) (whole : Grid) (heights widths : List ℕ) (map_of number
 
   -- ---- cells of one tile
 
-  in-one-tile : (p q : Position) (v : ℤ) → AreAdjacent j p q → cell_at_spot whole p ≡ Some v → cell_at_spot whole q ≡ Some v → AreInOneTile heights widths p q → label_of p ≡ label_of q
+  in-one-tile : (p q : Position) (v : ℤ) → AreAdjacent j p q → cell_at_position whole p ≡ Some v → cell_at_position whole q ≡ Some v → AreInOneTile heights widths p q → label_of p ≡ label_of q
   in-one-tile p q v near first second one =
       let r = stretch_of heights p.row in
       let c = stretch_of widths p.col in
-      let p_in = cut.within p (is-some (cell_at_spot whole p) v first) in
-      let q_in = cut.within q (is-some (cell_at_spot whole q) v second) in
+      let p_in = cut.within p (is-some (cell_at_position whole p) v first) in
+      let q_in = cut.within q (is-some (cell_at_position whole q) v second) in
       let pr = lies heights p.row p_in.0 in
       let pc = lies widths p.col p_in.1 in
       let qr = subst (Lies heights q.row) (sym one.0) (lies heights q.row q_in.0) in
@@ -66,12 +66,12 @@ module _ (j : Joining) (whole : Grid) (heights widths : List ℕ) (map_of number
       let p_is : p ≡ moved_position place a = λ i. record { row = p_row i; col = p_col i } in
       let q_is : q ≡ moved_position place b = λ i. record { row = q_row i; col = q_col i } in
       let near_too : AreAdjacent j (moved_position place a) (moved_position place b) = subst (λ (s : Position). AreAdjacent j s (moved_position place b)) p_is (subst (λ (s : Position). AreAdjacent j p s) q_is near) in
-      let a_is : cell_at_spot (map_of r c) a ≡ Some v = tile.cells a (omega (arith, pr.low, pr.high)) (omega (arith, pc.low, pc.high)) ∙ ap (cell_at_spot whole) (sym p_is) ∙ first in
-      let b_is : cell_at_spot (map_of r c) b ≡ Some v = tile.cells b (omega (arith, qr.low, qr.high)) (omega (arith, qc.low, qc.high)) ∙ ap (cell_at_spot whole) (sym q_is) ∙ second in
+      let a_is : cell_at_position (map_of r c) a ≡ Some v = tile.cells a (omega (arith, pr.low, pr.high)) (omega (arith, pc.low, pc.high)) ∙ ap (cell_at_position whole) (sym p_is) ∙ first in
+      let b_is : cell_at_position (map_of r c) b ≡ Some v = tile.cells b (omega (arith, qr.low, qr.high)) (omega (arith, qc.low, qc.high)) ∙ ap (cell_at_position whole) (sym q_is) ∙ second in
       let joined = AreJoined-adjacent j (map_of r c) a b v (adjacent-back place j a b near_too) a_is b_is in
       let clumping = borders.clumpings r c pr.inside pc.inside in
-      let numbers = (clumping.same a b (is-some (cell_at_spot (map_of r c) a) v a_is) (is-some (cell_at_spot (map_of r c) b) v b_is)).1 joined in
-      let label = λ (s d : ℕ). clump_label grid s d (number_of (cell_at_spot (numbers_of s d) (position (q.row - sum (take s heights)) (q.col - sum (take d widths)))) - 1) in
+      let numbers = (clumping.same a b (is-some (cell_at_position (map_of r c) a) v a_is) (is-some (cell_at_position (map_of r c) b) v b_is)).1 joined in
+      let label = λ (s d : ℕ). clump_label grid s d (number_of (cell_at_position (numbers_of s d) (position (q.row - sum (take s heights)) (q.col - sum (take d widths)))) - 1) in
       ap (λ (n : CellValue). clump_label grid r c (number_of n - 1)) numbers
       ∙ ap (λ (s : ℕ). label s c) one.0
       ∙ ap (label (stretch_of heights q.row)) one.1
@@ -97,30 +97,30 @@ module _ (j : Joining) (whole : Grid) (heights widths : List ℕ) (map_of number
   pick r c (inl r_in) (inr c_out) = []
   pick r c (inr r_out) cols = []
 
-  pick-tells : (r c : ℕ) (rows : (r < length heights) ⊎ (length heights ≤ r)) (cols : (c < length widths) ⊎ (length widths ≤ c)) → r < length heights → c < length widths → HasBegun j (get_or heights r 0) (map_of r c) (numbers_of r c) (pick r c rows cols) (get_or (get_or grid r []) c [])
+  pick-reports : (r c : ℕ) (rows : (r < length heights) ⊎ (length heights ≤ r)) (cols : (c < length widths) ⊎ (length widths ≤ c)) → r < length heights → c < length widths → HasBegun j (get_or heights r 0) (map_of r c) (numbers_of r c) (pick r c rows cols) (get_or (get_or grid r []) c [])
   unfolding pick
-  pick-tells r c (inl r_in) (inl c_in) r_lt c_lt =
+  pick-reports r c (inl r_in) (inl c_in) r_lt c_lt =
       let tile = cut.tiles r c r_in c_in in
       let some = firsts_of r c r_in c_in in
-      rises-tell-begun j (map_of r c) (numbers_of r c) some.0 (get_or heights r 0) (get_or (get_or grid r []) c []) (borders.clumpings r c r_in c_in) some.1 (λ p is. (tile.outside p is).0) (borders.rises r c r_in c_in)
-  pick-tells r c (inl r_in) (inr c_out) r_lt c_lt = absurd (omega (arith, c_out, c_lt))
-  pick-tells r c (inr r_out) cols r_lt c_lt = absurd (omega (arith, r_out, r_lt))
+      rises-report-begun j (map_of r c) (numbers_of r c) some.0 (get_or heights r 0) (get_or (get_or grid r []) c []) (borders.clumpings r c r_in c_in) some.1 (λ p is. (tile.outside p is).0) (borders.rises r c r_in c_in)
+  pick-reports r c (inl r_in) (inr c_out) r_lt c_lt = absurd (omega (arith, c_out, c_lt))
+  pick-reports r c (inr r_out) cols r_lt c_lt = absurd (omega (arith, r_out, r_lt))
 
   pub firsts_at : ℕ → ℕ → List Position
   firsts_at r c = pick r c (cases_lt r (length heights)) (cases_lt c (length widths))
 
-  pub tell : HaveBegun j heights widths map_of numbers_of firsts_at grid
+  pub report : HaveBegun j heights widths map_of numbers_of firsts_at grid
   unfolding firsts_at
-  tell = record {
+  report = record {
     high = borders.high;
     wide = borders.wide;
-    tiles = λ r c r_in c_in. pick-tells r c (cases_lt r (length heights)) (cases_lt c (length widths)) r_in c_in;
+    tiles = λ r c r_in c_in. pick-reports r c (cases_lt r (length heights)) (cases_lt c (length widths)) r_in c_in;
   }
 
 pub borders-are-labelled : BordersAreLabelled
 borders-are-labelled j whole heights widths map_of numbers_of grid cut borders pairs at_cuts =
     let firsts = firsts_at j whole heights widths map_of numbers_of grid cut borders in
-    let ids = tell j whole heights widths map_of numbers_of grid cut borders in
+    let ids = report j whole heights widths map_of numbers_of grid cut borders in
     let label = cell_label heights widths numbers_of grid in (
       starts j whole heights widths map_of numbers_of firsts grid cut ids,
       many-starts j whole heights widths map_of numbers_of firsts grid cut ids,
@@ -133,10 +133,10 @@ borders-number-the-whole j whole heights widths map_of numbers_of grid cut borde
     let label = cell_label heights widths numbers_of grid in
     let clumping = borders.clumpings r c r_in c_in in
     let tile = cut.tiles r c r_in c_in in
-    let some = some-numbered (cell_at_spot (map_of r c) p) (cell_at_spot (numbers_of r c) p) (clumping.nulls p) (rw is refl) in
+    let some = some-numbered (cell_at_position (map_of r c) p) (cell_at_position (numbers_of r c) p) (clumping.nulls p) (rw is refl) in
     let inside = tile.outside p some in
     let q : Position = moved_position (tile_place heights widths r c) p in
-    let some_too : IsSome (cell_at_spot whole q) = subst (λ (v : CellValue). IsSome v) (tile.cells p inside.0 inside.1) some in
+    let some_too : IsSome (cell_at_position whole q) = subst (λ (v : CellValue). IsSome v) (tile.cells p inside.0 inside.1) some in
     let own : label q ≡ clump_label grid r c (k - 1) = cells-bear-labels heights widths numbers_of grid r c r_in c_in p inside.0 inside.1 k is in
     subst (λ (n : ℕ). HasNumber j whole q (number n)) own (are j whole labelled.0 label labelled.2 labelled.1 q some_too)
 

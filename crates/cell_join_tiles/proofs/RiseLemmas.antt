@@ -5,11 +5,11 @@ use Rattle.std.proofs.lemmas.List.{length_push}
 use Rattle.std.proofs.lemmas.List.Sums.{count_by-le-length}
 use Rattle.cell_core.specs.Grid.{Grid, CellValue}
 use Rattle.cell_cats_areas.specs.declared.clump.Joining.{Joining}
-use Rattle.cell_cats_areas.specs.Areas.{Position, cell_at_spot, IsClumping}
+use Rattle.cell_cats_areas.specs.Areas.{Position, cell_at_position, IsClumping}
 use Rattle.cell_cats_areas.specs.ClumpLaw.{AreFirsts}
 use Rattle.cell_cats_areas.specs.parts.CellPlaces.{position}
 use Rattle.cell_join_tiles.specs.parts.Greatest.{greater_of, greatest_in, greatest_of}
-use Rattle.cell_join_tiles.proofs.SpotLemmas.{spot-of, spot-own, first-some}
+use Rattle.cell_join_tiles.proofs.ListedAtLemmas.{listed_at-of, listed_at-own, first-some}
 use Rattle.cell_join_tiles.specs.Beginnings.{begun_before}
 use Rattle.cell_join_tiles.specs.Borders.{Rises, RisesCountBegun}
 use Rattle.cell_join_tiles.proofs.StretchLemmas.{sum-cons}
@@ -83,10 +83,10 @@ some-numbered (Some v) y nulls some = refl
 
 module _ (j : Joining) (m numbers : Grid) (firsts : List Position) (clumping : IsClumping j m numbers) (all : AreFirsts j m firsts) where
   -- a clump that has a cell above a row begins above it
-  number-above : (p : Position) (i n : ℕ) → p.row < i → cell_at_spot numbers p ≡ Some (pos n) → n ≤ above firsts i
+  number-above : (p : Position) (i n : ℕ) → p.row < i → cell_at_position numbers p ≡ Some (pos n) → n ≤ above firsts i
   number-above p i n lt is =
-      let some = some-numbered (cell_at_spot m p) (cell_at_spot numbers p) (clumping.nulls p) (rw is refl) in
-      let s = spot-of j m firsts all numbers clumping p some in
+      let some = some-numbered (cell_at_position m p) (cell_at_position numbers p) (clumping.nulls p) (rw is refl) in
+      let s = listed_at-of j m firsts all numbers clumping p some in
       let same : s.place + 1 ≡ n = (let both : Some (pos (s.place + 1)) ≡ Some (pos n) = sym s.number ∙ is in cc) in
       let first : Position = get_or firsts s.place p in
       let high : first.row < i = ⊎_elim (λ less. less) (λ past. absurd (s.early (inl (omega (arith, past, lt))))) (cases_lt first.row i) in
@@ -111,8 +111,8 @@ module _ (j : Joining) (m numbers : Grid) (firsts : List Position) (clumping : I
           let p : Position = get_or firsts k o in
           let part = parts firsts all.in_order k i o k_in in
           let high : p.row < i = ⊎_elim (λ less. less) (λ past. absurd (omega (arith, e, part.not_above past))) (cases_lt p.row i) in
-          let s = spot-of j m firsts all numbers clumping p (first-some j m firsts all numbers clumping k o k_in) in
-          let place = spot-own j m firsts all numbers clumping k o k_in s in
+          let s = listed_at-of j m firsts all numbers clumping p (first-some j m firsts all numbers clumping k o k_in) in
+          let place = listed_at-own j m firsts all numbers clumping k o k_in s in
           omega (arith, place, of-bound 0 (s.place + 1) i numbers.rows p.row p.col high s.number)
 
   pub rises : (i : ℕ) → greatest_of 0 (take i numbers.rows) ≡ above firsts i
@@ -121,8 +121,8 @@ module _ (j : Joining) (m numbers : Grid) (firsts : List Position) (clumping : I
       ⊎_elim (λ none. omega (arith, none)) (λ at. number-above (position at.r at.c) i (greatest_of 0 (take i numbers.rows)) at.early at.is) (of-reached 0 i numbers.rows) in
       omega (arith, most, above-number i)
 
-pub rises-tell-begun : RisesCountBegun
-rises-tell-begun j m numbers firsts rows begun clumping all within ids = record {
+pub rises-report-begun : RisesCountBegun
+rises-report-begun j m numbers firsts rows begun clumping all within ids = record {
   clumping = clumping;
   all = all;
   long = ids.long;

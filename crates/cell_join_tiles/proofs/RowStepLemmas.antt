@@ -8,7 +8,7 @@ use Rattle.cell_core.specs.Grid.{CellValue}
 use Rattle.cell_join_tiles.specs.declared.border.Border.{Border}
 use Rattle.cell_join_tiles.specs.Values.{SideValue, BorderValue, no_border, border_value, border_values}
 use Rattle.cell_join_tiles.specs.parts.RowLabels.{AreFirstLabels, tile_label, row_label, labels_in_tile}
-use Rattle.cell_join_tiles.specs.parts.RowMarks.{clump_of, mark_at, mark_in, marks_of, begun_of, border_in, side_in}
+use Rattle.cell_join_tiles.specs.parts.RowMarks.{clump_of_mark, mark_at, mark_in, marks_of, begun_of, border_in, side_in}
 use Rattle.cell_join_tiles.proofs.RowLabelLemmas.{first-label, tile-labels}
 
 -- ---- the tiles of a row as lists
@@ -39,7 +39,7 @@ marks-at f g clumps same v (Some k) =
 
 marks-in : (f g : ℕ → ℕ) (clumps : ℕ) → ((k : ℕ) → k < clumps → f k ≡ g k) → (cell number : CellValue) → mark_in f clumps cell number ≡ mark_in g clumps cell number
 marks-in f g clumps same None number = refl
-marks-in f g clumps same (Some v) number = marks-at f g clumps same v (clump_of number)
+marks-in f g clumps same (Some v) number = marks-at f g clumps same v (clump_of_mark number)
 
 pub marks-same : (f g : ℕ → ℕ) (clumps : ℕ) → ((k : ℕ) → k < clumps → f k ≡ g k) → (side : SideValue) → marks_of f clumps side ≡ marks_of g clumps side
 marks-same f g clumps same side =

@@ -11,8 +11,8 @@ use Rattle.cell_cats_areas.specs.declared.clump.Joining.{Joining}
 use Rattle.cell_join_tiles.specs.Beginnings.{Begun, clumps_in_row, clumps_in_grid}
 use Rattle.cell_join_tiles.specs.SeamLines.{Line, line_meetings}
 use Rattle.cell_join_tiles.specs.Values.{BorderValue}
-use Rattle.cell_join_tiles.specs.Joined.{begun_in}
-use Rattle.cell_join_tiles.specs.JoinedTiles.{TileJoinerValue, AreJoinedTiles, row_at, base_at, above_at, pairs_of, pairs_at, tiles_of, tiles_at}
+use Rattle.cell_join_tiles.specs.JoinedBorders.{begun_in}
+use Rattle.cell_join_tiles.specs.JoinedTiles.{TileJoinerValue, AreJoinedTiles, tile_row_at, base_at, above_at, pairs_of, pairs_at, tiles_of, tiles_at}
 use Rattle.cell_join_tiles.specs.parts.RowMarks.{Adds, begun_of, first_in, last_in, pairs_within}
 use Rattle.cell_join_tiles.proofs.LabelSums.{all-of}
 use Rattle.cell_join_tiles.proofs.RowLabelLemmas.{lists-more}
@@ -48,10 +48,10 @@ module _ (grid : List (List BorderValue)) (row : List BorderValue) where
   base-last : base_at more high ≡ clumps_in_grid (begun_in grid)
   base-last = base-same high (omega arith) ∙ all-of clumps_in_row (begun_in grid) high (omega (arith, begun-high))
 
-  row-same : (r : ℕ) → r < high → row_at more r ≡ row_at grid r
+  row-same : (r : ℕ) → r < high → tile_row_at more r ≡ tile_row_at grid r
   row-same r lt = get_or_append_left grid (row ∷ []) [] r lt
 
-  row-last : row_at more high ≡ row
+  row-last : tile_row_at more high ≡ row
   row-last = get_or_push grid row [] high refl
 
   above-same : (r : ℕ) → r ≤ high → above_at more r ≡ above_at grid r

@@ -14,9 +14,9 @@ use Rattle.cell_join_numbers.specs.SparseNumbers.{AreInPlaces, AreNumbersOf}
 use Rattle.cell_join_numbers.proofs.PlaceLemmas.{few-before}
 use Rattle.cell_join_numbers.proofs.SearchLemmas.{before-most, alone-here}
 use Rattle.cell_join_tiles.specs.declared.run_lines.Line.{Line}
-use Rattle.cell_join_tiles.specs.parts.RunLines.{AreLined}
+use Rattle.cell_join_tiles.specs.parts.RunLines.{AreInLines}
 use Rattle.cell_join_tiles.specs.declared.spans.Span.{Span}
-use Rattle.cell_join_tiles.specs.parts.Runs.{GoesOn, runs_of_tiles}
+use Rattle.cell_join_tiles.specs.parts.LabelRuns.{RunsGoOn, runs_of_tiles}
 use Rattle.cell_join_tiles.specs.parts.Spans.{labels_in, labels_of_tiles}
 use Rattle.cell_join_tiles.proofs.RowLabelLemmas.{run-of}
 
@@ -41,25 +41,25 @@ pub paired-run : (number : ℕ → ℕ) (paired numbers roots : List ℕ) → Ar
 paired-run number paired numbers roots are place lt = ap (λ (n : ℕ). n ∷ []) (are.at place lt)
 
 -- labels behind labels
-pub goes-then : (sparse : SparseNumbers) (part : ℕ) (line mid after : Option Line) (old between new : List Stretch) (one other : List ℕ) → GoesOn sparse part line old between one mid → GoesOn sparse part mid between new other after → GoesOn sparse part line old new (one ++ other) after
+pub goes-then : (sparse : SparseNumbers) (part : ℕ) (line mid after : Option Line) (old between new : List Stretch) (one other : List ℕ) → RunsGoOn sparse part line old between one mid → RunsGoOn sparse part mid between new other after → RunsGoOn sparse part line old new (one ++ other) after
 goes-then sparse part line mid after old between new one other first second number before numbers are h =
     let done = second number before (numbers ++ map number one) are (first number before numbers are h) in
     let same : (numbers ++ map number one) ++ map number other ≡ numbers ++ map number (one ++ other) =
     append_assoc numbers (map number one) (map number other) ∙ ap (λ (l : List ℕ). numbers ++ l) (sym (map-append number one other)) in
-    subst (λ (l : List ℕ). AreLined part before l new after) same done
+    subst (λ (l : List ℕ). AreInLines part before l new after) same done
 
-pub goes-nowhere : (sparse : SparseNumbers) (part : ℕ) (line : Option Line) (old : List Stretch) (labels : List ℕ) → labels ≡ [] → GoesOn sparse part line old old labels line
+pub goes-nowhere : (sparse : SparseNumbers) (part : ℕ) (line : Option Line) (old : List Stretch) (labels : List ℕ) → labels ≡ [] → RunsGoOn sparse part line old old labels line
 goes-nowhere sparse part line old labels none number before numbers are h =
     let same : numbers ≡ numbers ++ map number labels = sym (ap (λ (l : List ℕ). numbers ++ map number l) none ∙ append-nil numbers) in
-    subst (λ (l : List ℕ). AreLined part before l old line) same h
+    subst (λ (l : List ℕ). AreInLines part before l old line) same h
 
 -- a run of numbers is put behind a line
 pub goes-run : (sparse : SparseNumbers) (part : ℕ) (line after : Option Line) (old new : List Stretch) (labels : List ℕ) (first count : ℕ)
     → ((number : ℕ → ℕ) → AreNumbersOf number sparse.paired.items sparse.numbers.items sparse.roots.items → range_with_len first count ≡ map number labels)
-    → ((before : List Stretch) (numbers : List ℕ) → AreLined part before numbers old line → AreLined part before (numbers ++ range_with_len first count) new after)
-    → GoesOn sparse part line old new labels after
+    → ((before : List Stretch) (numbers : List ℕ) → AreInLines part before numbers old line → AreInLines part before (numbers ++ range_with_len first count) new after)
+    → RunsGoOn sparse part line old new labels after
 goes-run sparse part line after old new labels first count same step number before numbers are h =
-    subst (λ (l : List ℕ). AreLined part before (numbers ++ l) new after) (same number are) (step before numbers h)
+    subst (λ (l : List ℕ). AreInLines part before (numbers ++ l) new after) (same number are) (step before numbers h)
 
 pub if-ok : {A E : Type 0} (r : Result A E) (P Q : A → Type 0) → IfOk r P → ((a : A) → P a → Q a) → IfOk r Q
 if-ok (Ok a) P Q p more = more a p

@@ -6,7 +6,7 @@ use Rattle.cell_join_lines.specs.declared.stretch.Stretch.{Stretch}
 use Rattle.cell_join_lines.specs.AreasText.{stretches_behind, stretches_in}
 use Rattle.cell_join_lines.proofs.WritingLemmas.{goes-on, begins-anew}
 use Rattle.cell_join_tiles.specs.declared.run_lines.Line.{Line}
-use Rattle.cell_join_tiles.specs.parts.RunLines.{AreLined, stretches_after}
+use Rattle.cell_join_tiles.specs.parts.RunLines.{AreInLines, stretches_after}
 
 -- a line takes a run of the next numbers in
 behind-run : (band first last number previous n : ℕ) (rest : List ℕ) (end most : ℕ) → end ≡ last + n
@@ -55,11 +55,11 @@ module _ (s : Stretch) (previous first last count : ℕ) (rest : List ℕ) (e : 
           (omega (arith, is)))
 
 -- what follows a line is put into another
-lined-more : (band : ℕ) (before : List Stretch) (numbers run : List ℕ) (old new : List Stretch)
-    (line after : Option Line) → AreLined band before numbers old line
+in_lines-more : (band : ℕ) (before : List Stretch) (numbers run : List ℕ) (old new : List Stretch)
+    (line after : Option Line) → AreInLines band before numbers old line
     → ((rest : List ℕ) → old ++ stretches_after band line (run ++ rest) ≡ new ++ stretches_after band after rest)
-    → AreLined band before (numbers ++ run) new after
-lined-more band before numbers run old new line after h step = λ rest.
+    → AreInLines band before (numbers ++ run) new after
+in_lines-more band before numbers run old new line after h step = λ rest.
     ap (λ (l : List ℕ). before ++ stretches_in band l) (append_assoc numbers run rest) ∙ h (run ++ rest) ∙ step rest
 
 -- a new line, a line that goes on, and one behind another
@@ -72,29 +72,29 @@ module _ (band : ℕ) (before : List Stretch) (numbers : List ℕ) (old : List S
   abbrev pub more_numbers : List ℕ
   more_numbers = numbers ++ range_with_len first count
 
-  pub lined-first : AreLined band before numbers old None
-      → AreLined band before more_numbers old (line_of band 1 count first last)
-  lined-first h =
-      lined-more band before numbers (range_with_len first count) old old None (line_of band 1 count first last) h
+  pub in_lines-first : AreInLines band before numbers old None
+      → AreInLines band before more_numbers old (line_of band 1 count first last)
+  in_lines-first h =
+      in_lines-more band before numbers (range_with_len first count) old old None (line_of band 1 count first last) h
       (λ rest. ap (λ (l : List Stretch). old ++ l) (first-run band first last count rest some e))
 
-  module _ (line : Line) (h : AreLined band before numbers old (Some line)) where
+  module _ (line : Line) (h : AreInLines band before numbers old (Some line)) where
     abbrev pub next_line : Option Line
     next_line = line_of line.stretch.band line.stretch.first (line.stretch.last + count) line.stretch.number last
 
     abbrev pub other_line : Option Line
     other_line = line_of line.stretch.band (line.stretch.last + 1) (line.stretch.last + count) first last
 
-    pub lined-next : (first == line.previous + 1) ≡ true → AreLined band before more_numbers old next_line
-    lined-next next =
-        lined-more band before numbers (range_with_len first count) old old (Some line) next_line h
+    pub in_lines-next : (first == line.previous + 1) ≡ true → AreInLines band before more_numbers old next_line
+    in_lines-next next =
+        in_lines-more band before numbers (range_with_len first count) old old (Some line) next_line h
         (λ rest.
         ap (λ (l : List Stretch). old ++ l) (next-run line.stretch line.previous first last count rest e next))
 
-    pub lined-other : (first == line.previous + 1) ≡ false
-        → AreLined band before more_numbers (old ++ line.stretch ∷ []) other_line
-    lined-other apart =
-        lined-more band before numbers (range_with_len first count) old (old ++ line.stretch ∷ []) (Some line)
+    pub in_lines-other : (first == line.previous + 1) ≡ false
+        → AreInLines band before more_numbers (old ++ line.stretch ∷ []) other_line
+    in_lines-other apart =
+        in_lines-more band before numbers (range_with_len first count) old (old ++ line.stretch ∷ []) (Some line)
         other_line h
         (λ rest.
         ap (λ (l : List Stretch). old ++ l)
@@ -104,17 +104,17 @@ module _ (band : ℕ) (before : List Stretch) (numbers : List ℕ) (old : List S
 
 -- ---- a line that ends
 
-pub lined-some : (band : ℕ) (before : List Stretch) (numbers : List ℕ) (old : List Stretch) (line : Line)
-    → AreLined band before numbers old (Some line) → old ++ line.stretch ∷ [] ≡ before ++ stretches_in band numbers
-lined-some band before numbers old line h =
+pub in_lines-some : (band : ℕ) (before : List Stretch) (numbers : List ℕ) (old : List Stretch) (line : Line)
+    → AreInLines band before numbers old (Some line) → old ++ line.stretch ∷ [] ≡ before ++ stretches_in band numbers
+in_lines-some band before numbers old line h =
     sym (ap (λ (l : List ℕ). before ++ stretches_in band l) (sym (append-nil numbers)) ∙ h [])
 
-pub lined-none : (band : ℕ) (before : List Stretch) (numbers : List ℕ) (old : List Stretch)
-    → AreLined band before numbers old None → old ≡ before ++ stretches_in band numbers
-lined-none band before numbers old h =
+pub in_lines-none : (band : ℕ) (before : List Stretch) (numbers : List ℕ) (old : List Stretch)
+    → AreInLines band before numbers old None → old ≡ before ++ stretches_in band numbers
+in_lines-none band before numbers old h =
     sym (ap (λ (l : List ℕ). before ++ stretches_in band l) (sym (append-nil numbers)) ∙ h [] ∙ append-nil old)
 
 -- no area yet
-pub lined-start : (band : ℕ) (before : List Stretch) (numbers : List ℕ) → numbers ≡ []
-    → AreLined band before numbers before None
-lined-start band before numbers none = λ rest. ap (λ (l : List ℕ). before ++ stretches_in band (l ++ rest)) none
+pub in_lines-start : (band : ℕ) (before : List Stretch) (numbers : List ℕ) → numbers ≡ []
+    → AreInLines band before numbers before None
+in_lines-start band before numbers none = λ rest. ap (λ (l : List ℕ). before ++ stretches_in band (l ++ rest)) none

@@ -6,7 +6,7 @@ use Rattle.std.specs.Option.{option_map}
 use Rattle.cell_core.specs.Grid.{Grid, CellValue}
 use Rattle.cell_cats_areas.specs.declared.clump.Joining.{Joining}
 use Rattle.cell_cats_areas.specs.declared.clump.Joining.TheVariants.{Edges, EdgesAndCorners}
-use Rattle.cell_cats_areas.specs.Areas.{Position, cell_at_spot, AreNeighbours, AreAdjacent}
+use Rattle.cell_cats_areas.specs.Areas.{Position, cell_at_position, AreNeighbours, AreAdjacent}
 use Rattle.cell_cats_areas.specs.parts.CellPlaces.{position}
 use Rattle.cell_cats_areas.proofs.PathLemmas.{AreAdjacent-sym}
 use Rattle.cell_parts.specs.AreaParts.{moved_position}
@@ -17,7 +17,7 @@ use Rattle.cell_join_tiles.proofs.MeetingLemmas.{Touch, mark-inside, line_meetin
 use Rattle.cell_join_tiles.specs.Beginnings.{stretch_of, tile_place}
 use Rattle.cell_join_tiles.specs.Borders.{AreInOneTile}
 use Rattle.cell_join_tiles.specs.declared.marks.Mark.{Mark}
-use Rattle.cell_join_tiles.specs.SeamLines.{Line, line_meetings, mark_of, IsLineOf, AreSeamLines, IsAtSide, IsAtRow, SeamLinesPair}
+use Rattle.cell_join_tiles.specs.SeamLines.{Line, line_meetings, seam_mark_of, IsLineOf, AreSeamLines, IsAtSide, IsAtRow, SeamLinesPair}
 use Rattle.cell_join_tiles.proofs.StretchLemmas.{Lies, lies}
 
 -- ---- touching
@@ -94,24 +94,24 @@ steps ns some x y x_lt y_lt (inr (inr e)) =
 
 module _ (j : Joining) (whole : Grid) (label_of : Position → ℕ) where
   abbrev mark : Position → Option Mark
-  mark = mark_of whole label_of
+  mark = seam_mark_of whole label_of
 
   -- ---- marks
 
   pub record Marks (p : Position) (m : Mark) : Type 0 where
-    pub cell : cell_at_spot whole p ≡ Some m.category
+    pub cell : cell_at_position whole p ≡ Some m.category
     pub label : m.label ≡ label_of p
 
   marks : (p : Position) (m : Mark) → mark p ≡ Some m → Marks p m
-  marks p m e = by (cell_at_spot whole p) refl e
+  marks p m e = by (cell_at_position whole p) refl e
     where
-      by : (v : CellValue) → cell_at_spot whole p ≡ v → option_map (λ c. record { category = c; label = label_of p }) v ≡ Some m → Marks p m
+      by : (v : CellValue) → cell_at_position whole p ≡ v → option_map (λ c. record { category = c; label = label_of p }) v ≡ Some m → Marks p m
       by None is e = cc
       by (Some v) is e =
           let same : ◌≡◌ {A = Mark} (record { category = v; label = label_of p }) m = cc in
           record { cell = is ∙ ap (λ (x : Mark). Some x.category) same; label = sym (ap (λ (x : Mark). x.label) same) }
 
-  mark-is : (p : Position) (v : ℤ) → cell_at_spot whole p ≡ Some v → mark p ≡ Some (record { category = v; label = label_of p })
+  mark-is : (p : Position) (v : ℤ) → cell_at_position whole p ≡ Some v → mark p ≡ Some (record { category = v; label = label_of p })
   mark-is p v is = ap (option_map (λ c. record { category = c; label = label_of p })) is
 
   -- ---- two lines whose cells meet
@@ -145,14 +145,14 @@ module _ (j : Joining) (whole : Grid) (label_of : Position → ℕ) where
         second_label = m.second ∙ y.label;
       }
 
-  pair-of : (one other : Line) (cut : IsCut one other) (p q : Position) (v : ℤ) (k l : ℕ) → cut.at k ≡ p → cut.beside l ≡ q → k < cut.count → l < cut.count → Touch j k l → cell_at_spot whole p ≡ Some v → cell_at_spot whole q ≡ Some v → Contains (line_meetings j one other) (label_of p, label_of q)
+  pair-of : (one other : Line) (cut : IsCut one other) (p q : Position) (v : ℤ) (k l : ℕ) → cut.at k ≡ p → cut.beside l ≡ q → k < cut.count → l < cut.count → Touch j k l → cell_at_position whole p ≡ Some v → cell_at_position whole q ≡ Some v → Contains (line_meetings j one other) (label_of p, label_of q)
   pair-of one other cut p q v k l p_is q_is k_lt l_lt touch first second =
       let a = cut.first in
       let b = cut.second in
       line_meetings-have one other j k l (record { category = v; label = label_of p }) (record { category = v; label = label_of q }) touch
       (a.each k k_lt ∙ ap mark p_is ∙ mark-is p v first) (b.each l l_lt ∙ ap mark q_is ∙ mark-is q v second) refl
 
-  module _ (heights widths : List ℕ) (left right : ℕ → ℕ → Line) (first last : ℕ → Line) (pairs : List (ℕ × ℕ)) (some_rows : All (λ n. 0 < n) heights) (some_cols : All (λ n. 0 < n) widths) (within : (p : Position) → IsSome (cell_at_spot whole p) → (p.row < sum heights) × (p.col < sum widths)) (lines : AreSeamLines whole heights widths label_of left right first last) (are : (pair : ℕ × ℕ) → Contains pairs pair ↔ (IsAtSide j heights widths left right pair ⊎ IsAtRow j heights first last pair)) where
+  module _ (heights widths : List ℕ) (left right : ℕ → ℕ → Line) (first last : ℕ → Line) (pairs : List (ℕ × ℕ)) (some_rows : All (λ n. 0 < n) heights) (some_cols : All (λ n. 0 < n) widths) (within : (p : Position) → IsSome (cell_at_position whole p) → (p.row < sum heights) × (p.col < sum widths)) (lines : AreSeamLines whole heights widths label_of left right first last) (are : (pair : ℕ × ℕ) → Contains pairs pair ↔ (IsAtSide j heights widths left right pair ⊎ IsAtRow j heights first last pair)) where
     height-some : (r : ℕ) → r < length heights → 0 < get_or heights r 0
     height-some r lt = some_rows r 0 lt
 
@@ -195,7 +195,7 @@ module _ (j : Joining) (whole : Grid) (label_of : Position → ℕ) where
         ((are (a, b)).0 h)
 
     -- two cells over a cut between rows of tiles
-    row-pair : (p q : Position) (v : ℤ) → AreAdjacent j p q → Over heights p.row q.row → p.col < sum widths → q.col < sum widths → cell_at_spot whole p ≡ Some v → cell_at_spot whole q ≡ Some v → Contains pairs (label_of p, label_of q)
+    row-pair : (p q : Position) (v : ℤ) → AreAdjacent j p q → Over heights p.row q.row → p.col < sum widths → q.col < sum widths → cell_at_position whole p ≡ Some v → cell_at_position whole q ≡ Some v → Contains pairs (label_of p, label_of q)
     unfolding row-cut
     row-pair p q v near c p_lt q_lt one other =
         let r = stretch_of heights p.row in
@@ -211,7 +211,7 @@ module _ (j : Joining) (whole : Grid) (label_of : Position → ℕ) where
         ))
 
     -- two cells over a cut between columns of tiles
-    side-pair : (p q : Position) (v : ℤ) (r : ℕ) → AreAdjacent j p q → Lies heights p.row r → Lies heights q.row r → Over widths p.col q.col → cell_at_spot whole p ≡ Some v → cell_at_spot whole q ≡ Some v → Contains pairs (label_of p, label_of q)
+    side-pair : (p q : Position) (v : ℤ) (r : ℕ) → AreAdjacent j p q → Lies heights p.row r → Lies heights q.row r → Over widths p.col q.col → cell_at_position whole p ≡ Some v → cell_at_position whole q ≡ Some v → Contains pairs (label_of p, label_of q)
     unfolding side-cut
     side-pair p q v r near pr qr s one other =
         let c = stretch_of widths p.col in
@@ -235,14 +235,14 @@ module _ (j : Joining) (whole : Grid) (label_of : Position → ℕ) where
     abbrev Met : Position → Position → Type 0
     Met p q = Contains pairs (label_of p, label_of q) ⊎ Contains pairs (label_of q, label_of p)
 
-    meet : (p q : Position) (v : ℤ) → AreAdjacent j p q → cell_at_spot whole p ≡ Some v → cell_at_spot whole q ≡ Some v → (AreInOneTile heights widths p q → ⊥) → Met p q
+    meet : (p q : Position) (v : ℤ) → AreAdjacent j p q → cell_at_position whole p ≡ Some v → cell_at_position whole q ≡ Some v → (AreInOneTile heights widths p q → ⊥) → Met p q
     meet p q v near one other apart = by (steps heights some_rows p.row q.row p_in.0 q_in.0 (rows-near j p q near)) (steps widths some_cols p.col q.col p_in.1 q_in.1 (cols-near j p q near))
       where
         p_in : (p.row < sum heights) × (p.col < sum widths)
-        p_in = within p (is-some (cell_at_spot whole p) v one)
+        p_in = within p (is-some (cell_at_position whole p) v one)
 
         q_in : (q.row < sum heights) × (q.col < sum widths)
-        q_in = within q (is-some (cell_at_spot whole q) v other)
+        q_in = within q (is-some (cell_at_position whole q) v other)
 
         by : Steps heights p.row q.row → Steps widths p.col q.col → Met p q
         by (inl one_row) (inl one_col) = absurd (apart (one_row, one_col))

@@ -2,7 +2,7 @@
 use Rattle.std.specs.Prelude.{ℕ, ℤ, suc, pos, ◌≡◌, ◌⊎◌, ◌+◌, ◌-◌, ◌<◌, ◌==◌, nat_lt, if◌then◌else◌, List, [], ◌∷◌, length, take, sum, sum_by, count_by, Contains, Some, IsSome, slice_index, slice_index_or}
 use Rattle.cell_core.specs.Grid.{Grid}
 use Rattle.cell_cats_areas.specs.declared.clump.Joining.{Joining}
-use Rattle.cell_cats_areas.specs.Areas.{Position, cell_at_spot, IsEarlierCell, AreAdjacent, IsClumping}
+use Rattle.cell_cats_areas.specs.Areas.{Position, cell_at_position, IsEarlierCell, AreAdjacent, IsClumping}
 use Rattle.cell_cats_areas.specs.ClumpLaw.{AreFirsts}
 use Rattle.cell_cats_areas.specs.parts.CellPlaces.{position}
 use Rattle.cell_parts.specs.Parts.{Rectangle}
@@ -63,7 +63,7 @@ tile_place heights widths r c = record { top = sum (take r heights); left = sum 
 
 -- a map cut between rows of tiles of such heights and columns of such widths
 pub record IsCutIntoTiles (whole : Grid) (heights widths : List ℕ) (map_of : ℕ → ℕ → Grid) : Type 0 where
-  pub within : (p : Position) → IsSome (cell_at_spot whole p) → (p.row < sum heights) × (p.col < sum widths)
+  pub within : (p : Position) → IsSome (cell_at_position whole p) → (p.row < sum heights) × (p.col < sum widths)
   pub tiles : (r c : ℕ) → r < length heights → c < length widths → IsTile whole (record { place = tile_place heights widths r c; map = map_of r c })
 
 -- the numbers of the clumps of a tile, their first cells, and how many begin in each of its rows
@@ -81,11 +81,11 @@ pub record HaveBegun (j : Joining) (heights widths : List ℕ) (map_of numbers_o
 
 -- each cell of each tile bears the label of its clump
 abbrev pub BearLabels : (heights widths : List ℕ) → (numbers_of : ℕ → ℕ → Grid) → List (List Begun) → (Position → ℕ) → Type 0
-BearLabels heights widths numbers_of grid label_of = (r c : ℕ) → r < length heights → c < length widths → (p : Position) → p.row < slice_index heights r → p.col < slice_index widths c → (n : ℕ) → cell_at_spot (numbers_of r c) p ≡ Some (pos n) → label_of (moved_position (tile_place heights widths r c) p) ≡ clump_label grid r c (n - 1)
+BearLabels heights widths numbers_of grid label_of = (r c : ℕ) → r < length heights → c < length widths → (p : Position) → p.row < slice_index heights r → p.col < slice_index widths c → (n : ℕ) → cell_at_position (numbers_of r c) p ≡ Some (pos n) → label_of (moved_position (tile_place heights widths r c) p) ≡ clump_label grid r c (n - 1)
 
 -- pairs of labels: adjacent cells of one category bear one label, or two that are paired, and no others are
 pub record ArePaired (j : Joining) (m : Grid) (label_of : Position → ℕ) (pairs : List (ℕ × ℕ)) : Type 0 where
-  pub meet : (p q : Position) (v : ℤ) → AreAdjacent j p q → cell_at_spot m p ≡ Some v → cell_at_spot m q ≡ Some v → (label_of p ≡ label_of q) ⊎ (Contains pairs (label_of p, label_of q) ⊎ Contains pairs (label_of q, label_of p))
+  pub meet : (p q : Position) (v : ℤ) → AreAdjacent j p q → cell_at_position m p ≡ Some v → cell_at_position m q ≡ Some v → (label_of p ≡ label_of q) ⊎ (Contains pairs (label_of p, label_of q) ⊎ Contains pairs (label_of q, label_of p))
   pub only : (a b : ℕ) → Contains pairs (a, b) → IsMeeting j m label_of a b
 
 -- the labels go by the first cells of the clumps in the whole

@@ -2,7 +2,7 @@
 use Rattle.std.specs.Prelude.{ℕ, ℤ, pos, negsuc, ◌≡◌, ◌⊎◌, ◌-◌, ◌<◌, ◌≤◌, List, [], length, take, sum, Contains, Some, None, IsSome, slice_index, slice_index_or}
 use Rattle.cell_core.specs.Grid.{Grid, CellValue}
 use Rattle.cell_cats_areas.specs.declared.clump.Joining.{Joining}
-use Rattle.cell_cats_areas.specs.Areas.{Position, cell_at_spot, AreAdjacent, HasNumber, IsClumping}
+use Rattle.cell_cats_areas.specs.Areas.{Position, cell_at_position, AreAdjacent, HasNumber, IsClumping}
 use Rattle.cell_cats_areas.specs.ClumpLaw.{AreFirsts}
 use Rattle.cell_cats_areas.specs.parts.CellPlaces.{position}
 use Rattle.cell_parts.specs.AreaParts.{moved_position}
@@ -17,7 +17,7 @@ pub record Rises (rows : ℕ) (numbers : Grid) (begun : Begun) : Type 0 where
 
 -- they are how many clumps begin in each of its rows
 abbrev pub RisesCountBegun : Type 0
-RisesCountBegun = (j : Joining) (m numbers : Grid) (firsts : List Position) (rows : ℕ) (begun : Begun) → IsClumping j m numbers → AreFirsts j m firsts → ((p : Position) → IsSome (cell_at_spot m p) → p.row < rows) → Rises rows numbers begun → HasBegun j rows m numbers firsts begun
+RisesCountBegun = (j : Joining) (m numbers : Grid) (firsts : List Position) (rows : ℕ) (begun : Begun) → IsClumping j m numbers → AreFirsts j m firsts → ((p : Position) → IsSome (cell_at_position m p) → p.row < rows) → Rises rows numbers begun → HasBegun j rows m numbers firsts begun
 
 -- each tile of a grid is numbered, with the rises of its numbers
 pub record AreBorders (j : Joining) (heights widths : List ℕ) (map_of numbers_of : ℕ → ℕ → Grid) (grid : List (List Begun)) : Type 0 where
@@ -34,7 +34,7 @@ number_of (Some (negsuc n)) = 0
 
 -- the label of a cell of the whole: that of its clump in its tile
 abbrev pub cell_label : (heights widths : List ℕ) → (numbers_of : ℕ → ℕ → Grid) → List (List Begun) → Position → ℕ
-cell_label heights widths numbers_of grid p = clump_label grid (stretch_of heights p.row) (stretch_of widths p.col) (number_of (cell_at_spot (numbers_of (stretch_of heights p.row) (stretch_of widths p.col)) (position (p.row - sum (take (stretch_of heights p.row) heights)) (p.col - sum (take (stretch_of widths p.col) widths)))) - 1)
+cell_label heights widths numbers_of grid p = clump_label grid (stretch_of heights p.row) (stretch_of widths p.col) (number_of (cell_at_position (numbers_of (stretch_of heights p.row) (stretch_of widths p.col)) (position (p.row - sum (take (stretch_of heights p.row) heights)) (p.col - sum (take (stretch_of widths p.col) widths)))) - 1)
 
 abbrev pub CellsBearLabels : Type 0
 CellsBearLabels = (heights widths : List ℕ) (numbers_of : ℕ → ℕ → Grid) (grid : List (List Begun)) → BearLabels heights widths numbers_of grid (cell_label heights widths numbers_of grid)
@@ -45,7 +45,7 @@ AreInOneTile heights widths p q = (stretch_of heights p.row ≡ stretch_of heigh
 
 -- pairs of labels: those of adjacent cells of one category in two tiles, and perhaps others of adjacent cells of one category
 pub record ArePairedAtSeams (j : Joining) (whole : Grid) (heights widths : List ℕ) (label_of : Position → ℕ) (pairs : List (ℕ × ℕ)) : Type 0 where
-  pub meet : (p q : Position) (v : ℤ) → AreAdjacent j p q → cell_at_spot whole p ≡ Some v → cell_at_spot whole q ≡ Some v → (AreInOneTile heights widths p q → ⊥) → Contains pairs (label_of p, label_of q) ⊎ Contains pairs (label_of q, label_of p)
+  pub meet : (p q : Position) (v : ℤ) → AreAdjacent j p q → cell_at_position whole p ≡ Some v → cell_at_position whole q ≡ Some v → (AreInOneTile heights widths p q → ⊥) → Contains pairs (label_of p, label_of q) ⊎ Contains pairs (label_of q, label_of p)
   pub only : (a b : ℕ) → Contains pairs (a, b) → IsMeeting j whole label_of a b
 
 -- the cells of the whole are labelled as a joining by pairs of labels asks, with as many labels as the tiles have clumps
@@ -54,7 +54,7 @@ BordersAreLabelled = (j : Joining) (whole : Grid) (heights widths : List ℕ) (m
 
 -- numbers of the labels number the whole, for each number of each tile
 abbrev pub BordersNumberTheWhole : Type 0
-BordersNumberTheWhole = (j : Joining) (whole : Grid) (heights widths : List ℕ) (map_of numbers_of : ℕ → ℕ → Grid) (grid : List (List Begun)) → IsCutIntoTiles whole heights widths map_of → AreBorders j heights widths map_of numbers_of grid → (pairs : List (ℕ × ℕ)) → ArePairedAtSeams j whole heights widths (cell_label heights widths numbers_of grid) pairs → (number : ℕ → ℕ) → NumberLabels (clumps_in_grid grid) pairs number → (r c : ℕ) → r < length heights → c < length widths → (p : Position) (k : ℕ) → cell_at_spot (numbers_of r c) p ≡ Some (pos k) → HasNumber j whole (moved_position (tile_place heights widths r c) p) (number (clump_label grid r c (k - 1)))
+BordersNumberTheWhole = (j : Joining) (whole : Grid) (heights widths : List ℕ) (map_of numbers_of : ℕ → ℕ → Grid) (grid : List (List Begun)) → IsCutIntoTiles whole heights widths map_of → AreBorders j heights widths map_of numbers_of grid → (pairs : List (ℕ × ℕ)) → ArePairedAtSeams j whole heights widths (cell_label heights widths numbers_of grid) pairs → (number : ℕ → ℕ) → NumberLabels (clumps_in_grid grid) pairs number → (r c : ℕ) → r < length heights → c < length widths → (p : Position) (k : ℕ) → cell_at_position (numbers_of r c) p ≡ Some (pos k) → HasNumber j whole (moved_position (tile_place heights widths r c) p) (number (clump_label grid r c (k - 1)))
 
 -- and the whole has as many areas
 abbrev pub BordersCountTheWhole : Type 0

@@ -7,7 +7,7 @@ use Rattle.cell_join_tiles.specs.SeamLines.{line_meetings}
 use Rattle.cell_join_tiles.specs.Values.{BorderValue}
 use Rattle.cell_join_tiles.specs.JoinedTiles.{TileJoinerValue, AreJoinedTiles, tiles_of, AreRunsOf, GridClumps}
 use Rattle.cell_join_tiles.specs.parts.RowMarks.{Adds, begun_of, first_in, last_in, pairs_within}
-use Rattle.cell_join_tiles.specs.parts.Runs.{runs_of_tiles}
+use Rattle.cell_join_tiles.specs.parts.LabelRuns.{runs_of_tiles}
 
 -- one more row of tiles: the pairs within it and those at the seam above it, its last row of cells, and the labels of its tiles
 abbrev pub RowsJoin : Type 0

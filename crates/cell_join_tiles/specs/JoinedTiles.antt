@@ -3,7 +3,7 @@ use Rattle.std.specs.Prelude.{ℕ, zero, suc, pos, ◌≡◌, ◌↔◌, ◌+◌
 use Rattle.std.specs.List.{range_with_len}
 use Rattle.cell_core.specs.Grid.{Grid}
 use Rattle.cell_cats_areas.specs.declared.clump.Joining.{Joining}
-use Rattle.cell_cats_areas.specs.Areas.{Position, cell_at_spot, HasNumber}
+use Rattle.cell_cats_areas.specs.Areas.{Position, cell_at_position, HasNumber}
 use Rattle.cell_parts.specs.AreaParts.{moved_position}
 use Rattle.cell_join_lines.specs.AreasText.{stretches_of}
 use Rattle.cell_join_lines.specs.declared.stretch.Stretch.{Stretch}
@@ -12,7 +12,7 @@ use Rattle.cell_join_tiles.specs.Beginnings.{clumps_in_row, clumps_in_grid, IsCu
 use Rattle.cell_join_tiles.specs.SeamLines.{Line, line_meetings}
 use Rattle.cell_join_tiles.specs.TileNumbers.{clumps_before_tile}
 use Rattle.cell_join_tiles.specs.Values.{BorderValue}
-use Rattle.cell_join_tiles.specs.Joined.{HaveBorders, begun_in}
+use Rattle.cell_join_tiles.specs.JoinedBorders.{HaveBorders, begun_in}
 use Rattle.cell_join_tiles.specs.parts.RowLabels.{labels_in_tile}
 use Rattle.cell_join_tiles.specs.parts.RowMarks.{begun_of, first_in, last_in, pairs_within}
 
@@ -28,8 +28,8 @@ pub record TileJoinerValue : Type 0 where
   pub tiles : List (List ℕ)
 
 -- a row of tiles, and where its labels begin
-abbrev pub row_at : List (List BorderValue) → ℕ → List BorderValue
-row_at grid r = slice_index_or grid r []
+abbrev pub tile_row_at : List (List BorderValue) → ℕ → List BorderValue
+tile_row_at grid r = slice_index_or grid r []
 
 abbrev pub base_at : List (List BorderValue) → ℕ → ℕ
 base_at grid r = sum_by clumps_in_row (take r (begun_in grid))
@@ -37,21 +37,21 @@ base_at grid r = sum_by clumps_in_row (take r (begun_in grid))
 -- the row of cells above it
 abbrev pub above_at : List (List BorderValue) → ℕ → Line
 above_at grid zero = []
-above_at grid (suc r) = last_in (base_at grid r) (row_at grid r) (length (row_at grid r))
+above_at grid (suc r) = last_in (base_at grid r) (tile_row_at grid r) (length (tile_row_at grid r))
 
 -- the pairs at the seam above a row of tiles and at those within it
 abbrev pub pairs_of : Joining → (above : Line) (base : ℕ) (row : List BorderValue) → List (ℕ × ℕ)
 pairs_of j above base row = line_meetings j above (first_in base row (length row)) ++ pairs_within j base row (length row)
 
 abbrev pub pairs_at : Joining → List (List BorderValue) → ℕ → List (ℕ × ℕ)
-pairs_at j grid r = pairs_of j (above_at grid r) (base_at grid r) (row_at grid r)
+pairs_at j grid r = pairs_of j (above_at grid r) (base_at grid r) (tile_row_at grid r)
 
 -- the labels of the clumps of its tiles
 abbrev pub tiles_of : (base : ℕ) (row : List BorderValue) → List (List ℕ)
 tiles_of base row = map (labels_in_tile base (begun_of row)) (range_with_len 0 (length row))
 
 abbrev pub tiles_at : List (List BorderValue) → ℕ → List (List ℕ)
-tiles_at grid r = tiles_of (base_at grid r) (row_at grid r)
+tiles_at grid r = tiles_of (base_at grid r) (tile_row_at grid r)
 
 -- these rows of tiles were joined
 pub record AreJoinedTiles (grid : List (List BorderValue)) (joiner : TileJoinerValue) : Type 0 where
@@ -69,7 +69,7 @@ clumps_by_tile grid = flat_map (λ row. map (λ border. sum border.begun) row) g
 -- numbers of the clumps of tiles, tile by tile: in each map that is cut into tiles of these borders each cell has the number of its
 -- clump in its tile
 abbrev pub GridNumbers : Joining → List (List BorderValue) → List ℕ → Type 0
-GridNumbers j grid numbers = (whole : Grid) (heights widths : List ℕ) (map_of numbers_of : ℕ → ℕ → Grid) → IsCutIntoTiles whole heights widths map_of → HaveBorders j heights widths map_of numbers_of grid → (r c : ℕ) → r < length heights → c < length widths → (p : Position) (k : ℕ) → cell_at_spot (numbers_of r c) p ≡ Some (pos k) → HasNumber j whole (moved_position (tile_place heights widths r c) p) (slice_index numbers (clumps_before_tile (begun_in grid) r c + (k - 1)))
+GridNumbers j grid numbers = (whole : Grid) (heights widths : List ℕ) (map_of numbers_of : ℕ → ℕ → Grid) → IsCutIntoTiles whole heights widths map_of → HaveBorders j heights widths map_of numbers_of grid → (r c : ℕ) → r < length heights → c < length widths → (p : Position) (k : ℕ) → cell_at_position (numbers_of r c) p ≡ Some (pos k) → HasNumber j whole (moved_position (tile_place heights widths r c) p) (slice_index numbers (clumps_before_tile (begun_in grid) r c + (k - 1)))
 
 -- and each such map has so many clumps
 abbrev pub GridClumps : Joining → List (List BorderValue) → ℕ → Type 0

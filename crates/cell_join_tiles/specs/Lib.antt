@@ -3,7 +3,7 @@ pub mod Beginnings
 pub mod Borders
 pub mod SeamLines
 pub mod Values
-pub mod Joined
+pub mod JoinedBorders
 pub mod JoinedTiles
 pub mod JoinedLaw
 pub mod LabelLines

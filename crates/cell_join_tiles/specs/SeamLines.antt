@@ -6,7 +6,7 @@ use Rattle.std.specs.List.{range_with_len}
 use Rattle.cell_core.specs.Grid.{Grid, CellValue}
 use Rattle.cell_cats_areas.specs.declared.clump.Joining.{Joining}
 use Rattle.cell_cats_areas.specs.declared.clump.Joining.TheVariants.{Edges, EdgesAndCorners}
-use Rattle.cell_cats_areas.specs.Areas.{Position, cell_at_spot}
+use Rattle.cell_cats_areas.specs.Areas.{Position, cell_at_position}
 use Rattle.cell_cats_areas.specs.parts.CellPlaces.{position}
 use Rattle.cell_parts.specs.AreaParts.{moved_position}
 use Rattle.cell_join_tiles.specs.declared.marks.Mark.{Mark}
@@ -33,13 +33,13 @@ abbrev pub line_meetings : Joining → (one other : Line) → List (ℕ × ℕ)
 line_meetings j one other = flat_map (line_meetings_at j one other) (range_with_len 0 (length one))
 
 -- what stands at a cell of the whole: its category, and the label that it bears
-abbrev pub mark_of : Grid → (Position → ℕ) → Position → Option Mark
-mark_of whole label_of p = option_map (λ v. record { category = v; label = label_of p }) (cell_at_spot whole p)
+abbrev pub seam_mark_of : Grid → (Position → ℕ) → Position → Option Mark
+seam_mark_of whole label_of p = option_map (λ v. record { category = v; label = label_of p }) (cell_at_position whole p)
 
 -- what stands at so many cells
 pub record IsLineOf (whole : Grid) (label_of : Position → ℕ) (count : ℕ) (at : ℕ → Position) (line : Line) : Type 0 where
   pub long : length line ≡ count
-  pub each : (k : ℕ) → k < count → slice_index_or line k None ≡ mark_of whole label_of (at k)
+  pub each : (k : ℕ) → k < count → slice_index_or line k None ≡ seam_mark_of whole label_of (at k)
 
 -- the lines next to the seams: the first and the last column of each tile, and the first and the last row of each row of tiles, over all its tiles
 pub record AreSeamLines (whole : Grid) (heights widths : List ℕ) (label_of : Position → ℕ) (left right : ℕ → ℕ → Line) (first last : ℕ → Line) : Type 0 where
@@ -57,15 +57,15 @@ IsAtRow j heights first last pair = (r : ℕ) × (suc r < length heights) × Con
 
 -- the pairs of all seams are those that are asked
 abbrev pub SeamLinesPair : Type 0
-SeamLinesPair = (j : Joining) (whole : Grid) (heights widths : List ℕ) (label_of : Position → ℕ) (left right : ℕ → ℕ → Line) (first last : ℕ → Line) (pairs : List (ℕ × ℕ)) → All (λ n. 0 < n) heights → All (λ n. 0 < n) widths → ((p : Position) → IsSome (cell_at_spot whole p) → (p.row < sum heights) × (p.col < sum widths)) → AreSeamLines whole heights widths label_of left right first last → ((pair : ℕ × ℕ) → Contains pairs pair ↔ (IsAtSide j heights widths left right pair ⊎ IsAtRow j heights first last pair)) → ArePairedAtSeams j whole heights widths label_of pairs
+SeamLinesPair = (j : Joining) (whole : Grid) (heights widths : List ℕ) (label_of : Position → ℕ) (left right : ℕ → ℕ → Line) (first last : ℕ → Line) (pairs : List (ℕ × ℕ)) → All (λ n. 0 < n) heights → All (λ n. 0 < n) widths → ((p : Position) → IsSome (cell_at_position whole p) → (p.row < sum heights) × (p.col < sum widths)) → AreSeamLines whole heights widths label_of left right first last → ((pair : ℕ × ℕ) → Contains pairs pair ↔ (IsAtSide j heights widths left right pair ⊎ IsAtRow j heights first last pair)) → ArePairedAtSeams j whole heights widths label_of pairs
 
 -- ---- lines from borders
 
 -- the cells of a tile at so many positions, and their numbers
 pub record HasSide (m numbers : Grid) (count : ℕ) (at : ℕ → Position) (cells ids : List CellValue) : Type 0 where
   pub long : length cells ≡ count
-  pub each_cell : (k : ℕ) → k < count → slice_index_or cells k None ≡ cell_at_spot m (at k)
-  pub each_number : (k : ℕ) → k < count → slice_index_or ids k None ≡ cell_at_spot numbers (at k)
+  pub each_cell : (k : ℕ) → k < count → slice_index_or cells k None ≡ cell_at_position m (at k)
+  pub each_number : (k : ℕ) → k < count → slice_index_or ids k None ≡ cell_at_position numbers (at k)
 
 -- what stands at a cell of the tile in a row and a column of tiles, by its number in the tile
 abbrev pub side_mark : List (List Begun) → (r c : ℕ) → (cell number : CellValue) → Option Mark

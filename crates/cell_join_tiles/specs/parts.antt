@@ -3,5 +3,5 @@ pub mod RowLabels
 pub mod RowMarks
 pub mod Spans
 pub mod RunLines
-pub mod Runs
+pub mod LabelRuns
 pub mod Greatest

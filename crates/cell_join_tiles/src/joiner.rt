@@ -7,11 +7,11 @@ ghost use Rattle.cell_join_tiles.specs.Values.{BorderValue, border_values};
 ghost use Rattle.cell_join_tiles.specs.parts.RowMarks.{AreEven, begun_of};
 
 use crate::border::Border;
+use crate::label_runs::runs_of;
 use crate::marks::Mark;
 use crate::meetings::add_meetings;
-use crate::rows::{RowJoin, clumps_with_row, join_row, rows_of};
-use crate::runs::runs_of;
 use crate::spans::Span;
+use crate::tile_rows::{RowJoin, clumps_with_row, join_row, rows_of};
 use cell_cats_areas::clump::Joining;
 use cell_core::memory::Memory;
 use cell_join_lines::stretch::Stretch;
@@ -21,7 +21,7 @@ use std::marker::Model;
 
 /// Why a row of tiles is not joined to those above it.
 #[derive(Clone, Copy, Debug, PartialEq, Eq)]
-pub enum JoinFault {
+pub enum JoinerFault {
     /// Its tiles do not all have as many rows.
     OtherRows,
     /// With its clumps there are more than a `u64` counts.
@@ -30,14 +30,14 @@ pub enum JoinFault {
     Memory,
 }
 
-impl From<Memory> for JoinFault {
+impl From<Memory> for JoinerFault {
     ghost use Rattle.std.specs.Prelude.{◌≡◌};
-    ghost use Rattle.cell_join_tiles.specs.declared.joiner.JoinFault.TheVariants.{Memory};
+    ghost use Rattle.cell_join_tiles.specs.declared.joiner.JoinerFault.TheVariants.{Memory};
 
     ghost from_gives = { λ _ fault. fault ≡ Memory };
 
-    fn from(_memory: Memory) -> JoinFault {
-        JoinFault::Memory
+    fn from(_memory: Memory) -> JoinerFault {
+        JoinerFault::Memory
     }
 }
 
@@ -97,21 +97,21 @@ impl TileJoiner {
     ///
     /// # Errors
     ///
-    /// A [`JoinFault`].
-    pub fn add(self, alloc: Global, row: Vec<Border>) -> Result<TileJoiner, JoinFault>
+    /// A [`JoinerFault`].
+    pub fn add(self, alloc: Global, row: Vec<Border>) -> Result<TileJoiner, JoinerFault>
         ensures joining { IfOk result (λ more. more.joining ≡ self.joining) }
         ensures joined { IfOk result (λ more. (grid : List (List BorderValue))
             → AreJoinedTiles grid self
             → AreJoinedTiles (grid ++ border_values row.items ∷ []) more) }
         // A row is refused for a fault of its own.
-        ensures other_rows { IfErr result (λ fault. fault ≡ JoinFault.OtherRows
+        ensures other_rows { IfErr result (λ fault. fault ≡ JoinerFault.OtherRows
             → (rows : ℕ) → AreEven rows (border_values row.items) → ⊥) }
-        ensures many { IfErr result (λ fault. fault ≡ JoinFault.TooManyClumps
+        ensures many { IfErr result (λ fault. fault ≡ JoinerFault.TooManyClumps
             → 2 ^ 64 ≤ self.clumps + clumps_in_row (begun_of (border_values row.items))) }
     {
         let borders = row.as_slice();
         let Some(rows) = rows_of(borders) else {
-            return Err(JoinFault::OtherRows);
+            return Err(JoinerFault::OtherRows);
         };
         let TileJoiner {
             joining,
@@ -121,7 +121,7 @@ impl TileJoiner {
             tiles,
         } = self;
         let Some(clumps) = clumps_with_row(base, borders) else {
-            return Err(JoinFault::TooManyClumps);
+            return Err(JoinerFault::TooManyClumps);
         };
         let from = RowJoin {
             pairs,

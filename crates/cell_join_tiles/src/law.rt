@@ -3,7 +3,7 @@
 ghost use Rattle.cell_join_tiles.specs.Beginnings.{ClumpLabelsAreLabels, LabelsFollowFirstCells};
 ghost use Rattle.cell_join_tiles.specs.Borders.{BordersAreLabelled, BordersCountTheWhole, BordersNumberTheWhole, CellsBearLabels, RisesCountBegun};
 ghost use Rattle.cell_join_tiles.specs.SeamLines.{SeamLinesPair, RowsAreLines, SidesAreLines};
-ghost use Rattle.cell_join_tiles.specs.Joined.{GridsAreLabelled};
+ghost use Rattle.cell_join_tiles.specs.JoinedBorders.{GridsAreLabelled};
 ghost use Rattle.cell_join_tiles.specs.JoinedLaw.{JoinedTilesCount, JoinedTilesNumber, RowsJoin};
 ghost use Rattle.cell_join_tiles.specs.LabelLines.{LabelLinesLabel, LabelLinesPass};
 ghost use Rattle.cell_join_tiles.specs.TileNumbers.{TileNumbersAreListed};

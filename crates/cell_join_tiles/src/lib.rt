@@ -6,11 +6,11 @@
 pub mod begun;
 pub mod border;
 pub mod joiner;
-mod labels;
+mod label_runs;
 pub mod law;
 mod marks;
 mod meetings;
-mod rows;
+mod row_labels;
 mod run_lines;
-mod runs;
 mod spans;
+mod tile_rows;

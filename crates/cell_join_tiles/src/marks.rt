@@ -3,10 +3,10 @@
 ghost use Rattle.std.specs.Prelude.{ℕ, ◌≡◌, ◌++◌, ◌+◌, ◌<◌, ◌^◌, IfOk, OnOk, None, length, sum, slice_index, slice_index_or};
 ghost use Rattle.cell_join_tiles.specs.Values.{side_value};
 ghost use Rattle.cell_join_tiles.specs.parts.RowLabels.{AreEnds, tile_label};
-ghost use Rattle.cell_join_tiles.specs.parts.RowMarks.{clump_of, mark_in, marks_of};
+ghost use Rattle.cell_join_tiles.specs.parts.RowMarks.{clump_of_mark, mark_in, marks_of};
 
 use crate::border::Side;
-use crate::labels::label_of;
+use crate::row_labels::label_of;
 use cell_core::cell::Cell;
 use cell_core::memory::Memory;
 use std::alloc::Global;
@@ -29,8 +29,8 @@ fn cell_at(cells: &[Cell], place: usize) -> Cell
 }
 
 // The clump that has a number, counted from 0.
-fn clump_of(number: Cell) -> Option<u64>
-    ensures { result ≡ clump_of number }
+fn clump_of_mark(number: Cell) -> Option<u64>
+    ensures { result ≡ clump_of_mark number }
 {
     let category = number.get()?;
     let Ok(number) = u64::try_from(category) else {
@@ -51,7 +51,7 @@ fn mark_in(firsts: &[u64], begun: &[u64], ends: &[u64], cell: Cell, number: Cell
     ensures { result ≡ mark_in (tile_label firsts.now begun.now) (sum begun.now) cell number }
 {
     let category = cell.get()?;
-    let clump = clump_of(number)?;
+    let clump = clump_of_mark(number)?;
     let label = label_of(firsts, begun, ends, clump)?;
     Some(Mark { category, label })
 }

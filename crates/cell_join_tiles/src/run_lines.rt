@@ -3,7 +3,7 @@
 ghost use Rattle.std.specs.Prelude.{◌≡◌, ◌+◌, ◌<◌, ◌^◌, ◌++◌, ℕ, List, IfOk};
 ghost use Rattle.std.specs.List.{range_with_len};
 ghost use Rattle.cell_join_lines.specs.declared.stretch.Stretch.{Stretch};
-ghost use Rattle.cell_join_tiles.specs.parts.RunLines.{AreLined, areas_of_line};
+ghost use Rattle.cell_join_tiles.specs.parts.RunLines.{AreInLines, areas_of_line};
 
 use cell_core::memory::Memory;
 use cell_join_lines::stretch::{Stretch, is_next};
@@ -36,8 +36,8 @@ pub(crate) fn add_run(
     ensures areas { IfOk result
         (λ after. areas_of_line after ≡ areas_of_line line + run.count) }
     ensures lines { IfOk result (λ after. (before : List Stretch) (numbers : List ℕ)
-        → AreLined part before numbers stretches.old.items line
-        → AreLined part before (numbers ++ range_with_len run.first run.count)
+        → AreInLines part before numbers stretches.old.items line
+        → AreInLines part before (numbers ++ range_with_len run.first run.count)
         stretches.new.items after) }
 {
     let Some(line) = line else {

@@ -6,7 +6,7 @@ use Rattle.std.proofs.lemmas.List.Elements.{All-nil, All-cons, All-head, All-tai
 use Rattle.cell_core.specs.Grid.{Grid, CellValue}
 use Rattle.cell_cats_areas.specs.declared.clump.Joining.{Joining}
 use Rattle.cell_cats_areas.specs.declared.clump.Joining.TheVariants.{Edges, EdgesAndCorners}
-use Rattle.cell_cats_areas.specs.Areas.{Position, cell_at_spot, IsEarlierCell, AreNeighbours, ShareEdge, AreAdjacent, LeadsTo, AreJoined, IsFirst, IsClumping}
+use Rattle.cell_cats_areas.specs.Areas.{Position, cell_at_position, IsEarlierCell, AreNeighbours, ShareEdge, AreAdjacent, LeadsTo, AreJoined, IsFirst, IsClumping}
 use Rattle.cell_cats_areas.proofs.PathLemmas.{AreJoined-refl, AreJoined-sym, AreJoined-first, AreJoined-last, AreJoined-adjacent, AreJoined-trans}
 use Rattle.cell_cats_areas.proofs.LawLemmas.{cases_before}
 use Rattle.cell_cats_areas.proofs.MeetingLemmas.{some_of}
@@ -61,17 +61,17 @@ is-some None v e = cc
 is-some (Some w) v e = search
 
 -- a path elsewhere, where adjacent cells are adjacent and cells the same
-module _ (j : Joining) (m whole : Grid) (to : Position → Position) (near : (p q : Position) → AreAdjacent j p q → AreAdjacent j (to p) (to q)) (cell : (v : ℤ) (p : Position) → cell_at_spot m p ≡ Some v → cell_at_spot whole (to p) ≡ Some v) where
+module _ (j : Joining) (m whole : Grid) (to : Position → Position) (near : (p q : Position) → AreAdjacent j p q → AreAdjacent j (to p) (to q)) (cell : (v : ℤ) (p : Position) → cell_at_position m p ≡ Some v → cell_at_position whole (to p) ≡ Some v) where
   leads-by : (p : Position) (others : List Position) (q : Position) → LeadsTo j p others q → LeadsTo j (to p) (map to others) (to q)
   leads-by p [] q h = ap to h
   leads-by p (x ∷ others) q h = (near p x h.0, leads-by x others q h.1)
 
-  alike-by : (v : ℤ) (ps : List Position) → All (λ s. cell_at_spot m s ≡ Some v) ps → All (λ s. cell_at_spot whole s ≡ Some v) (map to ps)
-  alike-by v [] all = All-nil (λ s. cell_at_spot whole s ≡ Some v)
+  alike-by : (v : ℤ) (ps : List Position) → All (λ s. cell_at_position m s ≡ Some v) ps → All (λ s. cell_at_position whole s ≡ Some v) (map to ps)
+  alike-by v [] all = All-nil (λ s. cell_at_position whole s ≡ Some v)
   alike-by v (p ∷ ps) all =
-      All-cons (λ s. cell_at_spot whole s ≡ Some v) (to p) (map to ps)
-      (cell v p (All-head (λ s. cell_at_spot m s ≡ Some v) p ps all))
-      (alike-by v ps (All-tail (λ s. cell_at_spot m s ≡ Some v) p ps all))
+      All-cons (λ s. cell_at_position whole s ≡ Some v) (to p) (map to ps)
+      (cell v p (All-head (λ s. cell_at_position m s ≡ Some v) p ps all))
+      (alike-by v ps (All-tail (λ s. cell_at_position m s ≡ Some v) p ps all))
 
   pub joined-by : (p q : Position) → AreJoined j m p q → AreJoined j whole (to p) (to q)
   joined-by p q h = record {
@@ -111,8 +111,8 @@ moved-inside r s is_within =
     λ i. record { row = rows i; col = cols i }
 
 module _ (whole : Grid) (t : Tile) (tile : IsTile whole t) where
-  cell-moved : (v : ℤ) (p : Position) → cell_at_spot t.map p ≡ Some v
-      → cell_at_spot whole (moved_position t.place p) ≡ Some v
+  cell-moved : (v : ℤ) (p : Position) → cell_at_position t.map p ≡ Some v
+      → cell_at_position whole (moved_position t.place p) ≡ Some v
   cell-moved v p is =
       let inside = tile.outside p (is-some _ v is) in
       sym (tile.cells p inside.0 inside.1) ∙ is
@@ -126,15 +126,15 @@ module _ (whole : Grid) (t : Tile) (tile : IsTile whole t) where
       subst (λ (s : Position). AreJoined j whole s q) (sym h.2) (subst (λ (s : Position). AreJoined j whole (moved_position t.place h.0) s) (sym h.3) inner)
 
   -- a cell of the whole in the rectangle, as one of the tile
-  cell-inside : (s : Position) (v : ℤ) → IsIn t.place s → cell_at_spot whole s ≡ Some v → cell_at_spot t.map (inside-of t.place s) ≡ Some v
+  cell-inside : (s : Position) (v : ℤ) → IsIn t.place s → cell_at_position whole s ≡ Some v → cell_at_position t.map (inside-of t.place s) ≡ Some v
   cell-inside s v is_within is =
       let within = in-bounds t.place s.row s.col is_within in
       let row : s.row - t.place.top < t.place.rows = omega (arith, within.from_top, within.above_end) in
       let col : s.col - t.place.left < t.place.cols = omega (arith, within.from_left, within.before_end) in
-      tile.cells (inside-of t.place s) row col ∙ ap (cell_at_spot whole) (sym (moved-inside t.place s is_within)) ∙ is
+      tile.cells (inside-of t.place s) row col ∙ ap (cell_at_position whole) (sym (moved-inside t.place s is_within)) ∙ is
 
   -- adjacent cells of one category that both lie in the tile are joined in it
-  step-in : (j : Joining) (p q : Position) (v : ℤ) → AreAdjacent j p q → cell_at_spot whole p ≡ Some v → cell_at_spot whole q ≡ Some v → IsIn t.place p → IsIn t.place q → AreJoinedIn j t p q
+  step-in : (j : Joining) (p q : Position) (v : ℤ) → AreAdjacent j p q → cell_at_position whole p ≡ Some v → cell_at_position whole q ≡ Some v → IsIn t.place p → IsIn t.place q → AreJoinedIn j t p q
   step-in j p q v near first second in_p in_q =
       let a = inside-of t.place p in
       let b = inside-of t.place q in
@@ -177,25 +177,25 @@ tile-of : (whole : Grid) (tiles : List Tile) (all : All (IsTile whole) tiles) (t
 tile-of whole tiles all t c = subst (IsTile whole) c.2 (all c.0 t c.1)
 
 -- where links join, chains do
-chain-joins : (j : Joining) (whole : Grid) (Link : Position → Position → Type 0) → ((p q : Position) → Link p q → AreJoined j whole p q) → (v : ℤ) (p : Position) (others : List Position) (q : Position) → cell_at_spot whole p ≡ Some v → IsChain Link p others q → AreJoined j whole p q
+chain-joins : (j : Joining) (whole : Grid) (Link : Position → Position → Type 0) → ((p q : Position) → Link p q → AreJoined j whole p q) → (v : ℤ) (p : Position) (others : List Position) (q : Position) → cell_at_position whole p ≡ Some v → IsChain Link p others q → AreJoined j whole p q
 chain-joins j whole Link joins v p [] q is h = subst (λ (s : Position). AreJoined j whole p s) h (AreJoined-refl j whole p v is)
 chain-joins j whole Link joins v p (x ∷ others) q is h =
     let here = joins p x h.0 in
     AreJoined-trans j whole p x q here (chain-joins j whole Link joins here.category x others q (AreJoined-last j whole p x here) h.1)
 
 -- where each step of a path is a link, the path is a chain
-path-chains : (j : Joining) (whole : Grid) (Link : Position → Position → Type 0) → ((p q : Position) (v : ℤ) → AreAdjacent j p q → cell_at_spot whole p ≡ Some v → cell_at_spot whole q ≡ Some v → Link p q) → (v : ℤ) (p : Position) (others : List Position) (q : Position) → LeadsTo j p others q → All (λ s. cell_at_spot whole s ≡ Some v) (p ∷ others) → IsChain Link p others q
+path-chains : (j : Joining) (whole : Grid) (Link : Position → Position → Type 0) → ((p q : Position) (v : ℤ) → AreAdjacent j p q → cell_at_position whole p ≡ Some v → cell_at_position whole q ≡ Some v → Link p q) → (v : ℤ) (p : Position) (others : List Position) (q : Position) → LeadsTo j p others q → All (λ s. cell_at_position whole s ≡ Some v) (p ∷ others) → IsChain Link p others q
 path-chains j whole Link links v p [] q h alike = h
 path-chains j whole Link links v p (x ∷ others) q h alike =
-    let first = All-head (λ s. cell_at_spot whole s ≡ Some v) p (x ∷ others) alike in
-    let rest = All-tail (λ s. cell_at_spot whole s ≡ Some v) p (x ∷ others) alike in
-    let second = All-head (λ s. cell_at_spot whole s ≡ Some v) x others rest in
+    let first = All-head (λ s. cell_at_position whole s ≡ Some v) p (x ∷ others) alike in
+    let rest = All-tail (λ s. cell_at_position whole s ≡ Some v) p (x ∷ others) alike in
+    let second = All-head (λ s. cell_at_position whole s ≡ Some v) x others rest in
     (links p x v h.0 first second, path-chains j whole Link links v x others q h.1 rest)
 
-pub joined-chained : (j : Joining) (whole : Grid) (Link : Position → Position → Type 0) → ((p q : Position) → Link p q → AreJoined j whole p q) → ((p q : Position) (v : ℤ) → AreAdjacent j p q → cell_at_spot whole p ≡ Some v → cell_at_spot whole q ≡ Some v → Link p q) → (p q : Position) → IsSome (cell_at_spot whole p) → AreJoined j whole p q ↔ ((others : List Position) × IsChain Link p others q)
+pub joined-chained : (j : Joining) (whole : Grid) (Link : Position → Position → Type 0) → ((p q : Position) → Link p q → AreJoined j whole p q) → ((p q : Position) (v : ℤ) → AreAdjacent j p q → cell_at_position whole p ≡ Some v → cell_at_position whole q ≡ Some v → Link p q) → (p q : Position) → IsSome (cell_at_position whole p) → AreJoined j whole p q ↔ ((others : List Position) × IsChain Link p others q)
 joined-chained j whole Link joins links p q some = (
   λ h. (h.others, path-chains j whole Link links h.category p h.others q h.leads h.alike),
-  λ h. let is = some_of (cell_at_spot whole p) some in chain-joins j whole Link joins is.0 p h.0 q is.1 h.1,
+  λ h. let is = some_of (cell_at_position whole p) some in chain-joins j whole Link joins is.0 p h.0 q is.1 h.1,
 )
 
 module _ (j : Joining) (whole : Grid) (tiles : List Tile) (all : All (IsTile whole) tiles) where
@@ -203,7 +203,7 @@ module _ (j : Joining) (whole : Grid) (tiles : List Tile) (all : All (IsTile who
   link-joins p q (inl h) = joined-in whole h.0 (tile-of whole tiles all h.0 h.1) j p q h.2
   link-joins p q (inr h) = AreJoined-adjacent j whole p q h.category h.adjacent h.first h.second
 
-  step-links : (p q : Position) (v : ℤ) → AreAdjacent j p q → cell_at_spot whole p ≡ Some v → cell_at_spot whole q ≡ Some v → AreLinked j whole tiles p q
+  step-links : (p q : Position) (v : ℤ) → AreAdjacent j p q → cell_at_position whole p ≡ Some v → cell_at_position whole q ≡ Some v → AreLinked j whole tiles p q
   step-links p q v near first second = by (which tiles p q)
     where
       by : Both tiles p q ⊎ Apart tiles p q → AreLinked j whole tiles p q
@@ -241,7 +241,7 @@ module _ (j : Joining) (whole : Grid) (numbered : List Numbered) (all : All (λ 
       joined-in whole n.tile both.0 j p q (same.0, same.1, same.2, same.3, (both.1.same same.0 same.1 same.4 same.5).0 same.6)
   number-joins p q (inr h) = AreJoined-adjacent j whole p q h.category h.adjacent h.first h.second
 
-  step-numbers : (p q : Position) (v : ℤ) → AreAdjacent j p q → cell_at_spot whole p ≡ Some v → cell_at_spot whole q ≡ Some v → AreLinkedByNumbers j whole numbered p q
+  step-numbers : (p q : Position) (v : ℤ) → AreAdjacent j p q → cell_at_position whole p ≡ Some v → cell_at_position whole q ≡ Some v → AreLinkedByNumbers j whole numbered p q
   step-numbers p q v near first second = by (step-links j whole (map (λ n. n.tile) numbered) (tiles-of whole j numbered all) p q v near first second)
     where
       by : AreLinked j whole (map (λ n. n.tile) numbered) p q → AreLinkedByNumbers j whole numbered p q
@@ -250,8 +250,8 @@ module _ (j : Joining) (whole : Grid) (numbered : List Numbered) (all : All (λ 
           let n = from.0 in
           let both = both-of n from.1 in
           let joined : AreJoinedIn j n.tile p q = subst (λ (t : Tile). AreJoinedIn j t p q) (sym from.2) h.2 in
-          let first_some = is-some (cell_at_spot n.tile.map joined.0) joined.4.category (AreJoined-first j n.tile.map joined.0 joined.1 joined.4) in
-          let last_some = is-some (cell_at_spot n.tile.map joined.1) joined.4.category (AreJoined-last j n.tile.map joined.0 joined.1 joined.4) in
+          let first_some = is-some (cell_at_position n.tile.map joined.0) joined.4.category (AreJoined-first j n.tile.map joined.0 joined.1 joined.4) in
+          let last_some = is-some (cell_at_position n.tile.map joined.1) joined.4.category (AreJoined-last j n.tile.map joined.0 joined.1 joined.4) in
           inl (n, from.1, (joined.0, joined.1, joined.2, joined.3, first_some, last_some, (both.1.same joined.0 joined.1 first_some last_some).1 joined.4))
       by (inr h) = inr h
 
@@ -284,7 +284,7 @@ record HasFirst (j : Joining) (m : Grid) (p : Position) : Type 0 where
   joined : AreJoined j m first p
   at_or_before : (first ≡ p) ⊎ IsEarlierCell first p
 
-has-first : (j : Joining) (m numbers : Grid) → IsClumping j m numbers → (p : Position) → IsSome (cell_at_spot m p) → HasFirst j m p
+has-first : (j : Joining) (m numbers : Grid) → IsClumping j m numbers → (p : Position) → IsSome (cell_at_position m p) → HasFirst j m p
 has-first j m numbers clumping p some =
     let number = (clumping.numbered p some).1 in
     let f = number.first in
@@ -304,13 +304,13 @@ firsts-of-the-whole j whole numbered all cover n has p row col = (
     none_before = λ q before joined.
         let v = joined.category in
         let is = AreJoined-first j whole q here joined in
-        let covered = cover q (is-some (cell_at_spot whole q) v is) in
+        let covered = cover q (is-some (cell_at_position whole q) v is) in
         let m = covered.0 in
         let both = both-of j whole numbered all m covered.1 in
         let a = inside-of m.tile.place q in
         let is_a : q ≡ moved_position m.tile.place a = moved-inside m.tile.place q covered.2 in
         let inner = cell-inside whole m.tile both.0 q v covered.2 is in
-        let first = has-first j m.tile.map m.numbers both.1 a (is-some (cell_at_spot m.tile.map a) v inner) in
+        let first = has-first j m.tile.map m.numbers both.1 a (is-some (cell_at_position m.tile.map a) v inner) in
         let outer = joined-moved whole m.tile both.0 j first.first a first.joined in
         let to_q : AreJoined j whole (moved_position m.tile.place first.first) q = subst (λ (s : Position). AreJoined j whole (moved_position m.tile.place first.first) s) (sym is_a) outer in
         let early : IsEarlierCell (moved_position m.tile.place first.first) here =

@@ -3,7 +3,7 @@ use Rattle.std.proofs.Common.{◌≡◌, ℕ, zero, suc, ◌+◌, ◌<◌, ◌�
 use Rattle.std.proofs.lemmas.Bool.{cases_lt}
 use Rattle.std.proofs.lemmas.List.{get_or-take, get_or-drop, get_or_past}
 use Rattle.cell_core.specs.Grid.{CellValue}
-use Rattle.cell_cats_areas.specs.Areas.{cell_at_spot}
+use Rattle.cell_cats_areas.specs.Areas.{cell_at_position}
 use Rattle.cell_parts.specs.Parts.{Rectangle, cut_out, CutOutsAreParts}
 use Rattle.cell_parts.specs.AreaParts.{CutOutsAreTiles}
 
@@ -56,8 +56,8 @@ pub cut-outs-are-tiles : CutOutsAreTiles
 cut-outs-are-tiles r whole part cut = record {
   cells = λ p high wide. ap (λ l. get_or (get_or l p.row []) p.col None) cut ∙ cell-there r whole.rows p.row p.col high wide;
   outside = λ p some. (
-    ⊎_elim (λ lt. lt) (λ le. absurd (none-is-not (cell_at_spot part p) (ap (λ l. get_or (get_or l p.row []) p.col None) cut ∙ none-below r whole.rows p.row p.col le) some)) (cases_lt p.row r.rows),
-    ⊎_elim (λ lt. lt) (λ le. absurd (none-is-not (cell_at_spot part p) (ap (λ l. get_or (get_or l p.row []) p.col None) cut ∙ none-right r whole.rows p.row p.col le) some)) (cases_lt p.col r.cols),
+    ⊎_elim (λ lt. lt) (λ le. absurd (none-is-not (cell_at_position part p) (ap (λ l. get_or (get_or l p.row []) p.col None) cut ∙ none-below r whole.rows p.row p.col le) some)) (cases_lt p.row r.rows),
+    ⊎_elim (λ lt. lt) (λ le. absurd (none-is-not (cell_at_position part p) (ap (λ l. get_or (get_or l p.row []) p.col None) cut ∙ none-right r whole.rows p.row p.col le) some)) (cases_lt p.col r.cols),
   );
 }
 

@@ -2,7 +2,7 @@
 use Rattle.std.specs.Prelude.{ℤ, ◌+◌, ◌<◌, ◌≡◌, ◌⊎◌, ◌↔◌, List, [], ◌∷◌, map, Some, IsSome, IsTrue, All, Contains}
 use Rattle.cell_core.specs.Grid.{Grid}
 use Rattle.cell_cats_areas.specs.declared.clump.Joining.{Joining}
-use Rattle.cell_cats_areas.specs.Areas.{Position, cell_at_spot, AreAdjacent, AreJoined, IsEarlierCell, IsFirst, IsClumping}
+use Rattle.cell_cats_areas.specs.Areas.{Position, cell_at_position, AreAdjacent, AreJoined, IsEarlierCell, IsFirst, IsClumping}
 use Rattle.cell_parts.specs.Parts.{Rectangle, is_in, cut_out}
 
 -- a chain of links from a cell over a list of others, that ends at a cell
@@ -25,8 +25,8 @@ IsIn r p = IsTrue (is_in r p.row p.col)
 
 -- the tile has the cells of its rectangle, and is null outside
 pub record IsTile (whole : Grid) (t : Tile) : Type 0 where
-  pub cells : (p : Position) → p.row < t.place.rows → p.col < t.place.cols → cell_at_spot t.map p ≡ cell_at_spot whole (moved_position t.place p)
-  pub outside : (p : Position) → IsSome (cell_at_spot t.map p) → (p.row < t.place.rows) × (p.col < t.place.cols)
+  pub cells : (p : Position) → p.row < t.place.rows → p.col < t.place.cols → cell_at_position t.map p ≡ cell_at_position whole (moved_position t.place p)
+  pub outside : (p : Position) → IsSome (cell_at_position t.map p) → (p.row < t.place.rows) × (p.col < t.place.cols)
 
 -- a path within a tile joins two cells of the whole
 abbrev pub AreJoinedIn : Joining → Tile → Position → Position → Type 0
@@ -36,8 +36,8 @@ AreJoinedIn j t p q = (a b : Position) × (p ≡ moved_position t.place a) × (q
 pub record MeetAtBorder (j : Joining) (whole : Grid) (tiles : List Tile) (p q : Position) : Type 0 where
   pub category : ℤ
   pub adjacent : AreAdjacent j p q
-  pub first : cell_at_spot whole p ≡ Some category
-  pub second : cell_at_spot whole q ≡ Some category
+  pub first : cell_at_position whole p ≡ Some category
+  pub second : cell_at_position whole q ≡ Some category
   pub apart : All (λ t. IsIn t.place p → ¬ IsIn t.place q) tiles
 
 -- a link: a path within one of the tiles, or a step over a border
@@ -46,7 +46,7 @@ AreLinked j whole tiles p q = ((t : Tile) × Contains tiles t × AreJoinedIn j t
 
 -- however a map is cut: a path joins two cells exactly where a chain of links does
 abbrev pub AreasJoin : Type 0
-AreasJoin = (j : Joining) (whole : Grid) (tiles : List Tile) → All (IsTile whole) tiles → (p q : Position) → IsSome (cell_at_spot whole p) → AreJoined j whole p q ↔ ((others : List Position) × IsChain (AreLinked j whole tiles) p others q)
+AreasJoin = (j : Joining) (whole : Grid) (tiles : List Tile) → All (IsTile whole) tiles → (p q : Position) → IsSome (cell_at_position whole p) → AreJoined j whole p q ↔ ((others : List Position) × IsChain (AreLinked j whole tiles) p others q)
 
 -- a tile and the map of the numbers of its areas
 pub record Numbered : Type 0 where
@@ -55,7 +55,7 @@ pub record Numbered : Type 0 where
 
 -- two cells of the whole that have one number in a tile
 abbrev pub HaveOneNumber : Numbered → Position → Position → Type 0
-HaveOneNumber n p q = (a b : Position) × (p ≡ moved_position n.tile.place a) × (q ≡ moved_position n.tile.place b) × IsSome (cell_at_spot n.tile.map a) × IsSome (cell_at_spot n.tile.map b) × (cell_at_spot n.numbers a ≡ cell_at_spot n.numbers b)
+HaveOneNumber n p q = (a b : Position) × (p ≡ moved_position n.tile.place a) × (q ≡ moved_position n.tile.place b) × IsSome (cell_at_position n.tile.map a) × IsSome (cell_at_position n.tile.map b) × (cell_at_position n.numbers a ≡ cell_at_position n.numbers b)
 
 -- a link of numbers: one number in one of the tiles, or a step over a border
 abbrev pub AreLinkedByNumbers : Joining → Grid → List Numbered → Position → Position → Type 0
@@ -63,7 +63,7 @@ AreLinkedByNumbers j whole numbered p q = ((n : Numbered) × Contains numbered n
 
 -- the numbers of the areas of tiles, and the steps over their borders, tell which cells of the whole a path joins
 abbrev pub NumbersJoin : Type 0
-NumbersJoin = (j : Joining) (whole : Grid) (numbered : List Numbered) → All (λ n. IsTile whole n.tile × IsClumping j n.tile.map n.numbers) numbered → (p q : Position) → IsSome (cell_at_spot whole p) → AreJoined j whole p q ↔ ((others : List Position) × IsChain (AreLinkedByNumbers j whole numbered) p others q)
+NumbersJoin = (j : Joining) (whole : Grid) (numbered : List Numbered) → All (λ n. IsTile whole n.tile × IsClumping j n.tile.map n.numbers) numbered → (p q : Position) → IsSome (cell_at_position whole p) → AreJoined j whole p q ↔ ((others : List Position) × IsChain (AreLinkedByNumbers j whole numbered) p others q)
 
 -- a first cell of the whole is a first cell of its tile
 abbrev pub FirstsAreFirsts : Type 0
@@ -71,7 +71,7 @@ FirstsAreFirsts = (j : Joining) (whole : Grid) (t : Tile) → IsTile whole t →
 
 -- where each cell that is not null lies in a tile: a first cell of the whole is a first cell of its tile that no earlier first cell of a tile is joined to
 abbrev pub FirstsOfTheWhole : Type 0
-FirstsOfTheWhole = (j : Joining) (whole : Grid) (numbered : List Numbered) → All (λ n. IsTile whole n.tile × IsClumping j n.tile.map n.numbers) numbered → ((p : Position) → IsSome (cell_at_spot whole p) → (n : Numbered) × Contains numbered n × IsIn n.tile.place p) → (n : Numbered) → Contains numbered n → (p : Position) → p.row < n.tile.place.rows → p.col < n.tile.place.cols → IsFirst j whole (moved_position n.tile.place p) ↔ (IsFirst j n.tile.map p × ((m : Numbered) → Contains numbered m → (q : Position) → IsFirst j m.tile.map q → IsEarlierCell (moved_position m.tile.place q) (moved_position n.tile.place p) → ¬ AreJoined j whole (moved_position m.tile.place q) (moved_position n.tile.place p)))
+FirstsOfTheWhole = (j : Joining) (whole : Grid) (numbered : List Numbered) → All (λ n. IsTile whole n.tile × IsClumping j n.tile.map n.numbers) numbered → ((p : Position) → IsSome (cell_at_position whole p) → (n : Numbered) × Contains numbered n × IsIn n.tile.place p) → (n : Numbered) → Contains numbered n → (p : Position) → p.row < n.tile.place.rows → p.col < n.tile.place.cols → IsFirst j whole (moved_position n.tile.place p) ↔ (IsFirst j n.tile.map p × ((m : Numbered) → Contains numbered m → (q : Position) → IsFirst j m.tile.map q → IsEarlierCell (moved_position m.tile.place q) (moved_position n.tile.place p) → ¬ AreJoined j whole (moved_position m.tile.place q) (moved_position n.tile.place p)))
 
 -- whatever rectangle is cut out, it is a tile
 abbrev pub CutOutsAreTiles : Type 0

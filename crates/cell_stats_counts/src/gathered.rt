@@ -58,23 +58,23 @@ fn combination_hash(cells: &[Cell]) -> u64 {
 }
 
 // The place where a combination is looked for first. The number of places is a power of two.
-fn own_spot(number: u64, places: usize) -> usize {
+fn own_slot(number: u64, places: usize) -> usize {
     ((number >> 32) as usize) & places.saturating_sub(1)
 }
 
 // Where a combination is found, or else a place near its own that names no entry, or else its own.
-fn spot_of(number: u64, cells: &[Cell], entries: &[(Combo, u64)], index: &[u64]) -> usize {
-    let own = own_spot(number, index.len());
+fn slot_of(number: u64, cells: &[Cell], entries: &[(Combo, u64)], index: &[u64]) -> usize {
+    let own = own_slot(number, index.len());
     let end = index.len().min(own.saturating_add(NEAR));
-    for spot in own..end {
-        let place = index[spot];
+    for slot in own..end {
+        let place = index[slot];
         if place == NONE {
-            return spot;
+            return slot;
         }
         if place >> 32 == number & LOW {
             if let Some(entry) = entries.get((place & LOW) as usize) {
                 if entry.0.cells() == cells {
-                    return spot;
+                    return slot;
                 }
             }
         }
@@ -83,8 +83,8 @@ fn spot_of(number: u64, cells: &[Cell], entries: &[(Combo, u64)], index: &[u64])
 }
 
 // Has a place name an entry.
-fn note(index: &mut [u64], spot: usize, number: u64, at: usize) {
-    if let Some(place) = index.get_mut(spot) {
+fn note(index: &mut [u64], slot: usize, number: u64, at: usize) {
+    if let Some(place) = index.get_mut(slot) {
         *place = (number & LOW) << 32 | at as u64 & LOW;
     }
 }
@@ -95,8 +95,8 @@ fn index_of(alloc: Global, entries: &[(Combo, u64)], before: usize) -> Result<Ve
     for (at, entry) in entries.iter().enumerate() {
         let cells = entry.0.cells();
         let number = combination_hash(cells);
-        let spot = spot_of(number, cells, entries, &index);
-        note(index.as_mut_slice(), spot, number, at);
+        let slot = slot_of(number, cells, entries, &index);
+        note(index.as_mut_slice(), slot, number, at);
     }
     Ok(index)
 }
@@ -136,8 +136,8 @@ fn has_added(entries: &mut [(Combo, u64)], at: usize, combo: &Combo, count: u64)
 }
 
 // The entry that a place names, or none.
-fn named_entry(index: &[u64], spot: usize) -> usize {
-    match index.get(spot) {
+fn named_entry(index: &[u64], slot: usize) -> usize {
+    match index.get(slot) {
         Some(place) => (*place & LOW) as usize,
         None => usize::MAX,
     }
@@ -149,7 +149,7 @@ fn guesses_of(pending: &[(Combo, u64)], index: &[u64]) -> [usize; BATCH] {
     for (guess, entry) in guesses.iter_mut().zip(pending.iter()) {
         *guess = named_entry(
             index,
-            own_spot(combination_hash(entry.0.cells()), index.len()),
+            own_slot(combination_hash(entry.0.cells()), index.len()),
         );
     }
     guesses
@@ -180,14 +180,14 @@ fn put_count(
         return Ok(());
     }
     let number = combination_hash(combo.cells());
-    let spot = spot_of(number, combo.cells(), entries.as_slice(), index.as_slice());
-    let at = named_entry(index.as_slice(), spot);
+    let slot = slot_of(number, combo.cells(), entries.as_slice(), index.as_slice());
+    let at = named_entry(index.as_slice(), slot);
     if has_added(entries.as_mut_slice(), at, &combo, count) {
         return Ok(());
     }
     let end = entries.len();
     entries.push((combo, count))?;
-    note(index.as_mut_slice(), spot, number, end);
+    note(index.as_mut_slice(), slot, number, end);
     let places = index.len();
     if end >= places / 2 {
         *index = Vec::new(alloc);

@@ -14,7 +14,7 @@ use Rattle.cell_core.specs.declared.shelf.ShelfFault.TheVariants.{Exists, OtherR
 use Rattle.cell_ascii_meaning.specs.CellTexts.{grid_of}
 use Rattle.cell_ascii_meaning.specs.declared.grid_fault.GridFault.{GridFault}
 use Rattle.cell_ascii_meaning.specs.declared.grid_fault.GridKind.TheVariants as kinds
-use Rattle.rcell.specs.Sources.{Named, Tell}
+use Rattle.rcell.specs.Sources.{Named, Report}
 use Rattle.rcell.specs.RunFaults.{IsOfInput, AnswersInput}
 use Rattle.rcell.specs.parts.Refused.{of_shelf, IsGridFault}
 use Rattle.rcell.specs.Loading.{shelf_with_map, shelf_placed, with_grid, shelf_from, then_grids}
@@ -52,9 +52,9 @@ added-refused grid shelf name map Memory reason input = absurd input
 
 -- it is the grid's, and told before execution
 pub refused-whose : (grid : ℕ) (fault : ShelfFault) → IsGridFault grid (of_shelf grid fault)
-refused-whose grid Exists = record { early = tt; told = λ count within. within; whose = refl }
-refused-whose grid OtherRegion = record { early = tt; told = λ count within. within; whose = refl }
-refused-whose grid Memory = record { early = refl; told = λ count within. tt; whose = tt }
+refused-whose grid Exists = record { early = tt; reported = λ count within. within; whose = refl }
+refused-whose grid OtherRegion = record { early = tt; reported = λ count within. within; whose = refl }
+refused-whose grid Memory = record { early = refl; reported = λ count within. tt; whose = tt }
 
 -- the first map makes the shelf
 pub added-first : (grid : ℕ) (region : RegionValue) (name : List ℕ) (map : Grid) → map.region ≡ region → shelf_with_map grid (record { region = region; names = []; maps = [] }) name map None ≡ Ok (record { region = region; names = name ∷ []; maps = map ∷ [] })
@@ -66,79 +66,79 @@ pub first_placed : (r : Result ShelfValue RunFault) (grid : ℕ) (region : Regio
     → shelf ≡ record { region = region; names = []; maps = [] } → region ≡ map.region
     → AnswersInput (λ s. s) r (shelf_with_map grid shelf name map (place_of name shelf.names))
     → AnswersInput (λ s. s) r (shelf_placed grid None name map)
-first_placed r grid region shelf name map is same told =
+first_placed r grid region shelf name map is same reported =
     let first : shelf_with_map grid shelf name map (place_of name shelf.names) ≡ shelf_placed grid None name map =
     ap (λ (s : ShelfValue). shelf_with_map grid s name map (place_of name s.names)) is
     ∙ added-first grid region name map (sym same)
     ∙ ap (λ r. Ok (record { region = r; names = name ∷ []; maps = map ∷ [] })) same in
-    subst (λ (x : Result ShelfValue RunFault). AnswersInput (λ s. s) r x) first told
+    subst (λ (x : Result ShelfValue RunFault). AnswersInput (λ s. s) r x) first reported
 
 -- what holds of a map that was read holds of its grid
 pub grid_placed : (given : Option Coming) (placed : Result ShelfValue RunFault) (grid : ℕ)
     (shelf : Option ShelfValue) (name : List ℕ) (map : Grid)
     → IfSome given (λ c. grid_of c ≡ Ok map) → AnswersInput (λ s. s) placed (shelf_placed grid shelf name map)
     → IfSome given (λ c. AnswersInput (λ s. s) placed (with_grid grid shelf name (grid_of c)))
-grid_placed None placed grid shelf name map read told = tt
-grid_placed (Some c) placed grid shelf name map read told =
-    subst (λ (m : Result Grid GridFault). AnswersInput (λ s. s) placed (with_grid grid shelf name m)) (sym read) told
+grid_placed None placed grid shelf name map read reported = tt
+grid_placed (Some c) placed grid shelf name map read reported =
+    subst (λ (m : Result Grid GridFault). AnswersInput (λ s. s) placed (with_grid grid shelf name m)) (sym read) reported
 
 -- a grid that was not read
 pub grid_unread : (given : Option Coming) (grid : ℕ) (shelf : Option ShelfValue) (name : List ℕ) (fault : GridFault)
     → IfSome given (λ c. fault.kind ≢ kinds.Memory → grid_of c ≡ Err fault)
     → IfSome given (λ c. AnswersInput {A = ShelfValue} (λ s. s) (Err (faults.Grid grid fault)) (with_grid grid shelf name (grid_of c)))
-grid_unread None grid shelf name fault told = tt
-grid_unread (Some c) grid shelf name fault told = λ input. ap (with_grid grid shelf name) (told input)
+grid_unread None grid shelf name fault reported = tt
+grid_unread (Some c) grid shelf name fault reported = λ input. ap (with_grid grid shelf name) (reported input)
 
 module _ {R : Type 0} (coming : R → Option Coming) (grid : ℕ) (shelf : Option ShelfValue) (g : List ℕ × R) (rest : List (List ℕ × R)) where
   -- what the first grid gives is known
   one_known : (n : Named) (P : Coming → Type 0) → coming g.1 ≡ Some n.1 → IfSome (coming g.1) P → P n.1
   one_known n P same one = rw same at one
 
-  more : (next : ShelfValue) (named : List Named) → Tell coming (g ∷ rest) named
+  more : (next : ShelfValue) (named : List Named) → Report coming (g ∷ rest) named
       → IfSome (coming g.1) (λ c. with_grid grid shelf g.0 (grid_of c) ≡ Ok next)
-      → (others : List Named) × (Tell coming rest others
+      → (others : List Named) × (Report coming rest others
       × (shelf_from grid shelf named ≡ shelf_from (grid + 1) (Some next) others))
   unfolding shelf_from
-  more next [] tell one = absurd tell
-  more next (n ∷ named) tell one =
+  more next [] report one = absurd report
+  more next (n ∷ named) report one =
       let first : with_grid grid shelf g.0 (grid_of n.1) ≡ Ok next =
-      one_known n (λ c. with_grid grid shelf g.0 (grid_of c) ≡ Ok next) tell.0.1 one in (
+      one_known n (λ c. with_grid grid shelf g.0 (grid_of c) ≡ Ok next) report.0.1 one in (
         named,
         (
-          tell.1,
+          report.1,
           ap (then_grids (λ s. shelf_from (grid + 1) (Some s) named))
-              (ap (λ name. with_grid grid shelf name (grid_of n.1)) (sym tell.0.0) ∙ first),
+              (ap (λ name. with_grid grid shelf name (grid_of n.1)) (sym report.0.0) ∙ first),
         ),
       )
 
-  fails : (f : RunFault) (named : List Named) → Tell coming (g ∷ rest) named → IsOfInput f
+  fails : (f : RunFault) (named : List Named) → Report coming (g ∷ rest) named → IsOfInput f
       → IfSome (coming g.1) (λ c. IsOfInput f → with_grid grid shelf g.0 (grid_of c) ≡ Err f) → shelf_from grid shelf named ≡ Err f
   unfolding shelf_from
-  fails f [] tell input one = absurd tell
-  fails f (n ∷ named) tell input one =
+  fails f [] report input one = absurd report
+  fails f (n ∷ named) report input one =
       let first : with_grid grid shelf g.0 (grid_of n.1) ≡ Err f =
-      one_known n (λ c. IsOfInput f → with_grid grid shelf g.0 (grid_of c) ≡ Err f) tell.0.1 one input in
+      one_known n (λ c. IsOfInput f → with_grid grid shelf g.0 (grid_of c) ≡ Err f) report.0.1 one input in
       ap (then_grids (λ s. shelf_from (grid + 1) (Some s) named))
-      (ap (λ name. with_grid grid shelf name (grid_of n.1)) (sym tell.0.0) ∙ first)
+      (ap (λ name. with_grid grid shelf name (grid_of n.1)) (sym report.0.0) ∙ first)
 
   -- a grid more
   pub shelf_more : (gs : List (List ℕ × R)) (next : ShelfValue) (named : List Named) → gs ≡ g ∷ rest
-      → Tell coming gs named
+      → Report coming gs named
       → IfSome (coming g.1) (λ c. with_grid grid shelf g.0 (grid_of c) ≡ Ok next)
-      → (others : List Named) × (Tell coming rest others
+      → (others : List Named) × (Report coming rest others
       × (shelf_from grid shelf named ≡ shelf_from (grid + 1) (Some next) others))
-  shelf_more gs next named is tell one = more next named (rw is at tell) one
+  shelf_more gs next named is report one = more next named (rw is at report) one
 
   -- a grid that is refused
-  pub shelf_fails : (gs : List (List ℕ × R)) (f : RunFault) (named : List Named) → gs ≡ g ∷ rest → Tell coming gs named → IsOfInput f
+  pub shelf_fails : (gs : List (List ℕ × R)) (f : RunFault) (named : List Named) → gs ≡ g ∷ rest → Report coming gs named → IsOfInput f
       → IfSome (coming g.1) (λ c. IsOfInput f → with_grid grid shelf g.0 (grid_of c) ≡ Err f) → shelf_from grid shelf named ≡ Err f
-  shelf_fails gs f named is tell input one = fails f named (rw is at tell) input one
+  shelf_fails gs f named is report input one = fails f named (rw is at report) input one
 
 -- no grid is left
 pub none_left : {R : Type 0} (coming : R → Option Coming) (gs : List (List ℕ × R)) (named : List Named) → gs ≡ []
-    → Tell coming gs named → named ≡ []
-none_left coming gs [] none tell = refl
-none_left coming gs (n ∷ named) none tell = absurd (let t : Tell coming [] (n ∷ named) = rw none at tell in t)
+    → Report coming gs named → named ≡ []
+none_left coming gs [] none report = refl
+none_left coming gs (n ∷ named) none report = absurd (let t : Report coming [] (n ∷ named) = rw none at report in t)
 
 pub shelf_all : (grid : ℕ) (shelf : Option ShelfValue) → shelf_from grid shelf [] ≡ Ok shelf
 unfolding shelf_from

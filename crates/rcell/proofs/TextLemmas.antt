@@ -23,10 +23,10 @@ pub block_more : (old new : Option Coming) (n : ℕ) (block text : List ℕ) →
 block_more None new n block text takes = rw takes refl
 block_more (Some c) new n block text takes = rw takes.rest (ap Some (joined text c n block takes.bytes))
 
-told : (all left : Option Coming) (text : List ℕ) (x : Result (List ℕ) RunFault) → option_map script_text all ≡ option_map (text_after text) left → ((c : Coming) → left ≡ Some c → text_after text c ≡ x) → IfSome all (λ c. script_text c ≡ x)
-told None left text x e h = tt
-told (Some c) None text x e h = cc
-told (Some c) (Some d) text x e h = let same : script_text c ≡ text_after text d = cc in same ∙ h d refl
+reported : (all left : Option Coming) (text : List ℕ) (x : Result (List ℕ) RunFault) → option_map script_text all ≡ option_map (text_after text) left → ((c : Coming) → left ≡ Some c → text_after text c ≡ x) → IfSome all (λ c. script_text c ≡ x)
+reported None left text x e h = tt
+reported (Some c) None text x e h = cc
+reported (Some c) (Some d) text x e h = let same : script_text c ≡ text_after text d = cc in same ∙ h d refl
 
 anyway : (all : Option Coming) (P : Coming → Type 0) (Q : Type 0) → IfSome all P → IfSome all (λ c. Q → P c)
 anyway None P Q is = tt
@@ -42,7 +42,7 @@ not_long text short = grind (arith, nat_tests)
 
 -- the text ends
 pub text_ends : (all old new : Option Coming) (n : ℕ) (block text : List ℕ) → option_map script_text all ≡ option_map (text_after text) old → length text ≤ 1048576 → n ≡ 0 → Takes {E = DeviceFault} old new (Ok n) block → IfSome all (λ c. script_text c ≡ Ok text)
-text_ends all old new n block text e short none takes = told all old text (Ok text) e (λ c is. at c (rw is at takes))
+text_ends all old new n block text e short none takes = reported all old text (Ok text) e (λ c is. at c (rw is at takes))
   where
     at : (c : Coming) → Takes {E = DeviceFault} (Some c) new (Ok n) block → text_after text c ≡ Ok text
     at c gives = rw (gives.end none, gives.ends none, append-nil text, not_long text short) refl
@@ -50,7 +50,7 @@ text_ends all old new n block text e short none takes = told all old text (Ok te
 -- the reader fails
 pub text_fails : (all old new : Option Coming) (fault : DeviceFault) (block text : List ℕ) → option_map script_text all ≡ option_map (text_after text) old → length text ≤ 1048576 → Takes old new (Err fault) block → IfSome all (λ c. AnswersInput {A = List ℕ} (λ t. t) (Err ScriptRead) (script_text c))
 text_fails all old new fault block text e short takes =
-    anyway all (λ c. script_text c ≡ Err ScriptRead) _ (told all old text (Err ScriptRead) e (λ c is. at c (rw is at takes)))
+    anyway all (λ c. script_text c ≡ Err ScriptRead) _ (reported all old text (Err ScriptRead) e (λ c is. at c (rw is at takes)))
   where
     at : (c : Coming) → Takes {E = DeviceFault} (Some c) new (Err fault) block → text_after text c ≡ Err ScriptRead
     at c gives = rw (gives.none, gives.fails, append-nil text, not_long text short) refl
@@ -58,7 +58,7 @@ text_fails all old new fault block text e short takes =
 -- the text is too long
 pub text_long : (all old new : Option Coming) (n : ℕ) (block text : List ℕ) → option_map script_text all ≡ option_map (text_after text) old → 1048576 < length text + n → Takes {E = DeviceFault} old new (Ok n) block → IfSome all (λ c. AnswersInput {A = List ℕ} (λ t. t) (Err ScriptSize) (script_text c))
 text_long all old new n block text e long takes =
-    anyway all (λ c. script_text c ≡ Err ScriptSize) _ (told all old text (Err ScriptSize) e (λ c is. at c (rw is at takes)))
+    anyway all (λ c. script_text c ≡ Err ScriptSize) _ (reported all old text (Err ScriptSize) e (λ c is. at c (rw is at takes)))
   where
     at : (c : Coming) → Takes {E = DeviceFault} (Some c) new (Ok n) block → text_after text c ≡ Err ScriptSize
     at c gives =

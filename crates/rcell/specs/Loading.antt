@@ -14,7 +14,7 @@ use Rattle.rcell.specs.declared.run_fault.RunFault.TheVariants as faults
 abbrev pub shelf_of_one : List ℕ → Grid → ShelfValue
 shelf_of_one name map = record { region = map.region; names = name ∷ []; maps = map ∷ [] }
 
--- a name that stands already is told before another region
+-- a name that stands already is reported before another region
 abbrev pub shelf_with_map : ℕ → ShelfValue → List ℕ → Grid → Option ℕ → Result ShelfValue RunFault
 shelf_with_map grid shelf name map (Some place) = Err (faults.GridTwice grid)
 shelf_with_map grid shelf name map None = if is_same_region map.region shelf.region then Ok (record shelf { names = shelf.names ++ name ∷ []; maps = shelf.maps ++ map ∷ [] }) else Err (faults.GridRegion grid)

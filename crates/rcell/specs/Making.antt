@@ -1,7 +1,7 @@
 -- The maps that r.mapcalc, r.reclass and r.clump make, each the last of the shelf (their manuals; the shelf is the profile's).
 use Rattle.std.specs.Prelude.{ℕ, ◌≡◌, ◌<◌, List, [], ◌∷◌, ◌++◌, Option, Some, None, slice_get}
 use Rattle.cell_calc_binding.specs.Formula.{Formula}
-use Rattle.cell_calc_binding.specs.Applied.{spot}
+use Rattle.cell_calc_binding.specs.Applied.{grid_position}
 use Rattle.cell_calc_binding.specs.Value.{value}
 use Rattle.cell_cats.specs.Reclass.{reclassed_map}
 use Rattle.cell_cats.specs.Rule.{RuleValue}
@@ -15,7 +15,7 @@ pub record AreValues (bound : Formula) (shelf : ShelfValue) (made : Grid) : Type
   pub region : made.region ≡ shelf.region
   pub filled : IsFilled made.region made.rows
   pub labels : made.labels ≡ no_labels
-  pub cells : (r c : ℕ) → r < shelf.region.rows → c < shelf.region.cols → cell_at made r c ≡ value bound shelf.maps (spot shelf.region r c)
+  pub cells : (r c : ℕ) → r < shelf.region.rows → c < shelf.region.cols → cell_at made r c ≡ value bound shelf.maps (grid_position shelf.region r c)
 
 -- r.clump: the numbers of a map's areas
 pub record AreNumbers (joining : Joining) (given made : Grid) : Type 0 where

@@ -1,4 +1,4 @@
--- Where a fault of a run is told, and by what text (profile).
+-- Where a fault of a run is reported, and by what text (profile).
 use Rattle.std.specs.Prelude.{ℕ, List, [], codes, slice_get, unwrap_or}
 use Rattle.rcell.specs.declared.run_fault.RunFault.{RunFault}
 use Rattle.rcell.specs.declared.run_fault.RunFault.TheVariants.{GridTwice, GridRegion, Grid, ScriptRead, ScriptSize, Script, Memory, Write}

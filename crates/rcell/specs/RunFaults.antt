@@ -27,7 +27,7 @@ IsOfGrid grid (Script fault) = ⊤
 IsOfGrid grid (Memory line) = ⊤
 IsOfGrid grid Write = ⊤
 
--- a fault that is told before the script was accepted
+-- a fault that is reported before the script was accepted
 abbrev pub IsBeforeExecution : RunFault → Type 0
 IsBeforeExecution (GridTwice grid) = ⊤
 IsBeforeExecution (GridRegion grid) = ⊤
@@ -38,7 +38,7 @@ IsBeforeExecution (Script fault) = ⊤
 IsBeforeExecution (Memory line) = line ≡ 0
 IsBeforeExecution Write = ⊥
 
--- a fault that is told once the script was accepted
+-- a fault that is reported once the script was accepted
 abbrev pub IsInExecution : RunFault → Type 0
 IsInExecution (GridTwice grid) = ⊥
 IsInExecution (GridRegion grid) = ⊥
@@ -49,7 +49,7 @@ IsInExecution (Script fault) = ⊥
 IsInExecution (Memory line) = 0 < line
 IsInExecution Write = ⊤
 
--- a fault names one of so many grids, and being out of memory for a grid or for the script is told at line 0
+-- a fault names one of so many grids, and being out of memory for a grid or for the script is reported at line 0
 abbrev pub NamesItsGrid : ℕ → RunFault → Type 0
 NamesItsGrid grids (GridTwice grid) = grid < grids
 NamesItsGrid grids (GridRegion grid) = grid < grids
@@ -60,10 +60,10 @@ NamesItsGrid grids (Script fault) = fault.kind ≡ script_kinds.Memory → fault
 NamesItsGrid grids (Memory line) = ⊤
 NamesItsGrid grids Write = ⊤
 
--- a fault of the script is told before execution, and names no grid
+-- a fault of the script is reported before execution, and names no grid
 pub record IsOfScript (fault : RunFault) : Type 0 where
   pub early : IsBeforeExecution fault
-  pub told : (grids : ℕ) → NamesItsGrid grids fault
+  pub reported : (grids : ℕ) → NamesItsGrid grids fault
 
 -- what is answered, seen by `view`, is what the reading gives, and a fault of the input is that of the reading
 abbrev pub AnswersInput : {A B : Type 0} → (A → B) → Result A RunFault → Result B RunFault → Type 0

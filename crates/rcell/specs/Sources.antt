@@ -8,9 +8,9 @@ abbrev pub Named : Type 0
 Named = List ℕ × Coming
 
 -- each source tells what it gives, and under its name stands this
-abbrev pub Tell : {R : Type 0} → (R → Option Coming) → List (List ℕ × R) → List Named → Type 0
-Tell coming grids named = AllZip (λ g n. (g.0 ≡ n.0) × (coming g.1 ≡ Some n.1)) grids named
+abbrev pub Report : {R : Type 0} → (R → Option Coming) → List (List ℕ × R) → List Named → Type 0
+Report coming grids named = AllZip (λ g n. (g.0 ≡ n.0) × (coming g.1 ≡ Some n.1)) grids named
 
 -- what holds of the texts of the grids and of the script, where their sources tell them
 abbrev pub OfTexts : {R : Type 0} → (R → Option Coming) → List (List ℕ × R) → R → (List Named → Coming → Type 0) → Type 0
-OfTexts coming grids script P = (named : List Named) (text : Coming) → Tell coming grids named → coming script ≡ Some text → P named text
+OfTexts coming grids script P = (named : List Named) (text : Coming) → Report coming grids named → coming script ≡ Some text → P named text

@@ -5,7 +5,7 @@ ghost use Rattle.cell_core_values.specs.Name.{place_of};
 ghost use Rattle.cell_ascii_meaning.specs.CellTexts.{grid_of};
 ghost use Rattle.rcell.specs.RunFaults.{AnswersInput, IsBeforeExecution, NamesItsGrid};
 ghost use Rattle.rcell.specs.Loading.{shelf_with_map, shelf_placed, with_grid, shelf_of};
-ghost use Rattle.rcell.specs.Sources.{Named, Tell};
+ghost use Rattle.rcell.specs.Sources.{Named, Report};
 ghost use Rattle.rcell.specs.parts.Refused.{of_shelf, IsGridFault};
 
 use crate::run_fault::RunFault;
@@ -93,10 +93,10 @@ fn shelf_with_grid<R: Source + Drop>(
 /// refused, [`RunFault::Grid`] of kind `Memory`, or [`RunFault::Memory`], both with line 0.
 pub fn load<R: Source + Drop>(alloc: Global, grids: Vec<(Name, R)>) -> Result<Shelf, RunFault>
     requires { 0 < vec_len grids }
-    ensures answer { (named : List Named) → Tell R.coming grids.items named
+    ensures answer { (named : List Named) → Report R.coming grids.items named
         → AnswersInput (λ s. Some s) result (shelf_of named) }
     ensures early { IfErr result IsBeforeExecution }
-    ensures told { IfErr result (NamesItsGrid (length grids.items)) }
+    ensures reported { IfErr result (NamesItsGrid (length grids.items)) }
 {
     let mut shelf = None;
     let mut grid = 0;

@@ -107,7 +107,7 @@ fn text_of(written: u64, fault: RunFault) -> FaultText
 /// The line that tells the fault of an outcome, by the names of the grids in the order of the run; None where
 /// there is no fault. A place without a name has an empty source. Takes no memory.
 pub fn fault_line<'a>(outcome: &Outcome, names: &'a [Name]) -> Option<FaultLine<'a, FaultText>>
-    ensures { option_map (λ told. (told.source.now, (told.line, told.text))) result
+    ensures { option_map (λ reported. (reported.source.now, (reported.line, reported.text))) result
         ≡ option_map (line_parts names.now outcome.now.written) outcome.now.fault }
 {
     match outcome.fault {

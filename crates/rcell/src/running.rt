@@ -119,7 +119,7 @@ pub fn run<R: Source + Drop, W: Sink>(
     out: &mut W,
 ) -> Outcome
     requires { 0 < vec_len grids }
-    // Without a fault the sink has taken exactly the output, and its length is told.
+    // Without a fault the sink has taken exactly the output, and its length is reported.
     ensures done { OfTexts R.coming grids.items script (λ named text. IsNone result.fault
         → IsRunDone named text (W.taken out.old) (W.taken out.new) result.written) }
     // A fault of the grids or of the script is the first that they have.
@@ -134,8 +134,8 @@ pub fn run<R: Source + Drop, W: Sink>(
         (λ named text. IfSome result.fault (λ f. IsInExecution f
         → IsRunStopped named text (W.taken out.old) (W.taken out.new) result.written f)) }
     ensures status { result.status ≡ status_after result.fault }
-    // A fault of a grid names one that was given, and being out of memory for a grid or for the script is told at line 0.
-    ensures told { IfSome result.fault (NamesItsGrid (length grids.items)) }
+    // A fault of a grid names one that was given, and being out of memory for a grid or for the script is reported at line 0.
+    ensures reported { IfSome result.fault (NamesItsGrid (length grids.items)) }
     // Status 0 comes only where no call of the sink failed and it was flushed once, and, of a sink that had not failed
     // before, Write only where it failed.
     ensures sound { result.status ≡ 0 → W.faults out.new ≡ after_flush (W.faults out.old) false }
@@ -144,7 +144,7 @@ pub fn run<R: Source + Drop, W: Sink>(
     ensures whole { OfTexts R.coming grids.items script
         (λ named text. result.fault ≡ Some RunFault.Write → (W.faults out.new).refused ≡ false
         → IsRunDone named text (W.taken out.old) (W.taken out.new) result.written) }
-    // A run that was not refused before execution flushes its sink once, unless that refused a put: this is told as Write.
+    // A run that was not refused before execution flushes its sink once, unless that refused a put: this is reported as Write.
     ensures first { IfSome result.fault IsInExecution
         → Failing result.fault (W.faults out.old) (W.faults out.new) }
     // For every accepted script over grids of one region, where memory lasts and the sink takes everything,

@@ -31,7 +31,7 @@ fn read_text<R: Source>(alloc: Global, source: &mut R) -> Result<Vec<u8>, RunFau
     ensures answer { IfSome (R.coming source.old)
         (λ c. AnswersInput (λ text. text.items) result (script_text c)) }
     ensures whose { IfErr result IsOfScript }
-    // Its end and an `Err` are told as such, and it is not asked after them.
+    // Its end and an `Err` are reported as such, and it is not asked after them.
     ensures asked { R.asked source.old ≡ Asked.Going → R.asked source.new ≡ asked_by result }
 {
     let mut text = Vec::new(alloc);

@@ -4,11 +4,11 @@ use Rattle.std.proofs.lemmas.Bool.{eqb-true}
 use Rattle.std.specs.List.{remove, slice_index_or}
 use Rattle.clap.specs.Walk.{Text, texts}
 use Rattle.cell_core_values.specs.Answers.{◌>>=◌}
-use Rattle.rcell_join.specs.CommandLine.{Sizes, Tables}
-use Rattle.rcell_join.specs.CommandLine.{asked_labelled, asked_sizes, joined_tiles, tile_paths}
-use Rattle.rcell_join.specs.CommandLine.{format_in, has_hyphen_word, joining_in, paths_in}
-use Rattle.rcell_join.specs.declared.refusal.Refusal.TheVariants as refusals
-use Rattle.rcell_join.specs.declared.refusal.Usage.{Usage}
+use Rattle.rcell_join.specs.JoinCommandLine.{Sizes, Tables}
+use Rattle.rcell_join.specs.JoinCommandLine.{asked_labelled, asked_sizes, joined_tiles, tile_paths}
+use Rattle.rcell_join.specs.JoinCommandLine.{format_in, has_hyphen_word, joining_in, paths_in}
+use Rattle.rcell_join.specs.declared.join_refusal.JoinRefusal.TheVariants as refusals
+use Rattle.rcell_join.specs.declared.join_refusal.Usage.{Usage}
 
 apart : {X : Type 0} → true ≡ false → X
 apart bad = cc

@@ -11,11 +11,11 @@ use Rattle.clap.specs.Takes.{default_passes, entered_passes, is_valid, settle_pa
 use Rattle.clap.specs.Words.{all_of, is_simple, matches_of}
 use Rattle.clap.specs.declared.builder.value_parser.Reading.TheVariants.{AsWritten}
 use Rattle.clap.specs.declared.parser.matches.ValueSource.TheVariants.{CommandLine}
-use Rattle.rcell_join.specs.CommandLine.{begins_with_hyphen}
-use Rattle.rcell_join.specs.parts.ClapWords.{command_line, has_no_command}
+use Rattle.rcell_join.specs.JoinCommandLine.{begins_with_hyphen}
+use Rattle.rcell_join.specs.parts.ClapJoinWords.{join_command_line, has_no_command}
 
 abbrev built_rules : List Rule
-built_rules = (built command_line).top.rules
+built_rules = (built join_command_line).top.rules
 
 -- the walk after these words
 abbrev at_words : List Text → Walk
@@ -39,7 +39,7 @@ no_short : (word : Text) → begins_with_hyphen word ≡ false → short_of word
 no_short [] plain = refl
 no_short (byte ∷ rest) plain = rw plain refl
 
-pub is_simple_line : is_simple command_line ≡ true
+pub is_simple_line : is_simple join_command_line ≡ true
 is_simple_line = refl
 
 apart : {X : Type 0} → true ≡ false → X
@@ -81,22 +81,22 @@ word_row words = record {
 }
 
 matches_are : (own command : Text) (rest : List Text) → begins_with_hyphen command ≡ false
-    → matches_of command_line (own ∷ command ∷ rest) ≡ word_row (command ∷ rest) ∷ []
+    → matches_of join_command_line (own ∷ command ∷ rest) ≡ word_row (command ∷ rest) ∷ []
 matches_are own command rest plain = ap (λ w. finished built_rules w.held) (walk_is command rest plain)
 
 -- words that clap finds are all the words after the first, in their order
 pub words_asked : (words given : List Text) → has_no_command (drop 1 words) ≡ false
-    → all_of (codes "WORD") (matches_of command_line words) ≡ Some given → drop 1 words ≡ given
+    → all_of (codes "WORD") (matches_of join_command_line words) ≡ Some given → drop 1 words ≡ given
 words_asked [] given plain all = apart plain
 words_asked (own ∷ []) given plain all = apart plain
 words_asked (own ∷ command ∷ rest) given plain all =
-    let found : all_of (codes "WORD") (matches_of command_line (own ∷ command ∷ rest)) ≡ Some (command ∷ rest) = ap
+    let found : all_of (codes "WORD") (matches_of join_command_line (own ∷ command ∷ rest)) ≡ Some (command ∷ rest) = ap
     (all_of (codes "WORD")) (matches_are own command rest plain) in
     cc
 
 -- clap finds them where the first is no hyphen word
 pub words_found : (words : List Text) → has_no_command (drop 1 words) ≡ false
-    → is_some (all_of (codes "WORD") (matches_of command_line words)) ≡ true
+    → is_some (all_of (codes "WORD") (matches_of join_command_line words)) ≡ true
 words_found [] plain = apart plain
 words_found (own ∷ []) plain = apart plain
 words_found (own ∷ command ∷ rest) plain =
@@ -105,7 +105,7 @@ words_found (own ∷ command ∷ rest) plain =
 -- ---- what clap takes
 
 abbrev shape : Shape
-shape = (built command_line).top
+shape = (built join_command_line).top
 
 word_passes : (words : List Text) → list_all (λ word. true) words ≡ true
 word_passes [] = refl
@@ -121,13 +121,13 @@ words_pass given (word ∷ rest) =
 
 -- what the walk has to end with for the words to be taken
 abbrev ends : List Text → Walk → Bool
-ends words end = entered_passes (built command_line) end.stopped && (walk_passes shape [] (walk_from nothing_held) words
+ends words end = entered_passes (built join_command_line) end.stopped && (walk_passes shape [] (walk_from nothing_held) words
     && (settle_passes shape.rules shape.args_override_self end.held
     && (list_all default_passes shape.rules && is_valid shape (finished shape.rules end.held)
-    (is_some (entered (built command_line) end.stopped)))))
+    (is_some (entered (built join_command_line) end.stopped)))))
 
 taken_by_end : (own : Text) (words : List Text) → ends words (walk built_rules [] nothing_held words) ≡ true
-    → takes command_line (own ∷ words) ≡ true
+    → takes join_command_line (own ∷ words) ≡ true
 taken_by_end own words good = good
 
 all_pass : (command : Text) (rest : List Text) → begins_with_hyphen command ≡ false
@@ -141,7 +141,7 @@ all_pass command rest plain =
 
 -- a word or more, of which the first has no hyphen in front, are taken
 pub words_taken : (words : List Text) → length words ≤ usize_max → has_no_command (drop 1 words) ≡ false
-    → takes command_line words ≡ true
+    → takes join_command_line words ≡ true
 words_taken [] few plain = apart plain
 words_taken (own ∷ []) few plain = apart plain
 words_taken (own ∷ command ∷ rest) few plain =

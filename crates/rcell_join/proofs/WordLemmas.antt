@@ -5,7 +5,7 @@ use Rattle.std.proofs.lemmas.List.{append-nil, map-append, take_more}
 use Rattle.std.proofs.lemmas.List.Elements.{filter-append}
 use Rattle.clap.proofs.WalkLemmas.{list_any-map}
 use Rattle.clap.specs.Walk.{Text, texts}
-use Rattle.rcell_join.specs.CommandLine.{begins_with_hyphen, contains_flag, is_flag}
+use Rattle.rcell_join.specs.JoinCommandLine.{begins_with_hyphen, contains_flag, is_flag}
 
 module _ (p : Text → Bool) (words : List (Bor Text)) (i : ℕ) (word : Bor Text) (bytes : Text)
     (within : i < length words) (same : bytes ≡ (slice_index_or words i word).now) where

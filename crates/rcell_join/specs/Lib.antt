@@ -1,7 +1,7 @@
 -- What the words of rcell-join's command line ask for, and why nothing was joined.
 -- What the program reports if tables are not merged, or borders or sizes not written, or not all.
-pub mod CommandLine
-pub mod Refusals
+pub mod JoinCommandLine
+pub mod JoinRefusals
 pub mod PlaceValues
 pub mod ReportPlaces
 pub mod KindStatuses

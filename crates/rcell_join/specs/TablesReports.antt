@@ -19,7 +19,7 @@ table_place paths Write = on_line (codes "output") 0 4
 -- two labels belong to the text that has the second
 abbrev pub label_place : List (List ℕ) → LabelFault → PlaceValue
 label_place paths (Join fault) = table_place paths fault
-label_place paths (OtherLabel told) = on_line (path_at_place paths told.text) told.line 1
+label_place paths (OtherLabel reported) = on_line (path_at_place paths reported.text) reported.line 1
 
 -- the fields of a line
 abbrev pub fields_of : (separator : ℕ) → List ℕ → List (List ℕ)

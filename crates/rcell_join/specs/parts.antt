@@ -1,2 +1,2 @@
 -- What only private functions and proofs speak of.
-pub mod ClapWords
+pub mod ClapJoinWords

@@ -42,10 +42,10 @@ fn map_place<'a>(map: &'a str, fault: MapFault) -> Place<'a>
 
 /// What is reported of a map of which no border is written, by its path; None if there is no fault.
 pub fn border_report<'a>(outcome: BorderOutcome, map: &'a str) -> Option<Report<'a, MapText>>
-    ensures told { is_some result ≡ is_some outcome.fault }
-    ensures place { IfSome result (λ told. IfSome outcome.fault
-        (λ fault. told.place ≡ map_place map.now fault)) }
-    ensures text { IfSome result (λ told. IfSome outcome.fault (λ fault. told.text
+    ensures reported { is_some result ≡ is_some outcome.fault }
+    ensures place { IfSome result (λ reported. IfSome outcome.fault
+        (λ fault. reported.place ≡ map_place map.now fault)) }
+    ensures text { IfSome result (λ reported. IfSome outcome.fault (λ fault. reported.text
         ≡ record { fault = fault; written = outcome.written })) }
 {
     let fault = outcome.fault?;

@@ -227,14 +227,14 @@ pub fn clumps_report<'a>(
     outcome: ClumpsOutcome,
     paths: &[&'a str],
 ) -> Option<Report<'a, ClumpsText<'a>>>
-    ensures told { is_some result ≡ is_some outcome.fault }
-    ensures place { IfSome result (λ told. IfSome outcome.fault (λ fault. told.place
+    ensures reported { is_some result ≡ is_some outcome.fault }
+    ensures place { IfSome result (λ reported. IfSome outcome.fault (λ fault. reported.place
         ≡ clumps_place (map (λ path. path.now) paths.now) fault)) }
-    ensures other { IfSome result (λ told. IfSome outcome.fault (λ fault. told.text.other.now
-        ≡ clumps_other (map (λ path. path.now) paths.now) fault)) }
-    ensures fault { IfSome result (λ told. IfSome outcome.fault (λ fault.
-        told.text.fault ≡ fault)) }
-    ensures written { IfSome result (λ told. told.text.written ≡ outcome.written) }
+    ensures other { IfSome result (λ reported. IfSome outcome.fault (λ fault.
+        reported.text.other.now ≡ clumps_other (map (λ path. path.now) paths.now) fault)) }
+    ensures fault { IfSome result (λ reported. IfSome outcome.fault (λ fault.
+        reported.text.fault ≡ fault)) }
+    ensures written { IfSome result (λ reported. reported.text.written ≡ outcome.written) }
 {
     let fault = outcome.fault?;
     Some(Report {

@@ -4,23 +4,23 @@
 
 mod border_report;
 mod clumps_report;
-mod command_words;
+mod join_opening;
+mod join_refusal;
+mod join_request;
+mod join_words;
 mod kind_status;
-mod opening;
-mod refusal;
 mod report_line;
-mod request;
 mod shown;
 mod sizes_report;
 mod tables_report;
 
 use crate::border_report::border_report;
 use crate::clumps_report::clumps_report;
-use crate::command_words::read_words;
-use crate::opening::{open_file, open_files};
-use crate::refusal::{Refusal, Usage};
-use crate::report_line::{tell, tell_refusal};
-use crate::request::{Request, TableFormat};
+use crate::join_opening::{open_file, open_paths};
+use crate::join_refusal::{JoinRefusal, Usage};
+use crate::join_request::{JoinRequest, TableFormat};
+use crate::join_words::read_join_words;
+use crate::report_line::{print_error, print_refusal};
 use crate::sizes_report::sizes_report;
 use crate::tables_report::tables_report;
 use cell_cats_areas::clump::Joining;
@@ -35,12 +35,12 @@ use std::process::ExitCode;
 use std::rt::{Env, Files};
 
 // The words that the program was given, its own name first.
-fn words_given<R: Env + AllocGlobal>(rt: &R) -> Result<Vec<String>, Refusal> {
+fn words_given<R: Env + AllocGlobal>(rt: &R) -> Result<Vec<String>, JoinRefusal> {
     let given = env::args(rt).map_err(|fault| match fault.kind() {
-        ErrorKind::OutOfMemory => Refusal::Memory,
-        _ => Refusal::Usage(Usage::AnyCommand),
+        ErrorKind::OutOfMemory => JoinRefusal::Memory,
+        _ => JoinRefusal::Usage(Usage::AnyCommand),
     })?;
-    given.collect(rt.alloc()).map_err(|_| Refusal::Memory)
+    given.collect(rt.alloc()).map_err(|_| JoinRefusal::Memory)
 }
 
 // Merges the tables of tiles, with labels if they have them.
@@ -49,13 +49,13 @@ fn merge_tables<R: Files + Print + Eprint + AllocGlobal>(
     format: &TableFormat,
     paths: &[&str],
 ) -> u8 {
-    let sources = match open_files(rt, paths) {
+    let sources = match open_paths(rt, paths) {
         Ok(sources) => sources,
-        Err(refusal) => return tell_refusal(rt, refusal, paths),
+        Err(refusal) => return print_refusal(rt, refusal, paths),
     };
     let mut output = WriteSink::new(io::writer(rt));
     let outcome = join_texts(rt.alloc(), &format.lent(), sources, &mut output);
-    tell(rt, tables_report(outcome, paths))
+    print_error(rt, tables_report(outcome, paths))
 }
 
 // Writes the border of a tile.
@@ -66,11 +66,11 @@ fn write_tile_border<R: Files + Print + Eprint + AllocGlobal>(
 ) -> u8 {
     let source = match open_file(rt, map, 0) {
         Ok(source) => source,
-        Err(refusal) => return tell_refusal(rt, refusal, &[map]),
+        Err(refusal) => return print_refusal(rt, refusal, &[map]),
     };
     let mut output = WriteSink::new(io::writer(rt));
     let outcome = write_border(rt.alloc(), joining, source, &mut output);
-    tell(rt, border_report(outcome, map))
+    print_error(rt, border_report(outcome, map))
 }
 
 // Joins borders, and writes the numbering of the full map.
@@ -79,13 +79,13 @@ fn join_clumps<R: Files + Print + Eprint + AllocGlobal>(
     joining: Joining,
     paths: &[&str],
 ) -> u8 {
-    let sources = match open_files(rt, paths) {
+    let sources = match open_paths(rt, paths) {
         Ok(sources) => sources,
-        Err(refusal) => return tell_refusal(rt, refusal, paths),
+        Err(refusal) => return print_refusal(rt, refusal, paths),
     };
     let mut output = WriteSink::new(io::writer(rt));
     let outcome = join_border_texts(rt.alloc(), joining, sources, &mut output);
-    tell(rt, clumps_report(outcome, paths))
+    print_error(rt, clumps_report(outcome, paths))
 }
 
 // Adds up the sizes of the clumps of tiles.
@@ -97,32 +97,32 @@ fn add_sizes<R: Files + Print + Eprint + AllocGlobal>(
 ) -> u8 {
     let numbers = match open_file(rt, numbering, 0) {
         Ok(source) => source,
-        Err(refusal) => return tell_refusal(rt, refusal, &[numbering]),
+        Err(refusal) => return print_refusal(rt, refusal, &[numbering]),
     };
-    let sources = match open_files(rt, tables) {
+    let sources = match open_paths(rt, tables) {
         Ok(sources) => sources,
-        Err(refusal) => return tell_refusal(rt, refusal, tables),
+        Err(refusal) => return print_refusal(rt, refusal, tables),
     };
     let mut output = WriteSink::new(io::writer(rt));
     let outcome = join_table_sizes(rt.alloc(), &format.lent(), numbers, sources, &mut output);
-    tell(rt, sizes_report(outcome, numbering, tables))
+    print_error(rt, sizes_report(outcome, numbering, tables))
 }
 
 // Does what the words ask for, and returns the exit status.
 fn work<R: Env + Files + Print + Eprint + AllocGlobal>(rt: &R) -> u8 {
     let words = match words_given(rt) {
         Ok(words) => words,
-        Err(refusal) => return tell_refusal(rt, refusal, &[]),
+        Err(refusal) => return print_refusal(rt, refusal, &[]),
     };
-    let request = match read_words(rt.alloc(), &words) {
+    let request = match read_join_words(rt.alloc(), &words) {
         Ok(request) => request,
-        Err(refusal) => return tell_refusal(rt, refusal, &[]),
+        Err(refusal) => return print_refusal(rt, refusal, &[]),
     };
     match request {
-        Request::Tables { format, tables } => merge_tables(rt, &format, &tables),
-        Request::Border { joining, map } => write_tile_border(rt, joining, map),
-        Request::Clumps { joining, borders } => join_clumps(rt, joining, &borders),
-        Request::Sizes {
+        JoinRequest::Tables { format, tables } => merge_tables(rt, &format, &tables),
+        JoinRequest::Border { joining, map } => write_tile_border(rt, joining, map),
+        JoinRequest::Clumps { joining, borders } => join_clumps(rt, joining, &borders),
+        JoinRequest::Sizes {
             format,
             numbering,
             tables,

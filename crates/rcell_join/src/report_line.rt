@@ -2,9 +2,9 @@
 
 ghost use Rattle.std.specs.Prelude.{◌≡◌, map};
 ghost use Rattle.rcell_join.specs.ReportPlaces.{on_line, path_at_place, refusal_place, status_of};
-ghost use Rattle.rcell_join.specs.Refusals.{refusal_status};
+ghost use Rattle.rcell_join.specs.JoinRefusals.{join_refusal_status};
 
-use crate::refusal::Refusal;
+use crate::join_refusal::JoinRefusal;
 use crate::shown::Shown;
 use std::fmt;
 use std::marker::Model;
@@ -72,20 +72,20 @@ pub fn whole<'a>(source: &'a str, status: u8) -> Place<'a>
     on_line(source, 0, status)
 }
 
-fn refusal_place<'a>(paths: &[&'a str], refusal: Refusal) -> Place<'a>
+fn refusal_place<'a>(paths: &[&'a str], refusal: JoinRefusal) -> Place<'a>
     ensures { result ≡ refusal_place (map (λ path. path.now) paths.now) refusal }
 {
     let status = refusal.status();
     match refusal {
-        Refusal::Usage(_) => whole("arguments", status),
-        Refusal::BadOption => whole("arguments", status),
-        Refusal::Memory => whole("arguments", status),
-        Refusal::File { file } => whole(path_at(paths, file), status),
+        JoinRefusal::Usage(_) => whole("arguments", status),
+        JoinRefusal::BadOption => whole("arguments", status),
+        JoinRefusal::Memory => whole("arguments", status),
+        JoinRefusal::File { file } => whole(path_at(paths, file), status),
     }
 }
 
 /// What is reported of a refusal, by the paths of the files.
-pub fn refusal_report<'a>(refusal: Refusal, paths: &[&'a str]) -> Report<'a, Refusal>
+pub fn refusal_report<'a>(refusal: JoinRefusal, paths: &[&'a str]) -> Report<'a, JoinRefusal>
     ensures place { result.place ≡ refusal_place (map (λ path. path.now) paths.now) refusal }
     ensures text { result.text ≡ refusal }
 {
@@ -97,7 +97,7 @@ pub fn refusal_report<'a>(refusal: Refusal, paths: &[&'a str]) -> Report<'a, Ref
 
 /// Prints a report on standard error, if there is one, and returns the exit status. If standard error takes nothing, the status
 /// still says it.
-pub fn tell<R: Eprint, T: fmt::Display + Drop>(rt: &R, report: Option<Report<'_, T>>) -> u8
+pub fn print_error<R: Eprint, T: fmt::Display + Drop>(rt: &R, report: Option<Report<'_, T>>) -> u8
     ensures { result ≡ status_of report.entry }
 {
     match report {
@@ -110,8 +110,8 @@ pub fn tell<R: Eprint, T: fmt::Display + Drop>(rt: &R, report: Option<Report<'_,
 }
 
 /// Prints a refusal, and returns its exit status.
-pub fn tell_refusal<R: Eprint>(rt: &R, refusal: Refusal, paths: &[&str]) -> u8
-    ensures { result ≡ refusal_status refusal }
+pub fn print_refusal<R: Eprint>(rt: &R, refusal: JoinRefusal, paths: &[&str]) -> u8
+    ensures { result ≡ join_refusal_status refusal }
 {
-    tell(rt, Some(refusal_report(refusal, paths)))
+    print_error(rt, Some(refusal_report(refusal, paths)))
 }

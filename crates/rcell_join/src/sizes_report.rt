@@ -70,10 +70,10 @@ pub fn sizes_report<'a>(
     numbering: &'a str,
     tables: &[&'a str],
 ) -> Option<Report<'a, SizesText>>
-    ensures told { is_some result ≡ is_some outcome.fault }
-    ensures place { IfSome result (λ told. IfSome outcome.fault (λ fault. told.place
+    ensures reported { is_some result ≡ is_some outcome.fault }
+    ensures place { IfSome result (λ reported. IfSome outcome.fault (λ fault. reported.place
         ≡ sizes_place numbering.now (map (λ path. path.now) tables.now) fault)) }
-    ensures text { IfSome result (λ told. IfSome outcome.fault (λ fault. told.text
+    ensures text { IfSome result (λ reported. IfSome outcome.fault (λ fault. reported.text
         ≡ record { fault = fault; written = outcome.written })) }
 {
     let fault = outcome.fault?;

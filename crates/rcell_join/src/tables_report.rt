@@ -79,13 +79,13 @@ pub fn two_labels<'a>(separator: u8, line: &'a [u8], other: &'a [u8]) -> Option<
 }
 
 // Writes the labels of two lines that differ first. A separator stands behind each field, so the last byte is one.
-fn write_labels<W: fmt::Write>(f: &mut fmt::Formatter<W>, told: &OtherLabel) -> fmt::Result {
+fn write_labels<W: fmt::Write>(f: &mut fmt::Formatter<W>, reported: &OtherLabel) -> fmt::Result {
     f.write_str("two labels for ")?;
-    let line = told.labelled.as_slice();
+    let line = reported.labelled.as_slice();
     let Some(separator) = line.last() else {
         return Ok(());
     };
-    match two_labels(*separator, line, told.other.as_slice()) {
+    match two_labels(*separator, line, reported.other.as_slice()) {
         Some(two) => write!(f, "{two}"),
         None => Ok(()),
     }
@@ -115,7 +115,7 @@ impl fmt::Display for TablesText {
             LabelFault::Join(JoinFault::Write) => {
                 write!(f, "write failed after {written} bytes")
             }
-            LabelFault::OtherLabel(told) => write_labels(f, told),
+            LabelFault::OtherLabel(other) => write_labels(f, other),
         }
     }
 }
@@ -140,16 +140,16 @@ fn label_place<'a>(paths: &[&'a str], fault: &LabelFault) -> Place<'a>
 {
     match fault {
         LabelFault::Join(fault) => table_place(paths, fault),
-        LabelFault::OtherLabel(told) => on_line(path_at(paths, told.text), told.line, 1),
+        LabelFault::OtherLabel(other) => on_line(path_at(paths, other.text), other.line, 1),
     }
 }
 
 /// What is reported of tables that are not merged, by the paths of their texts; None if there is no fault.
 pub fn tables_report<'a>(outcome: JoinOutcome, paths: &[&'a str]) -> Option<Report<'a, TablesText>>
-    ensures told { is_some result ≡ is_some outcome.fault }
-    ensures place { IfSome result (λ told. IfSome outcome.fault (λ fault. told.place
+    ensures reported { is_some result ≡ is_some outcome.fault }
+    ensures place { IfSome result (λ reported. IfSome outcome.fault (λ fault. reported.place
         ≡ label_place (map (λ path. path.now) paths.now) fault)) }
-    ensures text { IfSome result (λ told. IfSome outcome.fault (λ fault. told.text
+    ensures text { IfSome result (λ reported. IfSome outcome.fault (λ fault. reported.text
         ≡ record { fault = fault; written = outcome.written })) }
 {
     let JoinOutcome { written, fault } = outcome;

@@ -10,9 +10,9 @@ use Rattle.cell_stats.specs.CategoryTables.{Pairs}
 use Rattle.cell_stats.specs.TableText.{FormatValue}
 use Rattle.cell_join_lines.specs.LineReading.{TableReading, reading_of}
 use Rattle.cell_join_lines.specs.AreasReading.{AreasReading, areas_reading_of}
-use Rattle.cell_join_lines.specs.AreasText.{areas_text, numbers_told, stretch_numbers, stretches_of}
+use Rattle.cell_join_lines.specs.AreasText.{areas_text, numbers_read, stretch_numbers, stretches_of}
 use Rattle.cell_join_lines.specs.declared.stretch.Stretch.{Stretch}
-use Rattle.cell_join_lines.proofs.ToldLemmas.{numbers-are-told}
+use Rattle.cell_join_lines.proofs.ReportedLemmas.{numbers-are-read}
 use Rattle.cell_join_tables_law.proofs.OrderLemmas.{stretches-are-readable}
 use Rattle.cell_join_tables_law.proofs.WrittenLemmas.{text-reads-as-itself}
 use Rattle.cell_join_tables_law.specs.WrittenAreas.{AreReadable}
@@ -43,22 +43,22 @@ text_read counts numbers = record { stretches = stretches_of counts numbers; fau
 readable : (counts numbers : List ℕ) → AreInRange counts numbers → AreReadable None (stretches_of counts numbers)
 readable counts numbers are = stretches-are-readable counts numbers are.short are.few are.good
 
-pub reads-as-told : (counts numbers : List ℕ) → AreInRange counts numbers
+pub reads-as-written : (counts numbers : List ℕ) → AreInRange counts numbers
     → areas_reading_of (written_text (areas_text (stretches_of counts numbers))) ≡ text_read counts numbers
-reads-as-told counts numbers are = text-reads-as-itself (stretches_of counts numbers) (readable counts numbers are)
+reads-as-written counts numbers are = text-reads-as-itself (stretches_of counts numbers) (readable counts numbers are)
 
 -- ---- it is not too long
 
-told-long : (before : Option Stretch) (stretches : List Stretch) → AreReadable before stretches
-    → length stretches ≤ length (numbers_told stretches)
-told-long before [] are = omega arith
-told-long before (s ∷ stretches) are =
+reported-long : (before : Option Stretch) (stretches : List Stretch) → AreReadable before stretches
+    → length stretches ≤ length (numbers_read stretches)
+reported-long before [] are = omega arith
+reported-long before (s ∷ stretches) are =
     omega (
       arith,
-      length-append (stretch_numbers s) (numbers_told stretches),
+      length-append (stretch_numbers s) (numbers_read stretches),
       length-range_with_len s.number (s.last + 1 - s.first),
       are.0.up,
-      told-long (Some s) stretches are.2,
+      reported-long (Some s) stretches are.2,
     )
 
 low-next : (before : Option Stretch) (done : List Stretch) (s : Stretch) (rest : List Stretch)
@@ -73,8 +73,8 @@ module _ (counts numbers : List ℕ) (are : AreInRange counts numbers) where
       (All-weaker (λ n. n < 2 ^ 31) (λ n. n ≤ 2147483648) (λ n lt. omega (arith, lt)) counts are.few) in
       omega (
         arith,
-        told-long None (stretches_of counts numbers) (readable counts numbers are),
-        ap (λ (l : List ℕ). length l) (numbers-are-told counts numbers are.many),
+        reported-long None (stretches_of counts numbers) (readable counts numbers are),
+        ap (λ (l : List ℕ). length l) (numbers-are-read counts numbers are.many),
         are.many,
         most,
         are.short,

@@ -11,13 +11,13 @@ use Rattle.cell_core.specs.Grid.{Grid, CellValue, cell_at, no_labels}
 use Rattle.cell_core.specs.Shelf.{ShelfValue}
 use Rattle.cell_calc_binding.specs.Formula.{Formula}
 use Rattle.cell_calc_binding.specs.Value.{value}
-use Rattle.cell_calc_binding.specs.Applied.{Spot, spot}
+use Rattle.cell_calc_binding.specs.Applied.{GridPosition, grid_position}
 use Rattle.cell_ascii_meaning.specs.Writing.{grid_text}
 use Rattle.cell_ascii_law.specs.WrittenLaw.{without_labels}
 use Rattle.cell_cats.specs.Rule.{RuleValue}
 use Rattle.cell_cats.specs.Reclass.{reclassed_map, new_rows}
 use Rattle.cell_cats_areas.specs.declared.clump.Joining.{Joining}
-use Rattle.cell_cats_areas.specs.Areas.{Position, cell_at_spot, AreJoined, IsFirst, HasNumber, IsClumping}
+use Rattle.cell_cats_areas.specs.Areas.{Position, cell_at_position, AreJoined, IsFirst, HasNumber, IsClumping}
 use Rattle.cell_stats_counts.specs.LeftOut.{kept_cells}
 use Rattle.cell_stats_counts.specs.Combinations.{all_combinations}
 use Rattle.cell_stats.specs.CategoryTables.{table_of}
@@ -65,7 +65,7 @@ module _ (a b : ShelfValue) (alike : AreAlike a b) where
       ∙ (λ i. all_combinations (alike.maps i) places (same_rows i) (same_cols i))
       ∙ sym (combinations_bare b.maps places b.region.rows b.region.cols)
 
-  same_value : (f : Formula) (s : Spot) → value f a.maps s ≡ value f b.maps s
+  same_value : (f : Formula) (s : GridPosition) → value f a.maps s ≡ value f b.maps s
   same_value f s = value_bare f a.maps s ∙ ap (λ (ms : List Grid). value f ms s) alike.maps
       ∙ sym (value_bare f b.maps s)
 
@@ -92,7 +92,7 @@ module _ (a b : ShelfValue) (alike : AreAlike a b) where
 -- ---- areas read no labels
 
 module _ (j : Joining) (m n : Grid) (same : m.rows ≡ n.rows) where
-  cell_same : (p : Position) → cell_at_spot m p ≡ cell_at_spot n p
+  cell_same : (p : Position) → cell_at_position m p ≡ cell_at_position n p
   cell_same p = ap (λ (rows : List (List CellValue)). cell_at (record m { rows = rows }) p.row p.col) same
 
   joined_same : (p q : Position) → AreJoined j m p q → AreJoined j n p q
@@ -174,8 +174,8 @@ module _ (a b : ShelfValue) (alike : AreAlike a b) where
         labels = h.labels;
         cells = λ r c high wide.
             h.cells r c (omega (arith, rows, high)) (omega (arith, cols, wide))
-            ∙ same_value a b alike bound (spot a.region r c)
-            ∙ ap (λ (e : RegionValue). value bound b.maps (spot e r c)) alike.region;
+            ∙ same_value a b alike bound (grid_position a.region r c)
+            ∙ ap (λ (e : RegionValue). value bound b.maps (grid_position e r c)) alike.region;
       }
 
   classes_alike : (target : List ℕ) (rules : List RuleValue) (x : ShelfValue) (o other : Option Grid)

@@ -7,7 +7,7 @@ use Rattle.std.specs.List.{zip, range_with_len}
 use Rattle.std.proofs.lemmas.Option.{slice_get-map}
 use Rattle.cell_core.specs.Grid.{Grid, CellValue, cell_at}
 use Rattle.cell_core.specs.Text.{cell_text}
-use Rattle.cell_calc_binding.specs.Applied.{Spot, negated_cell, inverted_cell, operator_value, call_result}
+use Rattle.cell_calc_binding.specs.Applied.{GridPosition, negated_cell, inverted_cell, operator_value, call_result}
 use Rattle.cell_calc_binding.specs.Offsets.{cell_in}
 use Rattle.cell_calc_binding.specs.Formula.{Formula, Number, Map, Negated, Not, Binary, Call, Formulas, NoTrees}
 use Rattle.cell_calc_binding.specs.Formula.{Then}
@@ -56,7 +56,8 @@ in_bare None r c = refl
 in_bare (Some m) r c = refl
 
 mutual
-  pub value_bare : (f : Formula) (maps : List Grid) (s : Spot) → value f maps s ≡ value f (map without_labels maps) s
+  pub value_bare : (f : Formula) (maps : List Grid) (s : GridPosition)
+      → value f maps s ≡ value f (map without_labels maps) s
   value_bare (Number n) maps s = refl
   value_bare (Map i down right) maps s =
       in_bare (slice_get maps i) (pos s.row +ℤ down) (pos s.col +ℤ right)
@@ -68,7 +69,7 @@ mutual
       ∙ ap (λ y. operator_value op (value a (map without_labels maps) s) y) (value_bare b maps s)
   value_bare (Call g xs) maps s = ap (call_result g s) (values_bare xs maps s)
 
-  values_bare : (xs : Formulas) (maps : List Grid) (s : Spot)
+  values_bare : (xs : Formulas) (maps : List Grid) (s : GridPosition)
       → argument_values xs maps s ≡ argument_values xs (map without_labels maps) s
   values_bare NoTrees maps s = refl
   values_bare (Then a xs) maps s =

@@ -9,7 +9,7 @@ use Rattle.cell_core.specs.Grid.{Grid, CellValue, IsFilled, no_labels}
 use Rattle.cell_core.specs.Shelf.{ShelfValue}
 use Rattle.cell_calc_binding.specs.Formula.{Formula}
 use Rattle.cell_calc_binding.specs.Value.{value}
-use Rattle.cell_calc_binding.specs.Applied.{spot}
+use Rattle.cell_calc_binding.specs.Applied.{grid_position}
 use Rattle.cell_cats.specs.Rule.{RuleValue}
 use Rattle.cell_cats.specs.Reclass.{reclassed_map, new_row}
 use Rattle.cell_cats_law.proofs.ExistsLemmas.{clumping_exists}
@@ -34,7 +34,7 @@ pub record HasMaps (shelf : ShelfValue) : Type 0 where
 
 values_exist : (bound : Formula) (shelf : ShelfValue) → (made : Grid) × AreValues bound shelf made
 values_exist bound shelf =
-    let at : ℕ → ℕ → CellValue = λ r c. value bound shelf.maps (spot shelf.region r c) in (
+    let at : ℕ → ℕ → CellValue = λ r c. value bound shelf.maps (grid_position shelf.region r c) in (
       made_map shelf.region at,
       record {
         region = refl;

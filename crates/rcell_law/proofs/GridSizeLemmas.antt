@@ -20,7 +20,7 @@ use Rattle.cell_join_tiles.specs.parts.Greatest.{greatest_of}
 use Rattle.cell_join_tiles.proofs.GreatestLemmas.{has-areas}
 use Rattle.cell_join_law.specs.NumberTables.{listed_sizes}
 use Rattle.cell_join_law.specs.SizeLaw.{size_of_number}
-use Rattle.cell_join_law.specs.TileSizes.{AreJoinedTiles, IsTileTable, JoinedTile, numbers_of_tiles}
+use Rattle.cell_join_law.specs.TileSizes.{AreTilesOfWhole, IsTileTable, JoinedTile, numbers_of_tiles}
 use Rattle.cell_join_law.specs.TileSizes.{sizes_of_tile}
 use Rattle.cell_join_law.proofs.TileSizeLemmas.{counts-in-tiles, tile-sizes, tile-tables-list}
 use Rattle.cell_join_tiles.specs.Beginnings.{tile_place}
@@ -168,10 +168,10 @@ module _ (j : Joining) (whole : Grid) (tiles : List (List NumberedTile)) (text :
         cells = is-tile whole widths tiles are.rows sized r c row tile in_tiles in_row;
         clumping = (clumped r c row tile in_tiles in_row).clumping;
         areas = subst (HasAreas j tile.map) (sym n) count.2;
-        tells = is.are r c row tile in_tiles in_row;
+        reports = is.are r c row tile in_tiles in_row;
       })
 
-  are-joined : AreJoinedTiles j whole whole.region.rows whole.region.cols joined
+  are-joined : AreTilesOfWhole j whole whole.region.rows whole.region.cols joined
   are-joined = record {
     tiling = subst (AreTiling whole.region.rows whole.region.cols)
         (sym (rows-places j 0 tiles (tile_widths tiles) is.counts is.numbers sized is.have))

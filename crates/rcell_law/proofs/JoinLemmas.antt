@@ -10,7 +10,7 @@ use Rattle.std.proofs.lemmas.List.Elements.{All-append, All-cons, All-nil}
 use Rattle.std.proofs.lemmas.List.Sums.{sum_by-append, sum_by-cons}
 use Rattle.cell_core.specs.Grid.{Grid}
 use Rattle.cell_cats_areas.specs.declared.clump.Joining.{Joining}
-use Rattle.cell_cats_areas.specs.Areas.{HasNumber, IsClumping, Position, cell_at_spot}
+use Rattle.cell_cats_areas.specs.Areas.{HasNumber, IsClumping, Position, cell_at_position}
 use Rattle.cell_cats_areas.proofs.CountLemmas.{numbers_count_areas}
 use Rattle.cell_parts.specs.Parts.{Rectangle, stretches}
 use Rattle.cell_parts.specs.AreaParts.{IsTile, moved_position}
@@ -140,7 +140,7 @@ module _ (j : Joining) (whole : Grid) where
     pub cells : IsTile whole (record { place = place; map = tile.map })
     pub clumping : IsClumping j tile.map tile.numbers
     pub areas : HasAreas j tile.map count
-    pub tells : (p : Position) (k : ℕ) → cell_at_spot tile.numbers p ≡ Some (pos k)
+    pub reports : (p : Position) (k : ℕ) → cell_at_position tile.numbers p ≡ Some (pos k)
         → HasNumber j whole (moved_position place p) (slice_index numbers (before + (k - 1)))
 
   pub tile-as : (place other : Rectangle) (tile : NumberedTile) (count : ℕ) (numbers more : List ℕ) (before from : ℕ)
@@ -150,10 +150,10 @@ module _ (j : Joining) (whole : Grid) where
     cells = subst (λ (r : Rectangle). IsTile whole (record { place = r; map = tile.map })) same is.cells;
     clumping = is.clumping;
     areas = is.areas;
-    tells = λ p k here.
+    reports = λ p k here.
         subst (λ (n : ℕ). HasNumber j whole (moved_position other p) n) (each (k - 1))
         (subst (λ (r : Rectangle). HasNumber j whole (moved_position r p) (slice_index numbers (before + (k - 1)))) same
-        (is.tells p k here));
+        (is.reports p k here));
   }
 
   joined-tile : (place : Rectangle) (tile : NumberedTile) (n : ℕ) (numbers : List ℕ) → n ≤ length numbers
@@ -166,7 +166,7 @@ module _ (j : Joining) (whole : Grid) where
     cells = is.cells;
     clumping = is.clumping;
     areas = subst (HasAreas j tile.map) (sym (length-take-le n numbers few)) is.areas;
-    tells = λ p k here.
+    reports = λ p k here.
         let within = (numbers_count_areas j tile.map tile.numbers is.clumping is.areas.0 is.areas.1 k).0 (p, here) in
         let least = within.0 in
         let most = within.1 in
@@ -174,7 +174,7 @@ module _ (j : Joining) (whole : Grid) where
         let low : k - 1 < n = omega (arith, least, most, all) in
         let none : 0 + (k - 1) ≡ k - 1 = omega arith in
         subst (λ (i : ℕ). HasNumber j whole (moved_position place p) i)
-        (ap (slice_index numbers) none ∙ sym (get_or-take n numbers (k - 1) 0 low)) (is.tells p k here);
+        (ap (slice_index numbers) none ∙ sym (get_or-take n numbers (k - 1) 0 low)) (is.reports p k here);
   }
 
   abbrev AreTilesHere : (top left height : ℕ) → List NumberedTile → (widths counts numbers : List ℕ) → Type 0

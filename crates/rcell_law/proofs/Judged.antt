@@ -8,7 +8,7 @@ use Rattle.cell_calc_grammar.specs.declared.token.Placed.{Placed}
 use Rattle.cell_calc_grammar.specs.Tokens.{token_fault, token_list}
 use Rattle.cell_calc_language.specs.declared.assignment.Assignment.{Assignment}
 use Rattle.cell_calc_language.specs.Assignment.{IsAssignment, IsAssignmentText}
-use Rattle.cell_calc_language.specs.GrammarFault.{Tells, IsGrammarFault, IsTextFault}
+use Rattle.cell_calc_language.specs.GrammarFault.{Reports, IsGrammarFault, IsTextFault}
 use Rattle.cell_calc_language.proofs.Law.{one}
 use Rattle.cell_calc_language.proofs.Judged.{IsJudged, each_judged}
 use Rattle.rcell_script_commands.specs.Commands.{mapcalc_of, IsMapcalc, head_of_words, is_mapcalc, IsShortHead, IsHeadOf}
@@ -27,33 +27,33 @@ use Rattle.rcell_law.specs.JudgedLaw.{IsGoodText, IsBadText, ScriptTextsAreJudge
 use Rattle.rcell_law.proofs.Plain.{IsPlain, plain_list}
 
 -- a fault of the grammar is not one of memory
-grammar_plain : (end : ℕ) (ts : List Placed) (told : CalcFault) → IsGrammarFault end ts told
-    → told.kind ≡ calc.Memory → ⊥
-grammar_plain end ts told (inl (before, rest, next, cut, tells, none), is) e = subst (λ k. Tells k told.column before next) e tells
-grammar_plain end ts told (inr (at, can, none), is) e = cc (ap (λ (x : CalcFault). x.kind) at)
+grammar_plain : (end : ℕ) (ts : List Placed) (reported : CalcFault) → IsGrammarFault end ts reported
+    → reported.kind ≡ calc.Memory → ⊥
+grammar_plain end ts reported (inl (before, rest, next, cut, reports, none), is) e = subst (λ k. Reports k reported.column before next) e reports
+grammar_plain end ts reported (inr (at, can, none), is) e = cc (ap (λ (x : CalcFault). x.kind) at)
 
 -- a text is an assignment, or has a fault that is not one of memory
 abbrev IsJudgedText : List ℕ → Type 0
-IsJudgedText text = ((a : Assignment) × IsAssignmentText text a) ⊎ ((told : CalcFault) × IsTextFault text told × (told.kind ≡ calc.Memory → ⊥))
+IsJudgedText text = ((a : Assignment) × IsAssignmentText text a) ⊎ ((reported : CalcFault) × IsTextFault text reported × (reported.kind ≡ calc.Memory → ⊥))
 
 judged_text : (text : List ℕ) → IsJudgedText text
 judged_text text = go (token_list text) refl (plain_list text)
   where
     go : (r : Result (List Placed) CalcFault) → token_list text ≡ r → IsPlain (token_list text) → IsJudgedText text
-    go (Err told) e plain =
-        inr (told, inr (subst (λ x. MatchResult x (λ ts. IsGrammarFault (length text + 1) ts told) (λ first. told ≡ first)) (sym e) refl), subst IsPlain e plain)
+    go (Err reported) e plain =
+        inr (reported, inr (subst (λ x. MatchResult x (λ ts. IsGrammarFault (length text + 1) ts reported) (λ first. reported ≡ first)) (sym e) refl), subst IsPlain e plain)
     go (Ok ts) e plain = by (each_judged (length text + 1) ts)
       where
         by : IsJudged (length text + 1) ts → IsJudgedText text
         by (inl (a, is)) = inl (a, subst (λ x. IsOkAnd x (λ us. IsAssignment us a)) (sym e) is)
-        by (inr (told, is)) =
-            inr (told, inr (subst (λ x. MatchResult x (λ us. IsGrammarFault (length text + 1) us told) (λ first. told ≡ first)) (sym e) is), grammar_plain (length text + 1) ts told is)
+        by (inr (reported, is)) =
+            inr (reported, inr (subst (λ x. MatchResult x (λ us. IsGrammarFault (length text + 1) us reported) (λ first. reported ≡ first)) (sym e) is), grammar_plain (length text + 1) ts reported is)
 
 -- the line of an r.mapcalc comes to something
 mapcalc_head : (known : List (List ℕ)) (line : List ℕ) → IsJudgedText (assignment_text line)
     → (head : Result Head ScriptKind) × IsMapcalc known line head
 mapcalc_head known line (inl (a, is)) = (mapcalc_of known a, inl (a, is, refl))
-mapcalc_head known line (inr (told, is, plain)) = (Err (Calc told), inr (told, is, plain, refl))
+mapcalc_head known line (inr (reported, is, plain)) = (Err (Calc reported), inr (reported, is, plain, refl))
 
 short_head : (mapcalc : Bool) (known : List (List ℕ)) (line : List ℕ) → (head : Result Head ScriptKind) × IsShortHead mapcalc known line head
 short_head true known line = mapcalc_head known line (judged_text (assignment_text line))
@@ -72,5 +72,5 @@ texts_are_judged known text =
     go : (r : Result (List Statement) ScriptFault) → IsScriptReading 1 (start known) (script_lines text) r → IsGoodText known text ⊎ IsBadText known text
     go (Ok statements) is =
         let script = (reading-denotes known text statements).0 is in
-        inl (statements, script, λ told token_fault. no_fault_of_a_script one known text statements told script token_fault)
-    go (Err told) is = inr (told, is, λ statements script. no_fault_of_a_script one known text statements told script is)
+        inl (statements, script, λ reported token_fault. no_fault_of_a_script one known text statements reported script token_fault)
+    go (Err reported) is = inr (reported, is, λ statements script. no_fault_of_a_script one known text statements reported script is)

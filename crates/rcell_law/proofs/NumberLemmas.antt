@@ -25,7 +25,7 @@ module _ (j : Joining) (whole : Grid) (areas : ℕ) (has : HasAreas j whole area
       let back : i + 1 - 1 ≡ i = omega arith in
       subst (λ (k : ℕ). IsOfWhole (get_or t.there k 0)) back
       (number-within j whole areas has (moved_position (place_of_tile t) occurs.0) (get_or t.there (i + 1 - 1) 0)
-      (is.tells occurs.0 (i + 1) occurs.1)))
+      (is.reports occurs.0 (i + 1) occurs.1)))
 
   pub numbers-good : (tiles : List JoinedTile) → All (IsJoinedTile j whole) tiles
       → All (λ (n : ℕ). (0 < n) × (n ≤ areas)) (numbers_of_tiles tiles)

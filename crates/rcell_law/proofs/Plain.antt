@@ -16,7 +16,7 @@ use Rattle.cell_calc_grammar.specs.Tokens.{token_fault, is_float_byte, not_whole
 -- there is a value, or a fault that is not one of memory
 abbrev pub IsPlain : {A : Type 0} → Result A CalcFault → Type 0
 IsPlain (Ok x) = Unit {0}
-IsPlain (Err told) = told.kind ≡ Memory → ⊥
+IsPlain (Err reported) = reported.kind ≡ Memory → ⊥
 
 plain_if : {A : Type 0} (b : Bool) (x y : Result A CalcFault) → IsPlain x → IsPlain y → IsPlain (if b then x else y)
 plain_if true x y h g = h
@@ -44,7 +44,7 @@ plain_token column bytes = plain_if (list_all is_name_byte bytes) (word_of colum
 
 plain_placed : (column : ℕ) (t : Result Token CalcFault) → IsPlain t → IsPlain (token_at column t)
 plain_placed column (Ok t) h = tt
-plain_placed column (Err told) h = h
+plain_placed column (Err reported) h = h
 
 plain_next : (count : ℕ) (piece : Piece) → IsPlain (next_token count piece)
 plain_next count piece =
@@ -53,8 +53,8 @@ plain_next count piece =
 
 plain_before : (t : Result Placed CalcFault) (following : Result (List Placed) CalcFault) → IsPlain t → IsPlain following → IsPlain (before t following)
 plain_before (Ok t) (Ok ts) h g = tt
-plain_before (Ok t) (Err told) h g = g
-plain_before (Err told) following h g = h
+plain_before (Ok t) (Err reported) h g = g
+plain_before (Err reported) following h g = h
 
 plain_tokens : (count : ℕ) (ps : List Piece) → IsPlain (tokens_of count ps)
 unfolding tokens_of

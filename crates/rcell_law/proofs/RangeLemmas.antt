@@ -16,7 +16,7 @@ use Rattle.cell_calc_grammar.specs.declared.function.Function.{Function}
 use Rattle.cell_calc_grammar.specs.declared.function.Function.TheVariants as function
 use Rattle.cell_calc_grammar.specs.declared.operator.Operator.{Operator}
 use Rattle.cell_calc_grammar.specs.declared.operator.Operator.TheVariants as operator
-use Rattle.cell_calc_binding.specs.Applied.{Spot, operator_value, call_result}
+use Rattle.cell_calc_binding.specs.Applied.{GridPosition, operator_value, call_result}
 use Rattle.cell_calc_binding.specs.CellOperators.{fit, is_zero, is_null, truth, of_one, of_both}
 use Rattle.cell_core_values.specs.Cell.{is_category}
 use Rattle.cell_calc_binding.specs.CellOperators.{is_false, is_true, chosen_cell, lesser, greater, least}
@@ -149,13 +149,14 @@ if_of_in (x ∷ a ∷ b ∷ []) all = chosen_in x a b (item_in (x ∷ a ∷ b �
 if_of_in _ all = tt
 
 -- a row and a column of a region
-pub record IsSpot (s : Spot) : Type 0 where
+pub record IsPosition (s : GridPosition) : Type 0 where
   pub row : s.row < s.rows
   pub col : s.col < s.cols
   pub rows : s.rows ≤ 65535
   pub cols : s.cols ≤ 65535
 
-result_in : (f : Function) (s : Spot) (xs : List CellValue) → IsSpot s → All InRange xs → InRange (call_result f s xs)
+result_in : (f : Function) (s : GridPosition) (xs : List CellValue) → IsPosition s → All InRange xs
+    → InRange (call_result f s xs)
 result_in function.If s xs is all = if_of_in xs all
 result_in function.IsNull s xs is all = truth_in (is_null (first_known xs))
 result_in function.Null s xs is all = tt
@@ -210,7 +211,7 @@ map_in maps (Some m) i r c there all =
     (All-get_or (λ (g : Grid). AllInRange g.rows) maps i m (slice_get_within maps i m there) all) in
     any_item_in (item_at [] m.rows r) c (any_row_in m.rows r m_in)
 
-module _ (maps : List Grid) (all : All (λ m. AllInRange m.rows) maps) (s : Spot) (is : IsSpot s) where
+module _ (maps : List Grid) (all : All (λ m. AllInRange m.rows) maps) (s : GridPosition) (is : IsPosition s) where
   mutual
     pub value_in : (f : Formula) → HasCategories f → InRange (value f maps s)
     value_in (Number n) h = number_in n h

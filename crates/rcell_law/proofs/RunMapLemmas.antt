@@ -24,7 +24,7 @@ use Rattle.cell_ascii_meaning.specs.declared.grid_fault.GridKind.TheVariants.{Ce
 use Rattle.cell_ascii_meaning.specs.GridWords.{HeaderValue, cell_of_number, cell_of_word}
 use Rattle.cell_ascii_law.specs.WrittenLaw.{IsWritable}
 use Rattle.cell_ascii_law.proofs.WritingNumberLemmas.{whole_back, in_range_low}
-use Rattle.cell_calc_binding.specs.Applied.{spot}
+use Rattle.cell_calc_binding.specs.Applied.{grid_position}
 use Rattle.cell_calc_binding.specs.Formula.{Formula}
 use Rattle.cell_cats.specs.Rule.{RuleValue, last_such, last_output, outcome, new_category, lists, is_star_rule}
 use Rattle.cell_cats.specs.RuleLine.{SpellsOutput, output_word, SpellsRule}
@@ -32,7 +32,7 @@ use Rattle.cell_cats.specs.Reclass.{reclassed_map, new_row}
 use Rattle.cell_cats.specs.declared.rule.Output.{Output}
 use Rattle.cell_cats.specs.declared.rule.Output.TheVariants.{Same, To}
 use Rattle.cell_cats_areas.specs.declared.clump.Joining.{Joining}
-use Rattle.cell_cats_areas.specs.Areas.{Position, cell_at_spot, IsEarlierCell, IsClumping, HasNumber}
+use Rattle.cell_cats_areas.specs.Areas.{Position, cell_at_position, IsEarlierCell, IsClumping, HasNumber}
 use Rattle.cell_cats_areas.specs.parts.CellPlaces.{position, cell_place, IsInside}
 use Rattle.cell_cats_areas.proofs.MeetingLemmas.{some_of}
 use Rattle.cell_cats_areas.proofs.StartLemmas.{inside_map, place_lt, place_inside}
@@ -66,7 +66,7 @@ use Rattle.rcell_law.specs.RunMaps.{RunMapsAreWritable}
 use Rattle.rcell_law.proofs.ExistLemmas.{classes_filled}
 use Rattle.rcell_script.specs.ReclassRules.{AreRules}
 use Rattle.rcell_script.specs.ReclassRules as rules
-use Rattle.rcell_law.proofs.RangeLemmas.{InRange, AllInRange, IsSpot, HasCategories, HaveCategories, value_in}
+use Rattle.rcell_law.proofs.RangeLemmas.{InRange, AllInRange, IsPosition, HasCategories, HaveCategories, value_in}
 use Rattle.rcell_law.proofs.RangeLemmas.{number_in, cells_in}
 
 -- ---- rules
@@ -177,7 +177,7 @@ number_low j m p n filled h = by n h.count
     inside i lt =
         let q : Position = get_or h.firsts i d in
         let first = ((h.up_to.exactly q).0 (Contains-get_or h.firsts i d lt)).0 in
-        let v = some_of (cell_at_spot m q) first.category in
+        let v = some_of (cell_at_position m q) first.category in
         inside_map m q v.0 filled v.1
 
     by : (n : ℕ) → length h.firsts ≡ n → n ≤ m.region.rows * m.region.cols
@@ -191,12 +191,12 @@ number_low j m p n filled h = by n h.count
 numbers_in : (j : Joining) (m made : Grid) → IsFilled m.region m.rows → IsRegion m.region
     → IsFilled made.region made.rows → IsClumping j m made → AllInRange made.rows
 numbers_in j m made filled is made_filled clumping = cells_in made made_filled
-    (λ r c high wide. by (position r c) (cell_at_spot m (position r c)) refl)
+    (λ r c high wide. by (position r c) (cell_at_position m (position r c)) refl)
   where
-    by : (p : Position) (x : CellValue) → cell_at_spot m p ≡ x → InRange (cell_at_spot made p)
+    by : (p : Position) (x : CellValue) → cell_at_position m p ≡ x → InRange (cell_at_position made p)
     by p None e = subst InRange (sym (clumping.nulls p e)) tt
     by p (Some v) e =
-        let some : IsSome (cell_at_spot m p) = rw e refl in
+        let some : IsSome (cell_at_position m p) = rw e refl in
         let given = clumping.numbered p some in
         let low = number_low j m p given.0 filled given.1 in
         let most = is.cells_most in
@@ -322,7 +322,7 @@ assigned text a is = by (token_list text) refl is
   where
     by : (r : Result (List Placed) CalcFault) → token_list text ≡ r → IsOkAnd r (λ ts. IsAssignment ts a)
         → IsGrammatical a.expr
-    by (Err told) e h = absurd h
+    by (Err reported) e h = absurd h
     by (Ok ts) e (c, d, us, cut, stands) =
         let all = subst AreCategories cut (spelled_categories (are_spelled text ts e)) in
         expression_grammatical stands all.1.1
@@ -386,14 +386,14 @@ module _ (region : RegionValue) (is : IsRegion region) where
         region_is = k.region ∙ h.region_is;
         filled = k.filled;
         range = cells_in made k.filled (λ r c high wide.
-            let here : IsSpot (spot shelf.region r c) = record {
+            let here : IsPosition (grid_position shelf.region r c) = record {
               row = omega (arith, rows, high);
               col = omega (arith, cols, wide);
               rows = omega (arith, rows_are, rows_most);
               cols = omega (arith, cols_are, cols_most);
             } in
             subst InRange (sym (k.cells r c (omega (arith, rows, high)) (omega (arith, cols, wide))))
-            (value_in shelf.maps all (spot shelf.region r c) here bound good));
+            (value_in shelf.maps all (grid_position shelf.region r c) here bound good));
       }
 
   reclassed_sound : (given : List RuleValue) (m : Grid) → AreGoodRules given → IsSound region m → IsSound region

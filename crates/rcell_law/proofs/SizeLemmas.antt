@@ -47,7 +47,7 @@ use Rattle.rcell_law.specs.MapRuns.{CountsClumps, MapRun, NumbersClumps, run_tex
 use Rattle.rcell_law.specs.SizedRuns.{AreCountedRuns, CountsTile, IsFullMap, SizesAreThoseOfTheGrid}
 use Rattle.rcell_law.specs.SizedRuns.{TablesOfTilesAreAddedUp}
 use Rattle.rcell_law.specs.TileRuns.{TileRun, all_runs, tile_of_run, tiles_of_runs}
-use Rattle.rcell_law.proofs.AddedLemmas.{AreInRange, added-up, reads-as-told}
+use Rattle.rcell_law.proofs.AddedLemmas.{AreInRange, added-up, reads-as-written}
 use Rattle.rcell_law.proofs.CellLemmas.{cells-few}
 use Rattle.rcell_law.proofs.GridSizeLemmas.{grid-sizes-exist, numbers-few, sizes-of-the-grid}
 use Rattle.rcell_law.proofs.TableLemmas.{entries-printed, run-counts, two-counted}
@@ -120,19 +120,20 @@ module _ (j : Joining) where
 
   -- fewer than 2^31 tiles, and numbers of clumps of the whole
   in-range : (whole : Grid) (tiles : List (List NumberedTile)) (text : List ℕ)
-      (told : IsNumberingOfGrid j whole tiles text) → All (IsNumberedTile j) (all_tiles tiles)
+      (reported : IsNumberingOfGrid j whole tiles text) → All (IsNumberedTile j) (all_tiles tiles)
       → length (all_tiles tiles) < 2 ^ 31 → (clumps : ℕ) → clumps < 2 ^ 64
-      → All (λ (n : ℕ). (0 < n) × (n ≤ clumps)) told.numbers → AreInRange (all_counts told.counts) told.numbers
-  in-range whole tiles text told numbered short clumps few good =
-      let each = zip-flat (λ (b : NumberedTile) (n : ℕ). HasAreas j b.map n) tiles told.counts told.have in
-      let long = zip-long (λ (b : NumberedTile) (n : ℕ). HasAreas j b.map n) (all_tiles tiles) (all_counts told.counts)
+      → All (λ (n : ℕ). (0 < n) × (n ≤ clumps)) reported.numbers
+      → AreInRange (all_counts reported.counts) reported.numbers
+  in-range whole tiles text reported numbered short clumps few good =
+      let each = zip-flat (λ (b : NumberedTile) (n : ℕ). HasAreas j b.map n) tiles reported.counts reported.have in
+      let long = zip-long (λ (b : NumberedTile) (n : ℕ). HasAreas j b.map n) (all_tiles tiles) (all_counts reported.counts)
       each in
       record {
         short = omega (arith, short, long);
-        few = all-low (all_tiles tiles) (all_counts told.counts) numbered each;
+        few = all-low (all_tiles tiles) (all_counts reported.counts) numbered each;
         good = All-weaker (λ (n : ℕ). (0 < n) × (n ≤ clumps)) (λ (n : ℕ). (0 < n) × (n < 2 ^ 64))
-            (λ n both. (both.0, let most = both.1 in omega (arith, most, few))) told.numbers good;
-        many = told.many;
+            (λ n both. (both.0, let most = both.1 in omega (arith, most, few))) reported.numbers good;
+        many = reported.many;
       }
 
 -- ---- the sizes
@@ -225,7 +226,7 @@ module _ (one : OneScript) (script counting : Coming) (names : List (List ℕ)) 
         ≡ numbering_read tiles-are.numbering.counts tiles-are.numbering.numbers
     reading =
         ap (λ (t : List ℕ). areas_reading_of (written_text t)) tiles-are.numbering.is
-        ∙ reads-as-told (all_counts tiles-are.numbering.counts) tiles-are.numbering.numbers range
+        ∙ reads-as-written (all_counts tiles-are.numbering.counts) tiles-are.numbering.numbers range
 
 pub sizes-are-those-of-the-grid : OneScript → SizesAreThoseOfTheGrid
 sizes-are-those-of-the-grid one script counting full names place joining options whole_options runs tables whole

@@ -9,7 +9,7 @@ use Rattle.cell_core_devices.specs.Device.{Coming}
 use Rattle.cell_core.specs.Grid.{CellValue, Grid}
 use Rattle.cell_ascii_meaning.specs.GridText.{Denotes}
 use Rattle.cell_cats_areas.proofs.LawLemmas.{HasNumber-one}
-use Rattle.cell_cats_areas.specs.Areas.{HasNumber, IsClumping, Position, cell_at_spot}
+use Rattle.cell_cats_areas.specs.Areas.{HasNumber, IsClumping, Position, cell_at_position}
 use Rattle.cell_cats_areas.specs.declared.clump.Joining.{Joining}
 use Rattle.cell_parts.proofs.AreaLemmas.{is-some}
 use Rattle.cell_parts.specs.AreaParts.{moved_position}
@@ -116,9 +116,9 @@ pub scripts-of-tiles-number : OneScript → ScriptsOfTilesNumber
 scripts-of-tiles-number one script names place joining script_is runs are = record {
   numbered = tiles-numbered one script names place joining script_is runs are;
   joined = λ few.
-      let told = borders-make-grids joining (tiles_of_runs runs) (border_texts runs)
+      let reported = borders-make-grids joining (tiles_of_runs runs) (border_texts runs)
       (texts-of-tiles script place joining runs) are.make in
-      good-borders-are-joined joining (border_texts runs) told.0 told.1
+      good-borders-are-joined joining (border_texts runs) reported.0 reported.1
       (let long = length-map (all_runs runs) (λ (b : TileRun script place joining). written_text b.border) in
       omega (arith, few, long));
   is = numbering-of-grid one script names place joining script_is runs are;
@@ -129,20 +129,20 @@ scripts-of-tiles-number one script names place joining script_is runs are = reco
 -- a cell of a tile has in the full map the number that stands for its clump
 number-here : (j : Joining) (whole numbered : Grid) → IsClumping j whole numbered → (tile : NumberedTile)
     → IsClumping j tile.map tile.numbers → (numbers : List ℕ) (before : ℕ) (p q : Position)
-    → cell_at_spot whole q ≡ cell_at_spot tile.map p
-    → ((k : ℕ) → cell_at_spot tile.numbers p ≡ Some (pos k)
+    → cell_at_position whole q ≡ cell_at_position tile.map p
+    → ((k : ℕ) → cell_at_position tile.numbers p ≡ Some (pos k)
     → HasNumber j whole q (slice_index numbers (before + (k - 1))))
-    → cell_at_spot numbered q ≡ number_in_whole numbers before (cell_at_spot tile.numbers p)
-number-here j whole numbered clumping tile has numbers before p q cell tells = by (cell_at_spot tile.map p) refl
+    → cell_at_position numbered q ≡ number_in_whole numbers before (cell_at_position tile.numbers p)
+number-here j whole numbered clumping tile has numbers before p q cell reports = by (cell_at_position tile.map p) refl
   where
-    by : (c : CellValue) → cell_at_spot tile.map p ≡ c
-        → cell_at_spot numbered q ≡ number_in_whole numbers before (cell_at_spot tile.numbers p)
+    by : (c : CellValue) → cell_at_position tile.map p ≡ c
+        → cell_at_position numbered q ≡ number_in_whole numbers before (cell_at_position tile.numbers p)
     by None none =
         clumping.nulls q (cell ∙ none) ∙ ap (number_in_whole numbers before) (sym (has.nulls p none))
     by (Some v) some =
-        let t = has.numbered p (is-some (cell_at_spot tile.map p) v some) in
-        let u = clumping.numbered q (is-some (cell_at_spot whole q) v (cell ∙ some)) in
-        let same = HasNumber-one j whole q u.0 (slice_index numbers (before + (t.0 - 1))) u.1 (tells t.0 t.2) in
+        let t = has.numbered p (is-some (cell_at_position tile.map p) v some) in
+        let u = clumping.numbered q (is-some (cell_at_position whole q) v (cell ∙ some)) in
+        let same = HasNumber-one j whole q u.0 (slice_index numbers (before + (t.0 - 1))) u.1 (reports t.0 t.2) in
         u.2 ∙ ap (λ (n : ℕ). Some (pos n)) same ∙ ap (number_in_whole numbers before) (sym t.2)
 
 pub one-run-has-these-numbers : OneScript → OneRunHasTheseNumbers

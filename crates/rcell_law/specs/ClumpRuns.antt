@@ -4,7 +4,7 @@ use Rattle.cell_core_devices.specs.Device.{Coming}
 use Rattle.cell_core.specs.Grid.{CellValue, Grid}
 use Rattle.cell_ascii_meaning.specs.GridText.{Denotes}
 use Rattle.cell_cats_areas.specs.declared.clump.Joining.{Joining}
-use Rattle.cell_cats_areas.specs.Areas.{Position, cell_at_spot}
+use Rattle.cell_cats_areas.specs.Areas.{Position, cell_at_position}
 use Rattle.cell_parts.specs.AreaParts.{moved_position}
 use Rattle.cell_join_tiles.specs.Beginnings.{tile_place}
 use Rattle.cell_join_clumps.specs.ClumpsOfTiles.{HasWrittenClumps, IsClumpsFault}
@@ -46,8 +46,8 @@ abbrev pub IsRenumbered : Grid → List (List NumberedTile) → List (List ℕ) 
 IsRenumbered numbered tiles counts numbers =
     (r c : ℕ) (row : List NumberedTile) (tile : NumberedTile) → slice_get tiles r ≡ Some row → slice_get row c ≡ Some tile
     → (p : Position) → p.row < tile.map.region.rows → p.col < tile.map.region.cols
-    → cell_at_spot numbered (moved_position (tile_place (tile_heights tiles) (tile_widths tiles) r c) p)
-    ≡ number_in_whole numbers (clumps_before counts r c) (cell_at_spot tile.numbers p)
+    → cell_at_position numbered (moved_position (tile_place (tile_heights tiles) (tile_widths tiles) r c) p)
+    ≡ number_in_whole numbers (clumps_before counts r c) (cell_at_position tile.numbers p)
 
 -- the numbering is that of the full map, and has for each cell of each tile the number that a map has for it
 pub record HasNumbersOf (numbered : Grid) (joining : Joining) (whole : Grid) (tiles : List (List NumberedTile))

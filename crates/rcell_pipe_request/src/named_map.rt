@@ -195,7 +195,7 @@ fn set_labels(map: &mut CellMap, labels: &[Label]) -> Result<(), Memory>
 
 /// A map under its name, if the maps before are on this shelf.
 #[tactic(auto, unfolding(crate::specs::Requests::map_at))]
-pub fn read_map<R: Source>(
+pub fn read_named_map<R: Source>(
     alloc: Global,
     feed: &mut Feed<R>,
     maps: u32,

@@ -7,7 +7,7 @@ ghost use Rattle.rcell_pipe_request.specs.Requests.{first_shelf, shelf_with, cou
 
 use crate::error::{ErrorKind, FieldStop, RequestStop};
 use crate::feed::{Feed, read_bytes, read_end, read_u32};
-use crate::named_map::{NamedMap, read_map};
+use crate::named_map::{NamedMap, read_named_map};
 use cell_core::shelf::Shelf;
 use cell_core::source::Source;
 use std::alloc::Global;
@@ -92,7 +92,7 @@ fn push_map<R: Source>(
     ensures count { OnOk result (length shelf.new.names ≡ length shelf.old.names + 1) }
 {
     let maps = shelf.len() as u32;
-    let named = match read_map(alloc, feed, maps, Some(&*shelf)) {
+    let named = match read_named_map(alloc, feed, maps, Some(&*shelf)) {
         Ok(named) => named,
         Err(stop) => return Err(stop),
     };
@@ -137,7 +137,7 @@ fn read_first_map<R: Source>(alloc: Global, feed: &mut Feed<R>) -> Result<FirstM
         Ok(count) => count,
         Err(stop) => return Err(stop.at(0, 0)),
     };
-    let named = match read_map(alloc, feed, 0, None) {
+    let named = match read_named_map(alloc, feed, 0, None) {
         Ok(named) => named,
         Err(stop) => return Err(stop),
     };

@@ -17,11 +17,11 @@ use Rattle.rcell_pipe_request.specs.declared.error.RequestError.{RequestError}
 use Rattle.rcell_pipe_request.specs.Requests.{RunRequestValue}
 use Rattle.rcell_pipe_response.specs.declared.end.PipeError.{PipeError}
 use Rattle.rcell_pipe_response.specs.declared.end.PipeError.TheVariants as errors
-use Rattle.rcell_pipe_response.specs.declared.running.PipeOutcome.{PipeOutcome}
+use Rattle.rcell_pipe_response.specs.declared.frame_run.PipeOutcome.{PipeOutcome}
 use Rattle.rcell_pipe_response.specs.Frames.{OutputFrame, GivesFrames}
 use Rattle.rcell_pipe_response.specs.FrameBytes.{EndValue, frames_bytes, end_bytes, response_magic, response_bytes}
-use Rattle.rcell_pipe_response.specs.RunEnds.{status_after, done_end, memory_end, script_end, IsPipeAccepted, IsResponse, IsCut, WasCut, WasWritten, HasResponded}
-use Rattle.rcell_pipe_response.specs.Endings.{error_after, Finished, IsRejection, EndsAs}
+use Rattle.rcell_pipe_response.specs.RunEnds.{end_status_after, done_end, memory_end, script_end, IsPipeAccepted, IsResponse, IsCut, WasCut, WasWritten, HasResponded}
+use Rattle.rcell_pipe_response.specs.FrameEndings.{error_after, Finished, IsRejection, EndsAs}
 use Rattle.rcell_pipe_response.specs.parts.LastFrames.{EndsResponse}
 
 or-true : (b : Bool) → (b || true) ≡ true
@@ -133,7 +133,7 @@ within {read} shelf next first (statement ∷ others) frames accepted given appe
 
 -- a run whose sink failed in an execution
 pub end_failed : (read : Result RunRequestValue RequestError) {before now : Option (List ℕ)} {start after : Faults} {block : BlockValue} {outcome : PipeOutcome} (shelf next : ShelfValue) (first others : List Statement) (frames : List OutputFrame)
-    → outcome.error ≡ Some errors.Write → outcome.status ≡ status_after outcome.error → IsPipeAccepted read shelf (first ++ others) → GivesFrames shelf first frames next
+    → outcome.error ≡ Some errors.Write → outcome.status ≡ end_status_after outcome.error → IsPipeAccepted read shelf (first ++ others) → GivesFrames shelf first frames next
     → Appended before start (response_magic ++ frames_bytes frames) now after block → block.failed ≡ true → EndsAs (IsResponse read) before start now after outcome
 end_failed read {before} {now} {start} {after} {block} {outcome} shelf next first others frames is status accepted given appended failed = record {
   end = subst (HasResponded (IsResponse read) before now) (sym is) (within shelf next first others frames accepted given appended);

@@ -12,7 +12,7 @@ use Rattle.rcell_script.specs.declared.statement.Statement.{Statement}
 use Rattle.rcell.specs.After.{IsShelfAfter}
 use Rattle.rcell_pipe_response.specs.Frames.{OutputFrame, command_frames, GivesFrames}
 use Rattle.rcell_pipe_response.specs.FrameBytes.{frame_bytes, frames_bytes}
-use Rattle.rcell_pipe_response.specs.parts.Execution.{HasGiven, StopsBefore, StopsWithin}
+use Rattle.rcell_pipe_response.specs.parts.FrameExecution.{HasGiven, StopsBefore, StopsWithin}
 
 -- one part, and then another
 GivesFrames-append : (first second : List Statement) (shelf between after : ShelfValue) (one other : List OutputFrame) → GivesFrames shelf first one between → GivesFrames between second other after

@@ -2,6 +2,6 @@
 pub mod Frames
 pub mod FrameBytes
 pub mod RunEnds
-pub mod Endings
+pub mod FrameEndings
 pub mod FrameLaw
 pub mod parts

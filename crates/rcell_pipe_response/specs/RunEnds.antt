@@ -76,9 +76,9 @@ error_status errors.Memory = 3
 error_status (errors.MemoryAt line) = 3
 error_status errors.Write = 4
 
-abbrev pub status_after : Option PipeError → ℕ
-status_after None = 0
-status_after (Some error) = error_status error
+abbrev pub end_status_after : Option PipeError → ℕ
+end_status_after None = 0
+end_status_after (Some error) = error_status error
 
 -- the bytes are a request, and its script denotes statements over its maps
 pub record IsPipeAccepted (read : Result RunRequestValue RequestError) (shelf : ShelfValue) (statements : List Statement) : Type 0 where

@@ -4,4 +4,4 @@ pub mod CellLabels
 pub mod Coordinates
 pub mod LastFrames
 pub mod ScriptKinds
-pub mod Execution
+pub mod FrameExecution

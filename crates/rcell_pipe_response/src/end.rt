@@ -1,7 +1,7 @@
 //! How a run ends.
 
 ghost use Rattle.std.specs.Prelude.{◌≡◌};
-ghost use Rattle.rcell_pipe_response.specs.RunEnds.{kind_text, request_status, script_column, done_end, request_end, script_end, memory_end, error_status, status_after, end_value};
+ghost use Rattle.rcell_pipe_response.specs.RunEnds.{kind_text, request_status, script_column, done_end, request_end, script_end, memory_end, error_status, end_status_after, end_value};
 ghost use Rattle.rcell_pipe_response.specs.parts.ScriptKinds.{is_memory};
 
 use rcell_pipe_request::error::{ErrorKind, RequestError};
@@ -155,8 +155,8 @@ fn error_status(error: PipeError) -> u8
 }
 
 /// The exit status of a run.
-pub(crate) fn status_after(error: Option<PipeError>) -> u8
-    ensures { result ≡ status_after error }
+pub(crate) fn end_status_after(error: Option<PipeError>) -> u8
+    ensures { result ≡ end_status_after error }
 {
     match error {
         Some(error) => error_status(error),

@@ -11,7 +11,7 @@ use Rattle.std.proofs.lemmas.Option.{same_Some, slice_get_past, slice_get-get_or
 use Rattle.cell_core_values.specs.Region.{RegionValue}
 use Rattle.cell_core.specs.Grid.{Grid, CellValue, IsFilled, cell_at}
 use Rattle.cell_core.specs.Shelf.{ShelfValue}
-use Rattle.cell_calc_binding.specs.Applied.{spot}
+use Rattle.cell_calc_binding.specs.Applied.{grid_position}
 use Rattle.cell_calc_binding.specs.Offsets.{item_at, row_of, cell_in, cell_at_offset}
 use Rattle.cell_calc_binding.specs.Formula.{Formula}
 use Rattle.cell_calc_binding.specs.Value.{value}
@@ -115,15 +115,16 @@ module _ (a b : List Grid) (region : RegionValue) (known : List (List Need)) (x 
 
   -- r.mapcalc
 
-  same_value : (f : Formula) (r c : ℕ) → value f x.maps (spot region r c) ≡ value f y.maps (spot region r c)
+  same_value : (f : Formula) (r c : ℕ)
+      → value f x.maps (grid_position region r c) ≡ value f y.maps (grid_position region r c)
       → (m n : Grid) → AreValues f x m → AreValues f y n → r < region.rows → c < region.cols
       → cell_at m r c ≡ cell_at n r c
   same_value f r c same m n are_m are_n row_in col_in =
       are_m.cells r c (subst (λ (e : RegionValue). r < e.rows) (sym h.first_region) row_in)
       (subst (λ (e : RegionValue). c < e.cols) (sym h.first_region) col_in)
-      ∙ ap (λ (e : RegionValue). value f x.maps (spot e r c)) h.first_region
+      ∙ ap (λ (e : RegionValue). value f x.maps (grid_position e r c)) h.first_region
       ∙ same
-      ∙ sym (ap (λ (e : RegionValue). value f y.maps (spot e r c)) h.second_region)
+      ∙ sym (ap (λ (e : RegionValue). value f y.maps (grid_position e r c)) h.second_region)
       ∙ sym (are_n.cells r c (subst (λ (e : RegionValue). r < e.rows) (sym h.second_region) row_in)
       (subst (λ (e : RegionValue). c < e.cols) (sym h.second_region) col_in))
 
@@ -147,7 +148,7 @@ module _ (a b : List Grid) (region : RegionValue) (known : List (List Need)) (x 
           inside_enough region m n (of_values f x m h.first_region are_m).filled
           (of_values f y n h.second_region are_n).filled row col (λ r c row_is col_is row_in col_in.
           same_value f r c
-          (expression_alike a b x.maps y.maps known h.maps f (spot region r c)
+          (expression_alike a b x.maps y.maps known h.maps f (grid_position region r c)
           (subst (λ (z : ℤ). All (AreAlikeAt a b z (pos c)) (needs_of_reads known (expression_reads f))) row_is
           (subst (λ (z : ℤ). All (AreAlikeAt a b row z) (needs_of_reads known (expression_reads f))) col_is all)))
           m n are_m are_n row_in col_in)
@@ -161,8 +162,8 @@ module _ (a b : List Grid) (region : RegionValue) (known : List (List Need)) (x 
             are_n.cells r c (subst (λ (e : RegionValue). r < e.rows)
             (h.first_region ∙ sym h.second_region) row_in) (subst (λ (e : RegionValue). c < e.cols)
             (h.first_region ∙ sym h.second_region) col_in)
-            ∙ ap (λ (e : RegionValue). value f y.maps (spot e r c)) (h.second_region ∙ sym h.first_region)
-            ∙ sym (expression_same a b x.maps y.maps known h.maps f (spot x.region r c) all);
+            ∙ ap (λ (e : RegionValue). value f y.maps (grid_position e r c)) (h.second_region ∙ sym h.first_region)
+            ∙ sym (expression_same a b x.maps y.maps known h.maps f (grid_position x.region r c) all);
       }
 
       same : All (IsSameMap a b) (needs_of_reads known (expression_reads f)) → m ≡ n

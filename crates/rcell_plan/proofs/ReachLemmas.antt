@@ -6,7 +6,7 @@ use Rattle.std.proofs.lemmas.List.Elements.{All-nil, All-cons, All-head, All-tai
 use Rattle.cell_core.specs.Grid.{Grid, CellValue}
 use Rattle.cell_calc_grammar.specs.declared.function.Function.{Function}
 use Rattle.cell_calc_grammar.specs.declared.function.Function.TheVariants as function
-use Rattle.cell_calc_binding.specs.Applied.{Spot, negated_cell, inverted_cell, operator_value, call_result}
+use Rattle.cell_calc_binding.specs.Applied.{GridPosition, negated_cell, inverted_cell, operator_value, call_result}
 use Rattle.cell_calc_grammar.specs.Tree.{fold_maps}
 use Rattle.cell_calc_grammar.specs.declared.step.Step.{Step}
 use Rattle.cell_calc_grammar.specs.declared.step.Step.TheVariants as step
@@ -16,7 +16,7 @@ use Rattle.cell_calc_binding.proofs.Steps.{greatest}
 use Rattle.cell_calc_binding.specs.Formula.{Formula, Number, Map, Negated, Not, Binary, Call, Formulas, NoTrees, Then}
 use Rattle.cell_calc_binding.specs.Reach.{up_at, down_at}
 use Rattle.cell_calc_binding.specs.Value.{value, argument_values}
-use Rattle.cell_calc_law.specs.HaloParts.{left_at, right_at, calls, call_any, value_told, values_told}
+use Rattle.cell_calc_law.specs.HaloParts.{left_at, right_at, calls, call_any, value_seen_from, values_seen_from}
 use Rattle.cell_calc_law.specs.LocalLaw.{asks_where}
 use Rattle.rcell_script_commands.specs.declared.command.Command.{Command}
 use Rattle.rcell_script_commands.specs.declared.command.Command.TheVariants.{Mapcalc, Reclass, Clump, Stats, OutAscii}
@@ -261,23 +261,23 @@ reads_are_reach f =
 
 -- ---- the position
 
-silent : (f : Function) (here told : Spot) (xs : List CellValue) → asks_where f ≡ false
-    → call_result f told xs ≡ call_result f here xs
-silent function.If here told xs h = refl
-silent function.IsNull here told xs h = refl
-silent function.Null here told xs h = refl
-silent function.Abs here told xs h = refl
-silent function.Min here told xs h = refl
-silent function.Max here told xs h = refl
-silent function.Mode here told xs h = refl
-silent function.Row here told xs h = cc
-silent function.Column here told xs h = cc
-silent function.RowCount here told xs h = cc
-silent function.ColumnCount here told xs h = cc
-silent function.Eval here told xs h = refl
-silent function.KnownMin here told xs h = refl
-silent function.KnownMax here told xs h = refl
-silent function.KnownMode here told xs h = refl
+silent : (f : Function) (here reported : GridPosition) (xs : List CellValue) → asks_where f ≡ false
+    → call_result f reported xs ≡ call_result f here xs
+silent function.If here reported xs h = refl
+silent function.IsNull here reported xs h = refl
+silent function.Null here reported xs h = refl
+silent function.Abs here reported xs h = refl
+silent function.Min here reported xs h = refl
+silent function.Max here reported xs h = refl
+silent function.Mode here reported xs h = refl
+silent function.Row here reported xs h = cc
+silent function.Column here reported xs h = cc
+silent function.RowCount here reported xs h = cc
+silent function.ColumnCount here reported xs h = cc
+silent function.Eval here reported xs h = refl
+silent function.KnownMin here reported xs h = refl
+silent function.KnownMax here reported xs h = refl
+silent function.KnownMode here reported xs h = refl
 
 or-left : (a b : Bool) → (a || b) ≡ false → a ≡ false
 or-left true b h = cc
@@ -287,33 +287,34 @@ or-right : (a b : Bool) → (a || b) ≡ false → b ≡ false
 or-right true b h = cc
 or-right false b h = h
 
-module _ (maps : List Grid) (here told : Spot) where
+module _ (maps : List Grid) (here reported : GridPosition) where
   mutual
-    told_same : (f : Formula) → calls asks_where f ≡ false → value_told f maps here told ≡ value f maps here
-    told_same (Number n) h = refl
-    told_same (Map i down right) h = refl
-    told_same (Negated a) h = ap negated_cell (told_same a h)
-    told_same (Not a) h = ap inverted_cell (told_same a h)
-    told_same (Binary op a b) h =
-        let first : value_told a maps here told ≡ value a maps here = told_same a
+    reported_same : (f : Formula) → calls asks_where f ≡ false
+        → value_seen_from f maps here reported ≡ value f maps here
+    reported_same (Number n) h = refl
+    reported_same (Map i down right) h = refl
+    reported_same (Negated a) h = ap negated_cell (reported_same a h)
+    reported_same (Not a) h = ap inverted_cell (reported_same a h)
+    reported_same (Binary op a b) h =
+        let first : value_seen_from a maps here reported ≡ value a maps here = reported_same a
         (or-left (calls asks_where a) (calls asks_where b) h) in
-        let second : value_told b maps here told ≡ value b maps here = told_same b
+        let second : value_seen_from b maps here reported ≡ value b maps here = reported_same b
         (or-right (calls asks_where a) (calls asks_where b) h) in
-        ap (λ v. operator_value op v (value_told b maps here told)) first
+        ap (λ v. operator_value op v (value_seen_from b maps here reported)) first
         ∙ ap (λ v. operator_value op (value a maps here) v) second
-    told_same (Call f xs) h =
-        silent f here told (values_told xs maps here told) (or-left (asks_where f) (call_any asks_where xs) h)
-        ∙ ap (λ vs. call_result f here vs) (all_told xs (or-right (asks_where f) (call_any asks_where xs) h))
+    reported_same (Call f xs) h =
+        silent f here reported (values_seen_from xs maps here reported) (or-left (asks_where f) (call_any asks_where xs) h)
+        ∙ ap (λ vs. call_result f here vs) (all_reported xs (or-right (asks_where f) (call_any asks_where xs) h))
 
-    all_told : (xs : Formulas) → call_any asks_where xs ≡ false
-        → values_told xs maps here told ≡ argument_values xs maps here
-    all_told NoTrees h = refl
-    all_told (Then a xs) h =
-        let first : value_told a maps here told ≡ value a maps here = told_same a
+    all_reported : (xs : Formulas) → call_any asks_where xs ≡ false
+        → values_seen_from xs maps here reported ≡ argument_values xs maps here
+    all_reported NoTrees h = refl
+    all_reported (Then a xs) h =
+        let first : value_seen_from a maps here reported ≡ value a maps here = reported_same a
         (or-left (calls asks_where a) (call_any asks_where xs) h) in
-        let rest : values_told xs maps here told ≡ argument_values xs maps here = all_told xs
+        let rest : values_seen_from xs maps here reported ≡ argument_values xs maps here = all_reported xs
         (or-right (calls asks_where a) (call_any asks_where xs) h) in
-        ap (λ (v : CellValue). v ∷ values_told xs maps here told) first
+        ap (λ (v : CellValue). v ∷ values_seen_from xs maps here reported) first
         ∙ ap (λ (vs : List CellValue). value a maps here ∷ vs) rest
 
 no_flag : (b : Bool) → ◌≡◌ {A = ℕ} (if b then 8 else 0) 0 → b ≡ false
@@ -321,4 +322,4 @@ no_flag true h = absurd (omega (arith, h))
 no_flag false h = refl
 
 pub no_flag_no_position : NoFlagNoPosition
-no_flag_no_position f h maps here told = told_same maps here told f (no_flag (calls asks_where f) h)
+no_flag_no_position f h maps here reported = reported_same maps here reported f (no_flag (calls asks_where f) h)

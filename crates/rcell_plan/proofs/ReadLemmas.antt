@@ -3,7 +3,7 @@ use Rattle.std.proofs.Common.{◌≡◌, ℕ, ℤ, pos, ◌+ℤ◌, List, [], �
 use Rattle.std.specs.Prelude.{All, slice_get, flat_map}
 use Rattle.std.proofs.lemmas.List.Elements.{All-nil, All-cons, All-head, All-weaker}
 use Rattle.cell_core.specs.Grid.{Grid, CellValue}
-use Rattle.cell_calc_binding.specs.Applied.{Spot, negated_cell, inverted_cell, operator_value, call_result}
+use Rattle.cell_calc_binding.specs.Applied.{GridPosition, negated_cell, inverted_cell, operator_value, call_result}
 use Rattle.cell_calc_binding.specs.Offsets.{cell_in}
 use Rattle.cell_calc_grammar.specs.declared.step.Step.{Step}
 use Rattle.cell_calc_grammar.specs.declared.step.Step.TheVariants as step
@@ -21,7 +21,7 @@ use Rattle.rcell_plan.proofs.JoinedLemmas.{alike_splits, IsSameMap, same_splits,
 -- ---- values
 
 -- what a step reads at a spot is the same over both
-abbrev pub ReadsAlike : (x y : List Grid) → Spot → Step ℕ → Type 0
+abbrev pub ReadsAlike : (x y : List Grid) → GridPosition → Step ℕ → Type 0
 ReadsAlike x y s (step.Map i down right) = cell_in (slice_get x i) (pos s.row +ℤ down)
     (pos s.col +ℤ right) ≡ cell_in (slice_get y i) (pos s.row +ℤ down) (pos s.col +ℤ right)
 ReadsAlike x y s (step.Number n) = Unit {0}
@@ -30,7 +30,7 @@ ReadsAlike x y s step.Not = Unit {0}
 ReadsAlike x y s (step.Binary op) = Unit {0}
 ReadsAlike x y s (step.Call f n) = Unit {0}
 
-module _ (x y : List Grid) (s : Spot) where
+module _ (x y : List Grid) (s : GridPosition) where
   mutual
     pub value_alike : (f : Formula) → All (ReadsAlike x y s) (postfix f) → value f x s ≡ value f y s
     value_alike (Number n) h = refl
@@ -151,7 +151,7 @@ pub record IsSettled (a b : List Grid) (needs : List Need) (o p : Option Grid) :
 
 module _ (a b x y : List Grid) (known : List (List Need))
     (settled : (place : ℕ) → IsSettled a b (needs_at known place) (slice_get x place) (slice_get y place)) where
-  pub expression_alike : (f : Formula) (s : Spot) → All (AreAlikeAt a b (pos s.row) (pos s.col))
+  pub expression_alike : (f : Formula) (s : GridPosition) → All (AreAlikeAt a b (pos s.row) (pos s.col))
       (needs_of_reads known (with_needs [] (flat_map step_reads (postfix f))))
       → value f x s ≡ value f y s
   expression_alike f s h =
@@ -170,7 +170,7 @@ module _ (a b x y : List Grid) (known : List (List Need))
       one (step.Binary op) all = tt
       one (step.Call f n) all = tt
 
-  pub expression_same : (f : Formula) (s : Spot) → All (IsSameMap a b)
+  pub expression_same : (f : Formula) (s : GridPosition) → All (IsSameMap a b)
       (needs_of_reads known (with_needs [] (flat_map step_reads (postfix f)))) → value f x s ≡ value f y s
   expression_same f s h =
       value_alike x y s f

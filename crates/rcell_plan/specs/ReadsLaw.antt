@@ -1,11 +1,11 @@
 -- What reads and flags say of an expression.
 use Rattle.std.specs.Prelude.{ℕ, ◌≡◌, ◌<◌, List, [], ◌∷◌, All}
 use Rattle.cell_core.specs.Grid.{Grid}
-use Rattle.cell_calc_binding.specs.Applied.{Spot}
+use Rattle.cell_calc_binding.specs.Applied.{GridPosition}
 use Rattle.cell_calc_binding.specs.Formula.{Formula}
 use Rattle.cell_calc_binding.specs.Reach.{up_of, down_of}
 use Rattle.cell_calc_binding.specs.Value.{value}
-use Rattle.cell_calc_law.specs.HaloParts.{left_of, right_of, value_told}
+use Rattle.cell_calc_law.specs.HaloParts.{left_of, right_of, value_seen_from}
 use Rattle.rcell_script.specs.declared.statement.Statement.{Statement}
 use Rattle.rcell_plan.specs.declared.needs.Margin.{Margin}
 use Rattle.rcell_plan.specs.declared.needs.Need.{Need}
@@ -34,7 +34,7 @@ abbrev pub PlansAscend : Type 0
 PlansAscend = (count : ℕ) (statements : List Statement)
     → All (λ p. Ascend p.reads × Ascend p.needs) (plans_of (given_needs count) statements)
 
--- without the flag of the position an expression has one value, whatever spot row() and its like are told of
+-- without the flag of the position an expression has one value, whatever spot row() and its like are reported of
 abbrev pub NoFlagNoPosition : Type 0
-NoFlagNoPosition = (f : Formula) → position_flag f ≡ 0 → (maps : List Grid) (here told : Spot)
-    → value_told f maps here told ≡ value f maps here
+NoFlagNoPosition = (f : Formula) → position_flag f ≡ 0 → (maps : List Grid) (here reported : GridPosition)
+    → value_seen_from f maps here reported ≡ value f maps here

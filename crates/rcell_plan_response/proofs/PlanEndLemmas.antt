@@ -20,10 +20,10 @@ use Rattle.rcell_pipe_request.specs.Feeds.{FieldFails, PlacedFails, FeedValue, n
 use Rattle.rcell_pipe_request.specs.Requests.{RunRequestValue, stop_at}
 use Rattle.rcell_pipe_response.specs.declared.end.PipeError.{PipeError}
 use Rattle.rcell_pipe_response.specs.declared.end.PipeError.TheVariants as errors
-use Rattle.rcell_pipe_response.specs.declared.running.PipeOutcome.{PipeOutcome}
+use Rattle.rcell_pipe_response.specs.declared.frame_run.PipeOutcome.{PipeOutcome}
 use Rattle.rcell_pipe_response.specs.FrameBytes.{EndValue, response_magic, response_bytes, end_bytes}
-use Rattle.rcell_pipe_response.specs.RunEnds.{status_after, done_end, script_end, memory_end, IsResponse, HasResponded}
-use Rattle.rcell_pipe_response.specs.Endings.{Finished, IsRejection, EndsAs}
+use Rattle.rcell_pipe_response.specs.RunEnds.{end_status_after, done_end, script_end, memory_end, IsResponse, HasResponded}
+use Rattle.rcell_pipe_response.specs.FrameEndings.{Finished, IsRejection, EndsAs}
 use Rattle.rcell_plan_response.specs.declared.responding.RequestForm.{RequestForm}
 use Rattle.rcell_plan_response.specs.declared.responding.RequestForm.TheVariants as form
 use Rattle.rcell_plan.specs.declared.planning.Plan.{Plan}
@@ -172,7 +172,7 @@ of_run shelf script = record { shelf = shelf; script = script }
 -- with another error than want of memory or a failed write, the script of a request was not accepted
 refused : NoFaultOfAScript → (form : FieldReading RequestForm) → IsRequestAccepted form
     → (response : List ℕ) (error : PipeError)
-    → status_after (Some error) ≢ 3 → (error ≡ errors.Write → ⊥) → IsResponseTo form response (Some error) → ⊥
+    → end_status_after (Some error) ≢ 3 → (error ≡ errors.Write → ⊥) → IsResponseTo form response (Some error) → ⊥
 refused law (Err kind) accepted response error lasts fine is = accepted
 refused law (Ok (form.Run, rest)) accepted response (errors.Request e) lasts fine is = cc (is.0, accepted.1.1.request)
 refused law (Ok (form.Run, rest)) accepted response (errors.Script fault) lasts fine is =
@@ -193,7 +193,7 @@ refused law form accepted response errors.Write lasts fine is = fine refl
 -- a request whose script is accepted is done, if memory lasts and the sink takes everything
 pub all_is_done : NoFaultOfAScript → (form : FieldReading RequestForm) (before now : Option (List ℕ)) (failed : Bool)
     (error : Option PipeError) (status : ℕ) → HasResponded (IsResponseTo form) before now error
-    → status ≡ status_after error
+    → status ≡ end_status_after error
     → (error ≡ Some errors.Write → failed ≡ true) → IsRequestAccepted form → status ≢ 3 → failed ≡ false → IsNone error
 all_is_done law form before now failed None status end is write accepted lasts good = refl
 all_is_done law form before now failed (Some errors.Write) status end is write accepted lasts good = absurd

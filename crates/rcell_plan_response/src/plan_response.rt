@@ -4,7 +4,7 @@ ghost use Rattle.std.specs.Prelude.{◌≡◌, ◌++◌, length, None, Ok, Resul
 ghost use Rattle.rcell_script.specs.FittingScripts.{Fits};
 ghost use Rattle.rcell_pipe_response.specs.FrameBytes.{response_magic, end_bytes};
 ghost use Rattle.rcell_pipe_response.specs.RunEnds.{done_end};
-ghost use Rattle.rcell_pipe_response.specs.Endings.{Finished, EndsAs};
+ghost use Rattle.rcell_pipe_response.specs.FrameEndings.{Finished, EndsAs};
 ghost use Rattle.rcell_pipe_request.specs.declared.error.RequestError.{RequestError};
 ghost use Rattle.rcell_plan_response.specs.PlanRequests.{PlanRequestValue, plan_request_value};
 ghost use Rattle.rcell_plan_response.specs.PlanFrames.{plans_bytes};
@@ -16,7 +16,9 @@ use crate::plan_request::PlanRequest;
 use cell_core::name::Names;
 use cell_core::sink::Sink;
 use rcell_pipe_response::end::{PipeError, done_end, memory_end};
-use rcell_pipe_response::running::{PipeOutcome, begin, end_run, reject, reject_script};
+use rcell_pipe_response::frame_run::{
+    PipeOutcome, begin_response, end_response, reject, reject_script,
+};
 use rcell_plan::planning::{Plan, plans_of};
 use rcell_script::script_fault::ScriptKind;
 use rcell_script::script_parsing::parse_script;
@@ -35,9 +37,9 @@ fn write_plans<W: Sink>(
         None (response_magic ++ plans_bytes names.now plans.now statements.now
         ++ end_bytes done_end) result }
 {
-    let mut block = begin(out);
+    let mut block = begin_response(out);
     push_plans(out, &mut block, names, plans, statements);
-    end_run(out, block, None, &done_end())
+    end_response(out, block, None, &done_end())
 }
 
 // Responds with the plans of statements. It has all that it needs of memory before the first byte.

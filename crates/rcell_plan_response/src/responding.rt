@@ -5,8 +5,8 @@ ghost use Rattle.std.specs.Option.{IsNone};
 ghost use Rattle.cell_core_devices.specs.Device.{has_failed, after_flush};
 ghost use Rattle.rcell_pipe_request.specs.Feeds.{left, ReadsField};
 ghost use Rattle.rcell_pipe_response.specs.FrameBytes.{response_bytes};
-ghost use Rattle.rcell_pipe_response.specs.RunEnds.{status_after, IsResponse, HasResponded};
-ghost use Rattle.rcell_pipe_response.specs.Endings.{Finished, EndsAs};
+ghost use Rattle.rcell_pipe_response.specs.RunEnds.{end_status_after, IsResponse, HasResponded};
+ghost use Rattle.rcell_pipe_response.specs.FrameEndings.{Finished, EndsAs};
 ghost use Rattle.rcell_plan_response.specs.PlanEnds.{IsPlanResponse};
 ghost use Rattle.rcell_plan_response.specs.Responses.{form_of, form_at, run_request_of, plan_request_of, IsResponseTo, IsRequestAccepted};
 ghost use Rattle.rcell_plan_response.specs.parts.RequestStops.{error_of_stop, end_of_stop};
@@ -19,7 +19,7 @@ use rcell_pipe_request::error::{ErrorKind, FieldStop, RequestStop};
 use rcell_pipe_request::feed::{Feed, read_into};
 use rcell_pipe_request::request::read_run;
 use rcell_pipe_response::end::{PipeError, memory_end, request_end};
-use rcell_pipe_response::running::{PipeOutcome, reject, run_request};
+use rcell_pipe_response::frame_run::{PipeOutcome, reject, run_request};
 use rcell_script::law::no_fault_of_a_script;
 use std::alloc::Global;
 
@@ -136,7 +136,7 @@ pub fn respond<R: Source + Drop, W: Sink>(alloc: Global, source: R, out: &mut W)
     // memory ran out. If a write failed: the first bytes of such a response.
     ensures end { IfSome (R.coming source) (λ c. HasResponded (IsResponseTo (form_at c))
         (W.taken out.old) (W.taken out.new) result.error) }
-    ensures status { result.status ≡ status_after result.error }
+    ensures status { result.status ≡ end_status_after result.error }
     // Write comes only if the sink failed; otherwise it did not fail and was flushed once.
     ensures write { result.error ≡ Some PipeError.Write → has_failed (W.faults out.new) ≡ true }
     ensures flushed { result.error ≢ Some PipeError.Write

@@ -70,10 +70,10 @@ when_ok true x y taken is = is
 when_ok false x y taken is = cc
 
 -- what a failed call tells
-pub made_told : {T E F : Type 0} {Q : E → Type 0} {P : Type 0} (r : Result T E) (y : F)
+pub made_reported : {T E F : Type 0} {Q : E → Type 0} {P : Type 0} (r : Result T E) (y : F)
     → MatchResult r (λ x. ◌≡◌ {A = Result T F} (Err y) (Ok x)) Q → ((e : E) → Q e → P) → P
-made_told (Ok x) y is f = cc
-made_told (Err e) y is f = f e is
+made_reported (Ok x) y is f = cc
+made_reported (Err e) y is f = f e is
 
 pub by_contradiction : (b : Bool) → (b ≡ false → ⊥) → b ≡ true
 by_contradiction true impossible = refl

@@ -17,7 +17,7 @@ use std::alloc::{AllocError, Global};
 
 /// What the words ask for: a script over the grids of these names, each in the file of its path.
 #[derive(Drop)]
-pub struct Request<'a> {
+pub struct RunRequest<'a> {
     /// The path of the script.
     pub script: &'a str,
     /// The names of the grids, in order.
@@ -137,7 +137,7 @@ fn grids_of<'a>(alloc: Global, words: &[&'a str]) -> Result<(Vec<Name>, Vec<&'a 
 ///
 /// [`Refusal::Usage`] where a later word begins with `-`, or fewer than two follow the first; [`Refusal::GridWord`] of
 /// the first word after the script's that is not NAME=PATH; [`Refusal::Memory`].
-pub fn read_words<'a>(alloc: Global, words: &'a [String]) -> Result<Request<'a>, Refusal>
+pub fn read_words<'a>(alloc: Global, words: &'a [String]) -> Result<RunRequest<'a>, Refusal>
     ensures asked { IfOk result (λ request. drop 1 (map string_bytes words.now)
         ≡ request.script.now
         ∷ grid_words request.names.items (map (λ path. path.now) request.paths.items)) }
@@ -153,7 +153,7 @@ pub fn read_words<'a>(alloc: Global, words: &'a [String]) -> Result<Request<'a>,
     let script = matches.get_str("SCRIPT").ok_or(Refusal::Usage)?;
     let grids = matches.get_strs("GRID").ok_or(Refusal::Usage)?;
     let (names, paths) = grids_of(alloc, grids)?;
-    Ok(Request {
+    Ok(RunRequest {
         script,
         names,
         paths,

@@ -29,7 +29,7 @@ fn words_given<R: Env + AllocGlobal>(rt: &R) -> Result<Vec<String>, Refusal> {
 }
 
 // Reports a refusal on standard error, and returns its status. Where standard error takes nothing, the status still says it.
-fn tell<R: Eprint>(rt: &R, refusal: Refusal, names: &[Name]) -> u8 {
+fn print_error<R: Eprint>(rt: &R, refusal: Refusal, names: &[Name]) -> u8 {
     let line = refusal_line(refusal, names);
     let _ = eprintln!(rt; "{line}");
     refusal.status()
@@ -39,15 +39,15 @@ fn tell<R: Eprint>(rt: &R, refusal: Refusal, names: &[Name]) -> u8 {
 fn work<R: Env + Files + Print + Eprint + AllocGlobal>(rt: &R) -> u8 {
     let words = match words_given(rt) {
         Ok(words) => words,
-        Err(refusal) => return tell(rt, refusal, &[]),
+        Err(refusal) => return print_error(rt, refusal, &[]),
     };
     let request = match read_words(rt.alloc(), &words) {
         Ok(request) => request,
-        Err(refusal) => return tell(rt, refusal, &[]),
+        Err(refusal) => return print_error(rt, refusal, &[]),
     };
     let opened = match open_files(rt, &request) {
         Ok(opened) => opened,
-        Err(refusal) => return tell(rt, refusal, &request.names),
+        Err(refusal) => return print_error(rt, refusal, &request.names),
     };
     let mut output = WriteSink::new(io::writer(rt));
     let outcome = run(rt.alloc(), opened.script, opened.grids, &mut output);

@@ -5,7 +5,7 @@ ghost use Rattle.cell_core_devices.specs.declared.source.Asked.{Asked};
 ghost use Rattle.rcell_program.specs.OpenedGrids.{AreOpened};
 ghost use Rattle.rcell_program.specs.Refusals.{IsOfOpening};
 
-use crate::command_words::Request;
+use crate::command_words::RunRequest;
 use crate::refusal::Refusal;
 use cell_core::name::Name;
 use cell_core::source::ReadSource;
@@ -36,7 +36,7 @@ fn of_opening(kind: ErrorKind, of_file: Refusal) -> Refusal
 // The file of a path; where it can't be opened, the refusal of the file is returned, or out of memory.
 fn open_file<R: Files>(rt: &R, path: &str, of_file: Refusal) -> Result<ReadSource<R::File>, Refusal>
     ensures asked { IfOk result (λ source. source.1 ≡ Asked.Going) }
-    ensures told { IfErr result (λ refusal. refusal ≢ Refusal.Memory → refusal ≡ of_file) }
+    ensures reported { IfErr result (λ refusal. refusal ≢ Refusal.Memory → refusal ≡ of_file) }
 {
     match fs::open(rt, path) {
         Ok(file) => Ok(ReadSource::new(file)),
@@ -53,7 +53,7 @@ fn open_grid<R: Files + AllocGlobal>(
 ) -> Result<(Name, ReadSource<R::File>), Refusal>
     ensures name { IfOk result (λ opened. opened.0 ≡ name.now) }
     ensures asked { IfOk result (λ opened. opened.1.1 ≡ Asked.Going) }
-    ensures told { IfErr result (λ refusal. refusal ≢ Refusal.Memory
+    ensures reported { IfErr result (λ refusal. refusal ≢ Refusal.Memory
         → refusal ≡ Refusal.GridFile grid) }
 {
     let source = open_file(rt, path, Refusal::GridFile { grid })?;
@@ -66,10 +66,10 @@ fn open_grid<R: Files + AllocGlobal>(
 // The names and the sources of the grids, in order.
 fn open_grids<R: Files + AllocGlobal>(
     rt: &R,
-    request: &Request<'_>,
+    request: &RunRequest<'_>,
 ) -> Result<Vec<(Name, ReadSource<R::File>)>, Refusal>
     ensures opened { IfOk result (λ grids. AreOpened request.now.names.items grids.items) }
-    ensures told { IfErr result (IsOfOpening (vec_len request.now.names)) }
+    ensures reported { IfErr result (IsOfOpening (vec_len request.now.names)) }
 {
     let mut grids = Vec::new(rt.alloc());
     for grid in 0..request.names.len() {
@@ -89,12 +89,12 @@ fn open_grids<R: Files + AllocGlobal>(
 /// names no grid; [`Refusal::Memory`].
 pub fn open_files<R: Files + AllocGlobal>(
     rt: &R,
-    request: &Request<'_>,
+    request: &RunRequest<'_>,
 ) -> Result<OpenedFiles<R::File>, Refusal>
     // Nothing is read yet: no source was asked, so none has ended or failed.
     ensures script { IfOk result (λ opened. opened.script.1 ≡ Asked.Going) }
     ensures grids { IfOk result (λ opened. AreOpened request.now.names.items opened.grids.items) }
-    ensures told { IfErr result (IsOfOpening (vec_len request.now.names)) }
+    ensures reported { IfErr result (IsOfOpening (vec_len request.now.names)) }
 {
     let script = open_file(rt, request.script, Refusal::ScriptFile)?;
     let grids = open_grids(rt, request)?;

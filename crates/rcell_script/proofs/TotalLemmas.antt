@@ -26,7 +26,7 @@ then_rest : (ls : List (List ℕ)) (l : List ℕ) (line : ℕ) (read : Progress)
 then_rest ls l line read rest (Ok more) is =
     let others = rest more in
     (others.0, (Ok more, is, others.1))
-then_rest ls l line read rest (Err told) is = (Err told, (Err told, is, refl))
+then_rest ls l line read rest (Err reported) is = (Err reported, (Err reported, is, refl))
 
 read_lines : EachLineIsHead → (ls : List (List ℕ)) (line : ℕ) (read : Progress) → (r : Result (List Statement) ScriptFault) × IsScriptReading line read ls r
 read_lines heads [] line read = (at_end read, refl)

@@ -14,6 +14,6 @@ IsReadAs known text statements = IsScriptReading 1 (start known) (script_lines t
 unfoldable pub IsScriptFault : List (List ℕ) → List ℕ → ScriptFault → Type 0
 IsScriptFault known text fault = IsScriptReading 1 (start known) (script_lines text) (Err fault)
 
--- being out of memory is told at line 0
-abbrev pub TellsMemoryAtZero : ScriptFault → Type 0
-TellsMemoryAtZero fault = fault.kind ≡ Memory → fault.line ≡ 0
+-- being out of memory is reported at line 0
+abbrev pub ReportsMemoryAtZero : ScriptFault → Type 0
+ReportsMemoryAtZero fault = fault.kind ≡ Memory → fault.line ≡ 0

@@ -7,7 +7,7 @@ ghost use Rattle.rcell_script.specs.KnownMaps.{known_after, made_by};
 ghost use Rattle.rcell_script.specs.ScriptsRead.{start, with_statement, after_head, after_rule, rule_line, IsNext, at_end};
 ghost use Rattle.rcell_script_commands.specs.FittingCommands.{FitsCommand, FitsHead};
 ghost use Rattle.rcell_script_commands.specs.ScriptFaults.{ReadsLine};
-ghost use Rattle.rcell_script.specs.ReadScripts.{TellsMemoryAtZero};
+ghost use Rattle.rcell_script.specs.ReadScripts.{ReportsMemoryAtZero};
 ghost use Rattle.rcell_script.specs.parts.Sound.{IsSound, FitsBlock};
 
 use crate::statement::{Script, Statement};
@@ -42,7 +42,7 @@ pub(crate) const NO_MEMORY: ScriptFault = ScriptFault {
     line: 0,
 };
 
-// A fault at a line; being out of memory is told at line 0.
+// A fault at a line; being out of memory is reported at line 0.
 fn fault_at(line: u64, kind: ScriptKind) -> ScriptFault
     ensures other { kind ≢ ScriptKind.Memory → result ≡ record { kind = kind; line = line } }
     ensures kind { result.kind ≡ kind }
@@ -164,7 +164,7 @@ impl Progress {
         requires { FitsBlock self.known (Some block) }
         ensures next { ReadsLine
             (λ next. after_rule line self block (rule_line block.rules text.now) ≡ next) result }
-        ensures memory { IfErr result TellsMemoryAtZero }
+        ensures memory { IfErr result ReportsMemoryAtZero }
     {
         match add_rule(&mut block.rules, text) {
             Ok(LineKind::End) => {
@@ -204,7 +204,7 @@ impl Progress {
         ensures next { ReadsLine (IsNext line self text.now) result }
         ensures sound { IfOk result (λ read. (first : List (List ℕ)) → IsSound first self
             → IsSound first read) }
-        ensures memory { IfErr result TellsMemoryAtZero }
+        ensures memory { IfErr result ReportsMemoryAtZero }
     {
         let Progress {
             known,

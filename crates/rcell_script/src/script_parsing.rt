@@ -2,7 +2,7 @@
 
 ghost use Rattle.std.specs.Prelude.{◌≡◌, ◌≢◌, ◌<◌, All, IfOk, IfErr};
 ghost use Rattle.rcell_script.specs.Scripts.{IsScript};
-ghost use Rattle.rcell_script.specs.ReadScripts.{IsScriptFault, TellsMemoryAtZero};
+ghost use Rattle.rcell_script.specs.ReadScripts.{IsScriptFault, ReportsMemoryAtZero};
 ghost use Rattle.rcell_script.specs.FittingScripts.{Fits};
 
 use crate::line_reading::{NO_MEMORY, Progress};
@@ -25,7 +25,7 @@ pub fn parse_script(alloc: Global, text: &[u8], known: &Names) -> Result<Script,
     ensures numbered { IfOk result (All (λ s. 0 < s.line)) }
     ensures err { IfErr result (λ fault. fault.kind ≢ ScriptKind.Memory
         → IsScriptFault known.now text.now fault) }
-    ensures memory { IfErr result TellsMemoryAtZero }
+    ensures memory { IfErr result ReportsMemoryAtZero }
 {
     let Ok(lines) = lines_of(alloc, text) else {
         return Err(NO_MEMORY);

@@ -31,4 +31,4 @@ one_mapcalc one known line head other (inl (a, is, e)) (inl (b, is', e')) =
     let same : a ≡ b = one_of one (token_list (assignment_text line)) a b is is' in
     sym e' ∙ ap (mapcalc_of known) (sym same) ∙ e
 one_mapcalc one known line head other (inl (a, is, e)) (inr (fault, inl memory, some, e')) = absurd (some (ap (λ (f : CalcFault). f.kind) memory))
-one_mapcalc one known line head other (inl (a, is, e)) (inr (fault, inr told, some, e')) = absurd (not_both (token_list (assignment_text line)) _ a fault is told)
+one_mapcalc one known line head other (inl (a, is, e)) (inr (fault, inr reported, some, e')) = absurd (not_both (token_list (assignment_text line)) _ a fault is reported)

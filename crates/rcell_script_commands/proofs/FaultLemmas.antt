@@ -7,6 +7,6 @@ use Rattle.rcell_script_commands.specs.declared.script_fault.ScriptKind.{ScriptK
 use Rattle.rcell_script_commands.specs.declared.script_fault.ScriptKind.TheVariants as script
 
 -- what fails by a fault other than being out of memory
-pub told : {A : Type 0} (r : Result A OptionFault) (fault : OptionFault) (kind : ScriptKind) → kind ≡ kind_of fault → kind ≢ script.Memory
+pub reported : {A : Type 0} (r : Result A OptionFault) (fault : OptionFault) (kind : ScriptKind) → kind ≡ kind_of fault → kind ≢ script.Memory
     → (fault ≢ option.Memory → r ≡ Err fault) → in_script r ≡ Err kind
-told r fault kind same other fails = rw (fails (λ memory. other (same ∙ ap kind_of memory))) (ap Err (sym same))
+reported r fault kind same other fails = rw (fails (λ memory. other (same ∙ ap kind_of memory))) (ap Err (sym same))

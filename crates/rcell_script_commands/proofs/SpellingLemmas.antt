@@ -368,7 +368,7 @@ words-sound known line head (w ∷ ws) is e = search (rules, either, nothing-sou
 mapcalc-sound : (known : List (List ℕ)) (line : List ℕ) (head : Head) (ws : List (List ℕ)) → words_of line ≡ ws
     → is_mapcalc ws ≡ true → IsMapcalc known line (Ok head) → Says known line head
 mapcalc-sound known line head [] is m h = cc
-mapcalc-sound known line head (w ∷ ws) is m (inr (fault, told, other, e)) = cc
+mapcalc-sound known line head (w ∷ ws) is m (inr (fault, reported, other, e)) = cc
 mapcalc-sound known line head (w ∷ ws) is m (inl (a, assigned, e)) = search rules
 
 -- what is read of a line without a fault is what it says

@@ -44,7 +44,7 @@ fn is_comment(word: &[u8]) -> bool
 }
 
 // What a name of a command and the words after it begin.
-#[tactic(auto, using(crate::proofs::FaultLemmas::told))]
+#[tactic(auto, using(crate::proofs::FaultLemmas::reported))]
 fn head_named(
     alloc: Global,
     known: &Names,

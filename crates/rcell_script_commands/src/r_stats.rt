@@ -76,7 +76,7 @@ fn printed_with(
 ///
 /// The fault of the first word that has one, then [`ScriptKind::MissingOption`], [`ScriptKind::BadOption`] where flags do
 /// not go together, [`ScriptKind::UnknownMap`] and [`ScriptKind::Combo`]; [`ScriptKind::Memory`] where memory was refused.
-#[tactic(auto, using(crate::proofs::FaultLemmas::told))]
+#[tactic(auto, using(crate::proofs::FaultLemmas::reported))]
 pub(crate) fn stats_of(alloc: Global, known: &Names, words: &[&[u8]]) -> Result<Command, ScriptKind>
     ensures command { GivesScript result (stats_of known.now (texts words.now)) }
     ensures fits { IfOk result (FitsCommand known.now) }

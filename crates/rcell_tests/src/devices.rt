@@ -35,7 +35,7 @@ const MOST_BYTES: usize = 1048576;
 enum Then<'a> {
     Ends,
     Fails,
-    // Its end is told, and then these bytes come, and its end again.
+    // Its end is reported, and then these bytes come, and its end again.
     EndsOnce(&'a [u8]),
     // One call fails, and then these bytes come, and its end.
     FailsOnce(&'a [u8]),
@@ -304,9 +304,9 @@ fn each_prefix_of_a_grid_is_refused(rt: HostRuntime) -> Result<(), Fail> {
         let grid = Unknown::new(&GRID[..count], Then::Ends);
         let script = whole_script();
         let (outcome, out) = ran(&rt, script, grid)?;
-        let is_told = matches!(outcome.fault, Some(RunFault::Grid { grid: 0, .. }));
+        let is_reported = matches!(outcome.fault, Some(RunFault::Grid { grid: 0, .. }));
         assert_same!(rt;
-            (is_told, outcome.status, outcome.written, out.bytes().len()),
+            (is_reported, outcome.status, outcome.written, out.bytes().len()),
             (true, 1, 0, 0)
         );
     }

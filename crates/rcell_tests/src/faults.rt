@@ -1,4 +1,4 @@
-//! Which fault of a script is told, and where.
+//! Which fault of a script is reported, and where.
 
 use crate::assertions::assert_same;
 use cell_calc_language::calc_fault::{CalcFault, CalcKind};
@@ -106,11 +106,11 @@ const FAULTS: [(&str, ScriptKind, u64); 31] = [
 ];
 
 #[test]
-fn tells_the_first_fault(rt: HostRuntime) -> Result<(), Fail> {
+fn reports_the_first_fault(rt: HostRuntime) -> Result<(), Fail> {
     let known = one_grid(rt.alloc())?;
     for &(text, kind, line) in &FAULTS {
-        let told = parse_script(rt.alloc(), text.as_bytes(), &known).err();
-        assert_same!(rt; told, Some(ScriptFault { kind, line }), "{text}");
+        let reported = parse_script(rt.alloc(), text.as_bytes(), &known).err();
+        assert_same!(rt; reported, Some(ScriptFault { kind, line }), "{text}");
     }
     Ok(())
 }
@@ -133,16 +133,16 @@ const ASSIGNMENTS: [(&str, ScriptKind, u64); 3] = [
 ];
 
 #[test]
-fn tells_faults_of_assignments(rt: HostRuntime) -> Result<(), Fail> {
+fn reports_faults_of_assignments(rt: HostRuntime) -> Result<(), Fail> {
     let known = one_grid(rt.alloc())?;
     for &(text, kind, column) in &EXPRESSIONS {
-        let told = parse_script(rt.alloc(), text.as_bytes(), &known).err();
+        let reported = parse_script(rt.alloc(), text.as_bytes(), &known).err();
         let kind = ScriptKind::Calc(CalcFault { kind, column });
-        assert_same!(rt; told, Some(ScriptFault { kind, line: 1 }), "{text}");
+        assert_same!(rt; reported, Some(ScriptFault { kind, line: 1 }), "{text}");
     }
     for &(text, kind, line) in &ASSIGNMENTS {
-        let told = parse_script(rt.alloc(), text.as_bytes(), &known).err();
-        assert_same!(rt; told, Some(ScriptFault { kind, line }), "{text}");
+        let reported = parse_script(rt.alloc(), text.as_bytes(), &known).err();
+        assert_same!(rt; reported, Some(ScriptFault { kind, line }), "{text}");
     }
     Ok(())
 }
@@ -153,9 +153,9 @@ fn takes_16_inputs(rt: HostRuntime) -> Result<(), Fail> {
     let sixteen = b"r.stats -c input=g,g,g,g,g,g,g,g,g,g,g,g,g,g,g,g";
     assert_same!(rt; parse_script(rt.alloc(), sixteen, &known).err(), None);
     let seventeen = b"r.stats -c input=g,g,g,g,g,g,g,g,g,g,g,g,g,g,g,g,1";
-    let told = parse_script(rt.alloc(), seventeen, &known).err();
+    let reported = parse_script(rt.alloc(), seventeen, &known).err();
     let kind = ScriptKind::BadOption;
-    assert_same!(rt; told, Some(ScriptFault { kind, line: 1 }));
+    assert_same!(rt; reported, Some(ScriptFault { kind, line: 1 }));
     Ok(())
 }
 
@@ -167,8 +167,8 @@ fn takes_lines_of_65535_bytes(rt: HostRuntime) -> Result<(), Fail> {
     assert_same!(rt; parse_script(rt.alloc(), text.as_slice(), &known).err(), None);
     let mut text = vec![in rt.alloc(); b'#'; 65536]?;
     text.extend_from_slice(b"\r\n")?;
-    let told = parse_script(rt.alloc(), text.as_slice(), &known).err();
+    let reported = parse_script(rt.alloc(), text.as_slice(), &known).err();
     let kind = ScriptKind::LongLine;
-    assert_same!(rt; told, Some(ScriptFault { kind, line: 1 }));
+    assert_same!(rt; reported, Some(ScriptFault { kind, line: 1 }));
     Ok(())
 }

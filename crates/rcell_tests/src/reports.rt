@@ -75,7 +75,7 @@ const GRID_KINDS: [(GridKind, &str); 15] = [
 ];
 
 #[test]
-fn tells_faults_of_grids(rt: HostRuntime) -> Result<(), Fail> {
+fn reports_faults_of_grids(rt: HostRuntime) -> Result<(), Fail> {
     for &(kind, text) in &GRID_KINDS {
         let fault = GridFault { kind, line: 10 };
         expect_line(&rt, RunFault::Grid { grid: 1, fault }, "land.use:10", text)?;
@@ -129,7 +129,7 @@ const CALC_KINDS: [(CalcKind, &str); 10] = [
 ];
 
 #[test]
-fn tells_faults_of_scripts(rt: HostRuntime) -> Result<(), Fail> {
+fn reports_faults_of_scripts(rt: HostRuntime) -> Result<(), Fail> {
     for &(kind, text) in &SCRIPT_KINDS {
         let fault = ScriptFault { kind, line: 6 };
         expect_line(&rt, RunFault::Script(fault), "script:6", text)?;
@@ -142,7 +142,7 @@ fn tells_faults_of_scripts(rt: HostRuntime) -> Result<(), Fail> {
 }
 
 #[test]
-fn tells_faults_of_execution(rt: HostRuntime) -> Result<(), Fail> {
+fn reports_faults_of_execution(rt: HostRuntime) -> Result<(), Fail> {
     let most = "write failed after 18446744073709551615 bytes";
     expect_line(&rt, RunFault::Write, "output:0", most)?;
     expect_line(&rt, RunFault::Memory { line: 7 }, "script:7", "no memory")

@@ -274,7 +274,7 @@ fn refuses_scripts_before_it_writes(rt: HostRuntime) -> Result<(), Fail> {
 }
 
 #[test]
-fn tells_what_a_failing_device_took(rt: HostRuntime) -> Result<(), Fail> {
+fn reports_what_a_failing_device_took(rt: HostRuntime) -> Result<(), Fail> {
     let script = b"r.stats -c input=g\n";
     expect_failed_write(&rt, script, sink(rt.alloc(), 5)?, b"1 5\n2")?;
     let unflushed = MemorySink::new(vec![in rt.alloc(); 0u8; 100]?, 3, true);
@@ -302,7 +302,7 @@ fn read_failed(fault: RunFault) -> Outcome {
 }
 
 #[test]
-fn tells_a_failing_reader(rt: HostRuntime) -> Result<(), Fail> {
+fn reports_a_failing_reader(rt: HostRuntime) -> Result<(), Fail> {
     let alloc = rt.alloc();
     let found = run_one(
         alloc,

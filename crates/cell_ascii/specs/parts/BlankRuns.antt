@@ -7,7 +7,7 @@ use Rattle.cell_ascii.specs.TableWords.{blanks, cleared_front}
 
 -- a blank stands at the place
 pub record IsAtBlank (bs : List ℕ) (ends at : ℕ) : Type 0 where
-  pub held : 64 ≤ length bs
+  pub buffered : 64 ≤ length bs
   pub bits : ends ≡ mask_l (cleared_front at (blanks bs))
   pub blank : is_space (slice_index_or bs at 0) ≡ true
 

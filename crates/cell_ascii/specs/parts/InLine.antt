@@ -2,7 +2,7 @@
 use Rattle.std.specs.Prelude.{ℕ, ◌≡◌, ◌≤◌, List, drop, take, length}
 use Rattle.cell_core.specs.Grid.{CellValue}
 use Rattle.cell_ascii_meaning.specs.Header.{HeaderValue}
-use Rattle.cell_ascii.specs.HeldCells.{HoldsCells}
+use Rattle.cell_ascii.specs.BufferedCells.{HoldsCells}
 
 -- the front of a row has the next cells of these bytes: so many, which take so many bytes; the others stay
 pub record AreCellsInLine (h : HeaderValue) (bs : List ℕ) (old new : List CellValue) (read : ℕ × ℕ) : Type 0 where

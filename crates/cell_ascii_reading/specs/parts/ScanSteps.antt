@@ -37,17 +37,17 @@ run_step (Ok Blank) run = run + 1
 run_step (Ok FeedStep) run = run + 1
 run_step _ run = run
 
--- where the end is told, nothing is to come
-abbrev pub EndsTold : Result ScanStep GridFault → Ahead → Type 0
-EndsTold (Ok End) ahead = IsAtEnd false (bytes_to_come ahead)
-EndsTold _ ahead = Unit {0}
+-- where the end is reported, nothing is to come
+abbrev pub EndsReported : Result ScanStep GridFault → Ahead → Type 0
+EndsReported (Ok End) ahead = IsAtEnd false (bytes_to_come ahead)
+EndsReported _ ahead = Unit {0}
 
 -- a scanner made a step: what it came to goes by the bytes to come, and only the line, the run and these changed
 pub record IsStep (step : Result ScanStep GridFault) (old new : Scan) : Type 0 where
   pub value : Agrees (step_of old.line old.run) old.ahead (λ c. (step, c)) new.ahead
   pub scan : new ≡ record old { line = line_step step old.line; run = run_step step old.run; ahead = new.ahead }
   pub run : new.run ≤ 1048576
-  pub end : EndsTold step new.ahead
+  pub end : EndsReported step new.ahead
 
 -- what a step says of the next word
 abbrev pub start_step : Result ScanStep GridFault → ℕ → ℕ → Coming → Start

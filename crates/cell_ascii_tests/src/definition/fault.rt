@@ -1,7 +1,7 @@
 //! The first fault that the places of a text tell.
 
 ghost use Rattle.std.specs.Prelude.{◌≡◌, [], IfOk};
-ghost use Rattle.cell_ascii_meaning.specs.FaultPlaces.{front_of, told_fault, whole_table, text_fault};
+ghost use Rattle.cell_ascii_meaning.specs.FaultPlaces.{front_of, reported_fault, whole_table, text_fault};
 ghost use Rattle.cell_ascii_tests.specs.Seen.{words_of_each, place_seen};
 
 use crate::definition::header::data_words;
@@ -21,8 +21,12 @@ fn earlier_lines<'b, 'a>(lines: &'b [&'a [u8]]) -> &'b [&'a [u8]]
 }
 
 /// What a place tells, after the bytes before it.
-pub(crate) fn told(alloc: Global, before: &[u8], place: Place) -> Result<Option<GridFault>, Memory>
-    ensures { IfOk result (λ fault. fault ≡ told_fault whole_table before.now (place_seen place)) }
+pub(crate) fn reported(
+    alloc: Global,
+    before: &[u8],
+    place: Place,
+) -> Result<Option<GridFault>, Memory>
+    ensures { IfOk result (λ fault. fault ≡ reported_fault whole_table before.now (place_seen place)) }
 {
     let lines = lines_of(alloc, before)?;
     let line = words_of(alloc, last_of(&lines))?;
@@ -52,14 +56,14 @@ pub(crate) fn text_fault(
         ≡ text_fault (record { bytes = text.now; fails = fails })) }
 {
     for i in 0..text.len() {
-        let fault = told(alloc, &text[..i], Place::Byte(text[i]))?;
+        let fault = reported(alloc, &text[..i], Place::Byte(text[i]))?;
         if fault.is_some() {
             return Ok(fault);
         }
     }
     if fails {
-        told(alloc, text, Place::Fails)
+        reported(alloc, text, Place::Fails)
     } else {
-        told(alloc, text, Place::End)
+        reported(alloc, text, Place::End)
     }
 }

@@ -20,10 +20,10 @@ use cell_core::memory::Memory;
 use cell_core_values::whole_numbers;
 use std::alloc::Global;
 
-fn when(told: bool, kind: GridKind) -> Option<GridKind>
-    ensures { result ≡ when told kind }
+fn when(reported: bool, kind: GridKind) -> Option<GridKind>
+    ensures { result ≡ when reported kind }
 {
-    if told { Some(kind) } else { None }
+    if reported { Some(kind) } else { None }
 }
 
 // The first of two that tells something.
@@ -341,10 +341,10 @@ pub(crate) fn whole_table(
 {
     let second = second_value(alloc, inside, line, token, place)?;
     let line_ends = header_line_ends(alloc, inside, earlier, line, place)?;
-    let told = first(too_many(header, words, token, place), read_fails(place));
-    let told = first(too_few(header, words, place), told);
-    let told = first(bad_cell(header, words, token, place), told);
-    let told = first(header_ends(header, words, token, place), told);
-    let told = first(second, first(line_ends, told));
-    Ok(first(long_token(token, place), first(stuck(gap, place), told)))
+    let reported = first(too_many(header, words, token, place), read_fails(place));
+    let reported = first(too_few(header, words, place), reported);
+    let reported = first(bad_cell(header, words, token, place), reported);
+    let reported = first(header_ends(header, words, token, place), reported);
+    let reported = first(second, first(line_ends, reported));
+    Ok(first(long_token(token, place), first(stuck(gap, place), reported)))
 }

@@ -2,7 +2,7 @@
 use Rattle.std.specs.Prelude.{◌≡◌, ◌≤◌, ◌<◌, ◌+◌, ◌-◌, ◌+ℤ◌, ℕ, pos, All, List, [], ◌∷◌, Vec, Some, None, length, take, drop, map, slice_get, slice_index_or}
 use Rattle.std.specs.Global.{Global}
 use Rattle.cell_core.specs.Grid.{CellValue}
-use Rattle.cell_calc_binding.specs.Applied.{Spot, spot, operator_value, call_result, negated_cell, inverted_cell}
+use Rattle.cell_calc_binding.specs.Applied.{GridPosition, grid_position, operator_value, call_result, negated_cell, inverted_cell}
 use Rattle.cell_calc_binding.specs.Offsets.{item_at}
 use Rattle.cell_calc.specs.Window.{Window}
 use Rattle.cell_calc_grammar.specs.Postfix.{arity, values_after}
@@ -64,11 +64,11 @@ operand_at windows strip c (operand.Map i down right) = item_at None (row_below 
 operand_at windows strip c (operand.Row cells) = at cells.items c
 
 -- those of operands
-abbrev pub cells_at : List Window → Strip → ℕ → List Operand → List CellValue
-cells_at windows strip c operands = map (operand_at windows strip c) operands
+abbrev pub operand_cells_at : List Window → Strip → ℕ → List Operand → List CellValue
+operand_cells_at windows strip c operands = map (operand_at windows strip c) operands
 
 -- what a step makes of cells, with the rows that windows hold for those of maps
-abbrev pub seen_cell : List Window → Spot → Step ℕ → List CellValue → CellValue
+abbrev pub seen_cell : List Window → GridPosition → Step ℕ → List CellValue → CellValue
 seen_cell windows s (step.Number n) xs = Some (pos n)
 seen_cell windows s (step.Map i down right) xs = item_at None (row_below down (slice_get windows i)) (pos s.col +ℤ right)
 seen_cell windows s step.Negated xs = negated_cell (slice_index_or xs 0 None)
@@ -77,8 +77,8 @@ seen_cell windows s (step.Binary op) xs = operator_value op (slice_index_or xs 0
 seen_cell windows s (step.Call f n) xs = call_result f s xs
 
 -- the place of a column of a strip
-abbrev pub spot_at : Strip → ℕ → Spot
-spot_at strip c = spot strip.region strip.row (strip.from + c)
+abbrev pub position_at : Strip → ℕ → GridPosition
+position_at strip c = grid_position strip.region strip.row (strip.from + c)
 
 -- a strip, and operands that are ready there, of which so many are taken
 pub record AreReady (s : Strip) (windows : List Window) (count : ℕ) (operands : List Operand) : Type 0 where
@@ -91,21 +91,21 @@ pub record IsStepped (strip : Strip) (windows : List Window) (s : Step ℕ) (old
   pub rest : new ≡ lower_operands (arity s) old
   pub ready : IsOperandReady windows strip o
   pub each : AtColumns strip (λ c. operand_at windows strip c o
-      ≡ seen_cell windows (spot_at strip c) s (cells_at windows strip c (top_operands (arity s) old)))
+      ≡ seen_cell windows (position_at strip c) s (operand_cells_at windows strip c (top_operands (arity s) old)))
 
 -- the row has the values of a function of the last operands, so many, which are taken
 pub record IsCalled (strip : Strip) (windows : List Window) (f : Function) (count : ℕ) (old new : List Operand) (row : Vec CellValue Global) : Type 0 where
   pub rest : new ≡ lower_operands count old
   pub width : IsAsWide strip row
-  pub each : AtColumns strip (λ c. at row.items c ≡ call_result f (spot_at strip c) (cells_at windows strip c (top_operands count old)))
+  pub each : AtColumns strip (λ c. at row.items c ≡ call_result f (position_at strip c) (operand_cells_at windows strip c (top_operands count old)))
 
 -- the rows are the last operands, so many, which are taken
 pub record AreGathered (strip : Strip) (windows : List Window) (count : ℕ) (old new : List Operand) (rows : List (Vec CellValue Global)) : Type 0 where
   pub rest : new ≡ lower_operands count old
   pub width : AreWide strip.width rows
-  pub each : AtColumns strip (λ c. arguments_at c rows ≡ cells_at windows strip c (top_operands count old))
+  pub each : AtColumns strip (λ c. arguments_at c rows ≡ operand_cells_at windows strip c (top_operands count old))
 
 -- a row is as wide as a strip, and has the values after steps along it
 pub record HasValuesAfter (strip : Strip) (windows : List Window) (steps : List (Step ℕ)) (row : Vec CellValue Global) : Type 0 where
   pub width : IsAsWide strip row
-  pub each : AtColumns strip (λ c. at row.items c ∷ [] ≡ values_after (seen_cell windows (spot_at strip c)) steps [])
+  pub each : AtColumns strip (λ c. at row.items c ∷ [] ≡ values_after (seen_cell windows (position_at strip c)) steps [])

@@ -3,7 +3,7 @@
 ghost use Rattle.std.specs.Prelude.{◌≡◌, ◌<◌, None, slice_get, IfOk};
 ghost use Rattle.cell_core.specs.Grid.{row_at};
 ghost use Rattle.cell_calc_binding.specs.Binding.{place_in, with_places};
-ghost use Rattle.cell_calc_binding.specs.Applied.{spot, call_result};
+ghost use Rattle.cell_calc_binding.specs.Applied.{grid_position, call_result};
 ghost use Rattle.cell_calc_binding.specs.Offsets.{item_at, row_of, cell_in};
 ghost use Rattle.cell_calc_binding.specs.Value.{value};
 ghost use Rattle.cell_calc_tests.specs.Steps.{step_value, IsProperStep};
@@ -85,7 +85,7 @@ fn called(
 ) -> Result<Cell, Memory>
     requires row { row < region.rows }
     requires col { col < region.cols }
-    ensures { IfOk result (λ v. v ≡ call_result function (spot region row col) arguments.now) }
+    ensures { IfOk result (λ v. v ≡ call_result function (grid_position region row col) arguments.now) }
 {
     let (rows, cols) = (region.rows(), region.cols());
     match function {
@@ -144,7 +144,7 @@ fn step_value(
     requires row { row < shelf.now.region.rows }
     requires col { col < shelf.now.region.cols }
     ensures { IfOk result (λ v. v
-        ≡ step_value names.now shelf.now.maps (spot shelf.now.region row col)
+        ≡ step_value names.now shelf.now.maps (grid_position shelf.now.region row col)
         step.now operands.now) }
 {
     match step {
@@ -183,7 +183,7 @@ pub(crate) fn value(
     requires row { row < shelf.now.region.rows }
     requires col { col < shelf.now.region.cols }
     ensures { IfOk result (λ v. v
-        ≡ value (with_places names.now expr.now) shelf.now.maps (spot shelf.now.region row col)) }
+        ≡ value (with_places names.now expr.now) shelf.now.maps (grid_position shelf.now.region row col)) }
 {
     let steps = expr.steps();
     let mut operands = Vec::new(alloc);

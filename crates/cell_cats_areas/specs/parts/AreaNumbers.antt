@@ -4,7 +4,7 @@ use Rattle.cell_core.specs.Grid.{Grid, CellValue}
 use Rattle.cell_cats_areas.specs.declared.clump.Joining.{Joining}
 use Rattle.cell_cats_areas.specs.declared.near.Labelled.{Labelled}
 use Rattle.cell_cats_areas.specs.declared.near.Near.{Near}
-use Rattle.cell_cats_areas.specs.Areas.{Position, cell_at_spot}
+use Rattle.cell_cats_areas.specs.Areas.{Position, cell_at_position}
 use Rattle.cell_cats_areas.specs.parts.CellPlaces.{position}
 use Rattle.cell_cats_areas.specs.parts.AreasRead.{AreNear, IsLine, area_label_at}
 use Rattle.cell_cats_areas.specs.parts.Meetings.{AreSound}
@@ -30,7 +30,7 @@ area_number_at j m table h p = area_number j m table (h.has_read.open_of (area_l
 
 -- what is written for a cell
 abbrev pub cell_number : (j : Joining) (m : Grid) (table : List ℕ) → AreLabels j m table → Position → CellValue
-cell_number j m table h p = if is_some (cell_at_spot m p) then Some (pos (area_number_at j m table h p)) else None
+cell_number j m table h p = if is_some (cell_at_position m p) then Some (pos (area_number_at j m table h p)) else None
 
 -- a table in which the first labels were replaced by numbers
 pub record AreNumbered (j : Joining) (m : Grid) (labels : List ℕ) (open_of : ℕ → ℕ) (place : ℕ) (table : List ℕ) (count : ℕ) : Type 0 where
@@ -57,7 +57,7 @@ pub record HaveNumbers (j : Joining) (m : Grid) (labels : List ℕ) (h : AreLabe
 
 -- a cell stands at a row and a column of a map, among such neighbours, and the cells before it begin so many areas
 pub record StandsAt (j : Joining) (m : Grid) (labels : List ℕ) (h : AreLabels j m labels) (r c : ℕ) (cell : CellValue) (near : Near) (table : List ℕ) (next : ℕ) : Type 0 where
-  pub cell_is : cell ≡ cell_at_spot m (position r c)
+  pub cell_is : cell ≡ cell_at_position m (position r c)
   pub row : r < m.region.rows
   pub col : c < m.region.cols
   pub next_is : next ≡ starts j m (r * m.region.cols + c)

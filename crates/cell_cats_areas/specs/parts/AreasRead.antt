@@ -5,7 +5,7 @@ use Rattle.cell_cats_areas.specs.declared.clump.Joining.{Joining}
 use Rattle.cell_cats_areas.specs.declared.clump.Joining.TheVariants.{EdgesAndCorners}
 use Rattle.cell_cats_areas.specs.declared.near.Labelled.{Labelled}
 use Rattle.cell_cats_areas.specs.declared.near.Near.{Near}
-use Rattle.cell_cats_areas.specs.Areas.{Position, cell_at_spot, AreAdjacent, AreJoined}
+use Rattle.cell_cats_areas.specs.Areas.{Position, cell_at_position, AreAdjacent, AreJoined}
 use Rattle.cell_cats_areas.specs.parts.Labels.{PointDown}
 use Rattle.cell_cats_areas.specs.parts.Meetings.{AreSound}
 use Rattle.cell_cats_areas.specs.parts.CellPlaces.{cell_place, position, IsInside}
@@ -21,38 +21,38 @@ WasRead m labels p = cell_place m.region.cols p < length labels
 
 -- the table, and the labels of the cells that were read
 pub record AreRowsRead (j : Joining) (m : Grid) (table labels : List ℕ) (open_of : ℕ → ℕ) : Type 0 where
-  pub inside : (p : Position) (v : ℤ) → cell_at_spot m p ≡ Some v → IsInside m p
+  pub inside : (p : Position) (v : ℤ) → cell_at_position m p ≡ Some v → IsInside m p
   pub long : length table ≡ starts j m (length labels)
   pub sound : AreSound j m table open_of
   -- a cell has a label that was given before the next cell was read, and is joined to the cell whose own label it is
-  pub few : (p : Position) (v : ℤ) → cell_at_spot m p ≡ Some v → WasRead m labels p → area_label_at m labels p < starts j m (suc (cell_place m.region.cols p))
-  pub joined : (p : Position) (v : ℤ) → cell_at_spot m p ≡ Some v → WasRead m labels p → AreJoined j m (start_of_run j m (area_label_at m labels p)) p
+  pub few : (p : Position) (v : ℤ) → cell_at_position m p ≡ Some v → WasRead m labels p → area_label_at m labels p < starts j m (suc (cell_place m.region.cols p))
+  pub joined : (p : Position) (v : ℤ) → cell_at_position m p ≡ Some v → WasRead m labels p → AreJoined j m (start_of_run j m (area_label_at m labels p)) p
   pub own : (p : Position) → IsInside m p → begins j m p ≡ true → WasRead m labels p → area_label_at m labels p ≡ starts j m (cell_place m.region.cols p)
   -- the labels of adjacent cells of one category lead to one open label
-  pub meet : (p q : Position) (v : ℤ) → AreAdjacent j p q → cell_at_spot m p ≡ Some v → cell_at_spot m q ≡ Some v → WasRead m labels p → WasRead m labels q → open_of (area_label_at m labels p) ≡ open_of (area_label_at m labels q)
+  pub meet : (p q : Position) (v : ℤ) → AreAdjacent j p q → cell_at_position m p ≡ Some v → cell_at_position m q ≡ Some v → WasRead m labels p → WasRead m labels q → open_of (area_label_at m labels p) ≡ open_of (area_label_at m labels q)
 
 pub record HasRead (j : Joining) (m : Grid) (table labels : List ℕ) : Type 0 where
   pub open_of : ℕ → ℕ
   pub read : AreRowsRead j m table labels open_of
 
 -- a cell and what it is labelled with are those of the one cell of a kind, among the first cells of a map; null where there is none
-pub record TellsLabels (m : Grid) (count : ℕ) (label_of : Position → ℕ) (Lies : Position → Type 0) (x : Labelled) : Type 0 where
-  pub some : (v : ℤ) → x.cell ≡ Some v → (q : Position) × Lies q × (cell_at_spot m q ≡ Some v) × (x.label ≡ label_of q) × (cell_place m.region.cols q < count)
-  pub all : (q : Position) (v : ℤ) → Lies q → cell_at_spot m q ≡ Some v → x.cell ≡ Some v
+pub record IsLabelledCell (m : Grid) (count : ℕ) (label_of : Position → ℕ) (Lies : Position → Type 0) (x : Labelled) : Type 0 where
+  pub some : (v : ℤ) → x.cell ≡ Some v → (q : Position) × Lies q × (cell_at_position m q ≡ Some v) × (x.label ≡ label_of q) × (cell_place m.region.cols q < count)
+  pub all : (q : Position) (v : ℤ) → Lies q → cell_at_position m q ≡ Some v → x.cell ≡ Some v
 
 -- they are those of the neighbours of a cell that come before it
 pub record AreNear (m : Grid) (count : ℕ) (label_of : Position → ℕ) (r c : ℕ) (near : Near) : Type 0 where
-  pub left : TellsLabels m count label_of (IsLeft r c) near.left
-  pub upper_left : TellsLabels m count label_of (IsUpperLeft r c) near.upper_left
-  pub above : TellsLabels m count label_of (IsAbove r c) near.above
-  pub upper_right : TellsLabels m count label_of (IsUpperRight r c) near.upper_right
+  pub left : IsLabelledCell m count label_of (IsLeft r c) near.left
+  pub upper_left : IsLabelledCell m count label_of (IsUpperLeft r c) near.upper_left
+  pub above : IsLabelledCell m count label_of (IsAbove r c) near.above
+  pub upper_right : IsLabelledCell m count label_of (IsUpperRight r c) near.upper_right
 
 -- they are those of a row up to a column, and of the row above it from there on; null stands after them
 pub record IsLine (m : Grid) (count : ℕ) (label_of : Position → ℕ) (r c : ℕ) (line : List Labelled) : Type 0 where
   pub wide : length line ≡ m.region.cols + 1
   pub end : (d : Labelled) → (slice_index_or line m.region.cols d).cell ≡ None
-  pub here : (k : ℕ) (d : Labelled) → k < c → TellsLabels m count label_of (IsCellAt r k) (slice_index_or line k d)
-  pub above : (k : ℕ) (d : Labelled) → c ≤ k → k < m.region.cols → TellsLabels m count label_of (IsAbove r k) (slice_index_or line k d)
+  pub here : (k : ℕ) (d : Labelled) → k < c → IsLabelledCell m count label_of (IsCellAt r k) (slice_index_or line k d)
+  pub above : (k : ℕ) (d : Labelled) → c ≤ k → k < m.region.cols → IsLabelledCell m count label_of (IsAbove r k) (slice_index_or line k d)
 
 -- the cells before a column of a row were read, and their labels stand in the table and in the line
 pub record HaveCells (j : Joining) (m : Grid) (table : List ℕ) (line : List Labelled) (r c : ℕ) : Type 0 where
@@ -67,8 +67,8 @@ near_at line c near = record { left = near.left; upper_left = near.above; above 
 
 -- what was read on the left of a cell, while the neighbours of the cell there are in hand
 pub record AreBeside (m : Grid) (count : ℕ) (label_of : Position → ℕ) (r c : ℕ) (near : Near) : Type 0 where
-  pub left : TellsLabels m count label_of (IsLeft r c) near.left
-  pub upper_left : TellsLabels m count label_of (IsUpperLeft r c) near.above
+  pub left : IsLabelledCell m count label_of (IsLeft r c) near.left
+  pub upper_left : IsLabelledCell m count label_of (IsUpperLeft r c) near.above
 
 -- the same of the cells before a column, and what was read beside the next
 pub record IsAreaReading (j : Joining) (m : Grid) (table : List ℕ) (line : List Labelled) (r c : ℕ) (near : Near) : Type 0 where
@@ -91,7 +91,7 @@ pub record CanShare (cell : CellValue) (table : List ℕ) (near : Near) : Type 0
 -- wherever such a cell stands among such neighbours, and is the next, this label is read
 abbrev pub LabelsNext : Joining → CellValue → Near → List ℕ → List ℕ → ℕ → Type 0
 LabelsNext j cell near old new label = (m : Grid) (r c : ℕ) (labels : List ℕ)
-    → cell ≡ cell_at_spot m (position r c) → c < m.region.cols → length labels ≡ r * m.region.cols + c
+    → cell ≡ cell_at_position m (position r c) → c < m.region.cols → length labels ≡ r * m.region.cols + c
     → AreNear m (length labels) (area_label_at m labels) r c near
     → HasRead j m old labels → HasRead j m new (labels ++ label ∷ [])
 
@@ -102,33 +102,33 @@ pub record Shares (j : Joining) (m : Grid) (table labels : List ℕ) (before : �
   pub keeps : (a b : ℕ) → before a ≡ before b → after a ≡ after b
   pub from : Position
   pub earlier : IsEarlier j r c from
-  pub alike : cell_at_spot m from ≡ Some v
+  pub alike : cell_at_position m from ≡ Some v
   pub same : label ≡ area_label_at m labels from
-  pub meet : (q : Position) → IsEarlier j r c q → cell_at_spot m q ≡ Some v → after (area_label_at m labels q) ≡ after label
+  pub meet : (q : Position) → IsEarlier j r c q → cell_at_position m q ≡ Some v → after (area_label_at m labels q) ≡ after label
 
 -- wherever such a cell stands among such neighbours, it shares the label
 abbrev pub SharesAt : Joining → CellValue → Near → List ℕ → List ℕ → ℕ → Type 0
 SharesAt j cell near table new label = (m : Grid) (r c : ℕ) (v : ℤ) (labels : List ℕ) (open_of : ℕ → ℕ)
-    → cell ≡ Some v → cell_at_spot m (position r c) ≡ Some v → AreNear m (length labels) (area_label_at m labels) r c near
+    → cell ≡ Some v → cell_at_position m (position r c) ≡ Some v → AreNear m (length labels) (area_label_at m labels) r c near
     → AreRowsRead j m table labels open_of → Shares j m new labels open_of r c v label
 
 -- the same where neither the cell on the left nor the one above has its category
 abbrev pub SharesAtCorners : CellValue → Near → List ℕ → List ℕ → ℕ → Type 0
 SharesAtCorners cell near table new label = (m : Grid) (r c : ℕ) (v : ℤ) (labels : List ℕ) (open_of : ℕ → ℕ)
-    → cell ≡ Some v → cell_at_spot m (position r c) ≡ Some v → AreNear m (length labels) (area_label_at m labels) r c near
-    → ((q : Position) → IsLeft r c q ⊎ IsAbove r c q → cell_at_spot m q ≡ Some v → ⊥)
+    → cell ≡ Some v → cell_at_position m (position r c) ≡ Some v → AreNear m (length labels) (area_label_at m labels) r c near
+    → ((q : Position) → IsLeft r c q ⊎ IsAbove r c q → cell_at_position m q ≡ Some v → ⊥)
     → AreRowsRead EdgesAndCorners m table labels open_of → Shares EdgesAndCorners m new labels open_of r c v label
 
 -- a cell that comes before it has its category, and what it is labelled with
 abbrev pub HasEarlier : Joining → CellValue → Near → ℕ → Type 0
 HasEarlier j cell near label = (m : Grid) (r c : ℕ) (v : ℤ) (count : ℕ) (label_of : Position → ℕ)
     → cell ≡ Some v → AreNear m count label_of r c near
-    → (q : Position) × IsEarlier j r c q × (cell_at_spot m q ≡ Some v) × (label ≡ label_of q)
+    → (q : Position) × IsEarlier j r c q × (cell_at_position m q ≡ Some v) × (label ≡ label_of q)
 
 -- no cell that comes before it has its category
 abbrev pub HasNoneEarlier : Joining → CellValue → Near → Type 0
 HasNoneEarlier j cell near = (m : Grid) (r c : ℕ) (v : ℤ) (count : ℕ) (label_of : Position → ℕ)
-    → cell ≡ Some v → AreNear m count label_of r c near → (q : Position) → IsEarlier j r c q → cell_at_spot m q ≡ Some v → ⊥
+    → cell ≡ Some v → AreNear m count label_of r c near → (q : Position) → IsEarlier j r c q → cell_at_position m q ≡ Some v → ⊥
 
 -- the label that such a cell shares, or none: then the table stays, and no cell that comes before it has its category
 abbrev pub SharesLabel : Joining → CellValue → Near → List ℕ → List ℕ → Option ℕ → Type 0

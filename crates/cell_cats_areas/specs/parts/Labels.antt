@@ -6,7 +6,7 @@ abbrev pub PointDown : List ℕ → Type 0
 PointDown table = (k : ℕ) → slice_index table k ≤ k
 
 -- a function tells which open label each label leads to; an open one points to itself
-pub record TellsOpen (table : List ℕ) (open_of : ℕ → ℕ) : Type 0 where
+pub record LeadsToOpen (table : List ℕ) (open_of : ℕ → ℕ) : Type 0 where
   pub points : (k : ℕ) → k < length table → open_of (slice_index table k) ≡ open_of k
   pub itself : (k : ℕ) → k < length table → slice_index table k ≡ k → open_of k ≡ k
   pub is_open : (k : ℕ) → k < length table → slice_index table (open_of k) ≡ open_of k

@@ -4,7 +4,7 @@ use Rattle.cell_core_values.specs.Cell.{cell_eq}
 use Rattle.cell_core.specs.Grid.{Grid, CellValue, cell_at}
 use Rattle.cell_cats_areas.specs.declared.clump.Joining.{Joining}
 use Rattle.cell_cats_areas.specs.declared.clump.Joining.TheVariants.{Edges, EdgesAndCorners}
-use Rattle.cell_cats_areas.specs.Areas.{Position, cell_at_spot}
+use Rattle.cell_cats_areas.specs.Areas.{Position, cell_at_position}
 use Rattle.cell_cats_areas.specs.parts.CellPlaces.{position, cell_of_place}
 
 -- where a cell lies
@@ -53,7 +53,7 @@ meets EdgesAndCorners m r c = (cell_eq (cell_to_the_left m r c) (cell_at m r c) 
 
 -- a cell gets a label of its own: it is not null, and none of them is of its category
 abbrev pub begins : Joining → Grid → Position → Bool
-begins j m p = is_some (cell_at_spot m p) && not (meets j m p.row p.col)
+begins j m p = is_some (cell_at_position m p) && not (meets j m p.row p.col)
 
 -- such cells, of the first places
 abbrev pub starts_below : Joining → Grid → ℕ → List Position

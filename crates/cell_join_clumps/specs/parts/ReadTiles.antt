@@ -17,8 +17,8 @@ use Rattle.cell_join_borders.specs.declared.border_fault.BorderFault.TheVariants
 use Rattle.cell_join_clumps.specs.BegunGrids.{AreGridSoFar, last_row}
 use Rattle.cell_join_clumps.specs.ClumpsOfTiles.{IsFaultOfTile, SpellsOtherwise}
 use Rattle.cell_join_clumps.specs.TileTexts.{AreGridOf, LieBeside, SpellsJoined, border_rows_of, region_rows, regions_of}
-use Rattle.cell_join_clumps.specs.parts.Spots.{IsTileSpot, IsWhole, IsWholeRow}
-use Rattle.cell_join_clumps.specs.declared.arrangement.TileSpot.TheVariants.{InRow, NextRow}
+use Rattle.cell_join_clumps.specs.parts.Placements.{IsTilePlacement, IsWhole, IsWholeRow}
+use Rattle.cell_join_clumps.specs.declared.arrangement.TilePlacement.TheVariants.{InRow, NextRow}
 use Rattle.cell_join_clumps.specs.declared.clumps_fault.ClumpsFault.{ClumpsFault}
 use Rattle.cell_join_clumps.specs.declared.clumps_fault.ClumpsFault.TheVariants.{Border as NoBorder, Connectivity, Apart, NotBeside, NotBelow, FewTiles, TooManyClumps, Memory, Write}
 use Rattle.cell_join_clumps.specs.declared.tile_grid.TileGrid.{TileGrid}
@@ -88,7 +88,7 @@ pub record IsAddedBelow (tile : BorderText) (old new : TileGrid) : Type 0 where
 
 -- where it goes, and there it was added
 abbrev pub IsTileAdded : BorderText → (old new : TileGrid) → Type 0
-IsTileAdded tile old new = (IsTileSpot old.above.items old.row.items tile.region InRow × IsAddedInRow tile old new) ⊎ (IsTileSpot old.above.items old.row.items tile.region NextRow × IsAddedBelow tile old new)
+IsTileAdded tile old new = (IsTilePlacement old.above.items old.row.items tile.region InRow × IsAddedInRow tile old new) ⊎ (IsTilePlacement old.above.items old.row.items tile.region NextRow × IsAddedBelow tile old new)
 
 -- that whose border a text is, where the text is known
 pub record HasAddedTile (j : Joining) (text : Option Coming) (old new : TileGrid) : Type 0 where

@@ -14,7 +14,7 @@ use Rattle.cell_join_sizes.specs.declared.size_fault.SizesFault.{SizesFault}
 use Rattle.cell_join_sizes.specs.declared.size_fault.SizesFault.TheVariants.{Write}
 use Rattle.cell_join_lines.specs.declared.stretch.Stretch.{Stretch}
 use Rattle.cell_join_lines.specs.AreasReading.{AreasReading, areas_reading_of}
-use Rattle.cell_join_lines.specs.AreasText.{numbers_told}
+use Rattle.cell_join_lines.specs.AreasText.{numbers_read}
 use Rattle.cell_join_sizes.specs.parts.Held.{HeldValue, held_from}
 use Rattle.cell_join_sizes.specs.parts.Stops.{lines_behind}
 use Rattle.cell_join_sizes.specs.SizeTexts.{AreTablesOfBands, BandSizes, IsNullEntry, IsTableOfBand, entries_of_areas, number_entries, sizes_of_parts, stretches_of_parts}
@@ -53,12 +53,12 @@ IsHeadOfNull (Some entry) = entry.0 ≡ None ∷ []
 pub record HasCountedBand (band line start now : ℕ) (areas after : Option AreasReading) (table left : Option TableReading) (old new : List ℕ) : Type 0 where
   pub part : BandSizes
   pub own : All (λ (s : Stretch). s.band ≡ band) part.stretches
-  pub told : areas ≡ option_map (with_stretches part.stretches) after
+  pub reported : areas ≡ option_map (with_stretches part.stretches) after
   pub areas_line : now ≡ lines_behind start (length part.stretches)
-  pub many : length part.sizes ≡ length (numbers_told part.stretches)
+  pub many : length part.sizes ≡ length (numbers_read part.stretches)
   pub table_line : line ≡ length part.sizes + 1
   pub reads : table ≡ option_map (with_entries (entries_of_areas part.stretches part.sizes)) left
-  pub tallies : Tallies old (numbers_told part.stretches) part.sizes new
+  pub tallies : Tallies old (numbers_read part.stretches) part.sizes new
 
 -- nothing is left of a table, or an entry of null
 abbrev pub IsLeftOver : TableReading → Type 0
@@ -67,10 +67,10 @@ IsLeftOver reading = IsNullEntry reading.entries × (reading.fault ≡ None)
 -- a table was read to its end, where it is known
 pub record HasReadBand (band start now : ℕ) (areas after : Option AreasReading) (table : Option TableReading) (old new : List ℕ) : Type 0 where
   pub part : BandSizes
-  pub told : areas ≡ option_map (with_stretches part.stretches) after
+  pub reported : areas ≡ option_map (with_stretches part.stretches) after
   pub areas_line : now ≡ lines_behind start (length part.stretches)
   pub listed : IfSome table (IsTableOfBand band part)
-  pub tallies : Tallies old (numbers_told part.stretches) part.sizes new
+  pub tallies : Tallies old (numbers_read part.stretches) part.sizes new
 
 -- the lines of sizes were put on a sink: all, or the first of them where it failed
 pub record HasPutSizes (format : FormatValue) (sizes : List ℕ) (before now : Option (List ℕ)) (start faults : Faults) (written : ℕ) (fault : Option SizesFault) : Type 0 where
@@ -91,6 +91,6 @@ pub record HasAddedTables {R : Type 0} (coming : R → Option Coming) (format : 
   pub parts : List BandSizes
   pub count : length parts ≡ place
   pub listed : AreTablesOfBands 1 parts first
-  pub told : Some (areas_reading_of text) ≡ option_map (with_stretches (stretches_of_parts parts)) (held_from areas)
+  pub reported : Some (areas_reading_of text) ≡ option_map (with_stretches (stretches_of_parts parts)) (held_from areas)
   pub areas_line : areas.line ≡ lines_behind 2 (length (stretches_of_parts parts))
-  pub tallies : Tallies [] (numbers_told (stretches_of_parts parts)) (sizes_of_parts parts) sizes
+  pub tallies : Tallies [] (numbers_read (stretches_of_parts parts)) (sizes_of_parts parts) sizes

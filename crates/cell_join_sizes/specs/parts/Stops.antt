@@ -5,7 +5,7 @@ use Rattle.cell_join_lines.specs.LineReading.{TableReading}
 use Rattle.cell_join_lines.specs.declared.table_fault.TableFault.{TableFault}
 use Rattle.cell_join_lines.specs.declared.table_fault.TableKind.TheVariants as table_kinds
 use Rattle.cell_join_lines.specs.AreasReading.{AreasReading, with_stretch}
-use Rattle.cell_join_lines.specs.AreasText.{numbers_told}
+use Rattle.cell_join_lines.specs.AreasText.{numbers_read}
 use Rattle.cell_join_lines.specs.declared.stretch.Stretch.{Stretch}
 use Rattle.cell_join_lines.specs.declared.areas_fault.AreasFault.{AreasFault}
 use Rattle.cell_join_lines.specs.declared.areas_fault.AreasKind.TheVariants as areas_kinds
@@ -17,35 +17,35 @@ use Rattle.cell_join_sizes.specs.declared.tally.TallyFault.{TallyFault}
 use Rattle.cell_join_sizes.specs.declared.tally.TallyFault.TheVariants as tally_faults
 use Rattle.cell_join_sizes.specs.parts.Tally.{Tallies}
 
--- ---- how a fault of a part is told
+-- ---- how a fault of a part is reported
 
-abbrev pub TellsAreasFault : AreasFault → SizesFault → Type 0
-TellsAreasFault fault (Areas told) = (told ≡ fault) × (fault.kind ≢ areas_kinds.Memory)
-TellsAreasFault fault (NumberBeyond line) = ⊥
-TellsAreasFault fault (NumberLeftOut number) = ⊥
-TellsAreasFault fault (NoTable line) = ⊥
-TellsAreasFault fault (Table table told) = ⊥
-TellsAreasFault fault (OtherArea table line) = ⊥
-TellsAreasFault fault (TooGreat number) = ⊥
-TellsAreasFault fault TooLong = ⊥
-TellsAreasFault fault Memory = Unit {0}
-TellsAreasFault fault Write = ⊥
+abbrev pub ReportsAreasFault : AreasFault → SizesFault → Type 0
+ReportsAreasFault fault (Areas reported) = (reported ≡ fault) × (fault.kind ≢ areas_kinds.Memory)
+ReportsAreasFault fault (NumberBeyond line) = ⊥
+ReportsAreasFault fault (NumberLeftOut number) = ⊥
+ReportsAreasFault fault (NoTable line) = ⊥
+ReportsAreasFault fault (Table table reported) = ⊥
+ReportsAreasFault fault (OtherArea table line) = ⊥
+ReportsAreasFault fault (TooGreat number) = ⊥
+ReportsAreasFault fault TooLong = ⊥
+ReportsAreasFault fault Memory = Unit {0}
+ReportsAreasFault fault Write = ⊥
 
-abbrev pub TellsTableFault : ℕ → TableFault → SizesFault → Type 0
-TellsTableFault place fault (Areas told) = ⊥
-TellsTableFault place fault (NumberBeyond line) = ⊥
-TellsTableFault place fault (NumberLeftOut number) = ⊥
-TellsTableFault place fault (NoTable line) = ⊥
-TellsTableFault place fault (Table table told) = (table ≡ place) × (told ≡ fault) × (fault.kind ≢ table_kinds.Memory)
-TellsTableFault place fault (OtherArea table line) = ⊥
-TellsTableFault place fault (TooGreat number) = ⊥
-TellsTableFault place fault TooLong = ⊥
-TellsTableFault place fault Memory = Unit {0}
-TellsTableFault place fault Write = ⊥
+abbrev pub ReportsTableFault : ℕ → TableFault → SizesFault → Type 0
+ReportsTableFault place fault (Areas reported) = ⊥
+ReportsTableFault place fault (NumberBeyond line) = ⊥
+ReportsTableFault place fault (NumberLeftOut number) = ⊥
+ReportsTableFault place fault (NoTable line) = ⊥
+ReportsTableFault place fault (Table table reported) = (table ≡ place) × (reported ≡ fault) × (fault.kind ≢ table_kinds.Memory)
+ReportsTableFault place fault (OtherArea table line) = ⊥
+ReportsTableFault place fault (TooGreat number) = ⊥
+ReportsTableFault place fault TooLong = ⊥
+ReportsTableFault place fault Memory = Unit {0}
+ReportsTableFault place fault Write = ⊥
 
-abbrev pub TellsTallyFault : (number : ℕ) → TallyFault → SizesFault → Type 0
-TellsTallyFault number tally_faults.TooGreat told = told ≡ TooGreat number
-TellsTallyFault number tally_faults.Memory told = told ≡ Memory
+abbrev pub ReportsTallyFault : (number : ℕ) → TallyFault → SizesFault → Type 0
+ReportsTallyFault number tally_faults.TooGreat reported = reported ≡ TooGreat number
+ReportsTallyFault number tally_faults.Memory reported = reported ≡ Memory
 
 -- ---- what the next stretch is
 
@@ -91,7 +91,7 @@ pub record HasStoppedInBand (place start : ℕ) (areas : AreasReading) (table : 
   pub own_table : at.table ≡ place
   pub part : BandSizes
   pub own : All (λ (s : Stretch). s.band ≡ at.table + 1) part.stretches
-  pub many : length part.sizes ≡ length (numbers_told part.stretches)
+  pub many : length part.sizes ≡ length (numbers_read part.stretches)
   pub begun : AreOfNextStretch (at.table + 1) at.counted at.areas.stretches
   pub stretches : areas.stretches ≡ part.stretches ++ at.areas.stretches
   pub areas_end : areas.fault ≡ at.areas.fault
@@ -99,7 +99,7 @@ pub record HasStoppedInBand (place start : ℕ) (areas : AreasReading) (table : 
   pub entries : table.entries ≡ (entries_of_areas part.stretches part.sizes ++ number_entries (first_area at.areas.stretches) at.counted) ++ at.left.entries
   pub table_end : table.fault ≡ at.left.fault
   pub table_line : at.table_line ≡ length part.sizes + length at.counted + 1
-  pub tallies : Tallies old (numbers_told part.stretches ++ range_with_len (first_number at.areas.stretches) (length at.counted)) (part.sizes ++ at.counted) at.sizes
+  pub tallies : Tallies old (numbers_read part.stretches ++ range_with_len (first_number at.areas.stretches) (length at.counted)) (part.sizes ++ at.counted) at.sizes
   pub wrong : IsFaultAt at fault
 
 abbrev pub place_at_end : (table line : ℕ) → (areas : AreasReading) → (areas_line : ℕ) → TableReading → List ℕ → ReadingPlace

@@ -58,7 +58,7 @@ pub record BeginsWith (texts : List TextValue) (entry : Combination × ℕ) : Ty
   pub is : (text : TextValue) → (slice_index_or texts first text).head ≡ Some entry
 
 -- the text at a place read its next entry
-pub record ReadsOn (format : FormatValue) (old : List TextValue) (place : ℕ) (new : List TextValue) : Type 0 where
+pub record HeadReadsOn (format : FormatValue) (old : List TextValue) (place : ℕ) (new : List TextValue) : Type 0 where
   pub text : TextValue
   pub read : reading_behind format (slice_index_or old place text) ≡ reading_from format text
   pub labelled : labelled_behind format (slice_index_or old place text) ≡ labelled_from format text

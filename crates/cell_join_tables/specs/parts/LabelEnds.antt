@@ -19,7 +19,7 @@ use Rattle.cell_join_tables.specs.declared.label_fault.LabelFault.TheVariants as
 
 -- two texts go on with a combination that has other labels in each
 abbrev pub StopsAtLabels : FormatValue → List TextValue → OtherLabel → Type 0
-StopsAtLabels format texts told = (readings : List TableReading) (labels : List (List Labelled)) → map (λ text. reading_from format text) texts ≡ map Some readings → AllByRecursion IsListing (tables_of readings) → map (λ text. labelled_from format text) texts ≡ map Some labels → HasOtherLabel readings labels told
+StopsAtLabels format texts reported = (readings : List TableReading) (labels : List (List Labelled)) → map (λ text. reading_from format text) texts ≡ map Some readings → AllByRecursion IsListing (tables_of readings) → map (λ text. labelled_from format text) texts ≡ map Some labels → HasOtherLabel readings labels reported
 
 -- these are the first entries of the merge
 abbrev pub HasOthers : List TableReading → List LabelledEntry → Type 0
@@ -28,7 +28,7 @@ HasOthers readings done = (others : Pairs) × (merge_of (tables_of readings) ≡
 -- what the lines that were appended are of the merge, by the answer
 abbrev pub EndsLabelled : List TableReading → List (List Labelled) → List LabelledEntry → Result (Option OtherLabel) JoinFault → Type 0
 EndsLabelled readings labels done (Ok None) = AreTables readings × ((merge_of (tables_of readings) ≡ plain_entries done) × AreLabelledSo labels done)
-EndsLabelled readings labels done (Ok (Some told)) = HasOtherLabel readings labels told × HasOthers readings done
+EndsLabelled readings labels done (Ok (Some reported)) = HasOtherLabel readings labels reported × HasOthers readings done
 EndsLabelled readings labels done (Err fault) = IsJoinFault readings fault × HasOthers readings done
 
 -- the merge came to its end, to other labels or to a fault
@@ -46,8 +46,8 @@ abbrev pub other_of : Result (Option OtherLabel) JoinFault → Option OtherLabel
 other_of (Ok other) = other
 other_of (Err fault) = None
 
--- the fault that is told: other labels where there is no fault else
+-- the fault that is reported: other labels where there is no fault else
 abbrev pub label_fault_of : Option JoinFault → Option OtherLabel → Option LabelFault
 label_fault_of (Some fault) other = Some (faults.Join fault)
-label_fault_of None (Some told) = Some (faults.OtherLabel told)
+label_fault_of None (Some reported) = Some (faults.OtherLabel reported)
 label_fault_of None None = None

@@ -110,6 +110,6 @@ AreBehind format [] (text ∷ texts) = ⊥
 AreBehind format (whole ∷ wholes) [] = ⊥
 AreBehind format (whole ∷ wholes) (text ∷ texts) = IsBehind format whole text × AreBehind format wholes texts
 
--- other labels are told with their line, of whatever lines the texts have
+-- other labels are reported with their line, of whatever lines the texts have
 abbrev pub StopsOnLine : FormatValue → List TextValue → OtherLabel → Type 0
-StopsOnLine format texts told = (wholes : List (List Labelled)) → AreBehind format wholes texts → HasNumberedLine wholes told.text told.line (told.combo, told.other.items)
+StopsOnLine format texts reported = (wholes : List (List Labelled)) → AreBehind format wholes texts → HasNumberedLine wholes reported.text reported.line (reported.combo, reported.other.items)

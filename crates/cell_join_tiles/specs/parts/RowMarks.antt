@@ -10,10 +10,10 @@ use Rattle.cell_join_tiles.specs.Values.{SideValue, BorderValue, no_border}
 use Rattle.cell_join_tiles.specs.parts.RowLabels.{row_label}
 
 -- the clump that has a number, counted from 0
-abbrev pub clump_of : CellValue → Option ℕ
-clump_of None = None
-clump_of (Some (pos n)) = if n == 0 then None else Some (n - 1)
-clump_of (Some (negsuc n)) = None
+abbrev pub clump_of_mark : CellValue → Option ℕ
+clump_of_mark None = None
+clump_of_mark (Some (pos n)) = if n == 0 then None else Some (n - 1)
+clump_of_mark (Some (negsuc n)) = None
 
 -- what stands at a cell of a category, if its tile has so many clumps that its own is one of them
 abbrev pub mark_at : (ℕ → ℕ) → ℕ → ℤ → Option ℕ → Option Mark
@@ -22,7 +22,7 @@ mark_at label clumps v (Some k) = if nat_lt k clumps then Some (record { categor
 
 abbrev pub mark_in : (ℕ → ℕ) → ℕ → (cell number : CellValue) → Option Mark
 mark_in label clumps None number = None
-mark_in label clumps (Some v) number = mark_at label clumps v (clump_of number)
+mark_in label clumps (Some v) number = mark_at label clumps v (clump_of_mark number)
 
 -- at the cells of a side
 abbrev pub marks_of : (ℕ → ℕ) → ℕ → SideValue → Line

@@ -16,5 +16,5 @@ stretches_after band (Some line) numbers =
     stretches_behind line.stretch.band line.stretch.first line.stretch.last line.stretch.number line.previous numbers
 
 -- behind others stand those of a band whose first areas have these numbers, but for a line that may go on
-abbrev pub AreLined : ℕ → List Stretch → List ℕ → List Stretch → Option Line → Type 0
-AreLined band before numbers stretches line = (rest : List ℕ) → before ++ stretches_in band (numbers ++ rest) ≡ stretches ++ stretches_after band line rest
+abbrev pub AreInLines : ℕ → List Stretch → List ℕ → List Stretch → Option Line → Type 0
+AreInLines band before numbers stretches line = (rest : List ℕ) → before ++ stretches_in band (numbers ++ rest) ≡ stretches ++ stretches_after band line rest

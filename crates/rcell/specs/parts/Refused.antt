@@ -15,5 +15,5 @@ of_shelf grid refusals.Memory = faults.Memory 0
 -- a fault of this grid, told before execution
 pub record IsGridFault (grid : ℕ) (fault : RunFault) : Type 0 where
   pub early : IsBeforeExecution fault
-  pub told : (count : ℕ) → grid < count → NamesItsGrid count fault
+  pub reported : (count : ℕ) → grid < count → NamesItsGrid count fault
   pub whose : IsOfGrid grid fault

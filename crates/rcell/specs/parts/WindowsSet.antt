@@ -3,7 +3,7 @@ use Rattle.std.specs.Prelude.{◌≡◌, ◌<◌, ℕ, List, [], ◌∷◌, leng
 use Rattle.cell_core.specs.Grid.{Grid, cell_at, no_labels}
 use Rattle.cell_core.specs.Shelf.{ShelfValue}
 use Rattle.cell_core_values.specs.Region.{RegionValue}
-use Rattle.cell_calc_binding.specs.Applied.{spot}
+use Rattle.cell_calc_binding.specs.Applied.{grid_position}
 use Rattle.cell_calc_binding.specs.Value.{value}
 use Rattle.cell_calc_binding.specs.Formula.{Formula}
 use Rattle.cell_calc_binding.specs.Reach.{up_of, down_of}
@@ -37,4 +37,4 @@ picked_maps (i ∷ places) maps = then_maps (slice_get maps i) (picked_maps plac
 pub record HasValues (f : Formula) (r : RegionValue) (maps : List Grid) (m : Grid) : Type 0 where
   pub region : m.region ≡ r
   pub labels : m.labels ≡ no_labels
-  pub cells : (row col : ℕ) → row < r.rows → col < r.cols → cell_at m row col ≡ value f maps (spot r row col)
+  pub cells : (row col : ℕ) → row < r.rows → col < r.cols → cell_at m row col ≡ value f maps (grid_position r row col)

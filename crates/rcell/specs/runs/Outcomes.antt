@@ -9,7 +9,7 @@ use Rattle.rcell.specs.declared.run_fault.RunFault.{RunFault}
 use Rattle.rcell.specs.declared.run_fault.RunFault.TheVariants.{Write}
 use Rattle.rcell.specs.declared.outcome.Outcome.{Outcome}
 
--- the sink took exactly the output of the statements, and its length is told
+-- the sink took exactly the output of the statements, and its length is reported
 pub record IsDone (shelf : ShelfValue) (statements : List Statement) (before now : Option (List ℕ)) (written : ℕ) : Type 0 where
   pub text : List ℕ
   pub output : IsOutput shelf statements text

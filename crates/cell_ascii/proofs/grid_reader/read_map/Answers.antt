@@ -33,7 +33,7 @@ pub returns-clause-fault : goal.returns-clause-fault
 returns-clause-fault g c =
     let f = c.in-Err.fault in
     let a = g.R.Source.coming c.args.source in
-    λ other. implied (λ x. f.kind ≢ Memory → grid_of x ≡ Err f) (λ x. text_fault x ≡ Some f) a (λ x told. (faults_agree x f).0 (told other))
+    λ other. implied (λ x. f.kind ≢ Memory → grid_of x ≡ Err f) (λ x. text_fault x ≡ Some f) a (λ x reported. (faults_agree x f).0 (reported other))
     (c.in-Err.ensures.reading a c.in_ok-reader.ensures.opened)
 
 pub returns-in-Ok-clause-reading : goal.returns-in-Ok-clause-reading

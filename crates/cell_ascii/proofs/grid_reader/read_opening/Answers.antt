@@ -1,5 +1,5 @@
 use Rattle.cell_ascii_reading.specs.Ahead.{bytes_to_come}
-use Rattle.cell_ascii.proofs.DataLemmas.{open_fails, header_kind, header_told}
+use Rattle.cell_ascii.proofs.DataLemmas.{open_fails, header_kind, header_reported}
 use Rattle.cell_ascii.proofs.grid_reader.read_opening.Goals as goal
 
 pub returns-in-Err-header_at-clause-fault : goal.returns-in-Err-header_at-clause-fault
@@ -14,4 +14,4 @@ returns-in-Err-header_at-clause-kind g c = header_kind c.read_header.new.keys c.
 
 pub returns-in-Err-header_at-clause-heard : goal.returns-in-Err-header_at-clause-heard
 returns-in-Err-header_at-clause-heard g c =
-    rw (c.end_run.ensures, header_told c.read_header.new.keys c.line.result c.in-Err-header_at.fault c.in-Err-header_at.ensures) c.in-Ok.ensures.heard
+    rw (c.end_run.ensures, header_reported c.read_header.new.keys c.line.result c.in-Err-header_at.fault c.in-Err-header_at.ensures) c.in-Ok.ensures.heard

@@ -16,11 +16,11 @@ pub returns-in-Ok-end-clause-reading : goal.returns-in-Ok-end-clause-reading
 returns-in-Ok-end-clause-reading g c =
     let m = c.in-Ok.map in
     let is = c.in-Ok.ensures.rows in
-    λ text opened. whole_read c.args.reader.now c.read_rows.new.reader text opened m is (c.in-Ok-end.ensures.end.told is.live)
+    λ text opened. whole_read c.args.reader.now c.read_rows.new.reader text opened m is (c.in-Ok-end.ensures.end.reported is.live)
 
 pub returns-in-Err-end-clause-reading : goal.returns-in-Err-end-clause-reading
 returns-in-Err-end-clause-reading g c =
     let is = c.in-Ok.ensures.rows in
     let f = c.in-Err-end.fault in
     λ text opened. premised (λ x. grid_of x ≡ Err f) text
-    (λ other. end_fails c.args.reader.now c.read_rows.new.reader text opened c.in-Ok.map is f (c.in-Err-end.ensures.end.told is.live))
+    (λ other. end_fails c.args.reader.now c.read_rows.new.reader text opened c.in-Ok.map is f (c.in-Err-end.ensures.end.reported is.live))

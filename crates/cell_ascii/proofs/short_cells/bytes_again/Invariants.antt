@@ -4,7 +4,7 @@ use Rattle.cell_ascii.proofs.short_cells.bytes_again.Given as goal
 abbrev pub invariant-loads : goal.invariant-loads
 invariant-loads l = record {
   within : l.count ≤ length l.later;
-  alike : take l.count l.later ≡ take l.count l.held;
+  alike : take l.count l.later ≡ take l.count l.buffered;
 }
 
 abbrev pub decreases-loads : goal.decreases-loads

@@ -1,12 +1,12 @@
 use Rattle.std.proofs.Common.{◌≡◌, ◌≤◌, ◌+◌, ◌-◌, ◌∙◌, ap, sym, arith, length, take, drop, length-drop, length-take}
 use Rattle.std.proofs.lemmas.List.{take_rest}
-use Rattle.cell_ascii.proofs.HeldRowLemmas.{filled, filled-length, part-front, part-none, part-rest}
+use Rattle.cell_ascii.proofs.BufferedRowLemmas.{filled, filled-length, part-front, part-none, part-rest}
 use Rattle.cell_ascii.proofs.WordLemmas.{HoldsLines-append}
 use Rattle.cell_ascii.proofs.short_cells.cells_in.Goals as goal
 
 pub parts-preserved : goal.parts-preserved
 parts-preserved c =
-    let held = c.args.held.now in
+    let buffered = c.args.buffered.now in
     let old = c.args.row.now in
     let row = c.parts.row in
     let i = c.parts.i in
@@ -19,14 +19,14 @@ parts-preserved c =
     let few : k ≤ length row - i = omega (arith, c.some_cells_in-found.ensures.cells.count, length-drop i row, length-take (length row - i) (drop i row)) in
     let front = part-front i k row part old within size few in
     let whole : length (filled i row part) ≡ length row = filled-length i k row part old within size few in
-    let here = take_rest held passed in
+    let here = take_rest buffered passed in
     let inside = rw here at c.some_cells_in-found.ensures.cells.within in
     let next = rw (here, c.parts.invariant.same) at c.some_cells_in-found.ensures.cells.cells in
     let m = c.some_cells_in-found.result.2 in
     record {
       low = omega (arith, few, within, whole);
-      within = omega (arith, inside, length-drop passed held, c.parts.invariant.within);
-      cells = rw front (HoldsLines-append c.args.words.now held (take i row) (take k part) i k passed n c.parts.lines m c.parts.invariant.cells next);
+      within = omega (arith, inside, length-drop passed buffered, c.parts.invariant.within);
+      cells = rw front (HoldsLines-append c.args.words.now buffered (take i row) (take k part) i k passed n c.parts.lines m c.parts.invariant.cells next);
       same = c.some_cells_in-found.ensures.same ∙ c.parts.invariant.same;
       among = omega (arith, c.some_cells_in-found.ensures.cells.among, c.parts.invariant.among);
       lines = omega (arith, c.some_cells_in-found.ensures.cells.lines, c.parts.invariant.lines);

@@ -5,8 +5,8 @@ use Rattle.cell_ascii.proofs.short_cells.cells_in.Given as goal
 abbrev pub invariant-parts : goal.invariant-parts
 invariant-parts l = record {
   low : l.i ≤ length l.row;
-  within : l.passed ≤ length l.held;
-  cells : HoldsLines l.fn.words l.held (take l.i l.row) l.i l.passed l.lines;
+  within : l.passed ≤ length l.buffered;
+  cells : HoldsLines l.fn.words l.buffered (take l.i l.row) l.i l.passed l.lines;
   same : l.words ≡ l.fn.words;
   among : l.lines ≤ l.passed;
   lines : l.lines ≤ l.i * 64;

@@ -1,6 +1,6 @@
 use Rattle.std.proofs.Common.{◌≤◌, arith, length, length-take, take, sym, ◌∙◌}
 use Rattle.std.specs.Prelude.{slice_index_or}
-use Rattle.cell_ascii.proofs.HeldLemmas.{few_below, digit_last}
+use Rattle.cell_ascii.proofs.BufferedLemmas.{few_below, digit_last}
 use Rattle.cell_ascii.proofs.short_cells.more_digits.Goals as goal
 
 pub overflow_mul-value : goal.overflow_mul-value

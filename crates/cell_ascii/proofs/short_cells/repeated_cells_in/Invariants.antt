@@ -1,12 +1,12 @@
 use Rattle.std.proofs.Common.{◌≡◌, ◌-◌, ◌≤◌, length, take, drop}
-use Rattle.cell_ascii.specs.HeldCells.{HoldsCells}
+use Rattle.cell_ascii.specs.BufferedCells.{HoldsCells}
 use Rattle.cell_ascii.proofs.short_cells.repeated_cells_in.Given as goal
 
 abbrev pub invariant-words : goal.invariant-words
 invariant-words l = record {
   low : l.i ≤ length l.row;
-  within : l.passed ≤ length l.held;
-  cells : HoldsCells l.header l.held (take l.i l.row) l.i l.passed;
+  within : l.passed ≤ length l.buffered;
+  cells : HoldsCells l.header l.buffered (take l.i l.row) l.i l.passed;
   rest : drop l.i l.row ≡ drop l.i l.fn.row;
 }
 

@@ -8,5 +8,5 @@ enough_bytes times bytes n some more e = let least : (bytes - 1) / n * n ≤ byt
 pub returns-clause-again : goal.returns-clause-again
 returns-clause-again c =
     let more : 0 < c.bytes_again-bytes.result = omega (arith, c.if-bytes-eq0.false) in
-    comes_again c.args.held.now c.args.n c.bytes_again-bytes.result c.quotient.result c.bytes_again-bytes.ensures.alike
+    comes_again c.args.buffered.now c.args.n c.bytes_again-bytes.result c.quotient.result c.bytes_again-bytes.ensures.alike
     (enough_bytes c.quotient.result c.bytes_again-bytes.result c.args.n c.requires.some more c.quotient.ensures)

@@ -4,5 +4,5 @@ use Rattle.cell_ascii.proofs.word_table.blanks_in.Goals as goal
 
 pub returns : goal.returns
 returns c =
-    let size : length (take 64 c.args.held.now) ≡ 64 = omega (arith, length-take 64 c.args.held.now) in
-    four-hits (take 64 c.args.held.now) size
+    let size : length (take 64 c.args.buffered.now) ≡ 64 = omega (arith, length-take 64 c.args.buffered.now) in
+    four-hits (take 64 c.args.buffered.now) size

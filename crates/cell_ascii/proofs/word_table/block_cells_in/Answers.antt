@@ -9,48 +9,48 @@ use lib.Count.{count_trailing_zeros}
 
 pub overflow_sub-size : goal.overflow_sub-size
 overflow_sub-size c =
-    let held : 64 ≤ length c.args.held.now = omega arith in
+    let buffered : 64 ≤ length c.args.buffered.now = omega arith in
     let some : 0 < c.words.ends = omega (arith, c.words-test.true) in
-    (next_end c.args.held.now c.words.at c.words.ends held some c.words.invariant.ends).behind
+    (next_end c.args.buffered.now c.words.at c.words.ends buffered some c.words.invariant.ends).behind
 
 pub pass_blanks-passed-requires : goal.pass_blanks-passed-requires
 pass_blanks-passed-requires c =
-    let held : 64 ≤ length c.args.held.now = omega arith in
+    let buffered : 64 ≤ length c.args.buffered.now = omega arith in
     let some : 0 < c.words.ends = omega (arith, c.words-test.true) in
-    let next = next_end c.args.held.now c.words.at c.words.ends held some c.words.invariant.ends in
+    let next = next_end c.args.buffered.now c.words.at c.words.ends buffered some c.words.invariant.ends in
     omega (arith, next.behind, next.few)
 
 pub words-smaller-then-size-gt0 : goal.words-smaller-then-size-gt0
 words-smaller-then-size-gt0 c =
-    let held : 64 ≤ length c.args.held.now = omega arith in
+    let buffered : 64 ≤ length c.args.buffered.now = omega arith in
     let some : 0 < c.words.ends = omega (arith, c.words-test.true) in
-    let next = next_end c.args.held.now c.words.at c.words.ends held some c.words.invariant.ends in
+    let next = next_end c.args.buffered.now c.words.at c.words.ends buffered some c.words.invariant.ends in
     omega (arith, next.behind, next.few)
 
 pub words-smaller : goal.words-smaller
 words-smaller c =
-    let bs = c.args.held.now in
+    let bs = c.args.buffered.now in
     let at = c.words.at in
-    let held : 64 ≤ length bs = omega arith in
+    let buffered : 64 ≤ length bs = omega arith in
     let some : 0 < c.words.ends = omega (arith, c.words-test.true) in
-    let next = next_end bs at c.words.ends held some c.words.invariant.ends in
+    let next = next_end bs at c.words.ends buffered some c.words.invariant.ends in
     let same : count_trailing_zeros 64 c.words.ends ≡ at = omega (arith, c.if-size-gt0.false, next.behind) in
     let here : IsAtBlank bs c.words.ends at =
-    record { held = held; bits = c.words.invariant.ends; blank = rw same at next.blank } in
+    record { buffered = buffered; bits = c.words.invariant.ends; blank = rw same at next.blank } in
     let passed = c.pass_blanks-passed.ensures bs here in
     omega (arith, passed.some, passed.few)
 
 pub words-preserved-then-size-gt0 : goal.words-preserved-then-size-gt0
 words-preserved-then-size-gt0 c =
-    let bs = c.args.held.now in
+    let bs = c.args.buffered.now in
     let at = c.words.at in
     let last = c.words.last in
     let i = c.words.i in
     let row = c.words.row in
     let end = count_trailing_zeros 64 c.words.ends in
-    let held : 64 ≤ length bs = omega arith in
+    let buffered : 64 ≤ length bs = omega arith in
     let some : 0 < c.words.ends = omega (arith, c.words-test.true) in
-    let next = next_end bs at c.words.ends held some c.words.invariant.ends in
+    let next = next_end bs at c.words.ends buffered some c.words.invariant.ends in
     let inside : end < length bs = omega (arith, next.few) in
     let put = c.put_cell.ensures.cell c.if-not-put_cell.false in
     let cell = put.cell in
@@ -77,14 +77,14 @@ words-preserved-then-size-gt0 c =
 
 pub words-preserved : goal.words-preserved
 words-preserved c =
-    let bs = c.args.held.now in
+    let bs = c.args.buffered.now in
     let at = c.words.at in
-    let held : 64 ≤ length bs = omega arith in
+    let buffered : 64 ≤ length bs = omega arith in
     let some : 0 < c.words.ends = omega (arith, c.words-test.true) in
-    let next = next_end bs at c.words.ends held some c.words.invariant.ends in
+    let next = next_end bs at c.words.ends buffered some c.words.invariant.ends in
     let same : count_trailing_zeros 64 c.words.ends ≡ at = omega (arith, c.if-size-gt0.false, next.behind) in
     let here : IsAtBlank bs c.words.ends at =
-    record { held = held; bits = c.words.invariant.ends; blank = rw same at next.blank } in
+    record { buffered = buffered; bits = c.words.invariant.ends; blank = rw same at next.blank } in
     let passed = c.pass_blanks-passed.ensures bs here in
     record {
       within = passed.few;

@@ -11,9 +11,9 @@ invariant-words l = record {
   behind : l.last ≤ l.at;
   inside : l.last ≤ 63;
   low : l.i ≤ length l.row;
-  ends : l.ends ≡ mask_l (cleared_front l.at (blanks l.held));
-  gap : list_all is_space (take (l.at - l.last) (drop l.last l.held)) ≡ true;
-  cells : HoldsLines l.header l.held (take l.i l.row) l.i l.last (newlines (take l.last l.held));
+  ends : l.ends ≡ mask_l (cleared_front l.at (blanks l.buffered));
+  gap : list_all is_space (take (l.at - l.last) (drop l.last l.buffered)) ≡ true;
+  cells : HoldsLines l.header l.buffered (take l.i l.row) l.i l.last (newlines (take l.last l.buffered));
   rest : drop l.i l.row ≡ drop l.i l.fn.row;
   room : length l.entries ≡ 4096;
   known : All (IsEntry l.header) l.entries;

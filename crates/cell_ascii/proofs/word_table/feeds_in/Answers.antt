@@ -4,6 +4,6 @@ use Rattle.cell_ascii.proofs.word_table.feeds_in.Goals as goal
 
 pub returns : goal.returns
 returns c =
-    let size : length (take 64 c.args.held.now) ≡ 64 = omega (arith, length-take 64 c.args.held.now) in
+    let size : length (take 64 c.args.buffered.now) ≡ 64 = omega (arith, length-take 64 c.args.buffered.now) in
     let few : 64 ≤ 64 = omega arith in
-    bitmask_splat w8 eqb (take 64 c.args.held.now) 64 10 size few
+    bitmask_splat w8 eqb (take 64 c.args.buffered.now) 64 10 size few

@@ -3,19 +3,19 @@ use Rattle.std.proofs.lemmas.List.{take_rest}
 use Rattle.std.specs.Int.RustNames.{count_ones}
 use Rattle.cell_ascii_meaning.specs.GridTokens.{newlines}
 use Rattle.cell_ascii.proofs.BitLemmas.{feeds_before}
-use Rattle.cell_ascii.proofs.HeldRowLemmas.{filled, filled-length, part-front, part-none, part-rest}
+use Rattle.cell_ascii.proofs.BufferedRowLemmas.{filled, filled-length, part-front, part-none, part-rest}
 use Rattle.cell_ascii.proofs.WordLemmas.{HoldsLines-append, newlines-few}
 use Rattle.cell_ascii.proofs.word_table.table_cells_in.Goals as goal
 
 pub overflow_add-lines : goal.overflow_add-lines
 overflow_add-lines c =
-    let held = c.args.held.now in
-    let inside : c.blocks-2.passed ≤ length held = c.blocks-2.invariant.within in
-    record { fits = omega (arith, c.blocks-2.invariant.fewer, c.if-held-passed-ge-LEAST_HELD.true, c.ones_below-lines.ensures.few) }
+    let buffered = c.args.buffered.now in
+    let inside : c.blocks-2.passed ≤ length buffered = c.blocks-2.invariant.within in
+    record { fits = omega (arith, c.blocks-2.invariant.fewer, c.if-buffered-passed-ge-LEAST_BUFFERED.true, c.ones_below-lines.ensures.few) }
 
 pub blocks-2-preserved : goal.blocks-2-preserved
 blocks-2-preserved c =
-    let held = c.args.held.now in
+    let buffered = c.args.buffered.now in
     let old = c.args.row.now in
     let row = c.blocks-2.row in
     let i = c.blocks-2.i in
@@ -29,17 +29,17 @@ blocks-2-preserved c =
     let few : k ≤ length row - i = omega (arith, found.ensures.count, length-drop i row, length-take (length row - i) (drop i row)) in
     let front = part-front i k row part old within size few in
     let whole : length (filled i row part) ≡ length row = filled-length i k row part old within size few in
-    let here = take_rest held passed in
-    let rest = drop passed held in
+    let here = take_rest buffered passed in
+    let rest = drop passed buffered in
     let next = rw here at found.ensures.cells in
     let below : n ≤ 64 = omega (arith, found.ensures.within) in
     let lines : c.ones_below-lines.result ≡ newlines (take n rest) =
     c.ones_below-lines.ensures.value ∙ ap (λ (m : ℕ). count_ones (m % 2 ^ n)) (rw here at c.feeds_in.ensures) ∙ feeds_before n rest below in
-    let fits : 72 ≤ length held - passed = omega (arith, c.if-held-passed-ge-LEAST_HELD.true) in
+    let fits : 72 ≤ length buffered - passed = omega (arith, c.if-buffered-passed-ge-LEAST_BUFFERED.true) in
     record {
       low = omega (arith, few, within, whole);
       within = omega (arith, fits, below);
-      cells = rw (front, lines) (HoldsLines-append c.args.header.now held (take i row) (take k part) i k passed n c.blocks-2.lines (newlines (take n rest)) c.blocks-2.invariant.cells next);
+      cells = rw (front, lines) (HoldsLines-append c.args.header.now buffered (take i row) (take k part) i k passed n c.blocks-2.lines (newlines (take n rest)) c.blocks-2.invariant.cells next);
       fewer = omega (arith, lines, newlines-few rest n, c.blocks-2.invariant.fewer);
       few = omega (arith, c.ones_below-lines.ensures.few, c.blocks-2.invariant.few, c.if-found-eq0.false);
       rest = part-rest i k row part old within size few found.ensures.rest c.blocks-2.invariant.rest;

@@ -6,8 +6,8 @@ use Rattle.cell_ascii.proofs.word_table.table_cells_in.Given as goal
 abbrev pub invariant-blocks-2 : goal.invariant-blocks-2
 invariant-blocks-2 l = record {
   low : l.i ≤ length l.row;
-  within : l.passed ≤ length l.held;
-  cells : HoldsLines l.header l.held (take l.i l.row) l.i l.passed l.lines;
+  within : l.passed ≤ length l.buffered;
+  cells : HoldsLines l.header l.buffered (take l.i l.row) l.i l.passed l.lines;
   fewer : l.lines ≤ l.passed;
   few : l.lines ≤ l.i * 64;
   rest : drop l.i l.row ≡ drop l.i l.fn.row;

@@ -3,7 +3,7 @@ use Rattle.std.proofs.lemmas.Result.{IfOk-from_err, err_from_is_err_and}
 use Rattle.cell_core_devices.specs.Asking.{hears}
 use Rattle.cell_ascii_reading.specs.Ahead.{bytes_to_come}
 use Rattle.cell_ascii_reading.proofs.OpeningLemmas.{key_done, key_given, key_refused, key_unended, key_unread}
-use Rattle.cell_ascii_reading.proofs.KindLemmas.{key_kind, key_told}
+use Rattle.cell_ascii_reading.proofs.KindLemmas.{key_kind, key_reported}
 use Rattle.cell_ascii_reading.proofs.header_reading.read_key.Goals as goal
 
 pub returns-in-Ok-clause-key : goal.returns-in-Ok-clause-key
@@ -84,5 +84,5 @@ returns-in-Err-clause-key g c =
 
 pub returns-in-Err-clause-heard : goal.returns-in-Err-clause-heard
 returns-in-Err-clause-heard g c =
-    let told = key_told c.args.keys.now c.header_key_of-key.result (take (length c.word-2.result.now - c.in_ok-start.start) (drop c.in_ok-start.start c.word-2.result.now)) c.in-Err.kind c.in-Err.ensures.err in
-    rw told (c.in_ok-ending.ensures.heard ∙ ap (hears false) c.in_ok-start.ensures.heard)
+    let reported = key_reported c.args.keys.now c.header_key_of-key.result (take (length c.word-2.result.now - c.in_ok-start.start) (drop c.in_ok-start.start c.word-2.result.now)) c.in-Err.kind c.in-Err.ensures.err in
+    rw reported (c.in_ok-ending.ensures.heard ∙ ap (hears false) c.in_ok-start.ensures.heard)

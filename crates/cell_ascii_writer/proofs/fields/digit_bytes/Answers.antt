@@ -6,16 +6,16 @@ use Rattle.cell_ascii_writer.proofs.fields.digit_bytes.Goals as goal
 wide : {rest number : ℕ} → rest ≤ number → number < 10000000 → rest < 2 ^ 64
 wide within few = omega (arith, within, few)
 
--- how many digits are told so far, and that there is room for more
-told : (number rest bytes size : ℕ) → rest ≤ number → number < 10000000
+-- how many digits are reported so far, and that there is room for more
+reported : (number rest bytes size : ℕ) → rest ≤ number → number < 10000000
     → decimal rest ++ low_bytes bytes size ≡ decimal number → size ≤ 6
-told number rest bytes size within few text =
+reported number rest bytes size within few text =
     omega (arith, digits-few number rest bytes size (wide within few) text few)
 
 room : (number rest bytes size : ℕ) → rest ≤ number → number < 10000000
     → decimal rest ++ low_bytes bytes size ≡ decimal number → bytes < 256 ^ size → bytes < 281474976710656
 room number rest bytes size within few text small =
-    bytes-within bytes size 6 small (told number rest bytes size within few text)
+    bytes-within bytes size 6 small (reported number rest bytes size within few text)
 
 pub overflow_mul-bytes : goal.overflow_mul-bytes
 overflow_mul-bytes c =
@@ -33,7 +33,7 @@ pub overflow_add-size : goal.overflow_add-size
 overflow_add-size c =
     let now = c.loop-rest in
     let is = now.invariant in
-    record { fits = omega (arith, told _ now.rest now.bytes now.size is.below c.requires is.text) }
+    record { fits = omega (arith, reported _ now.rest now.bytes now.size is.below c.requires is.text) }
 
 pub loop-rest-preserved : goal.loop-rest-preserved
 loop-rest-preserved c =
@@ -62,7 +62,7 @@ pub overflow_add-result-3 : goal.overflow_add-result-3
 overflow_add-result-3 c =
     let now = c.loop-rest in
     let is = now.invariant in
-    record { fits = omega (arith, told _ now.rest now.bytes now.size is.below c.requires is.text) }
+    record { fits = omega (arith, reported _ now.rest now.bytes now.size is.below c.requires is.text) }
 
 pub returns-clause-few : goal.returns-clause-few
 returns-clause-few c =

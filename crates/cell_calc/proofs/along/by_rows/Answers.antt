@@ -3,7 +3,7 @@ use Rattle.std.proofs.lemmas.List.Elements.{All-same}
 use Rattle.std.proofs.lemmas.Result.{IfOk-from_err}
 use Rattle.cell_calc_binding.specs.Applied.{call_result}
 use Rattle.cell_calc.specs.RowValues.{column}
-use Rattle.cell_calc.specs.parts.Operands.{spot_at}
+use Rattle.cell_calc.specs.parts.Operands.{position_at}
 use Rattle.cell_calc.proofs.Written.{at_written, changed_width}
 use Rattle.cell_calc.proofs.along.by_rows.Goals as goal
 
@@ -55,7 +55,7 @@ returns c = record {
       λ k h.
       at_written row.len c.call_values.new.row row.items k all (c.call_values.auto.row ∙ same)
       ∙ c.in_ok-call_values.ensures k (subst (λ n. k < n) (sym start) h)
-      ∙ ap (λ l. call_result c.args.function (spot_at strip k) (column k (map (λ v. v.items) l)))
+      ∙ ap (λ l. call_result c.args.function (position_at strip k) (column k (map (λ v. v.items) l)))
       c.as_slice-arguments.ensures.value
-      ∙ ap (λ l. call_result c.args.function (spot_at strip k) l) (c.in_ok-gather_arguments.ensures.each k h);
+      ∙ ap (λ l. call_result c.args.function (position_at strip k) l) (c.in_ok-gather_arguments.ensures.each k h);
 }

@@ -63,17 +63,17 @@ returns-in_ok-row-in-IsNull-eq1 c = record {
   width =
       let row = c.in_ok-row-in-IsNull-eq1.row in
       let all : row.len ≡ length row.items = search rules in
-      changed_width row.len c.args.strip.now.width row.items c.as_mut_slice-in-IsNull-eq1.result.now c.nullness.new.row all
-      c.as_mut_slice-in-IsNull-eq1.ensures.value c.nullness.auto.row c.in_ok-row-in-IsNull-eq1.ensures.width;
+      changed_width row.len c.args.strip.now.width row.items c.as_mut_slice-in-IsNull-eq1.result.now c.row_nullness.new.row all
+      c.as_mut_slice-in-IsNull-eq1.ensures.value c.row_nullness.auto.row c.in_ok-row-in-IsNull-eq1.ensures.width;
   each =
       let row = c.in_ok-row-in-IsNull-eq1.row in
       let all : row.len ≡ length row.items = search rules in
       let last = back_is c.args.operands.now.items c.pop_operand-in-IsNull-eq1.new.operands.items (c.pop_operand-in-IsNull-eq1.result ∷ []) 1
       c.pop_operand-in-IsNull-eq1.ensures refl in
       rw (c.in-IsNull-eq1.is-0, c.in-IsNull-eq1.is-1, ← last) (λ k h. changed (λ v. truth (is_null v)) row.len c.args.strip.now.width k row.items
-      c.as_mut_slice-in-IsNull-eq1.result.now c.nullness.new.row
+      c.as_mut_slice-in-IsNull-eq1.result.now c.row_nullness.new.row
       (operand_at c.args.windows.now c.args.strip.now k c.pop_operand-in-IsNull-eq1.result) all c.as_mut_slice-in-IsNull-eq1.ensures.value
-      c.nullness.auto.row c.nullness.ensures c.in_ok-row-in-IsNull-eq1.ensures.width h (c.in_ok-row-in-IsNull-eq1.ensures.each k h));
+      c.row_nullness.auto.row c.row_nullness.ensures c.in_ok-row-in-IsNull-eq1.ensures.width h (c.in_ok-row-in-IsNull-eq1.ensures.each k h));
 }
 
 pub pop_operand-requires-in-Abs-eq1 : goal.pop_operand-requires-in-Abs-eq1

@@ -1,6 +1,6 @@
 use Rattle.std.proofs.Common.{◌≡◌, ◌<◌, ◌-◌, ℕ, length, map, take, drop}
 use Rattle.std.specs.Prelude.{All, reverse}
-use Rattle.cell_calc.specs.parts.Operands.{cells_at}
+use Rattle.cell_calc.specs.parts.Operands.{operand_cells_at}
 use Rattle.cell_calc.specs.RowValues.{column}
 use Rattle.cell_calc.proofs.along.gather_arguments.Given as goal
 
@@ -10,5 +10,5 @@ invariant-operands l =
       rest : l.operands.items ≡ take (length l.fn.operands.items - l.counter) l.fn.operands.items;
       width : All (λ cells. length cells.items ≡ l.strip.width) l.spare.arguments.items;
       each : (c : ℕ) → c < l.strip.width → column c (map (λ cells. cells.items) l.spare.arguments.items)
-          ≡ reverse (cells_at l.windows l.strip c (drop (length l.fn.operands.items - l.counter) l.fn.operands.items));
+          ≡ reverse (operand_cells_at l.windows l.strip c (drop (length l.fn.operands.items - l.counter) l.fn.operands.items));
     }

@@ -5,8 +5,8 @@ use Rattle.cell_calc.proofs.calls.call_values.Goals as goal
 pub choose_call-requires : goal.choose_call-requires
 choose_call-requires c = c.requires.widths
 
-pub nullness-requires : goal.nullness-requires
-nullness-requires c = c.requires.widths
+pub row_nullness-requires : goal.row_nullness-requires
+row_nullness-requires c = c.requires.widths
 
 pub size-requires : goal.size-requires
 size-requires c = c.requires.widths
@@ -60,7 +60,7 @@ pub returns-in-If : goal.returns-in-If
 returns-in-If c = rw c.in-If.is c.choose_call.ensures
 
 pub returns-in-IsNull : goal.returns-in-IsNull
-returns-in-IsNull c = rw c.in-IsNull.is c.nullness.ensures
+returns-in-IsNull c = rw c.in-IsNull.is c.row_nullness.ensures
 
 pub returns-in-Null : goal.returns-in-Null
 returns-in-Null c = rw c.in-Null.is (λ k h. c.fill.ensures k h ∙ c.null.ensures)

@@ -13,14 +13,14 @@ stretches-preserved c =
     let next = c.alike_in_all-width.ensures in
     let is = c.in_ok-push.ensures.items in
     let left : from + width ≤ c.args.cols = omega (arith, next.within, c.stretches-test.true) in
-    let told : c.are_wide.result ≡ true = search rules in
+    let reported : c.are_wide.result ≡ true = search rules in
     record {
       within = left;
       all = ap total is ∙ total-push widths width ∙ ap (λ n. n + width) so_far.all;
       few = omega (arith, ap (λ l. length l) is, length-append widths (width ∷ []), so_far.few, next.some);
       go = λ k d lt.
           let row = centre_row (get_or windows k d) in
-          let wide : length row ≡ c.args.cols = c.are_wide.ensures told k d lt in
+          let wide : length row ≡ c.args.cols = c.are_wide.ensures reported k d lt in
           let within : from + width ≤ length row = omega (arith, left, wide) in
           rw is (goes_more row widths from width so_far.all within (so_far.go k d lt) (next.alike k d lt));
     }

@@ -4,7 +4,7 @@ use Rattle.std.specs.Prelude.{nat_lt}
 use Rattle.std.proofs.lemmas.List.{get_or_append_left, get_or-append_right, length-append}
 use Rattle.std.proofs.lemmas.Result.{IfOk-from_err}
 use Rattle.cell_core.specs.Grid.{CellValue}
-use Rattle.cell_calc_binding.specs.Applied.{spot}
+use Rattle.cell_calc_binding.specs.Applied.{grid_position}
 use Rattle.cell_calc_grammar.specs.Postfix.{values_after}
 use Rattle.cell_calc.specs.RowValues.{at}
 use Rattle.cell_calc.specs.parts.Operands.{seen_cell}
@@ -123,7 +123,7 @@ strips-preserved c =
           one_more old c.as_slice.result.now values.values.items new from width is same so_far.width
           values.ensures.width
           (λ i v. v ∷ [] ≡ values_after
-          (seen_cell c.args.windows.now (spot c.args.region c.args.row i)) c.args.steps.now [])
+          (seen_cell c.args.windows.now (grid_position c.args.region c.args.row i)) c.args.steps.now [])
           so_far.done values.ensures.each k h (nat_lt k from) refl;
     }
 

@@ -1,5 +1,5 @@
 use Rattle.std.proofs.Common.{◌≡◌, ◌≤◌, ◌<◌, ◌-◌, ℕ, [], ◌∷◌, length}
-use Rattle.cell_calc_binding.specs.Applied.{spot}
+use Rattle.cell_calc_binding.specs.Applied.{grid_position}
 use Rattle.cell_calc.specs.parts.Operands.{seen_cell}
 use Rattle.cell_calc_grammar.specs.Postfix.{values_after}
 use Rattle.cell_calc.specs.RowValues.{at}
@@ -10,7 +10,7 @@ invariant-strips l =
     record {
       within : l.from ≤ l.cols;
       width : length l.cells.items ≡ l.from;
-      done : (c : ℕ) → c < l.from → at l.cells.items c ∷ [] ≡ values_after (seen_cell l.windows (spot l.region l.row c)) l.steps [];
+      done : (c : ℕ) → c < l.from → at l.cells.items c ∷ [] ≡ values_after (seen_cell l.windows (grid_position l.region l.row c)) l.steps [];
     }
 
 abbrev pub decreases-strips : goal.decreases-strips

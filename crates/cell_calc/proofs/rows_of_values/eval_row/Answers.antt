@@ -1,6 +1,6 @@
 use Rattle.std.proofs.Common.{[], ap, ◌∙◌}
 use Rattle.std.proofs.lemmas.List.Elements.{All-same}
-use Rattle.cell_calc_binding.specs.Applied.{spot}
+use Rattle.cell_calc_binding.specs.Applied.{grid_position}
 use Rattle.cell_calc.specs.parts.Operands.{IsReadyStep, seen_cell}
 use Rattle.cell_calc_grammar.specs.Postfix.{postfix, values_after}
 use Rattle.cell_calc_grammar.proofs.PostfixLemmas.{enough_steps}
@@ -18,7 +18,7 @@ write_row-requires-clause-enough c = rw c.steps.ensures.steps (enough_steps c.ar
 pub returns-clause-ok : goal.returns-clause-ok
 returns-clause-ok c maps over k h =
     let f = c.args.bound.now in
-    let s = spot c.args.region.now c.args.row k in
+    let s = grid_position c.args.region.now c.args.row k in
     only_value _ _ (c.in_ok-write_row.ensures.each k h
     ∙ ap (λ l. values_after (seen_cell c.args.windows.now s) l []) c.steps.ensures.steps
     ∙ value_seen f c.args.windows.now maps s c.requires.windows over)

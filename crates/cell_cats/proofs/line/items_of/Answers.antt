@@ -3,7 +3,7 @@ use Rattle.std.proofs.lemmas.List.{at_drop_all}
 use Rattle.std.specs.Option.{ok_or}
 use Rattle.cell_cats.specs.RuleReading.{items_of}
 use Rattle.cell_cats.proofs.ItemLemmas.{after, after-nil, after-all, items-step, items-stop}
-use Rattle.cell_cats.specs.parts.ItemWords.{texts, pairs}
+use Rattle.cell_cats.specs.parts.ItemWords.{item_texts, pairs}
 use Rattle.cell_cats.specs.declared.rules.RuleFault.TheVariants.{BadRule}
 use Rattle.cell_cats.proofs.line.items_of.Goals as goal
 
@@ -15,7 +15,7 @@ fewer all at more inside = omega arith
 
 pub loop-at-init : goal.loop-at-init
 loop-at-init c =
-    (rw c.new-items.ensures.items (after-nil (items_of (texts c.args.words.now))), least (length c.args.words.now))
+    (rw c.new-items.ensures.items (after-nil (items_of (item_texts c.args.words.now))), least (length c.args.words.now))
 
 pub returns-then-not-are_ends : goal.returns-then-not-are_ends
 returns-then-not-are_ends c = λ _.
@@ -35,5 +35,5 @@ loop-at-preserved c =
 pub returns : goal.returns
 returns c =
     let found = pairs c.loop-at.items.items in
-    let end = at_drop_all (λ l. items_of (texts l)) c.args.words.now c.loop-at.at c.loop-at-test.false in
+    let end = at_drop_all (λ l. items_of (item_texts l)) c.args.words.now c.loop-at.at c.loop-at-test.false in
     ap (λ o. ok_or o BadRule) (c.loop-at.invariant.0 ∙ ap (after found) end ∙ after-all found)

@@ -1,7 +1,7 @@
 use Rattle.std.proofs.Common.{◌≡◌, ℕ, ◌<◌, List, None, length, get_or, ap, ◌∙◌, arith, get_or-set_other, subst, ◌*◌, ℤ, Some, ◌+◌}
 use Rattle.std.proofs.lemmas.List.{length-set, get_or_default}
 use Rattle.cell_core.specs.Grid.{CellValue}
-use Rattle.cell_cats_areas.specs.Areas.{cell_at_spot}
+use Rattle.cell_cats_areas.specs.Areas.{cell_at_position}
 use Rattle.cell_cats_areas.specs.parts.AreaNumbers.{AreWritten, HaveNumbers, IsNumbered, StandsAt, area_number_at}
 use Rattle.cell_cats_areas.specs.parts.LabelTables.{AreLabels}
 use Rattle.cell_cats_areas.specs.parts.AreasRead.{AreNear}
@@ -32,12 +32,12 @@ loop-col-preserved c =
     let x = c.index-cells-col.result in
     let inside : col < length c.loop-col.cells = omega (arith, c.loop-col-test.true, c.loop-col.auto.cells) in
     let col_in : col < m.region.cols = omega (arith, inv.wide) in
-    let here : x ≡ cell_at_spot m (position r col) = copied_rest m r col c.loop-col.cells x inv.rest (c.index-cells-col.is ∙ get_or_default c.loop-col.cells col x None inside) in
+    let here : x ≡ cell_at_position m (position r col) = copied_rest m r col c.loop-col.cells x inv.rest (c.index-cells-col.is ∙ get_or_default c.loop-col.cells col x None inside) in
     let near : (labels : List ℕ) (h : AreLabels j m labels) → IsNumbered j m labels h c.args.table.now → HaveNumbers j m labels h c.args.first c.args.line.now r 0 → AreNear m (r * m.region.cols + col) (area_number_at j m labels h) r col _ = λ labels h n have.
     numbering_near j m labels h next line r col c.loop-col.near (inv.numbers labels h n have) (inv.beside labels h n have) col_in c.at_next_column-near.result c.at_next_column-near.ensures in
     let at : (labels : List ℕ) (h : AreLabels j m labels) → IsNumbered j m labels h c.args.table.now → HaveNumbers j m labels h c.args.first c.args.line.now r 0 → StandsAt j m labels h r col x _ c.args.table.now next = λ labels h n have.
     record { cell_is = here; row = c.requires.row; col = col_in; next_is = (inv.numbers labels h n have).next_is; numbered = n; near_is = near labels h n have } in
-    let label : (labels : List ℕ) (h : AreLabels j m labels) → IsNumbered j m labels h c.args.table.now → HaveNumbers j m labels h c.args.first c.args.line.now r 0 → (v : ℤ) → cell_at_spot m (position r col) ≡ Some v → c.number_of_cell.result ≡ area_number_at j m labels h (position r col) = λ labels h n have v is.
+    let label : (labels : List ℕ) (h : AreLabels j m labels) → IsNumbered j m labels h c.args.table.now → HaveNumbers j m labels h c.args.first c.args.line.now r 0 → (v : ℤ) → cell_at_position m (position r col) ≡ Some v → c.number_of_cell.result ≡ area_number_at j m labels h (position r col) = λ labels h n have v is.
     c.number_of_cell.ensures.number m r col v labels h (here ∙ is) (at labels h n have) in
     record {
       wide = length-set c.loop-col.cells col c.number_cell.result ∙ inv.wide;

@@ -1,17 +1,17 @@
 use Rattle.std.proofs.Common.{arith}
-use Rattle.cell_cats_areas.proofs.LabelLemmas.{TellsOpen-joined}
+use Rattle.cell_cats_areas.proofs.LabelLemmas.{LeadsToOpen-joined}
 use Rattle.cell_cats_areas.proofs.labels.join_labels.Goals as goal
 
-pub returns-then-first-second-clause-tells : goal.returns-then-first-second-clause-tells
-returns-then-first-second-clause-tells c = λ open_of given.
-    let once = c.open_label-first.ensures.tells open_of given in
-    let twice = c.open_label-second.ensures.tells open_of once in
-    TellsOpen-joined _ c.args.one c.args.other c.open_label-first.result c.open_label-second.result _ _ open_of (omega arith) (omega arith) twice
+pub returns-then-first-second-clause-reports : goal.returns-then-first-second-clause-reports
+returns-then-first-second-clause-reports c = λ open_of given.
+    let once = c.open_label-first.ensures.reports open_of given in
+    let twice = c.open_label-second.ensures.reports open_of once in
+    LeadsToOpen-joined _ c.args.one c.args.other c.open_label-first.result c.open_label-second.result _ _ open_of (omega arith) (omega arith) twice
     (c.open_label-first.ensures.open open_of given) (c.open_label-second.ensures.open open_of once) (omega arith) (omega arith)
 
-pub returns-else-first-second-clause-tells : goal.returns-else-first-second-clause-tells
-returns-else-first-second-clause-tells c = λ open_of given.
-    let once = c.open_label-first.ensures.tells open_of given in
-    let twice = c.open_label-second.ensures.tells open_of once in
-    TellsOpen-joined _ c.args.one c.args.other c.open_label-first.result c.open_label-second.result _ _ open_of (omega arith) (omega arith) twice
+pub returns-else-first-second-clause-reports : goal.returns-else-first-second-clause-reports
+returns-else-first-second-clause-reports c = λ open_of given.
+    let once = c.open_label-first.ensures.reports open_of given in
+    let twice = c.open_label-second.ensures.reports open_of once in
+    LeadsToOpen-joined _ c.args.one c.args.other c.open_label-first.result c.open_label-second.result _ _ open_of (omega arith) (omega arith) twice
     (c.open_label-first.ensures.open open_of given) (c.open_label-second.ensures.open open_of once) (omega arith) (omega arith)

@@ -1,5 +1,5 @@
 use Rattle.std.proofs.Common.{◌<◌, ◌≤◌, length, get_or, arith, ◌∙◌}
-use Rattle.cell_cats_areas.proofs.LabelLemmas.{PointDown-set, TellsOpen-halved}
+use Rattle.cell_cats_areas.proofs.LabelLemmas.{PointDown-set, LeadsToOpen-halved}
 use Rattle.cell_cats_areas.proofs.labels.open_label.Goals as goal
 
 pub loop-table-preserved : goal.loop-table-preserved
@@ -12,8 +12,8 @@ loop-table-preserved c =
     record {
       down = PointDown-set table at _ inside (omega arith) c.loop-table.invariant.down;
       low = omega arith;
-      tells = λ open_of given. TellsOpen-halved table at open_of c.loop-table.invariant.down inside (c.loop-table.invariant.tells open_of given);
+      reports = λ open_of given. LeadsToOpen-halved table at open_of c.loop-table.invariant.down inside (c.loop-table.invariant.reports open_of given);
       same = λ open_of given.
-          let now = c.loop-table.invariant.tells open_of given in
+          let now = c.loop-table.invariant.reports open_of given in
           now.points (get_or table at 0) (omega arith) ∙ now.points at inside ∙ c.loop-table.invariant.same open_of given;
     }

@@ -21,7 +21,7 @@ returns-clause-label c = λ m r col v labels open_of is here near none read.
     let upper_left = ne_alike _ _ v _ is c.ne.ensures c.if-ne.false in
     elim c.if-eq-2.branch [
       | then-eq-2+then-near w ↦ rw w.table-is (corners_joined m r col v c.args.table.now labels open_of c.args.near.now near read none _ here upper_left
-          (is_alike _ _ v _ is c.eq-2.ensures.value w.if-eq-2.true) w.join_labels.auto.table (w.join_labels.ensures.tells open_of read.sound.tells))
+          (is_alike _ _ v _ is c.eq-2.ensures.value w.if-eq-2.true) w.join_labels.auto.table (w.join_labels.ensures.reports open_of read.sound.reports))
       | else-eq-2 w ↦ rw w.table-is (corners_upper_left m r col v c.args.table.now labels open_of c.args.near.now near read none upper_left
           (λ upper_right. elim w.else-eq-2.branch [
             | else-eq-2-via-then-eq-2+else-near u ↦ (let e = u.if-near.false in omega arith)

@@ -1,6 +1,6 @@
 use Rattle.std.proofs.Common.{⊎_elim, rules}
 use Rattle.cell_cats_areas.proofs.MeetingLemmas.{some_of}
-use Rattle.cell_cats_areas.proofs.NearLemmas.{is_alike, is_unlike, ne_alike, ne_unlike, told_above, told_left, corners_above, corners_left, corners_joined_left, corners_only}
+use Rattle.cell_cats_areas.proofs.NearLemmas.{is_alike, is_unlike, ne_alike, ne_unlike, label_above, label_left, corners_above, corners_left, corners_joined_left, corners_only}
 use Rattle.cell_cats_areas.proofs.near.shared_by_corners.Goals as goal
 use Rattle.cell_cats_areas.proofs.near.shared_by_corners.Goals.{then-eq-2, else-eq-2}
 
@@ -12,8 +12,8 @@ pub returns-then-ne-clause-label : goal.returns-then-ne-clause-label
 returns-then-ne-clause-label c =
     corners_only c.shared_at_corners.result c.args.cell c.args.near.now _ _ c.shared_at_corners.ensures.label
     (λ label shares m r col v labels open_of is here near read. shares m r col v labels open_of is here near
-    (λ q lies q_is. ⊎_elim (λ h. ne_unlike _ _ v _ is c.ne.ensures c.if-ne.true (told_left m _ _ r col v c.args.near.now near q h q_is).cell)
-    (λ h. is_unlike _ _ v _ is c.eq.ensures.value c.if-eq.false (told_above m _ _ r col v c.args.near.now near q h q_is).cell) lies) read)
+    (λ q lies q_is. ⊎_elim (λ h. ne_unlike _ _ v _ is c.ne.ensures c.if-ne.true (label_left m _ _ r col v c.args.near.now near q h q_is).cell)
+    (λ h. is_unlike _ _ v _ is c.eq.ensures.value c.if-eq.false (label_above m _ _ r col v c.args.near.now near q h q_is).cell) lies) read)
     (λ apart. search rules)
 
 pub join_labels-requires : goal.join_labels-requires
@@ -29,7 +29,7 @@ returns-clause-label c = λ m r col v labels open_of is here near read.
     let left = ne_alike _ _ v _ is c.ne.ensures c.if-ne.false in
     elim c.if-eq-2.branch [
       | then-eq-2 w ↦ rw w.table-is (corners_joined_left m r col v c.args.table.now labels open_of c.args.near.now near read _ here not_above left
-          (is_alike _ _ v _ is c.eq-2.ensures.value w.if-eq-2.true) w.join_labels.auto.table (w.join_labels.ensures.tells open_of read.sound.tells))
+          (is_alike _ _ v _ is c.eq-2.ensures.value w.if-eq-2.true) w.join_labels.auto.table (w.join_labels.ensures.reports open_of read.sound.reports))
       | else-eq-2 w ↦ rw w.table-is (corners_left m r col v c.args.table.now labels open_of c.args.near.now near read not_above left
           (is_unlike _ _ v _ is c.eq-2.ensures.value w.if-eq-2.false))
     ]

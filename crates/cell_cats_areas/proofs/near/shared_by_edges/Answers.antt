@@ -19,7 +19,7 @@ pub returns-clause-label : goal.returns-clause-label
 returns-clause-label c = λ m r col v labels open_of is here near read.
     let left = ne_alike _ _ v _ is c.ne.ensures c.if-ne.false in
     elim c.if-eq-2.branch [
-      | then-eq-2+then-ne-2 w ↦ rw w.table-is (edges_joined m r col v c.args.table.now labels open_of c.args.near.now near read _ here left (is_alike _ _ v _ is c.eq-2.ensures.value w.if-eq-2.true) w.join_labels.auto.table (w.join_labels.ensures.tells open_of read.sound.tells))
+      | then-eq-2+then-ne-2 w ↦ rw w.table-is (edges_joined m r col v c.args.table.now labels open_of c.args.near.now near read _ here left (is_alike _ _ v _ is c.eq-2.ensures.value w.if-eq-2.true) w.join_labels.auto.table (w.join_labels.ensures.reports open_of read.sound.reports))
       | else-eq-2 w ↦ rw w.table-is (edges_left m r col v c.args.table.now labels open_of c.args.near.now near read left
           (λ above. elim w.else-eq-2.branch [
             | else-eq-2-via-then-eq-2+else-ne-2 u ↦ ne_alike _ _ v _ is u.ne-then-eq-2.ensures u.if-ne-2.false

@@ -1,5 +1,5 @@
 use Rattle.std.proofs.Common.{◌≡◌, ◌<◌, arith}
-use Rattle.cell_cats_areas.specs.Areas.{cell_at_spot}
+use Rattle.cell_cats_areas.specs.Areas.{cell_at_position}
 use Rattle.cell_cats_areas.specs.parts.CellPlaces.{position}
 use Rattle.cell_cats_areas.proofs.LineLemmas.{beside_first, reading_near, reading_inside, reading_next, cells_down, copied}
 use Rattle.cell_cats_areas.proofs.scan.label_row.Goals as goal
@@ -30,7 +30,7 @@ loop-col-preserved c =
     let inv = c.loop-col.invariant in
     let h = inv.reading in
     let col_in : col < m.region.cols = omega (arith, c.copy_row.auto.cells, c.requires.wide, c.loop-col-test.true) in
-    let here : c.index-cells-col.result ≡ cell_at_spot m (position r col) = copied m r col c.copy_row.new.cells c.index-cells-col.result c.copy_row.ensures c.loop-col-test.true c.index-cells-col.is in
+    let here : c.index-cells-col.result ≡ cell_at_position m (position r col) = copied m r col c.copy_row.new.cells c.index-cells-col.result c.copy_row.ensures c.loop-col-test.true c.index-cells-col.is in
     let near = reading_near c.args.joining m c.loop-col.table.items c.loop-col.line r col c.loop-col.near h col_in c.at_next_column-near.result c.at_next_column-near.ensures in
     let read = c.in_ok-label.ensures.read m r col h.cells.labels here col_in h.cells.count near h.cells.has_read in
     let next = reading_next c.args.joining m c.loop-col.table.items c.loop-col.line r col c.loop-col.near h col_in c.at_next_column-near.result c.at_next_column-near.ensures c.label_cell.new.table.items _ here read in

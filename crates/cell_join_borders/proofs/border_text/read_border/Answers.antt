@@ -14,9 +14,9 @@ returns-in-Err-border_in-clause-fault g c =
 
 pub returns-clause-spelled : goal.returns-clause-spelled
 returns-clause-spelled g c =
-    let told = c.in-Ok-border_in.told in
+    let reported = c.in-Ok-border_in.reported in
     if-some (g.R.Source.coming c.args.source) (λ (t : Coming). Denotes t c.in-Ok.map)
-    (λ (t : Coming). SpellsBorder t told.joining told.region told.border)
-    (λ t denotes. spelled-so c.in-Ok.map told.joining told.region told.border t c.in-Ok-border_in.ensures.border
+    (λ (t : Coming). SpellsBorder t reported.joining reported.region reported.border)
+    (λ t denotes. spelled-so c.in-Ok.map reported.joining reported.region reported.border t c.in-Ok-border_in.ensures.border
     denotes)
     c.in-Ok.ensures.map

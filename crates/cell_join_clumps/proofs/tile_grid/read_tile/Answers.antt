@@ -1,5 +1,5 @@
 use Rattle.std.proofs.Common.{sym, ◌∙◌, true, false, ◌≡◌}
-use Rattle.cell_join_clumps.proofs.SpotLemmas.{otherwise}
+use Rattle.cell_join_clumps.proofs.PlacementLemmas.{otherwise}
 use Rattle.cell_join_clumps.proofs.tile_grid.read_tile.Goals as goal
 
 pub returns-clause-fault : goal.returns-clause-fault

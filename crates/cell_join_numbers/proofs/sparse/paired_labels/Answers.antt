@@ -5,7 +5,7 @@ use Rattle.std.proofs.lemmas.List.Filters.{dedup_is}
 use Rattle.std.proofs.lemmas.List.Kept.{AllPairs-from_increasing, Contains-dedup_nat, Contains-from_dedup}
 use Rattle.std.proofs.lemmas.List.Sorted.{Contains-permutation, IsPermutation-sym}
 use Rattle.std.proofs.lemmas.Map.Keys.{IsStrictlyIncreasing-dedup}
-use Rattle.cell_join_numbers.specs.SparseNumbers.{labels_of}
+use Rattle.cell_join_numbers.specs.SparseNumbers.{labels_of_pairs}
 use Rattle.cell_join_numbers.proofs.sparse.paired_labels.Goals as goal
 
 pub returns-clause-ascending : goal.returns-clause-ascending
@@ -23,7 +23,7 @@ returns-clause-same c = λ label.
     let is : c.dedup.new.self.items ≡ dedup eqb sorted =
     dedup_is eqb sorted c.dedup.new.self.items c.dedup.ensures.filtered in
     let moved = c.sort_unstable.ensures.permutation in
-    let all : given ≡ labels_of c.args.pairs.now = c.in_ok-paired.ensures in (
+    let all : given ≡ labels_of_pairs c.args.pairs.now = c.in_ok-paired.ensures in (
       λ has. subst (λ (l : List ℕ). Contains l label) all (Contains-permutation sorted given label
           (IsPermutation-sym given sorted moved)
           (Contains-from_dedup eqb sorted label (subst (λ (l : List ℕ). Contains l label) is has))),

@@ -15,6 +15,6 @@ loop-table-preserved c =
       low = omega arith;
       leads = λ open_of given. LeadTo-halved table at open_of c.loop-table.invariant.down inside (c.loop-table.invariant.leads open_of given);
       same = λ open_of given.
-          let now = (c.loop-table.invariant.leads open_of given).tells in
+          let now = (c.loop-table.invariant.leads open_of given).reports in
           now.points (get_or table at 0) (omega arith) ∙ now.points at inside ∙ c.loop-table.invariant.same open_of given;
     }

@@ -25,14 +25,14 @@ returns-in-Err-clause-stopped g c =
     let place = c.args.place in
     let areas = c.args.areas.now in
     let fault = c.in-Err.fault in
-    let told = c.of_table.result in
+    let reported = c.of_table.result in
     let source = option_map (reading_of format 1) (g.R.Source.coming c.args.source) in
     let sizes = c.args.sizes.now.items in
     stopped-behind place (place + 1) 1 areas.line areas.line (held_from areas)
-    (held_from areas) source source sizes sizes told
+    (held_from areas) source source sizes sizes reported
     (band-none (place + 1) areas.line (held_from areas) source sizes c.requires.lines) refl
-    (λ a r told_is left_is. table-fault (place_at_end place 1 a (areas.line - 1) r sizes) fault told c.of_table.ensures
-    (areas-on areas a told_is)
+    (λ a r reported_is left_is. table-fault (place_at_end place 1 a (areas.line - 1) r sizes) fault reported c.of_table.ensures
+    (areas-on areas a reported_is)
     (λ not. subst (λ (o : Option TableReading). IfSome o (λ reading. reading ≡ stopped fault.line fault.kind)) left_is
     (mapped (reading_of format 1) (g.R.Source.coming c.args.source) (λ reading. reading ≡ stopped fault.line fault.kind)
     (c.in-Err.ensures.fault not))))

@@ -76,7 +76,7 @@ returns-clause-stopped g c =
     stopped-behind c.args.place c.args.band at.line c.args.areas.now.line at.areas.line (held_from c.args.areas.now)
     (held_from at.areas) (reading_from format c.args.table.now) (reading_from format at.table)
     c.args.sizes.now.items at.sizes.items TooLong at.invariant.counted c.requires.own
-    (λ a r told_is left_is. too-long a.stretches (at.areas.line - 1) last)
+    (λ a r reported_is left_is. too-long a.stretches (at.areas.line - 1) last)
 
 pub next-requires : goal.next-requires
 next-requires g c =

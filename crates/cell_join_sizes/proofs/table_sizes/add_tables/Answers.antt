@@ -9,7 +9,7 @@ use Rattle.cell_join_sizes.specs.parts.Counting.{HasAddedTables}
 use Rattle.cell_join_sizes.proofs.AddingLemmas.{added-all, added-more, added-none, left-out}
 use Rattle.cell_join_sizes.proofs.CountingLemmas.{none-of}
 use Rattle.cell_join_sizes.proofs.FaultLemmas.{first-fault, no-table}
-use Rattle.cell_join_sizes.proofs.HeldLemmas.{tells-areas, told-by}
+use Rattle.cell_join_sizes.proofs.HeldLemmas.{reports-areas, reported-by}
 use Rattle.cell_join_sizes.specs.SizeFaults.{IsLineBeyond}
 use Rattle.cell_join_tables.proofs.OpeningLemmas.{no-more}
 use Rattle.cell_join_sizes.proofs.SequenceLemmas.{start-of}
@@ -26,7 +26,7 @@ loop-source-init g c =
       added = λ text texts gives give.
           subst (λ (l : List ℕ). HasAddedTables coming format text texts c.in-Ok.text left 0 l) (sym empty)
           (added-none coming format text texts left c.in-Ok.text (ap (map coming) items ∙ give)
-          (ap (λ (r : AreasReading). Some r) (told-by coming text c.args.areas c.in-Ok.text c.in-Ok.ensures.read gives)
+          (ap (λ (r : AreasReading). Some r) (reported-by coming text c.args.areas c.in-Ok.text c.in-Ok.ensures.read gives)
           ∙ sym c.in-Ok.ensures.start) c.in-Ok.ensures.line);
       len = search rules;
       line = omega (arith, c.in-Ok.ensures.line);
@@ -97,14 +97,14 @@ returns-then-is_some-clause-fault g c = λ text texts gives give.
 
 pub returns-in-Err-clause-fault : goal.returns-in-Err-clause-fault
 returns-in-Err-clause-fault g c = λ text texts gives give.
-    tells-areas (areas_reading_of text) _ c.in-Err.fault c.of_areas.result c.of_areas.ensures
+    reports-areas (areas_reading_of text) _ c.in-Err.fault c.of_areas.result c.of_areas.ensures
     (λ not. subst (λ (o : Option Coming). IfSome o (λ (coming : Coming). (areas_reading_of coming).fault ≡ Some c.in-Err.fault))
     gives (c.in-Err.ensures.fault not))
 
 pub returns-in-Some-clause-fault : goal.returns-in-Some-clause-fault
 returns-in-Some-clause-fault g c = λ text texts gives give.
-    let told = told-by g.R.Source.coming text c.args.areas c.in-Ok.text c.in-Ok.ensures.read gives in (
-      ap (λ (r : AreasReading). r.fault) told,
-      subst (λ (l : List Stretch). IsLineBeyond l c.in-Some.line) (sym (ap (λ (r : AreasReading). r.stretches) told))
+    let reported = reported-by g.R.Source.coming text c.args.areas c.in-Ok.text c.in-Ok.ensures.read gives in (
+      ap (λ (r : AreasReading). r.fault) reported,
+      subst (λ (l : List Stretch). IsLineBeyond l c.in-Some.line) (sym (ap (λ (r : AreasReading). r.stretches) reported))
           (subst (λ (o : Option ℕ). IfSome o (IsLineBeyond c.in-Ok.text.all)) c.in-Some.is c.line_beyond.ensures),
     )

@@ -34,7 +34,7 @@ halves-preserved g c =
     let near = inv.2 c.halves-test.true in
     let within : c.halves.tried < length places = omega (arith, near.1, inv.1) in
     let place = get_or places c.halves.tried 0 in
-    let told : (t : Bool) → c.goes_before.result ≡ t → before heads place other ≡ t = λ t is.
+    let reported : (t : Bool) → c.goes_before.result ≡ t → before heads place other ≡ t = λ t is.
     seen-before c.args.texts.now place other c.index-texts-place.result c.index-texts-other.result
     c.head.result.now c.head-in-halves.result.now t (c.requires.places c.halves.tried 0 within) c.requires.other
     c.index-texts-place.is c.index-texts-other.is c.head.ensures c.head-in-halves.ensures
@@ -48,7 +48,7 @@ halves-preserved g c =
             omega (arith, inv.1, high),
             (λ less. (omega arith, omega (arith, less))),
             (λ up. subst (λ (n : ℕ). AllByRecursion (λ p. before heads p other ≡ true) (take n places)) one
-                (up-to heads places other c.halves.tried 0 up within (told true w.if-goes_before.true))),
+                (up-to heads places other c.halves.tried 0 up within (reported true w.if-goes_before.true))),
             (λ up. subst (λ (n : ℕ). AllByRecursion (λ p. before heads p other ≡ false) (drop n places)) (sym high) (inv.4 up)),
           ))
       | else-goes_before w ↦
@@ -59,7 +59,7 @@ halves-preserved g c =
             (λ less. (omega arith, omega (arith, less))),
             (λ up. subst (λ (n : ℕ). AllByRecursion (λ p. before heads p other ≡ true) (take n places)) (sym low) (inv.3 up)),
             (λ up. subst (λ (n : ℕ). AllByRecursion (λ p. before heads p other ≡ false) (drop n places)) (sym high)
-                (from-on heads places other c.halves.tried 0 up within (told false w.if-goes_before.false))),
+                (from-on heads places other c.halves.tried 0 up within (reported false w.if-goes_before.false))),
           ))
     ]
 

@@ -6,18 +6,18 @@ use Rattle.cell_join_lines.specs.LineLabels.{labelled_in}
 use Rattle.cell_join_tables.specs.JoinAnswers.{IsAnswered, answered, settled}
 use Rattle.cell_join_tables.specs.JoinedTexts.{readings_of}
 use Rattle.cell_join_tables.specs.declared.join_fault.JoinFault.TheVariants.{Write}
-use Rattle.cell_join_tables.specs.JoinedLabels.{IsOnLine, IsTold, counted_text}
+use Rattle.cell_join_tables.specs.JoinedLabels.{IsOnLine, IsReported, counted_text}
 use Rattle.cell_join_tables.specs.parts.LabelEnds.{answer_of, label_fault_of}
 use Rattle.cell_join_tables.proofs.JoinLemmas.{no-fault-sound, write-failed}
 use Rattle.cell_join_tables.proofs.ReadingLemmas.{readings-listing}
-use Rattle.cell_join_tables.proofs.LabelledJoinLemmas.{answer-write, label-none, label-write, some-each, told-so}
-use Rattle.cell_join_tables.proofs.LineNumberLemmas.{line-told}
+use Rattle.cell_join_tables.proofs.LabelledJoinLemmas.{answer-write, label-none, label-write, some-each, reported-so}
+use Rattle.cell_join_tables.proofs.LineNumberLemmas.{line-reported}
 use Rattle.cell_join_tables.specs.declared.label_fault.LabelFault.{LabelFault}
 use Rattle.std.specs.Prelude.{IfSome}
 use Rattle.cell_join_tables.proofs.table_joining.join_opened.Goals as goal
 
-pub returns-clause-told : goal.returns-clause-told
-returns-clause-told g c = λ texts known lines.
+pub returns-clause-reported : goal.returns-clause-reported
+returns-clause-reported g c = λ texts known lines.
     let format = c.args.format.now in
     let end = c.merge_opened-merged.ensures.end in
     let before = g.W.Sink.taken c.args.out.now in
@@ -37,12 +37,12 @@ returns-clause-told g c = λ texts known lines.
     let write = λ (e : answer_of c.merge_opened-merged.result ≡ Err Write). c.settle-settled.ensures.keeps
     (c.merge_opened-merged.ensures.write (answer-write c.merge_opened-merged.result e)) in
     let finished : c.finish-fault.result ≡ answered (settled block.failed (answer_of c.merge_opened-merged.result))
-    so.fails = so.told ∙ ap (λ r. answered r so.fails) answer in
-    let told : IsTold format texts before now block.written c.label_fault.result =
-    told-so format texts all end.done before now start faults block appended ends.1 c.merge_opened-merged.result
+    so.fails = so.reported ∙ ap (λ r. answered r so.fails) answer in
+    let reported : IsReported format texts before now block.written c.label_fault.result =
+    reported-so format texts all end.done before now start faults block appended ends.1 c.merge_opened-merged.result
     ends.0 write c.settle-settled.ensures.held so.fails c.label_fault.result
     (c.label_fault.ensures ∙ (λ i. label_fault_of (finished i) (c.parted-answer.ensures.other i))) in
-    rw (c.finish-fault.ensures.taken, c.written.ensures) told
+    rw (c.finish-fault.ensures.taken, c.written.ensures) reported
 
 pub returns-clause-sound : goal.returns-clause-sound
 returns-clause-sound g c = λ none.
@@ -88,5 +88,5 @@ pub returns-clause-line : goal.returns-clause-line
 returns-clause-line g c = λ wholes behind.
     subst (λ (f : Option LabelFault). IfSome f (IsOnLine wholes))
     (sym (c.label_fault.ensures ∙ ap (label_fault_of c.finish-fault.result) c.parted-answer.ensures.other))
-    (line-told wholes c.args.format.now c.args.texts.items behind c.finish-fault.result c.merge_opened-merged.result
+    (line-reported wholes c.args.format.now c.args.texts.items behind c.finish-fault.result c.merge_opened-merged.result
     c.merge_opened-merged.ensures.line)

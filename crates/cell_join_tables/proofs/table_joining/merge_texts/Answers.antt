@@ -26,10 +26,10 @@ returns-in-Ok-End-clause-end g c =
 pub returns-in-Ok-Other-clause-end : goal.returns-in-Ok-Other-clause-end
 unfolding answer
 returns-in-Ok-Other-clause-end g c =
-    let other = c.in-Ok-Other.ensures.other c.in-Ok-Other.told (ap answer c.in-Ok-Other.field-0-is) in
+    let other = c.in-Ok-Other.ensures.other c.in-Ok-Other.reported (ap answer c.in-Ok-Other.field-0-is) in
     rw (other.1, other.2)
     (labelled-other c.args.format.now c.args.texts.now c.lines.texts g.W.Sink.taken g.W.Sink.faults c.args.out.now
-    c.args.block.now c.lines.out c.lines.block c.lines.line c.lines.invariant.is c.in-Ok-Other.told other.0.0)
+    c.args.block.now c.lines.out c.lines.block c.lines.line c.lines.invariant.is c.in-Ok-Other.reported other.0.0)
 
 pub returns-in-Err-clause-end : goal.returns-in-Err-clause-end
 returns-in-Err-clause-end g c =
@@ -63,7 +63,7 @@ lines-preserved g c =
 pub returns-in-Ok-Other-clause-line : goal.returns-in-Ok-Other-clause-line
 unfolding answer
 returns-in-Ok-Other-clause-line g c = λ wholes was.
-    (c.in-Ok-Other.ensures.other c.in-Ok-Other.told (ap answer c.in-Ok-Other.field-0-is)).0.1 wholes
+    (c.in-Ok-Other.ensures.other c.in-Ok-Other.reported (ap answer c.in-Ok-Other.field-0-is)).0.1 wholes
     (c.lines.invariant.behind wholes was)
 
 pub returns-clause-end : goal.returns-clause-end

@@ -2,24 +2,24 @@ use Rattle.std.proofs.Common.{List, ◌++◌, Option, Some, sym, ◌∙◌, subs
 use Rattle.std.specs.List.{range_with_len}
 use Rattle.cell_join_lines.specs.declared.stretch.Stretch.{Stretch}
 use Rattle.cell_join_tiles.specs.declared.run_lines.Line.{Line}
-use Rattle.cell_join_tiles.specs.parts.RunLines.{AreLined}
-use Rattle.cell_join_tiles.proofs.RunLineLemmas.{lined-first, lined-next, lined-other, other_line}
+use Rattle.cell_join_tiles.specs.parts.RunLines.{AreInLines}
+use Rattle.cell_join_tiles.proofs.RunLineLemmas.{in_lines-first, in_lines-next, in_lines-other, other_line}
 use Rattle.cell_join_tiles.proofs.run_lines.add_run.Goals as goal
 
 pub returns-in_default-clause-lines : goal.returns-in_default-clause-lines
 returns-in_default-clause-lines c = λ before numbers h.
     let run = c.args.run in
     let old = c.args.stretches.now.items in
-    lined-first c.args.part before numbers old run.first run.last run.count c.requires.some c.requires.last
-    (subst (λ (o : Option Line). AreLined c.args.part before numbers old o) c.in_default.is h)
+    in_lines-first c.args.part before numbers old run.first run.last run.count c.requires.some c.requires.last
+    (subst (λ (o : Option Line). AreInLines c.args.part before numbers old o) c.in_default.is h)
 
 pub returns-then-is_next-clause-lines : goal.returns-then-is_next-clause-lines
 returns-then-is_next-clause-lines c = λ before numbers h.
     let run = c.args.run in
     let old = c.args.stretches.now.items in
-    lined-next c.args.part before numbers old run.first run.last run.count c.requires.some c.requires.last
+    in_lines-next c.args.part before numbers old run.first run.last run.count c.requires.some c.requires.last
     c.in-Some.line
-    (subst (λ (o : Option Line). AreLined c.args.part before numbers old o) c.in-Some.is h)
+    (subst (λ (o : Option Line). AreInLines c.args.part before numbers old o) c.in-Some.is h)
     (sym c.is_next.ensures ∙ c.if-is_next.true)
 
 pub returns-clause-lines : goal.returns-clause-lines
@@ -27,10 +27,10 @@ returns-clause-lines c = λ before numbers h.
     let run = c.args.run in
     let old = c.args.stretches.now.items in
     let line = c.in-Some.line in
-    let mine : AreLined c.args.part before numbers old (Some line) =
-    subst (λ (o : Option Line). AreLined c.args.part before numbers old o) c.in-Some.is h in
-    subst (λ (l : List Stretch). AreLined c.args.part before (numbers ++ range_with_len run.first run.count) l
+    let mine : AreInLines c.args.part before numbers old (Some line) =
+    subst (λ (o : Option Line). AreInLines c.args.part before numbers old o) c.in-Some.is h in
+    subst (λ (l : List Stretch). AreInLines c.args.part before (numbers ++ range_with_len run.first run.count) l
     (other_line c.args.part before numbers old run.first run.last run.count c.requires.some c.requires.last line mine))
     (sym c.in_ok-push.ensures.items)
-    (lined-other c.args.part before numbers old run.first run.last run.count c.requires.some c.requires.last line mine
+    (in_lines-other c.args.part before numbers old run.first run.last run.count c.requires.some c.requires.last line mine
     (sym c.is_next.ensures ∙ c.if-is_next.false))

@@ -22,9 +22,9 @@ same_total : (k : Combination) (places more : List CountPlace) (m n : Gathered) 
 same_total k places more m n p e = ap (λ q. total_of 1 k q m) p ∙ ap (λ g. total_of 1 k more g) e
 
 -- whether the cell is left out
-left_as : (skip : Skip) (cell : CellValue) (byte : ℕ) {told left : Bool} → cell ≡ byte_cell byte
-    → told ≡ is_left_out skip (alone cell) → told ≡ left → is_left_out skip (alone (byte_cell byte)) ≡ left
-left_as skip cell byte stands told left = ap (λ x. is_left_out skip (alone x)) (sym stands) ∙ sym told ∙ left
+left_as : (skip : Skip) (cell : CellValue) (byte : ℕ) {reported left : Bool} → cell ≡ byte_cell byte
+    → reported ≡ is_left_out skip (alone cell) → reported ≡ left → is_left_out skip (alone (byte_cell byte)) ≡ left
+left_as skip cell byte stands reported left = ap (λ x. is_left_out skip (alone x)) (sym stands) ∙ sym reported ∙ left
 
 inside : {byte size : ℕ} → byte < 256 → size ≡ 256 → byte < size
 inside small size = omega arith

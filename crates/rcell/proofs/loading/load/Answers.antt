@@ -9,8 +9,8 @@ returns-in-Err-clause-answer g c =
     let coming = g.R.Source.coming in
     let at = c.loop-name in
     let is = c.in-Some.ensures.steps.0 in
-    λ named tell input.
-    let so = at.invariant.loads named tell in
+    λ named report input.
+    let so = at.invariant.loads named report in
     so.1.1 ∙ shelf_fails coming at.grid at.shelf (c.in-Some.name, c.in-Some.source) (into_iter_items c.next.new.self)
     (into_iter_items at.name-iterator) c.in-Err.fault so.0 is so.1.0 input c.in-Err.ensures.answer
 
@@ -20,8 +20,8 @@ loop-name-preserved g c =
     let at = c.loop-name in
     let is = c.in-Some.ensures.steps.0 in
     record {
-      loads = λ named tell.
-          let so = at.invariant.loads named tell in
+      loads = λ named report.
+          let so = at.invariant.loads named report in
           let n = shelf_more coming at.grid at.shelf (c.in-Some.name, c.in-Some.source)
           (into_iter_items c.next.new.self) (into_iter_items at.name-iterator) c.in-Ok.more so.0 is so.1.0
           c.in-Ok.ensures.answer in
@@ -39,7 +39,7 @@ returns-clause-answer g c =
     let coming = g.R.Source.coming in
     let at = c.loop-name in
     let none : into_iter_items at.name-iterator ≡ [] = no_more (into_iter_items at.name-iterator) (sym at.invariant.len ∙ c.in-None.ensures.steps.0) in
-    λ named tell.
-    let so = at.invariant.loads named tell in
+    λ named report.
+    let so = at.invariant.loads named report in
     so.1.1 ∙ ap (shelf_from at.grid at.shelf) (none_left coming (into_iter_items at.name-iterator) so.0 none so.1.0)
     ∙ shelf_all at.grid at.shelf ∙ ap Ok c.in-Some-shelf.is

@@ -1,6 +1,6 @@
 use Rattle.std.proofs.Common.{sym, ◌≡◌, ◌<◌, ◌+◌, ℕ, ◌∷◌, [], None, length, ap, ◌∙◌, length-append}
 use Rattle.std.specs.Prelude.{slice_index_or, slice_get}
-use Rattle.cell_calc_binding.specs.Applied.{spot}
+use Rattle.cell_calc_binding.specs.Applied.{grid_position}
 use Rattle.cell_calc_binding.specs.Reach.{up_of, down_of}
 use Rattle.cell_calc_binding.specs.Value.{value}
 use Rattle.rcell.specs.parts.WindowsSet.{picked_maps}
@@ -33,7 +33,7 @@ loop-row-preserved c =
       windows = rw moved (many ∙ held.windows);
       set = rw moved (λ left. rw c.advance_windows.auto.windows (c.advance_windows.ensures left));
       cells = λ r k lr lk. rw (ap (λ b. b.rows) pushed)
-          (rows_more (λ r l. (k : ℕ) → k < region.cols → slice_index_or l k None ≡ value bound maps (spot region r k)) c.loop-row.builder.rows c.as_slice-in-loop-row.result.now row
+          (rows_more (λ r l. (k : ℕ) → k < region.cols → slice_index_or l k None ≡ value bound maps (grid_position region r k)) c.loop-row.builder.rows c.as_slice-in-loop-row.result.now row
           held.count (λ r lt k lk. held.cells r k lt lk)
           (λ k lk. ap (λ l. slice_index_or l k None) (c.as_slice-in-loop-row.ensures.value ∙ same)
           ∙ found maps (λ i li. rw c.as_slice.ensures.value (set_over row (up_of i bound) (down_of i bound) (slice_get windows.items i) (slice_get maps i) (held.set below i (rw held.windows li)))) k lk)

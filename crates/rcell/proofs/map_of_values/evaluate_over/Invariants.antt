@@ -1,6 +1,6 @@
 use Rattle.std.proofs.Common.{◌≡◌, ◌<◌, ℕ, [], length, None}
 use Rattle.std.specs.Prelude.{slice_index_or}
-use Rattle.cell_calc_binding.specs.Applied.{spot}
+use Rattle.cell_calc_binding.specs.Applied.{grid_position}
 use Rattle.cell_calc_binding.specs.Reach.{top_of}
 use Rattle.cell_calc_binding.specs.Value.{value}
 use Rattle.rcell.specs.parts.WindowsSet.{AreSet, picked_maps}
@@ -14,5 +14,5 @@ invariant-loop-row l =
       width : length l.cells.items ≡ l.shelf.region.cols;
       windows : length l.windows.items ≡ top_of l.bound;
       set : l.row < l.shelf.region.rows → AreSet l.bound (length l.windows.items) l.row l.windows.items (picked_maps l.places l.shelf.maps);
-      cells : (r c : ℕ) → r < l.row → c < l.shelf.region.cols → slice_index_or (slice_index_or l.builder.rows r []) c None ≡ value l.bound (picked_maps l.places l.shelf.maps) (spot l.shelf.region r c);
+      cells : (r c : ℕ) → r < l.row → c < l.shelf.region.cols → slice_index_or (slice_index_or l.builder.rows r []) c None ≡ value l.bound (picked_maps l.places l.shelf.maps) (grid_position l.shelf.region r c);
     }

@@ -38,16 +38,16 @@ module _ (known names : List (List ℕ)) (text now : List ℕ) (script : Coming)
       none known text statements fault (rw (one_text bytes reads.bytes) at reads.denoted) (rw (are_names, is_text) at is)
 
 pub returns-in-Err-clause-fault : goal.returns-in-Err-clause-fault
-returns-in-Err-clause-fault g c = λ given tells input.
-    let refused = at_known (g.R.Source.coming c.args.script) given (λ s. IsOfInput c.in-Err.fault → script_text s ≡ Err c.in-Err.fault) tells c.in-Err.ensures.answer input in
+returns-in-Err-clause-fault g c = λ given reports input.
+    let refused = at_known (g.R.Source.coming c.args.script) given (λ s. IsOfInput c.in-Err.fault → script_text s ≡ Err c.in-Err.fault) reports c.in-Err.ensures.answer input in
     record { refusal = rw refused refl; none = λ statements reads. not_both refused reads.bytes }
 
 pub returns-in_default-clause-fault : goal.returns-in_default-clause-fault
-returns-in_default-clause-fault g c = λ given tells input. absurd input
+returns-in_default-clause-fault g c = λ given reports input. absurd input
 
 pub returns-in-Ok-parse_script-clause-read : goal.returns-in-Ok-parse_script-clause-read
-returns-in-Ok-parse_script-clause-read g c = λ given tells.
-    let bytes = at_known (g.R.Source.coming c.args.script) given (λ s. script_text s ≡ Ok c.in-Ok.text.items) tells c.in-Ok.ensures.answer in
+returns-in-Ok-parse_script-clause-read g c = λ given reports.
+    let bytes = at_known (g.R.Source.coming c.args.script) given (λ s. script_text s ≡ Ok c.in-Ok.text.items) reports c.in-Ok.ensures.answer in
     let value = c.deref.ensures.value in
     let names = c.in-Ok-shelf_names.ensures.names in
     let denoted = c.in-Ok-parse_script.ensures.ok in
@@ -57,8 +57,8 @@ returns-in-Ok-parse_script-clause-read g c = λ given tells.
     }
 
 pub returns-clause-fault : goal.returns-clause-fault
-returns-clause-fault g c = λ given tells input.
-    let bytes = at_known (g.R.Source.coming c.args.script) given (λ s. script_text s ≡ Ok c.in-Ok.text.items) tells c.in-Ok.ensures.answer in
+returns-clause-fault g c = λ given reports input.
+    let bytes = at_known (g.R.Source.coming c.args.script) given (λ s. script_text s ≡ Ok c.in-Ok.text.items) reports c.in-Ok.ensures.answer in
     let value = c.deref.ensures.value in
     let names = c.in-Ok-shelf_names.ensures.names in
     let fault = c.in-Err-parse_script.ensures.err input in
@@ -68,4 +68,4 @@ returns-clause-fault g c = λ given tells input.
     }
 
 pub returns-clause-whose : goal.returns-clause-whose
-returns-clause-whose g c = record { early = tt; told = λ grids. c.in-Err-parse_script.ensures.memory }
+returns-clause-whose g c = record { early = tt; reported = λ grids. c.in-Err-parse_script.ensures.memory }

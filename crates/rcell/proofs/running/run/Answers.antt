@@ -50,15 +50,15 @@ not_input (Script fault) late input = absurd late
 not_input (Memory line) late input = absurd input
 not_input Write late input = absurd input
 
-late_told : (grids : ℕ) (fault : RunFault) → IsInExecution fault → NamesItsGrid grids fault
-late_told grids (GridTwice grid) late = absurd late
-late_told grids (GridRegion grid) late = absurd late
-late_told grids (Grid grid fault) late = absurd late
-late_told grids ScriptRead late = absurd late
-late_told grids ScriptSize late = absurd late
-late_told grids (Script fault) late = absurd late
-late_told grids (Memory line) late = tt
-late_told grids Write late = tt
+late_reported : (grids : ℕ) (fault : RunFault) → IsInExecution fault → NamesItsGrid grids fault
+late_reported grids (GridTwice grid) late = absurd late
+late_reported grids (GridRegion grid) late = absurd late
+late_reported grids (Grid grid fault) late = absurd late
+late_reported grids ScriptRead late = absurd late
+late_reported grids ScriptSize late = absurd late
+late_reported grids (Script fault) late = absurd late
+late_reported grids (Memory line) late = tt
+late_reported grids Write late = tt
 
 grid_not_zero : {X : Type 0} (kind : GridKind) → grid_status kind ≡ 0 → X
 grid_not_zero grid_kinds.Read zero = cc
@@ -97,19 +97,19 @@ returns-in-Ok-read_statements-clause-untouched g c =
     weaker c.put_out.result.fault _ _ (λ fault late early. not_both fault early late) c.put_out.ensures.late
 
 pub returns-in-Err-clause-done : goal.returns-in-Err-clause-done
-returns-in-Err-clause-done g c = rw c.refused_outcome.ensures (λ named text known tells none. not_none none)
+returns-in-Err-clause-done g c = rw c.refused_outcome.ensures (λ named text known reports none. not_none none)
 
 pub returns-in-Err-clause-refused : goal.returns-in-Err-clause-refused
-returns-in-Err-clause-refused g c = λ named text known tells. rw c.refused_outcome.ensures (λ input. rw (c.in-Err.ensures.answer named known input) refl)
+returns-in-Err-clause-refused g c = λ named text known reports. rw c.refused_outcome.ensures (λ input. rw (c.in-Err.ensures.answer named known input) refl)
 
 pub returns-in-Err-clause-stopped : goal.returns-in-Err-clause-stopped
-returns-in-Err-clause-stopped g c = λ named text known tells. rw c.refused_outcome.ensures (λ late. not_both c.in-Err.fault c.in-Err.ensures.early late)
+returns-in-Err-clause-stopped g c = λ named text known reports. rw c.refused_outcome.ensures (λ late. not_both c.in-Err.fault c.in-Err.ensures.early late)
 
 pub returns-in-Err-clause-status : goal.returns-in-Err-clause-status
 returns-in-Err-clause-status g c = rw c.refused_outcome.ensures refl
 
-pub returns-in-Err-clause-told : goal.returns-in-Err-clause-told
-returns-in-Err-clause-told g c = rw c.refused_outcome.ensures c.in-Err.ensures.told
+pub returns-in-Err-clause-reported : goal.returns-in-Err-clause-reported
+returns-in-Err-clause-reported g c = rw c.refused_outcome.ensures c.in-Err.ensures.reported
 
 pub returns-in-Err-clause-sound : goal.returns-in-Err-clause-sound
 returns-in-Err-clause-sound g c = rw c.refused_outcome.ensures (λ zero. not_zero c.in-Err.fault zero)
@@ -120,71 +120,71 @@ returns-in-Err-clause-write g c =
 
 pub returns-in-Err-clause-complete : goal.returns-in-Err-clause-complete
 returns-in-Err-clause-complete g c =
-    λ named text known tells shelf statements read.
+    λ named text known reports shelf statements read.
     rw c.refused_outcome.ensures (λ lasts whole. apart (c.in-Err.ensures.answer named known (input_unless_memory c.in-Err.fault c.in-Err.ensures.early lasts)) read.loaded)
 
 pub returns-in-Err-clause-headline : goal.returns-in-Err-clause-headline
 returns-in-Err-clause-headline g c =
-    λ named text known tells shelf statements ok.
+    λ named text known reports shelf statements ok.
     when_accepted named text shelf statements (g.W.Sink.taken c.args.out.now) (g.W.Sink.taken c.args.out.now) (has_failed (g.W.Sink.faults c.args.out.now)) c.refused_outcome.result
-    (λ read. returns-in-Err-clause-complete g c named text known tells shelf statements read) ok
+    (λ read. returns-in-Err-clause-complete g c named text known reports shelf statements read) ok
 
 pub returns-in-Ok-read_statements-clause-complete : goal.returns-in-Ok-read_statements-clause-complete
 returns-in-Ok-read_statements-clause-complete g c =
-    λ named text known tells shelf statements read.
+    λ named text known reports shelf statements read.
     read_written named text c.in-Ok.shelf (c.in-Ok.ensures.answer named known) shelf statements read
     (g.W.Sink.taken c.args.out.now) (g.W.Sink.taken c.put_out.new.out) (has_failed (g.W.Sink.faults c.put_out.new.out)) c.put_out.result
-    c.in-Ok-read_statements.statements (c.in-Ok-read_statements.ensures.read text tells).only c.put_out.ensures.done c.put_out.ensures.late c.put_out.ensures.status (write c.put_out.result.fault _ _ c.put_out.ensures.first)
+    c.in-Ok-read_statements.statements (c.in-Ok-read_statements.ensures.read text reports).only c.put_out.ensures.done c.put_out.ensures.late c.put_out.ensures.status (write c.put_out.result.fault _ _ c.put_out.ensures.first)
 
 pub returns-in-Ok-read_statements-clause-headline : goal.returns-in-Ok-read_statements-clause-headline
 returns-in-Ok-read_statements-clause-headline g c =
-    λ named text known tells shelf statements ok.
+    λ named text known reports shelf statements ok.
     when_accepted named text shelf statements (g.W.Sink.taken c.args.out.now) (g.W.Sink.taken c.put_out.new.out) (has_failed (g.W.Sink.faults c.put_out.new.out)) c.put_out.result
-    (λ read. returns-in-Ok-read_statements-clause-complete g c named text known tells shelf statements read) ok
+    (λ read. returns-in-Ok-read_statements-clause-complete g c named text known reports shelf statements read) ok
 
-pub returns-in-Err-read_statements-clause-told : goal.returns-in-Err-read_statements-clause-told
-returns-in-Err-read_statements-clause-told g c = rw c.refused_outcome-in-Err-read_statements.ensures (c.in-Err-read_statements.ensures.whose.told (length c.args.grids.items))
+pub returns-in-Err-read_statements-clause-reported : goal.returns-in-Err-read_statements-clause-reported
+returns-in-Err-read_statements-clause-reported g c = rw c.refused_outcome-in-Err-read_statements.ensures (c.in-Err-read_statements.ensures.whose.reported (length c.args.grids.items))
 
 pub returns-in-Err-read_statements-clause-complete : goal.returns-in-Err-read_statements-clause-complete
 returns-in-Err-read_statements-clause-complete g c =
-    λ named text known tells shelf statements read.
+    λ named text known reports shelf statements read.
     read_refused named text c.in-Ok.shelf (c.in-Ok.ensures.answer named known) shelf statements read
     (g.W.Sink.taken c.args.out.now) (g.W.Sink.taken c.args.out.now) (has_failed (g.W.Sink.faults c.args.out.now)) c.refused_outcome-in-Err-read_statements.result
     c.in-Err-read_statements.fault (rw c.refused_outcome-in-Err-read_statements.ensures refl)
-    (rw c.refused_outcome-in-Err-read_statements.ensures refl) c.in-Err-read_statements.ensures.whose.early (λ ss reads input. (c.in-Err-read_statements.ensures.fault text tells input).none ss reads)
+    (rw c.refused_outcome-in-Err-read_statements.ensures refl) c.in-Err-read_statements.ensures.whose.early (λ ss reads input. (c.in-Err-read_statements.ensures.fault text reports input).none ss reads)
 
 pub returns-in-Err-read_statements-clause-headline : goal.returns-in-Err-read_statements-clause-headline
 returns-in-Err-read_statements-clause-headline g c =
-    λ named text known tells shelf statements ok.
+    λ named text known reports shelf statements ok.
     when_accepted named text shelf statements (g.W.Sink.taken c.args.out.now) (g.W.Sink.taken c.args.out.now) (has_failed (g.W.Sink.faults c.args.out.now)) c.refused_outcome-in-Err-read_statements.result
-    (λ read. returns-in-Err-read_statements-clause-complete g c named text known tells shelf statements read) ok
+    (λ read. returns-in-Err-read_statements-clause-complete g c named text known reports shelf statements read) ok
 
 pub returns-in-Ok-read_statements-clause-done : goal.returns-in-Ok-read_statements-clause-done
-returns-in-Ok-read_statements-clause-done g c = λ named text known tells none. record {
+returns-in-Ok-read_statements-clause-done g c = λ named text known reports none. record {
   shelf = c.in-Ok.shelf;
   statements = c.in-Ok-read_statements.statements;
-  read = record { loaded = c.in-Ok.ensures.answer named known; reads = (c.in-Ok-read_statements.ensures.read text tells).reads };
+  read = record { loaded = c.in-Ok.ensures.answer named known; reads = (c.in-Ok-read_statements.ensures.read text reports).reads };
   done = c.put_out.ensures.done none;
 }
 
 pub returns-in-Ok-read_statements-clause-refused : goal.returns-in-Ok-read_statements-clause-refused
-returns-in-Ok-read_statements-clause-refused g c = λ named text known tells.
+returns-in-Ok-read_statements-clause-refused g c = λ named text known reports.
     weaker c.put_out.result.fault _ _ (λ fault late input. not_input fault late input) c.put_out.ensures.late
 
 pub returns-in-Ok-read_statements-clause-stopped : goal.returns-in-Ok-read_statements-clause-stopped
-returns-in-Ok-read_statements-clause-stopped g c = λ named text known tells.
+returns-in-Ok-read_statements-clause-stopped g c = λ named text known reports.
     weaker c.put_out.result.fault _ _ (λ fault stops late. record {
       shelf = c.in-Ok.shelf;
       statements = c.in-Ok-read_statements.statements;
-      read = record { loaded = c.in-Ok.ensures.answer named known; reads = (c.in-Ok-read_statements.ensures.read text tells).reads };
+      read = record { loaded = c.in-Ok.ensures.answer named known; reads = (c.in-Ok-read_statements.ensures.read text reports).reads };
       stops = stops;
     }) c.put_out.ensures.stops
 
 pub returns-in-Ok-read_statements-clause-status : goal.returns-in-Ok-read_statements-clause-status
 returns-in-Ok-read_statements-clause-status g c = c.put_out.ensures.status
 
-pub returns-in-Ok-read_statements-clause-told : goal.returns-in-Ok-read_statements-clause-told
-returns-in-Ok-read_statements-clause-told g c = weaker c.put_out.result.fault _ _ (late_told (length c.args.grids.items)) c.put_out.ensures.late
+pub returns-in-Ok-read_statements-clause-reported : goal.returns-in-Ok-read_statements-clause-reported
+returns-in-Ok-read_statements-clause-reported g c = weaker c.put_out.result.fault _ _ (late_reported (length c.args.grids.items)) c.put_out.ensures.late
 
 pub returns-in-Ok-read_statements-clause-sound : goal.returns-in-Ok-read_statements-clause-sound
 returns-in-Ok-read_statements-clause-sound g c =
@@ -194,15 +194,15 @@ pub returns-in-Ok-read_statements-clause-write : goal.returns-in-Ok-read_stateme
 returns-in-Ok-read_statements-clause-write g c = write c.put_out.result.fault _ _ c.put_out.ensures.first
 
 pub returns-in-Err-read_statements-clause-done : goal.returns-in-Err-read_statements-clause-done
-returns-in-Err-read_statements-clause-done g c = rw c.refused_outcome-in-Err-read_statements.ensures (λ named text known tells none. not_none none)
+returns-in-Err-read_statements-clause-done g c = rw c.refused_outcome-in-Err-read_statements.ensures (λ named text known reports none. not_none none)
 
 pub returns-in-Err-read_statements-clause-refused : goal.returns-in-Err-read_statements-clause-refused
-returns-in-Err-read_statements-clause-refused g c = λ named text known tells.
+returns-in-Err-read_statements-clause-refused g c = λ named text known reports.
     rw c.refused_outcome-in-Err-read_statements.ensures
-    (λ input. rw (c.in-Ok.ensures.answer named known) (c.in-Err-read_statements.ensures.fault text tells input).refusal)
+    (λ input. rw (c.in-Ok.ensures.answer named known) (c.in-Err-read_statements.ensures.fault text reports input).refusal)
 
 pub returns-in-Err-read_statements-clause-stopped : goal.returns-in-Err-read_statements-clause-stopped
-returns-in-Err-read_statements-clause-stopped g c = λ named text known tells.
+returns-in-Err-read_statements-clause-stopped g c = λ named text known reports.
     rw c.refused_outcome-in-Err-read_statements.ensures
     (λ late. not_both c.in-Err-read_statements.fault c.in-Err-read_statements.ensures.whose.early late)
 
@@ -218,16 +218,16 @@ returns-in-Err-read_statements-clause-write g c =
     rw c.refused_outcome-in-Err-read_statements.ensures (λ write. not_write c.in-Err-read_statements.fault c.in-Err-read_statements.ensures.whose.early write)
 
 pub returns-in-Err-clause-whole : goal.returns-in-Err-clause-whole
-returns-in-Err-clause-whole g c = λ named text known tells. rw c.refused_outcome.ensures (λ write clean. not_write c.in-Err.fault c.in-Err.ensures.early write)
+returns-in-Err-clause-whole g c = λ named text known reports. rw c.refused_outcome.ensures (λ write clean. not_write c.in-Err.fault c.in-Err.ensures.early write)
 
 pub returns-in-Err-clause-first : goal.returns-in-Err-clause-first
 returns-in-Err-clause-first g c = rw c.refused_outcome.ensures (λ late. not_both c.in-Err.fault c.in-Err.ensures.early late)
 
 pub returns-in-Ok-read_statements-clause-whole : goal.returns-in-Ok-read_statements-clause-whole
-returns-in-Ok-read_statements-clause-whole g c = λ named text known tells write clean. record {
+returns-in-Ok-read_statements-clause-whole g c = λ named text known reports write clean. record {
   shelf = c.in-Ok.shelf;
   statements = c.in-Ok-read_statements.statements;
-  read = record { loaded = c.in-Ok.ensures.answer named known; reads = (c.in-Ok-read_statements.ensures.read text tells).reads };
+  read = record { loaded = c.in-Ok.ensures.answer named known; reads = (c.in-Ok-read_statements.ensures.read text reports).reads };
   done = c.put_out.ensures.whole write clean;
 }
 
@@ -235,7 +235,7 @@ pub returns-in-Ok-read_statements-clause-first : goal.returns-in-Ok-read_stateme
 returns-in-Ok-read_statements-clause-first g c = λ late. c.put_out.ensures.first
 
 pub returns-in-Err-read_statements-clause-whole : goal.returns-in-Err-read_statements-clause-whole
-returns-in-Err-read_statements-clause-whole g c = λ named text known tells.
+returns-in-Err-read_statements-clause-whole g c = λ named text known reports.
     rw c.refused_outcome-in-Err-read_statements.ensures
     (λ write clean. not_write c.in-Err-read_statements.fault c.in-Err-read_statements.ensures.whose.early write)
 

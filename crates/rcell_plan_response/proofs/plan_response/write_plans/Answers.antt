@@ -8,6 +8,6 @@ use Rattle.rcell_plan_response.proofs.plan_response.write_plans.Goals as goal
 pub returns : goal.returns
 returns g c =
     let frames = plans_bytes c.args.names.now c.args.plans.now c.args.statements.now in
-    let appended = c.push_plans.ensures.adds _ _ response_magic c.begin-block.ensures in
+    let appended = c.push_plans.ensures.adds _ _ response_magic c.begin_response-block.ensures in
     finished_plans frames (end_value c.done_end.result) done_end c.done_end.ensures
-    (c.end_run.ensures _ _ (response_magic ++ frames) appended)
+    (c.end_response.ensures _ _ (response_magic ++ frames) appended)

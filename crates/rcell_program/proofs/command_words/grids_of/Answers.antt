@@ -7,7 +7,7 @@ use Rattle.clap.specs.Walk.{Text, texts}
 use Rattle.rcell_program.specs.declared.refusal.Refusal.{Refusal}
 use Rattle.rcell_program.specs.declared.refusal.Refusal.TheVariants.{GridWord, Memory}
 use Rattle.rcell_program.specs.CommandLine.{first_bad, grid_words, is_grid_argument}
-use Rattle.rcell_program.proofs.ParseLemmas.{first_bad_next, grid_words_more, when_ok, made_told}
+use Rattle.rcell_program.proofs.ParseLemmas.{first_bad_next, grid_words_more, when_ok, made_reported}
 use borrow.Author.Count.{falls}
 use Rattle.rcell_program.proofs.command_words.grids_of.Goals as goal
 
@@ -17,7 +17,7 @@ first_bad_here place words i word within bad = ap (λ left. first_bad place (tex
 
 refused_here : {bad : Option ℕ} {first place : ℕ} {refusal : Refusal} → bad ≡ Some first → place ≡ first → refusal ≡ GridWord place
     → option_map (λ place. GridWord place) bad ≡ Some refusal
-refused_here is at told = rw (is, told, at) refl
+refused_here is at reported = rw (is, reported, at) refl
 
 one_more : (index : ℕ) → index + 2 + 1 ≡ index + 1 + 2
 one_more index = omega arith
@@ -28,19 +28,19 @@ returns-in_err-name-clause-bad c =
     let p = err_from_is_err_and c.from_residual.result c.from_residual.ensures.1 in
     let place : c.saturating_add-place.result ≡ c.loop-word.word-index + 2 = omega arith in
     rw (p.1, p.2) (λ other.
-    let told = bad other in
-    refused_here (c.loop-word.invariant.good ∙ first_bad_here (c.loop-word.word-index + 2) c.args.words.now c.loop-word.word-index _ c.loop-word-test.true told.0) place told.1)
+    let reported = bad other in
+    refused_here (c.loop-word.invariant.good ∙ first_bad_here (c.loop-word.word-index + 2) c.args.words.now c.loop-word.word-index _ c.loop-word-test.true reported.0) place reported.1)
 
 pub returns-in_err-map_err-clause-bad : goal.returns-in_err-map_err-clause-bad
 returns-in_err-map_err-clause-bad c =
     let p = err_from_is_err_and c.from_residual-in_err-map_err.result c.from_residual-in_err-map_err.ensures.1 in
-    rw (p.1, p.2) (made_told c.push.result _ c.in_err-map_err.ensures.cases
+    rw (p.1, p.2) (made_reported c.push.result _ c.in_err-map_err.ensures.cases
     (λ e h. let made : c.in_err-map_err.field-0.0 ≡ Memory = search rules in λ other. absurd (other made)))
 
 pub returns-in_err-map_err-2-clause-bad : goal.returns-in_err-map_err-2-clause-bad
 returns-in_err-map_err-2-clause-bad c =
     let p = err_from_is_err_and c.from_residual-in_err-map_err-2.result c.from_residual-in_err-map_err-2.ensures.1 in
-    rw (p.1, p.2) (made_told c.push-in-loop-word.result _ c.in_err-map_err-2.ensures.cases
+    rw (p.1, p.2) (made_reported c.push-in-loop-word.result _ c.in_err-map_err-2.ensures.cases
     (λ e h. let made : c.in_err-map_err-2.field-0.0 ≡ Memory = search rules in λ other. absurd (other made)))
 
 pub loop-word-init : goal.loop-word-init

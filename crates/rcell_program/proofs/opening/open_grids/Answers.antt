@@ -6,17 +6,17 @@ use Rattle.cell_core_devices.specs.declared.source.Asked.TheVariants.{Going}
 use Rattle.rcell_program.specs.Refusals.{IsOfOpening}
 use Rattle.rcell_program.specs.declared.refusal.Refusal.{Refusal}
 use Rattle.rcell_program.specs.declared.refusal.Refusal.TheVariants.{Usage, GridWord, Memory, ScriptFile, GridFile}
-use Rattle.rcell_program.proofs.ParseLemmas.{when_ok, made_told}
+use Rattle.rcell_program.proofs.ParseLemmas.{when_ok, made_reported}
 use borrow.Author.Count.{falls}
 use Rattle.rcell_program.proofs.opening.open_grids.Goals as goal
 
 -- a refusal that is out of memory or one of a grid among these is of an opening
 of_grid : (grids grid : ℕ) (refusal : Refusal) → grid < grids → (refusal ≢ Memory → refusal ≡ GridFile grid) → IsOfOpening grids refusal
-of_grid grids grid Usage within told = let is : Usage ≡ GridFile grid = told (λ same. cc) in cc
-of_grid grids grid (GridWord place) within told = let is : GridWord place ≡ GridFile grid = told (λ same. cc) in cc
-of_grid grids grid Memory within told = tt
-of_grid grids grid ScriptFile within told = tt
-of_grid grids grid (GridFile other) within told = subst (IsOfOpening grids) (sym (told (λ same. cc))) within
+of_grid grids grid Usage within reported = let is : Usage ≡ GridFile grid = reported (λ same. cc) in cc
+of_grid grids grid (GridWord place) within reported = let is : GridWord place ≡ GridFile grid = reported (λ same. cc) in cc
+of_grid grids grid Memory within reported = tt
+of_grid grids grid ScriptFile within reported = tt
+of_grid grids grid (GridFile other) within reported = subst (IsOfOpening grids) (sym (reported (λ same. cc))) within
 
 below : {grid end n : ℕ} → grid < end → end ≡ n → grid < n
 below lower same = omega arith
@@ -48,15 +48,15 @@ loop-grid-preserved g c =
           (All-push (λ grid. grid.1.1 ≡ Going) grids _ c.loop-grid.invariant.asked c.in_ok-opened.ensures.asked);
     }
 
-pub returns-in_err-opened-clause-told : goal.returns-in_err-opened-clause-told
-returns-in_err-opened-clause-told g c =
+pub returns-in_err-opened-clause-reported : goal.returns-in_err-opened-clause-reported
+returns-in_err-opened-clause-reported g c =
     let p = err_from_is_err_and c.from_residual.result c.from_residual.ensures.1 in
-    rw (p.1, p.2) (of_grid _ c.loop-grid.grid c.in_err-opened.field-0.0 (below c.loop-grid-test.true c.len-grid-end.ensures) c.in_err-opened.ensures.told)
+    rw (p.1, p.2) (of_grid _ c.loop-grid.grid c.in_err-opened.field-0.0 (below c.loop-grid-test.true c.len-grid-end.ensures) c.in_err-opened.ensures.reported)
 
-pub returns-in_err-map_err-clause-told : goal.returns-in_err-map_err-clause-told
-returns-in_err-map_err-clause-told g c =
+pub returns-in_err-map_err-clause-reported : goal.returns-in_err-map_err-clause-reported
+returns-in_err-map_err-clause-reported g c =
     let p = err_from_is_err_and c.from_residual-in_err-map_err.result c.from_residual-in_err-map_err.ensures.1 in
-    rw (p.1, p.2) (made_told c.push.result _ c.in_err-map_err.ensures.cases (λ e h. let made : c.in_err-map_err.field-0.0 ≡ Memory = search rules in subst (IsOfOpening _) (sym made) tt))
+    rw (p.1, p.2) (made_reported c.push.result _ c.in_err-map_err.ensures.cases (λ e h. let made : c.in_err-map_err.field-0.0 ≡ Memory = search rules in subst (IsOfOpening _) (sym made) tt))
 
 pub returns-clause-opened : goal.returns-clause-opened
 returns-clause-opened g c = record {

@@ -11,22 +11,22 @@ use Rattle.rcell_script_commands.specs.ScriptFaults.{kind_of}
 use Rattle.rcell_script_commands.specs.declared.command.Command.TheVariants.{Stats}
 use Rattle.rcell_script_commands.specs.declared.script_fault.ScriptKind.{ScriptKind}
 use Rattle.rcell_script_commands.specs.declared.script_fault.ScriptKind.TheVariants as script
-use Rattle.rcell_script_commands.proofs.FaultLemmas.{told}
+use Rattle.rcell_script_commands.proofs.FaultLemmas.{reported}
 use Rattle.rcell_script_commands.proofs.r_stats.stats_of.Goals as goal
 
 -- maps that a table reads, and that are not named well
-places_told : (known words : List (List ℕ)) (given : Given) (fault : OptionFault) (kind : ScriptKind)
+places_reported : (known words : List (List ℕ)) (given : Given) (fault : OptionFault) (kind : ScriptKind)
     → options_of form.Stats words ≡ Ok given → kind ≡ kind_of fault → kind ≢ script.Memory
     → (fault ≢ option.Memory → input_places known given ≡ Err fault) → stats_of known words ≡ Err kind
-places_told known words given fault kind options same other fails =
+places_reported known words given fault kind options same other fails =
     rw options (ap (λ r. r >>= (λ places. after_of (length places) given.after >>= (λ after. Ok (Stats places (printed_with given after)))))
-    (told (input_places known given) fault kind same other fails))
+    (reported (input_places known given) fault kind same other fails))
 
 -- a combination that is none
-after_told : (known words : List (List ℕ)) (given : Given) (places : List ℕ) (width : ℕ) (after : Option (List ℕ))
+after_reported : (known words : List (List ℕ)) (given : Given) (places : List ℕ) (width : ℕ) (after : Option (List ℕ))
     (kind : ScriptKind) → options_of form.Stats words ≡ Ok given → input_places known given ≡ Ok places
     → width ≡ length places → after ≡ given.after → after_of width after ≡ Err kind → stats_of known words ≡ Err kind
-after_told known words given places width after kind options is count same fails =
+after_reported known words given places width after kind options is count same fails =
     let at : after_of (length places) given.after ≡ Err kind =
     ap (after_of (length places)) (sym same) ∙ ap (λ n. after_of n after) (sym count) ∙ fails in
     rw (options, is) (ap (λ r. r >>= (λ after. Ok (Stats places (printed_with given after)))) at)
@@ -35,13 +35,13 @@ pub returns-in_err-places-clause-command : goal.returns-in_err-places-clause-com
 returns-in_err-places-clause-command c =
     let e = c.from_residual-in_err-places in
     let p = err_from_is_err_and e.result e.ensures.1 in
-    rw p.1 (λ other. places_told c.args.known.now (texts c.args.words.now) _ _ _ c.in_ok-options.ensures p.2 other
+    rw p.1 (λ other. places_reported c.args.known.now (texts c.args.words.now) _ _ _ c.in_ok-options.ensures p.2 other
     c.in_err-places.ensures.places)
 
 pub returns-in_err-after-clause-command : goal.returns-in_err-after-clause-command
 returns-in_err-after-clause-command c =
     let e = c.from_residual-in_err-after in
     let p = err_from_is_err_and e.result e.ensures.1 in
-    rw (p.1, p.2) (λ other. after_told c.args.known.now (texts c.args.words.now) _ _ _ _ _ c.in_ok-options.ensures
+    rw (p.1, p.2) (λ other. after_reported c.args.known.now (texts c.args.words.now) _ _ _ _ _ c.in_ok-options.ensures
     c.in_ok-places.ensures.places (ap length c.as_slice.ensures) c.after_text.ensures
     (c.in_err-after.ensures.after other))

@@ -7,7 +7,7 @@ use Rattle.cell_ascii.specs.Reader.{at_place}
 use Rattle.cell_ascii_meaning.specs.RowPlaces.{cells_fault}
 use Rattle.cell_ascii_meaning.specs.Kinds.{IsOfText, is_read}
 use Rattle.cell_ascii.specs.GridReaders.{ReaderValue, reader_place}
-use Rattle.cell_ascii.proofs.RowReadLemmas.{row_told, cut_told, row_placed, rows_fit}
+use Rattle.cell_ascii.proofs.RowReadLemmas.{row_reported, cut_reported, row_placed, rows_fit}
 use Rattle.cell_ascii.proofs.grid_reader.GridReader.next_row.Goals as goal
 
 both : {b : Bool} → b ≡ true → b ≡ false → ⊥
@@ -52,7 +52,7 @@ returns-then-self g c =
     record {
       failed = λ _. (refl, refl, refl);
       none = λ live. absurd (both failed live);
-      told = λ live. absurd (both failed live);
+      reported = λ live. absurd (both failed live);
       row = λ e. absurd (refused _ _ e);
       cut = λ live. absurd (both failed live);
       kept = λ live. absurd (both failed live);
@@ -73,7 +73,7 @@ returns-then-self-eq0 g c =
     record {
       failed = λ failed. absurd (both failed live);
       none = λ _ _. (refl, refl, refl);
-      told = λ _ some. absurd (none_some none some);
+      reported = λ _ some. absurd (none_some none some);
       row = λ e. absurd (not_true _ e);
       cut = tt;
       kept = tt;
@@ -97,8 +97,8 @@ returns-in-Ok g c =
     record {
       failed = λ failed. absurd (both failed live);
       none = λ _ none. absurd (c.if-self-eq0.false (was ∙ none));
-      told = subst (λ (r : ReaderValue). r.failed ≡ false → 0 < r.rows_left → IfSome r.coming (λ x. None ≡ cells_fault r.header (length c.args.row.now) (reader_place r x))) c.self.view_is
-          (λ live some. row_told p.header (at_place p) (λ (x : Coming). i.rows_left ≡ 0 → p.pending ≡ None) (bytes_to_come p.ahead) (c.self.invariant.placed live)
+      reported = subst (λ (r : ReaderValue). r.failed ≡ false → 0 < r.rows_left → IfSome r.coming (λ x. None ≡ cells_fault r.header (length c.args.row.now) (reader_place r x))) c.self.view_is
+          (λ live some. row_reported p.header (at_place p) (λ (x : Coming). i.rows_left ≡ 0 → p.pending ≡ None) (bytes_to_come p.ahead) (c.self.invariant.placed live)
           (length c.args.row.now) (at_place c.read_row.new.cells) (bytes_to_come c.read_row.new.cells.ahead) c.read_row.new.row c.in-Ok.ensures.row);
       row = rw (← c.self.view_is) (λ _. c.in-Ok.ensures.row);
       cut = tt;
@@ -122,8 +122,8 @@ returns-in-Err g c =
     record {
       failed = λ failed. absurd (both failed live);
       none = λ _ none. absurd (c.if-self-eq0.false (was ∙ none));
-      told = subst (λ (r : ReaderValue). r.failed ≡ false → 0 < r.rows_left → IfSome r.coming (λ x. Some c.in-Err.fault ≡ cells_fault r.header (length c.args.row.now) (reader_place r x))) c.self.view_is
-          (λ live some. cut_told p.header (at_place p) (λ (x : Coming). i.rows_left ≡ 0 → p.pending ≡ None) (bytes_to_come p.ahead) (c.self.invariant.placed live)
+      reported = subst (λ (r : ReaderValue). r.failed ≡ false → 0 < r.rows_left → IfSome r.coming (λ x. Some c.in-Err.fault ≡ cells_fault r.header (length c.args.row.now) (reader_place r x))) c.self.view_is
+          (λ live some. cut_reported p.header (at_place p) (λ (x : Coming). i.rows_left ≡ 0 → p.pending ≡ None) (bytes_to_come p.ahead) (c.self.invariant.placed live)
           c.in-Err.fault c.args.row.now c.read_row.new.row c.in-Err.ensures.cut);
       row = λ e. absurd (refused _ _ e);
       cut = rw (← c.self.view_is) (λ _. c.in-Err.ensures.cut);

@@ -45,10 +45,10 @@ returns-in_default-clause-word g c =
 pub returns-then-is_space-clause-word : goal.returns-then-is_space-clause-word
 returns-then-is_space-clause-word g c =
     let s = c.args.self.now in
-    let held = rw c.in-Some.is at c.in_ok-b.ensures.byte in
+    let buffered = rw c.in-Some.is at c.in_ok-b.ensures.byte in
     let space = sym c.is_space.ensures ∙ c.if-is_space.true in
     rw (c.in_ok-b.ensures.scan, ← c.in_ok-b.ensures.same)
-    (at_byte (word_from s.line s.word) (part_seen (Ok false) s.line s.word) c.peek.new.self.ahead c.in-Some.b held (λ bs f. word-stops s.line s.word c.requires c.in-Some.b bs f space))
+    (at_byte (word_from s.line s.word) (part_seen (Ok false) s.line s.word) c.peek.new.self.ahead c.in-Some.b buffered (λ bs f. word-stops s.line s.word c.requires c.in-Some.b bs f space))
 
 -- the word is too long
 pub returns-then-self-ge64-clause-word : goal.returns-then-self-ge64-clause-word
@@ -59,10 +59,10 @@ returns-then-self-ge64-clause-word g c =
     let line : i.line ≡ s.line = ap (λ (v : Scan). v.line) c.self.view_is ∙ ap (λ (v : Scan). v.line) c.in_ok-b.ensures.scan in
     let front : take i.len i.word ≡ s.word = ap (λ (v : Scan). v.word) c.self.view_is ∙ ap (λ (v : Scan). v.word) c.in_ok-b.ensures.scan in
     let full : 64 ≤ length s.word = omega (arith, length-take i.len i.word, ap length front) in
-    let held = rw c.in-Some.is at c.in_ok-b.ensures.byte in
+    let buffered = rw c.in-Some.is at c.in_ok-b.ensures.byte in
     let word = sym c.is_space.ensures ∙ c.if-is_space.false in
     rw (line, ← c.in_ok-b.ensures.same)
-    (at_byte (word_from s.line s.word) (part_seen (Err (grid_fault LongToken s.line)) t.line t.word) t.ahead c.in-Some.b held (λ bs f. word-long s.line s.word c.requires c.in-Some.b bs f word full))
+    (at_byte (word_from s.line s.word) (part_seen (Err (grid_fault LongToken s.line)) t.line t.word) t.ahead c.in-Some.b buffered (λ bs f. word-long s.line s.word c.requires c.in-Some.b bs f word full))
 
 -- the word grows
 pub returns-clause-word : goal.returns-clause-word
@@ -74,12 +74,12 @@ returns-clause-word g c =
     let line : i.line ≡ s.line = ap (λ (v : Scan). v.line) c.self.view_is ∙ ap (λ (v : Scan). v.line) c.in_ok-b.ensures.scan in
     let front : take i.len i.word ≡ s.word = ap (λ (v : Scan). v.word) c.self.view_is ∙ ap (λ (v : Scan). v.word) c.in_ok-b.ensures.scan in
     let ahead : i.input ≡ t.ahead = ap (λ (v : Scan). v.ahead) c.self.view_is in
-    let held = rw c.in-Some.is at c.in_ok-b.ensures.byte in
+    let buffered = rw c.in-Some.is at c.in_ok-b.ensures.byte in
     let word = sym c.is_space.ensures ∙ c.if-is_space.false in
     let longer : take (i.len + 1) (set i.word i.len b) ≡ s.word ++ b ∷ [] = take_more_set i.word i.len b (omega arith) ∙ ap (λ w. w ++ b ∷ []) front in
     rw (line, longer, ← c.in_ok-b.ensures.same)
-    (past_byte (word_from s.line s.word) (part_seen (Ok true) s.line (s.word ++ b ∷ [])) t.ahead c.pass_byte.new.self b held
-    (c.pass_byte.ensures.held ∙ ap (λ (a : Ahead). drop 1 a.held) ahead) (c.pass_byte.ensures.rest ∙ ap (λ (a : Ahead). a.rest) ahead)
+    (past_byte (word_from s.line s.word) (part_seen (Ok true) s.line (s.word ++ b ∷ [])) t.ahead c.pass_byte.new.self b buffered
+    (c.pass_byte.ensures.buffered ∙ ap (λ (a : Ahead). drop 1 a.buffered) ahead) (c.pass_byte.ensures.rest ∙ ap (λ (a : Ahead). a.rest) ahead)
     (λ bs f. word-more s.line s.word c.requires b bs f word))
 
 pub returns-in_err-b-clause-line : goal.returns-in_err-b-clause-line
@@ -157,8 +157,8 @@ returns-clause-further g c =
 
 pub pass_byte-requires : goal.pass_byte-requires
 pass_byte-requires g c =
-    let held = rw c.in-Some.is at c.in_ok-b.ensures.byte in
-    rw (ap (λ (v : Scan). v.ahead.held) c.self.view_is) (slice_get_within c.peek.new.self.ahead.held 0 c.in-Some.b held)
+    let buffered = rw c.in-Some.is at c.in_ok-b.ensures.byte in
+    rw (ap (λ (v : Scan). v.ahead.buffered) c.self.view_is) (slice_get_within c.peek.new.self.ahead.buffered 0 c.in-Some.b buffered)
 
 pub bounds-self-inside-self-inside : goal.bounds-self-inside-self-inside
 bounds-self-inside-self-inside g c = c.if-self-ge64.false

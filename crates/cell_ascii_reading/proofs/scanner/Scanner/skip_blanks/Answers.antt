@@ -4,7 +4,7 @@ use Rattle.cell_ascii_meaning.specs.Kinds.{is_read}
 use Rattle.cell_ascii_meaning.specs.declared.grid_fault.GridFault.{GridFault}
 use Rattle.cell_ascii_reading.specs.declared.scanner.InLine.{InLine}
 use Rattle.cell_ascii_reading.specs.declared.scanner.InLine.TheVariants.{Word, Feed, End}
-use Rattle.cell_ascii_reading.proofs.StepLemmas.{room_still, smaller, step_tells}
+use Rattle.cell_ascii_reading.proofs.StepLemmas.{room_still, smaller, step_reports}
 use Rattle.cell_ascii_reading.proofs.scanner.Scanner.skip_blanks.Goals as goal
 
 -- the text has not ended
@@ -35,12 +35,12 @@ step-requires-clause-run g c = c.blanks.invariant.run
 
 pub blanks-smaller : goal.blanks-smaller
 blanks-smaller g c =
-    let step = step_tells c.blanks.invariant.run (rw c.in-Ok-Blank.field-0-is at c.in-Ok-Blank.ensures.step) in
+    let step = step_reports c.blanks.invariant.run (rw c.in-Ok-Blank.field-0-is at c.in-Ok-Blank.ensures.step) in
     smaller c.blanks.self.run c.step.new.self.run step.run c.in-Ok-Blank.ensures.step.run
 
 pub blanks-preserved : goal.blanks-preserved
 blanks-preserved g c =
-    let step = step_tells c.blanks.invariant.run (rw c.in-Ok-Blank.field-0-is at c.in-Ok-Blank.ensures.step) in
+    let step = step_reports c.blanks.invariant.run (rw c.in-Ok-Blank.field-0-is at c.in-Ok-Blank.ensures.step) in
     record {
       gap = c.blanks.invariant.gap ∙ step.gap;
       line = step.line ∙ c.blanks.invariant.line;
@@ -51,7 +51,7 @@ blanks-preserved g c =
 
 pub returns-in-Ok-Feed : goal.returns-in-Ok-Feed
 returns-in-Ok-Feed g c =
-    let step = step_tells c.blanks.invariant.run (rw c.in-Ok-Feed.field-0-is at c.in-Ok-Feed.ensures.step) in
+    let step = step_reports c.blanks.invariant.run (rw c.in-Ok-Feed.field-0-is at c.in-Ok-Feed.ensures.step) in
     record {
       gap = c.blanks.invariant.gap ∙ step.gap;
       line = step.line ∙ ap (λ (n : ℕ). n + 1) c.blanks.invariant.line;
@@ -64,7 +64,7 @@ returns-in-Ok-Feed g c =
 
 pub returns-in-Ok-Word : goal.returns-in-Ok-Word
 returns-in-Ok-Word g c =
-    let step = step_tells c.blanks.invariant.run (rw c.in-Ok-Word.field-0-is at c.in-Ok-Word.ensures.step) in
+    let step = step_reports c.blanks.invariant.run (rw c.in-Ok-Word.field-0-is at c.in-Ok-Word.ensures.step) in
     record {
       gap = c.blanks.invariant.gap ∙ step.gap;
       line = step.line ∙ c.blanks.invariant.line;
@@ -77,7 +77,7 @@ returns-in-Ok-Word g c =
 
 pub returns-in-Ok-End : goal.returns-in-Ok-End
 returns-in-Ok-End g c =
-    let step = step_tells c.blanks.invariant.run (rw c.in-Ok-End.field-0-is at c.in-Ok-End.ensures.step) in
+    let step = step_reports c.blanks.invariant.run (rw c.in-Ok-End.field-0-is at c.in-Ok-End.ensures.step) in
     record {
       gap = c.blanks.invariant.gap ∙ step.gap;
       line = step.line ∙ c.blanks.invariant.line;
@@ -90,7 +90,7 @@ returns-in-Ok-End g c =
 
 pub returns-in-Err : goal.returns-in-Err
 returns-in-Err g c =
-    let step = step_tells c.blanks.invariant.run c.in-Err.ensures.step in
+    let step = step_reports c.blanks.invariant.run c.in-Err.ensures.step in
     record {
       gap = c.blanks.invariant.gap ∙ step.gap;
       line = step.line ∙ c.blanks.invariant.line;

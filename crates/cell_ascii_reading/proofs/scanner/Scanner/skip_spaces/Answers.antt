@@ -4,7 +4,7 @@ use Rattle.cell_ascii_meaning.specs.Kinds.{is_read}
 use Rattle.cell_ascii_meaning.specs.declared.grid_fault.GridFault.{GridFault}
 use Rattle.cell_ascii_reading.specs.declared.scanner.Next.{Next}
 use Rattle.cell_ascii_reading.specs.declared.scanner.Next.TheVariants.{Word, End}
-use Rattle.cell_ascii_reading.proofs.StepLemmas.{room_left, smaller, lines_still, lines_end, further_still, further_same, same_line, step_tells}
+use Rattle.cell_ascii_reading.proofs.StepLemmas.{room_left, smaller, lines_still, lines_end, further_still, further_same, same_line, step_reports}
 use Rattle.cell_ascii_reading.proofs.scanner.Scanner.skip_spaces.Goals as goal
 
 -- the text has not ended
@@ -33,7 +33,7 @@ step-requires-clause-run g c = c.spaces.invariant.run
 
 pub spaces-smaller-in-Ok-Blank : goal.spaces-smaller-in-Ok-Blank
 spaces-smaller-in-Ok-Blank g c =
-    let step = step_tells c.spaces.invariant.run (rw c.in-Ok-Blank.field-0-is at c.in-Ok-Blank.ensures.step) in
+    let step = step_reports c.spaces.invariant.run (rw c.in-Ok-Blank.field-0-is at c.in-Ok-Blank.ensures.step) in
     smaller c.spaces.self.run c.step.new.self.run step.run c.in-Ok-Blank.ensures.step.run
 
 pub spaces-preserved-in-Ok-Blank : goal.spaces-preserved-in-Ok-Blank
@@ -41,7 +41,7 @@ spaces-preserved-in-Ok-Blank g c =
     let o = c.args.self.now in
     let s = c.spaces.self in
     let t = c.step.new.self in
-    let step = step_tells c.spaces.invariant.run (rw c.in-Ok-Blank.field-0-is at c.in-Ok-Blank.ensures.step) in
+    let step = step_reports c.spaces.invariant.run (rw c.in-Ok-Blank.field-0-is at c.in-Ok-Blank.ensures.step) in
     record {
       starts = c.spaces.invariant.starts ∙ step.starts;
       lines = lines_still o.line o.run s.line s.run t.line t.run c.spaces.invariant.lines step.lines;
@@ -53,7 +53,7 @@ spaces-preserved-in-Ok-Blank g c =
 
 pub spaces-smaller : goal.spaces-smaller
 spaces-smaller g c =
-    let step = step_tells c.spaces.invariant.run (rw c.in-Ok-Feed.field-0-is at c.in-Ok-Feed.ensures.step) in
+    let step = step_reports c.spaces.invariant.run (rw c.in-Ok-Feed.field-0-is at c.in-Ok-Feed.ensures.step) in
     smaller c.spaces.self.run c.step.new.self.run step.run c.in-Ok-Feed.ensures.step.run
 
 pub spaces-preserved : goal.spaces-preserved
@@ -61,7 +61,7 @@ spaces-preserved g c =
     let o = c.args.self.now in
     let s = c.spaces.self in
     let t = c.step.new.self in
-    let step = step_tells c.spaces.invariant.run (rw c.in-Ok-Feed.field-0-is at c.in-Ok-Feed.ensures.step) in
+    let step = step_reports c.spaces.invariant.run (rw c.in-Ok-Feed.field-0-is at c.in-Ok-Feed.ensures.step) in
     record {
       starts = c.spaces.invariant.starts ∙ step.starts;
       lines = lines_still o.line o.run s.line s.run t.line t.run c.spaces.invariant.lines step.lines;
@@ -76,7 +76,7 @@ returns-in-Ok-Word g c =
     let o = c.args.self.now in
     let s = c.spaces.self in
     let t = c.step.new.self in
-    let step = step_tells c.spaces.invariant.run (rw c.in-Ok-Word.field-0-is at c.in-Ok-Word.ensures.step) in
+    let step = step_reports c.spaces.invariant.run (rw c.in-Ok-Word.field-0-is at c.in-Ok-Word.ensures.step) in
     record {
       starts = c.spaces.invariant.starts ∙ step.starts;
       lines = lines_end o.line o.run s.line s.run t.line t.run c.spaces.invariant.lines step.lines c.in-Ok-Word.ensures.step.run;
@@ -93,7 +93,7 @@ returns-in-Ok-End g c =
     let o = c.args.self.now in
     let s = c.spaces.self in
     let t = c.step.new.self in
-    let step = step_tells c.spaces.invariant.run (rw c.in-Ok-End.field-0-is at c.in-Ok-End.ensures.step) in
+    let step = step_reports c.spaces.invariant.run (rw c.in-Ok-End.field-0-is at c.in-Ok-End.ensures.step) in
     record {
       starts = c.spaces.invariant.starts ∙ step.starts;
       lines = lines_end o.line o.run s.line s.run t.line t.run c.spaces.invariant.lines step.lines c.in-Ok-End.ensures.step.run;
@@ -110,7 +110,7 @@ returns-in-Err g c =
     let o = c.args.self.now in
     let s = c.spaces.self in
     let t = c.step.new.self in
-    let step = step_tells c.spaces.invariant.run c.in-Err.ensures.step in
+    let step = step_reports c.spaces.invariant.run c.in-Err.ensures.step in
     record {
       starts = c.spaces.invariant.starts ∙ step.starts;
       lines = lines_end o.line o.run s.line s.run t.line t.run c.spaces.invariant.lines step.lines c.in-Err.ensures.step.run;

@@ -57,11 +57,11 @@ returns-in_default-clause-step g c =
 pub returns-then-not-is_space-clause-step : goal.returns-then-not-is_space-clause-step
 returns-then-not-is_space-clause-step g c =
     let s = c.args.self.now in
-    let held = rw c.in-Some.is at c.in_ok-b.ensures.byte in
+    let buffered = rw c.in-Some.is at c.in_ok-b.ensures.byte in
     let word = sym c.is_space.ensures ∙ c.if-not-is_space.true in
     record {
       value = rw (← c.in_ok-b.ensures.same)
-          (at_byte (step_of s.line s.run) (λ d. (Ok Word, d)) c.peek.new.self.ahead c.in-Some.b held
+          (at_byte (step_of s.line s.run) (λ d. (Ok Word, d)) c.peek.new.self.ahead c.in-Some.b buffered
           (λ bs f. step-byte s.line s.run c.in-Some.b bs f word refl refl));
       scan = c.peek.ensures.scan;
       run = rw c.peek.ensures.scan c.requires.run;
@@ -74,12 +74,12 @@ returns-then-self-ge1048576-clause-step g c =
     let s = c.args.self.now in
     let was = c.self.view_is ∙ c.in_ok-b.ensures.scan in
     let full = no_room s.run (rw (ap (λ (v : Scan). v.run) was) at c.if-self-ge1048576.true) in
-    let held = rw c.in-Some.is at c.in_ok-b.ensures.byte in
+    let buffered = rw c.in-Some.is at c.in_ok-b.ensures.byte in
     let space = sym c.is_space.ensures ∙ c.if-not-is_space.false in
     record {
       value = rw (ap (λ (v : Scan). v.line) was, ← c.in_ok-b.ensures.same)
           (at_byte (step_of s.line s.run) (λ d. (Err (grid_fault ReaderStuck s.line), d)) c.peek.new.self.ahead
-          c.in-Some.b held
+          c.in-Some.b buffered
           (λ bs f. step-byte s.line s.run c.in-Some.b bs f space full refl));
       scan = c.peek.ensures.scan;
       run = rw c.peek.ensures.scan c.requires.run;
@@ -91,15 +91,15 @@ pub returns-then-b-eq10-clause-step : goal.returns-then-b-eq10-clause-step
 returns-then-b-eq10-clause-step g c =
     let s = c.args.self.now in
     let was = c.self.view_is ∙ c.in_ok-b.ensures.scan in
-    let held_then = c.pass_byte.ensures.held ∙ ap (λ (v : Scan). drop 1 v.ahead.held) c.self.view_is in
+    let buffered_then = c.pass_byte.ensures.buffered ∙ ap (λ (v : Scan). drop 1 v.ahead.buffered) c.self.view_is in
     let rest_then = c.pass_byte.ensures.rest ∙ ap (λ (v : Scan). v.ahead.rest) c.self.view_is in
     let room = has_room s.run (rw (ap (λ (v : Scan). v.run) was) at c.if-self-ge1048576.false) in
-    let held = rw c.in-Some.is at c.in_ok-b.ensures.byte in
+    let buffered = rw c.in-Some.is at c.in_ok-b.ensures.byte in
     let space = sym c.is_space.ensures ∙ c.if-not-is_space.false in
     record {
       value = rw (← c.in_ok-b.ensures.same)
           (past_byte (step_of s.line s.run) (λ d. (Ok Feed, d)) c.peek.new.self.ahead c.pass_byte.new.self
-          c.in-Some.b held held_then rest_then
+          c.in-Some.b buffered buffered_then rest_then
           (λ bs f. step-byte s.line s.run c.in-Some.b bs f space room (is_ten c.in-Some.b c.if-b-eq10.true)));
       scan = ap (λ (v : Scan). record v { line = v.line + 1; run = v.run + 1; ahead = c.pass_byte.new.self }) was;
       run = up_to _ _ c.if-self-ge1048576.false;
@@ -111,15 +111,15 @@ pub returns-clause-step : goal.returns-clause-step
 returns-clause-step g c =
     let s = c.args.self.now in
     let was = c.self.view_is ∙ c.in_ok-b.ensures.scan in
-    let held_then = c.pass_byte.ensures.held ∙ ap (λ (v : Scan). drop 1 v.ahead.held) c.self.view_is in
+    let buffered_then = c.pass_byte.ensures.buffered ∙ ap (λ (v : Scan). drop 1 v.ahead.buffered) c.self.view_is in
     let rest_then = c.pass_byte.ensures.rest ∙ ap (λ (v : Scan). v.ahead.rest) c.self.view_is in
     let room = has_room s.run (rw (ap (λ (v : Scan). v.run) was) at c.if-self-ge1048576.false) in
-    let held = rw c.in-Some.is at c.in_ok-b.ensures.byte in
+    let buffered = rw c.in-Some.is at c.in_ok-b.ensures.byte in
     let space = sym c.is_space.ensures ∙ c.if-not-is_space.false in
     record {
       value = rw (← c.in_ok-b.ensures.same)
           (past_byte (step_of s.line s.run) (λ d. (Ok Blank, d)) c.peek.new.self.ahead c.pass_byte.new.self
-          c.in-Some.b held held_then rest_then
+          c.in-Some.b buffered buffered_then rest_then
           (λ bs f. step-byte s.line s.run c.in-Some.b bs f space room (not_ten c.in-Some.b c.if-b-eq10.false)));
       scan = ap (λ (v : Scan). record v { run = v.run + 1; ahead = c.pass_byte.new.self }) was;
       run = up_to _ _ c.if-self-ge1048576.false;
@@ -128,8 +128,8 @@ returns-clause-step g c =
 
 pub pass_byte-requires : goal.pass_byte-requires
 pass_byte-requires g c =
-    let held = rw c.in-Some.is at c.in_ok-b.ensures.byte in
-    rw (ap (λ (v : Scan). v.ahead.held) c.self.view_is) (slice_get_within c.peek.new.self.ahead.held 0 c.in-Some.b held)
+    let buffered = rw c.in-Some.is at c.in_ok-b.ensures.byte in
+    rw (ap (λ (v : Scan). v.ahead.buffered) c.self.view_is) (slice_get_within c.peek.new.self.ahead.buffered 0 c.in-Some.b buffered)
 
 pub invariant_of-self : goal.invariant_of-self
 invariant_of-self g c = (up_to _ _ c.if-self-ge1048576.false, c.self.invariant.1)

@@ -1,6 +1,6 @@
 use Rattle.std.proofs.Common.{ap, ◌∙◌, None}
 use Rattle.std.specs.Prelude.{slice_index_or}
-use Rattle.cell_calc_binding.specs.Applied.{spot}
+use Rattle.cell_calc_binding.specs.Applied.{grid_position}
 use Rattle.cell_calc_tests.specs.Steps.{step_value}
 use Rattle.cell_calc_tests.proofs.Steps.{after_all_steps, proper_at, value_after}
 use Rattle.cell_calc_tests.proofs.definition.value.value.Goals as goal
@@ -12,7 +12,7 @@ step_value-requires-clause-step c =
 
 pub returns : goal.returns
 returns c =
-    let s = spot c.args.shelf.now.region c.args.row c.args.col in
+    let s = grid_position c.args.shelf.now.region c.args.row c.args.col in
     let names = c.args.names.now in
     let maps = c.args.shelf.now.maps in
     let operands =

@@ -46,9 +46,9 @@ side n h =
     (leb-true 1 n parts.0, leb-true n most_side parts.1)
 
 -- a test of two edges, read back from their words
-told : (a b : ℤ) {r v : Bool} → FitsSigned w64 a → FitsSigned w64 b
+reported : (a b : ℤ) {r v : Bool} → FitsSigned w64 a → FitsSigned w64 b
     → r ≡ is_above (to_z w64 (of_z w64 a)) (to_z w64 (of_z w64 b)) → r ≡ v → is_above a b ≡ v
-told a b fa fb e v =
+reported a b fa fb e v =
     let t = rw (to_z-of_z w64 a fa, to_z-of_z w64 b fb) at e in
     sym t ∙ v
 
@@ -72,11 +72,11 @@ returns-then-not-is_above c =
     elim c.then-not-is_above.branch [
       | then-not-is_above-via-then-not-is_above w ↦
           not_high e (is_above a.north a.south) (is_above a.east a.west) (is_side a.rows) (is_side a.cols) (is_countable e)
-          (told a.north a.south c.ranges.north c.ranges.south c.is_above.ensures w.if-not-is_above.true)
+          (reported a.north a.south c.ranges.north c.ranges.south c.is_above.ensures w.if-not-is_above.true)
       | then-not-is_above-via-else-not-is_above+then-not-is_above-2 w ↦
           not_wide e (is_above a.north a.south) (is_above a.east a.west) (is_side a.rows) (is_side a.cols) (is_countable e)
-          (told a.north a.south c.ranges.north c.ranges.south c.is_above.ensures w.if-not-is_above.false)
-          (told a.east a.west c.ranges.east c.ranges.west w.is_above-else-not-is_above.ensures w.if-not-is_above-2.true)
+          (reported a.north a.south c.ranges.north c.ranges.south c.is_above.ensures w.if-not-is_above.false)
+          (reported a.east a.west c.ranges.east c.ranges.west w.is_above-else-not-is_above.ensures w.if-not-is_above-2.true)
     ]
 
 pub returns-then-not-is_side : goal.returns-then-not-is_side
@@ -85,8 +85,8 @@ returns-then-not-is_side c =
     let e : RegionValue =
     record { north = a.north; south = a.south; east = a.east; west = a.west; rows = a.rows; cols = a.cols } in
     bad_rows e (is_above a.north a.south) (is_above a.east a.west) (is_side a.rows) (is_side a.cols) (is_countable e)
-    (told a.north a.south c.ranges.north c.ranges.south c.is_above.ensures c.if-not-is_above.false)
-    (told a.east a.west c.ranges.east c.ranges.west c.is_above-else-not-is_above.ensures c.if-not-is_above-2.false)
+    (reported a.north a.south c.ranges.north c.ranges.south c.is_above.ensures c.if-not-is_above.false)
+    (reported a.east a.west c.ranges.east c.ranges.west c.is_above-else-not-is_above.ensures c.if-not-is_above-2.false)
     (sym c.is_side.ensures ∙ c.if-not-is_side.true)
 
 pub returns-then-not-is_side-2 : goal.returns-then-not-is_side-2
@@ -95,8 +95,8 @@ returns-then-not-is_side-2 c =
     let e : RegionValue =
     record { north = a.north; south = a.south; east = a.east; west = a.west; rows = a.rows; cols = a.cols } in
     bad_cols e (is_above a.north a.south) (is_above a.east a.west) (is_side a.rows) (is_side a.cols) (is_countable e)
-    (told a.north a.south c.ranges.north c.ranges.south c.is_above.ensures c.if-not-is_above.false)
-    (told a.east a.west c.ranges.east c.ranges.west c.is_above-else-not-is_above.ensures c.if-not-is_above-2.false)
+    (reported a.north a.south c.ranges.north c.ranges.south c.is_above.ensures c.if-not-is_above.false)
+    (reported a.east a.west c.ranges.east c.ranges.west c.is_above-else-not-is_above.ensures c.if-not-is_above-2.false)
     (sym c.is_side.ensures ∙ c.if-not-is_side.false)
     (sym c.is_side-2.ensures ∙ c.if-not-is_side-2.true)
 
@@ -112,8 +112,8 @@ returns-then-not-is_countable c =
     let e : RegionValue =
     record { north = a.north; south = a.south; east = a.east; west = a.west; rows = a.rows; cols = a.cols } in
     many_cells e (is_above a.north a.south) (is_above a.east a.west) (is_side a.rows) (is_side a.cols) (is_countable e)
-    (told a.north a.south c.ranges.north c.ranges.south c.is_above.ensures c.if-not-is_above.false)
-    (told a.east a.west c.ranges.east c.ranges.west c.is_above-else-not-is_above.ensures c.if-not-is_above-2.false)
+    (reported a.north a.south c.ranges.north c.ranges.south c.is_above.ensures c.if-not-is_above.false)
+    (reported a.east a.west c.ranges.east c.ranges.west c.is_above-else-not-is_above.ensures c.if-not-is_above-2.false)
     (sym c.is_side.ensures ∙ c.if-not-is_side.false)
     (sym c.is_side-2.ensures ∙ c.if-not-is_side-2.false)
     (sym c.is_countable.ensures ∙ c.if-not-is_countable.true)
@@ -129,8 +129,8 @@ invariant_of-result c =
     let west = to_z-of_z w64 a.west c.ranges.west in
     rw (north, south, east, west)
     (region_is e
-    (told a.north a.south c.ranges.north c.ranges.south c.is_above.ensures c.if-not-is_above.false)
-    (told a.east a.west c.ranges.east c.ranges.west c.is_above-else-not-is_above.ensures c.if-not-is_above-2.false)
+    (reported a.north a.south c.ranges.north c.ranges.south c.is_above.ensures c.if-not-is_above.false)
+    (reported a.east a.west c.ranges.east c.ranges.west c.is_above-else-not-is_above.ensures c.if-not-is_above-2.false)
     (sym c.is_side.ensures ∙ c.if-not-is_side.false)
     (sym c.is_side-2.ensures ∙ c.if-not-is_side-2.false)
     (sym c.is_countable.ensures ∙ c.if-not-is_countable.false))
@@ -146,8 +146,8 @@ returns c =
     let west = to_z-of_z w64 a.west c.ranges.west in
     rw (north, south, east, west)
     (accepted e (is_above a.north a.south) (is_above a.east a.west) (is_side a.rows) (is_side a.cols) (is_countable e)
-    (told a.north a.south c.ranges.north c.ranges.south c.is_above.ensures c.if-not-is_above.false)
-    (told a.east a.west c.ranges.east c.ranges.west c.is_above-else-not-is_above.ensures c.if-not-is_above-2.false)
+    (reported a.north a.south c.ranges.north c.ranges.south c.is_above.ensures c.if-not-is_above.false)
+    (reported a.east a.west c.ranges.east c.ranges.west c.is_above-else-not-is_above.ensures c.if-not-is_above-2.false)
     (sym c.is_side.ensures ∙ c.if-not-is_side.false)
     (sym c.is_side-2.ensures ∙ c.if-not-is_side-2.false)
     (sym c.is_countable.ensures ∙ c.if-not-is_countable.false))

@@ -1,7 +1,7 @@
 use Rattle.std.proofs.Common.{◌≡◌, ◌==◌, ℕ, length, false, ap, sym, ◌∙◌}
-use Rattle.cell_join_clumps.specs.parts.Spots.{IsWhole}
+use Rattle.cell_join_clumps.specs.parts.Placements.{IsWhole}
 use Rattle.cell_join_clumps.proofs.KeptLemmas.{even-row}
-use Rattle.cell_join_clumps.proofs.SpotLemmas.{finished, unfinished, whole-told}
+use Rattle.cell_join_clumps.proofs.PlacementLemmas.{finished, unfinished, whole-reported}
 use Rattle.cell_join_clumps.proofs.tile_grid.TileGrid.finish.Goals as goal
 
 pub add_row-requires : goal.add_row-requires
@@ -13,7 +13,7 @@ returns-clause-whole c =
     let some : (length row.items == 0) ≡ false = ap (λ (n : ℕ). n == 0) (sym row.ok.0) ∙ sym c.is_empty.ensures
     ∙ c.if-is_empty.false in
     let whole : IsWhole c.args.self.above.items row.items =
-    whole-told c.args.self.above.items row.items c.deref.result.now c.len.result c.deref.ensures.value
+    whole-reported c.args.self.above.items row.items c.deref.result.now c.len.result c.deref.ensures.value
     (c.len.ensures ∙ row.ok.0) (sym c.get.ensures.lookup.0 ∙ sym c.is_some.ensures ∙ c.if-is_some.false) in
     finished c.args.self c.add_row.result some whole c.add_row.ensures.joining c.add_row.ensures.joined
 
@@ -23,6 +23,6 @@ returns-clause-fault c =
     let some : (length row.items == 0) ≡ false = ap (λ (n : ℕ). n == 0) (sym row.ok.0) ∙ sym c.is_empty.ensures
     ∙ c.if-is_empty.false in
     let whole : IsWhole c.args.self.above.items row.items =
-    whole-told c.args.self.above.items row.items c.deref.result.now c.len.result c.deref.ensures.value
+    whole-reported c.args.self.above.items row.items c.deref.result.now c.len.result c.deref.ensures.value
     (c.len.ensures ∙ row.ok.0) (sym c.get.ensures.lookup.0 ∙ sym c.is_some.ensures ∙ c.if-is_some.false) in
     unfinished c.args.self c.args.texts c.add_row.result some whole c.add_row.ensures.fault

@@ -90,8 +90,8 @@ returns-in-Ok-other_label-clause-other g c =
     ∙ ap (λ xs. xs ++ c.before_count.result.now) c.clear.ensures.items ∙ c.before_count.ensures
     ∙ ap (λ b. before_count b x.line) c.separator.ensures in
     let text = c.in-Some-other_at.other in
-    let told = c.in-Ok-other_label.told in
-    let of = c.in-Ok-other_label.ensures.told in
+    let reported = c.in-Ok-other_label.reported in
+    let of = c.in-Ok-other_label.ensures.reported in
     let value = c.as_slice-texts.ensures.value in
     let same : c.deref.result.now ≡ items = (let given = c.deref.ensures.value in cc) in
     let again : c.deref-2.result.now ≡ items = (let given = c.deref-2.ensures.value in cc) in
@@ -104,9 +104,9 @@ returns-in-Ok-other_label-clause-other g c =
     (sym value) ∙ c.in-Ok-other_label.ensures.other in
     rw (← c.self.view_is) (
       stops-here format texts order c.self.invariant place is x at (k, c.in-Some-head.field-0-1) has items own
-          text inside other told of.0 of.1 of.2 (of.3 ∙ again) there,
+          text inside other reported of.0 of.1 of.2 (of.3 ∙ again) there,
       line-here format texts order c.self.invariant place is x at (k, c.in-Some-head.field-0-1) has items own
-          text inside other told of.1 of.2 there
+          text inside other reported of.1 of.2 there
           (ap (λ (ts : List TextValue). slice_get (map (λ (t : TextValue). t.number - 1) ts) text) (sym value)
           ∙ c.in-Ok-other_label.ensures.line),
     )

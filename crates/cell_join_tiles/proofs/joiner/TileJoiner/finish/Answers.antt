@@ -2,7 +2,7 @@ use Rattle.std.proofs.Common.{◌≡◌, ◌<◌, ◌+◌, ℕ, List, length, ge
 use Rattle.std.proofs.lemmas.Grind.{get_or_default_zero}
 use Rattle.cell_join_numbers.specs.SparseNumbers.{NumberPairs}
 use Rattle.cell_join_tiles.specs.JoinedTiles.{AreJoinedTiles, AreRunsOf, GridClumps, TileJoinerValue}
-use Rattle.cell_join_tiles.specs.parts.Runs.{runs_of_tiles}
+use Rattle.cell_join_tiles.specs.parts.LabelRuns.{runs_of_tiles}
 use Rattle.cell_join_tiles.specs.parts.Spans.{labels_of_tiles}
 use Rattle.cell_join_tiles.proofs.FinishLemmas.{grid-clumps, grid-runs}
 use Rattle.cell_join_tiles.proofs.joiner.TileJoiner.finish.Goals as goal

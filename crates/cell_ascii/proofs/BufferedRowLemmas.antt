@@ -1,0 +1,79 @@
+-- Cells that are held one after another.
+use Rattle.std.proofs.Common.{◌≡◌, ℕ, zero, suc, ◌+◌, ◌-◌, ◌<◌, ◌≤◌, List, [], ◌∷◌, ◌++◌, length, take, drop, Ok, refl, ap, sym, ◌∙◌, arith, append-nil, length-append, length-drop, length-take, take_all}
+use Rattle.std.proofs.Math.Seq.{take-append-add, drop-append-add}
+use Rattle.std.proofs.lemmas.List.{drop_all, drop-append-le, drop-drop, take-append-drop, take-append-le, take_at}
+use Rattle.cell_core.specs.Grid.{CellValue}
+use Rattle.cell_ascii_reading.specs.Ahead.{before_coming}
+use Rattle.cell_ascii_meaning.specs.Header.{◌>>=◌, HeaderValue}
+use Rattle.cell_ascii_meaning.specs.CellTexts.{Reading, cell_from, at_of}
+use Rattle.cell_ascii.specs.BufferedCells.{HoldsCell, HoldsCells, run_after}
+use Rattle.cell_ascii.proofs.ManyLemmas.{many_more, snoc, with_last}
+
+run-below : (run count : ℕ) → run < 1048576 → run_after run count < 1048576
+run-below run zero below = below
+run-below run (suc count) below = omega arith
+
+run-none : (run count : ℕ) → run_after run (count + 1) ≡ 0
+run-none run count = let e : count + 1 ≡ suc count = omega arith in ap (run_after run) e
+
+module _ (h : HeaderValue) (bs : List ℕ) where
+  -- one more
+  pub HoldsCells-more : (cells : List CellValue) (count n : ℕ) (v : CellValue) (m : ℕ) → HoldsCells h bs cells count n → HoldsCell h (drop n bs) v m
+      → HoldsCells h bs (cells ++ v ∷ []) (count + 1) (n + m)
+  HoldsCells-more cells count n v m buffered next = λ line run below c.
+      many_more (cell_from h) count (at_of line run (before_coming bs c))
+      ∙ ap (λ (r : Reading (List CellValue)). r >>= with_last (cell_from h)) (buffered line run below c)
+      ∙ ap (λ (r : Reading CellValue). r >>= snoc (cell_from h) cells) (next line (run_after run count) (run-below run count below) c)
+      ∙ ap (λ (k : ℕ). Ok (cells ++ v ∷ [], at_of line k (before_coming (drop m (drop n bs)) c))) (sym (run-none run count))
+      ∙ ap (λ (rest : List ℕ). Ok (cells ++ v ∷ [], at_of line (run_after run (count + 1)) (before_coming rest c))) (drop-drop m n bs)
+
+-- a row whose last cells were lent
+abbrev pub filled : ℕ → List CellValue → List CellValue → List CellValue
+filled i row part = take i row ++ (part ++ drop (length row - i) (drop i row))
+
+-- more of its cells were read, and the others are as they were
+module _ (i k : ℕ) (row part old : List CellValue) (within : i ≤ length row) (size : length part ≡ length row - i) (few : k ≤ length row - i) where
+  abbrev after : List CellValue
+  after = drop (length row - i) (drop i row)
+
+  length-front : length (take i row) ≡ i
+  length-front = omega (arith, length-take i row)
+
+  pub part-front : take (i + k) (filled i row part) ≡ take i row ++ take k part
+  part-front =
+      ap (λ (n : ℕ). take (n + k) (take i row ++ (part ++ after))) (sym length-front)
+      ∙ take-append-add (take i row) (part ++ after) k
+      ∙ ap (λ (l : List CellValue). take i row ++ l) (take-append-le k part after (omega (arith, size)))
+
+  -- and those before it
+  pub part-none : take i (filled i row part) ≡ take i row
+  part-none = ap (λ (n : ℕ). take n (take i row ++ (part ++ after))) (sym length-front) ∙ take_at (take i row) (part ++ after) (length (take i row)) refl
+
+  none-after : after ≡ []
+  none-after = drop_all (length row - i) (drop i row) (omega (arith, length-drop i row))
+
+  pub part-rest : drop k part ≡ drop k (take (length row - i) (drop i row)) → drop i row ≡ drop i old → drop (i + k) (filled i row part) ≡ drop (i + k) old
+  part-rest kept rest =
+      ap (λ (n : ℕ). drop (n + k) (take i row ++ (part ++ after))) (sym length-front)
+      ∙ drop-append-add (take i row) (part ++ after) k
+      ∙ ap (λ (l : List CellValue). drop k (part ++ l)) none-after
+      ∙ ap (drop k) (append-nil part)
+      ∙ kept
+      ∙ ap (drop k) (take_all (length row - i) (drop i row) (omega (arith, length-drop i row)) ∙ rest)
+      ∙ drop-drop k i old
+
+  pub filled-length : length (filled i row part) ≡ length row
+  filled-length =
+      ap (λ (l : List CellValue). length (take i row ++ (part ++ l))) none-after
+      ∙ ap (λ (l : List CellValue). length (take i row ++ l)) (append-nil part)
+      ∙ omega (arith, length-append (take i row) part, length-front, size)
+
+-- of a row whose front was lent, the cells behind those that were read stay
+pub lent_rest : (k end : ℕ) (part row : List CellValue) → k ≤ length (take end row) → length part ≡ length (take end row) → drop k part ≡ drop k (take end row)
+    → drop k (part ++ drop end row) ≡ drop k row
+lent_rest k end part row few size rest =
+    let within : k ≤ length part = omega arith in
+    drop-append-le k part (drop end row) within
+    ∙ ap (λ (l : List CellValue). l ++ drop end row) rest
+    ∙ sym (drop-append-le k (take end row) (drop end row) few)
+    ∙ ap (drop k) (take-append-drop end row)

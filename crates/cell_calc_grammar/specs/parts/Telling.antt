@@ -1,9 +1,0 @@
--- What the reading of one token tells.
-use Rattle.std.specs.Prelude.{◌≡◌, Result, Ok, Err}
-use Rattle.cell_calc_grammar.specs.Tokens.{IsTokenFault}
-use Rattle.cell_calc_grammar.specs.declared.calc_fault.CalcFault.{CalcFault}
-
--- what is wanted, or a fault that may be told where it is wanted
-abbrev pub TellsToken : {T : Type 0} → Result T CalcFault → Result T CalcFault → Type 0
-TellsToken (Ok token) wanted = wanted ≡ Ok token
-TellsToken (Err told) wanted = IsTokenFault wanted told

@@ -1,6 +1,0 @@
-use Rattle.std.proofs.Common.{◌≡◌, take}
-use Rattle.cell_join_numbers.specs.SparseNumbers.{labels_of}
-use Rattle.cell_join_numbers.proofs.sparse.labels_of.Given as goal
-
-abbrev pub invariant-loop-pair : goal.invariant-loop-pair
-invariant-loop-pair l = l.labels.items ≡ labels_of (take l.pair-index l.pairs)

@@ -1,0 +1,153 @@
+-- What the words of a command line ask for: rcell-join tables, border, clumps or sizes, and what follows it (profile).
+use Rattle.std.specs.Prelude.{ℕ, Bool, not, List, [], ◌∷◌, ◌==◌, ◌||◌, false, true, map, Result, Ok, Err, is_some, unwrap_or, if◌then◌else◌, bytes_eq, codes}
+use Rattle.std.specs.List.{filter, list_any}
+use Rattle.cell_ascii_meaning.specs.Header.{usual_null}
+use Rattle.cell_cats_areas.specs.declared.clump.Joining.{Joining}
+use Rattle.cell_cats_areas.specs.declared.clump.Joining.TheVariants as joinings
+use Rattle.cell_core_values.specs.Answers.{◌>>=◌}
+use Rattle.cell_core_values.specs.Letters.{byte}
+use Rattle.cell_stats.specs.TableText.{FormatValue}
+use Rattle.cell_join_lines.specs.ClearFormats.{is_clear}
+use Rattle.rcell_script_commands.specs.OptionReading.{Given, options_of}
+use Rattle.rcell_script_commands.specs.Options.{value_in}
+use Rattle.rcell_script_commands.specs.declared.option_fault.OptionFault.{OptionFault}
+use Rattle.rcell_script_commands.specs.declared.options.Form.TheVariants.{Stats}
+use Rattle.rcell_join.specs.declared.join_refusal.JoinRefusal.{JoinRefusal}
+use Rattle.rcell_join.specs.declared.join_refusal.JoinRefusal.TheVariants as refusals
+use Rattle.rcell_join.specs.declared.join_refusal.Usage.{Usage}
+use Rattle.rcell_join.specs.declared.join_refusal.Usage.TheVariants as usages
+use Rattle.rcell_join.specs.declared.join_request.JoinRequest.{JoinRequest}
+use Rattle.rcell_join.specs.declared.join_request.JoinRequest.TheVariants as requests
+
+-- what is asked for, with the paths of the texts that are read
+pub data RequestValue : Type 0 where
+  Tables : (format : FormatValue) → (tables : List (List ℕ)) → RequestValue
+  Border : (joining : Joining) → (map : List ℕ) → RequestValue
+  Clumps : (joining : Joining) → (borders : List (List ℕ)) → RequestValue
+  Sizes : (format : FormatValue) → (numbering : List ℕ) → (tables : List (List ℕ)) → RequestValue
+
+-- what a request asks for
+abbrev pub request_value : JoinRequest → RequestValue
+request_value (requests.Tables format tables) = Tables format (map (λ path. path.now) tables.items)
+request_value (requests.Border joining cells) = Border joining cells.now
+request_value (requests.Clumps joining borders) = Clumps joining (map (λ path. path.now) borders.items)
+request_value (requests.Sizes format numbering tables) = Sizes format numbering.now (map (λ path. path.now) tables.items)
+
+-- a word that begins with a hyphen
+abbrev pub begins_with_hyphen : List ℕ → Bool
+begins_with_hyphen [] = false
+begins_with_hyphen (b ∷ rest) = b == byte (codes "-")
+
+-- one of the words begins with a hyphen
+abbrev pub has_hyphen_word : List (List ℕ) → Bool
+has_hyphen_word words = list_any begins_with_hyphen words
+
+-- a word that gives the separator or the null text
+abbrev pub is_option : List ℕ → Bool
+is_option word = is_some (value_in (codes "separator") word) || is_some (value_in (codes "null_value") word)
+
+-- the words that are options, and the others, which are paths
+abbrev pub options_in : List (List ℕ) → List (List ℕ)
+options_in words = filter is_option words
+
+abbrev pub paths_in : List (List ℕ) → List (List ℕ)
+paths_in words = filter (λ word. not (is_option word)) words
+
+-- how tables are printed: with counts, with labels or without, and else as those of r.stats
+abbrev pub format_given : (labels : Bool) → Given → FormatValue
+format_given labels given = record { separator = unwrap_or given.separator (byte (codes " ")); null_text = unwrap_or given.table_null_text usual_null; labels = labels; counts = true }
+
+-- a format by which fields can be told apart
+abbrev pub if_clear : FormatValue → Result FormatValue JoinRefusal
+if_clear format = if is_clear format then Ok format else Err refusals.BadOption
+
+-- the format that options give
+abbrev pub table_format_of : (labels : Bool) → Result Given OptionFault → Result FormatValue JoinRefusal
+table_format_of labels (Err fault) = Err refusals.BadOption
+table_format_of labels (Ok given) = if_clear (format_given labels given)
+
+abbrev pub format_in : (labels : Bool) → List (List ℕ) → Result FormatValue JoinRefusal
+format_in labels words = table_format_of labels (options_of Stats (options_in words))
+
+-- a word that is this flag
+abbrev pub is_flag : (flag word : List ℕ) → Bool
+is_flag flag word = bytes_eq word flag
+
+-- this flag is one of the words
+abbrev pub contains_flag : (flag : List ℕ) → List (List ℕ) → Bool
+contains_flag flag words = list_any (is_flag flag) words
+
+-- the words that are not this flag
+abbrev pub without_flag : (flag : List ℕ) → List (List ℕ) → List (List ℕ)
+without_flag flag words = filter (λ word. not (is_flag flag word)) words
+
+-- the flag by which categories have labels
+abbrev pub labels_flag : List ℕ
+labels_flag = codes "-l"
+
+-- one table or more
+abbrev pub asked_of_tables : List (List ℕ) → Result FormatValue JoinRefusal → Result RequestValue JoinRefusal
+asked_of_tables [] reading = Err (refusals.Usage usages.Tables)
+asked_of_tables (table ∷ tables) reading = reading >>= λ format. Ok (Tables format (table ∷ tables))
+
+-- what words behind `tables` ask for, beside the flag of labels, which is given or not
+abbrev pub asked_labelled : (labels : Bool) → List (List ℕ) → Result RequestValue JoinRefusal
+asked_labelled labels words = if has_hyphen_word words then Err (refusals.Usage usages.Tables) else asked_of_tables (paths_in words) (format_in labels words)
+
+-- what words behind `tables` ask for: labels where the flag is one of them
+abbrev pub asked_tables : List (List ℕ) → Result RequestValue JoinRefusal
+asked_tables words = asked_labelled (contains_flag labels_flag words) (without_flag labels_flag words)
+
+-- the flag by which clumps join at corners too
+abbrev pub corners_flag : List ℕ
+corners_flag = codes "-d"
+
+-- which cells are adjacent: by edges, or where the flag is given by edges and corners
+abbrev pub joining_in : List (List ℕ) → Joining
+joining_in words = if contains_flag corners_flag words then joinings.EdgesAndCorners else joinings.Edges
+
+-- the other words, which are the paths of tiles
+abbrev pub tile_paths : List (List ℕ) → List (List ℕ)
+tile_paths words = without_flag corners_flag words
+
+-- one tile or more, joined so
+abbrev pub some_of : Usage → Joining → List (List ℕ) → Result (Joining × List (List ℕ)) JoinRefusal
+some_of usage joining [] = Err (refusals.Usage usage)
+some_of usage joining (tile ∷ tiles) = Ok (joining, tile ∷ tiles)
+
+abbrev pub joined_tiles : Usage → List (List ℕ) → Result (Joining × List (List ℕ)) JoinRefusal
+joined_tiles usage words = if has_hyphen_word (tile_paths words) then Err (refusals.Usage usage) else some_of usage (joining_in words) (tile_paths words)
+
+-- what words behind `border` ask for: the map of one tile; and behind `clumps`: the borders of one tile or more
+abbrev pub border_of : Joining → List (List ℕ) → Result RequestValue JoinRefusal
+border_of joining (cells ∷ []) = Ok (Border joining cells)
+border_of joining cells = Err (refusals.Usage usages.Border)
+
+abbrev pub asked_border : List (List ℕ) → Result RequestValue JoinRefusal
+asked_border words = joined_tiles usages.Border words >>= λ tiles. border_of tiles.0 tiles.1
+
+abbrev pub asked_clumps : List (List ℕ) → Result RequestValue JoinRefusal
+asked_clumps words = joined_tiles usages.Clumps words >>= λ tiles. Ok (Clumps tiles.0 tiles.1)
+
+-- a numbering, and one table or more
+abbrev pub asked_of_sizes : List (List ℕ) → Result FormatValue JoinRefusal → Result RequestValue JoinRefusal
+asked_of_sizes (numbering ∷ table ∷ tables) reading = reading >>= λ format. Ok (Sizes format numbering (table ∷ tables))
+asked_of_sizes words reading = Err (refusals.Usage usages.Sizes)
+
+-- what words behind `sizes` ask for
+abbrev pub asked_sizes : List (List ℕ) → Result RequestValue JoinRefusal
+asked_sizes words = if has_hyphen_word words then Err (refusals.Usage usages.Sizes) else asked_of_sizes (paths_in words) (format_in false words)
+
+-- what a command and the words behind it ask for
+abbrev pub command_of : List ℕ → List (List ℕ) → Result RequestValue JoinRefusal
+command_of command words =
+    if bytes_eq command (codes "tables") then asked_tables words
+    else (if bytes_eq command (codes "border") then asked_border words
+    else (if bytes_eq command (codes "clumps") then asked_clumps words
+    else (if bytes_eq command (codes "sizes") then asked_sizes words
+    else Err (refusals.Usage usages.AnyCommand))))
+
+-- what the words that follow the program's own name ask for
+abbrev pub asked_of : List (List ℕ) → Result RequestValue JoinRefusal
+asked_of [] = Err (refusals.Usage usages.AnyCommand)
+asked_of (command ∷ words) = command_of command words

@@ -1,0 +1,79 @@
+use Rattle.std.proofs.Common.{◌≡◌, ◌∙◌, Some, List, ℕ, Result, Ok, Err, refl, ap, sym, append-nil}
+use Rattle.std.specs.Prelude.{slice_get}
+use Rattle.std.specs.Result.{OnOk, OnErr}
+use Rattle.cell_core.specs.Grid.{Grid}
+use Rattle.cell_core.specs.Shelf.{ShelfValue}
+use Rattle.cell_core_devices.proofs.BlockLemmas.{appends_none}
+use Rattle.rcell_script_commands.specs.declared.command.Command.{Command}
+use Rattle.rcell_script_commands.specs.declared.command.Command.TheVariants.{Stats, OutAscii}
+use Rattle.rcell_script_commands.specs.declared.command.StatsOptions.{StatsOptions}
+use Rattle.rcell_pipe_response.specs.Frames.{command_frames, grid_frame, stats_frame}
+use Rattle.rcell_pipe_response.specs.FrameBytes.{frame_bytes, frames_bytes, grid_bytes}
+use Rattle.rcell_pipe_response.proofs.frame_execution.execute_statement.Goals as goal
+
+whenever_ok : {T E : Type 0} (r : Result T E) (P : Type 0) → P → OnOk r P
+whenever_ok (Ok x) P p = p
+whenever_ok (Err y) P p = tt
+
+whenever_err : {T E : Type 0} (r : Result T E) (P : Type 0) → P → OnErr r P
+whenever_err (Ok x) P p = tt
+whenever_err (Err y) P p = p
+
+-- the bytes of the frame of r.stats
+stats_command : (shelf : ShelfValue) (line : ℕ) (command : Command) (places : List ℕ) (options : StatsOptions) → command ≡ Stats places options → frame_bytes (stats_frame shelf line places options) ≡ frames_bytes (command_frames shelf line command)
+stats_command shelf line command places options is = sym (append-nil (frame_bytes (stats_frame shelf line places options))) ∙ ap (λ (x : Command). frames_bytes (command_frames shelf line x)) (sym is)
+
+-- the bytes of the frame of r.out.ascii
+grid_command : (shelf : ShelfValue) (line : ℕ) (command : Command) (place : ℕ) (null_text name : List ℕ) (grid : Grid) → command ≡ OutAscii place null_text → slice_get shelf.maps place ≡ Some grid → slice_get shelf.names place ≡ Some name
+    → grid_bytes (grid_frame line null_text name grid) ≡ frames_bytes (command_frames shelf line command)
+grid_command shelf line command place null_text name grid is map named = rw (is, map, named) (sym (append-nil (grid_bytes (grid_frame line null_text name grid))))
+
+pub returns-in-Mapcalc-clause-after : goal.returns-in-Mapcalc-clause-after
+returns-in-Mapcalc-clause-after g c = rw c.in-Mapcalc.is c.make_values.ensures.ok
+
+pub returns-in-Mapcalc-clause-ok : goal.returns-in-Mapcalc-clause-ok
+returns-in-Mapcalc-clause-ok g c = rw c.in-Mapcalc.is (whenever_ok c.make_values.result _ appends_none)
+
+pub returns-in-Mapcalc-clause-err : goal.returns-in-Mapcalc-clause-err
+returns-in-Mapcalc-clause-err g c = whenever_err c.make_values.result _ (refl, refl)
+
+pub returns-in-Reclass-clause-after : goal.returns-in-Reclass-clause-after
+returns-in-Reclass-clause-after g c = rw c.in-Reclass.is c.make_classes.ensures.ok
+
+pub returns-in-Reclass-clause-ok : goal.returns-in-Reclass-clause-ok
+returns-in-Reclass-clause-ok g c = rw c.in-Reclass.is (whenever_ok c.make_classes.result _ appends_none)
+
+pub returns-in-Reclass-clause-err : goal.returns-in-Reclass-clause-err
+returns-in-Reclass-clause-err g c = whenever_err c.make_classes.result _ (refl, refl)
+
+pub returns-in-Clump-clause-after : goal.returns-in-Clump-clause-after
+returns-in-Clump-clause-after g c = rw c.in-Clump.is c.make_numbers.ensures.ok
+
+pub returns-in-Clump-clause-ok : goal.returns-in-Clump-clause-ok
+returns-in-Clump-clause-ok g c = rw c.in-Clump.is (whenever_ok c.make_numbers.result _ appends_none)
+
+pub returns-in-Clump-clause-err : goal.returns-in-Clump-clause-err
+returns-in-Clump-clause-err g c = whenever_err c.make_numbers.result _ (refl, refl)
+
+pub returns-in-Stats-clause-after : goal.returns-in-Stats-clause-after
+returns-in-Stats-clause-after g c = whenever_ok c.push_stats.result _ (rw c.in-Stats.is refl)
+
+pub returns-in-Stats-clause-ok : goal.returns-in-Stats-clause-ok
+returns-in-Stats-clause-ok g c =
+    let same : frame_bytes (stats_frame c.args.shelf.now c.args.statement.now.line c.as_slice.result.now c.in-Stats.options) ≡ frames_bytes (command_frames c.args.shelf.now c.args.statement.now.line c.args.statement.now.command) =
+    rw c.as_slice.ensures (stats_command c.args.shelf.now c.args.statement.now.line c.args.statement.now.command _ _ c.in-Stats.is) in
+    rw (← same) c.push_stats.ensures.ok
+
+pub returns-in-Stats-clause-err : goal.returns-in-Stats-clause-err
+returns-in-Stats-clause-err g c = c.push_stats.ensures.err
+
+pub returns-in-OutAscii-clause-after : goal.returns-in-OutAscii-clause-after
+returns-in-OutAscii-clause-after g c = whenever_ok c.push_grid.result _ (rw c.in-OutAscii.is refl)
+
+pub returns-in-OutAscii-clause-ok : goal.returns-in-OutAscii-clause-ok
+returns-in-OutAscii-clause-ok g c =
+    let same = grid_command c.args.shelf.now c.args.statement.now.line c.args.statement.now.command _ _ _ _ c.in-OutAscii.is c.map.ensures.value c.name.ensures.value in
+    rw (← same, ← c.bytes.ensures.value, ← c.bytes-in-OutAscii.ensures.value) c.push_grid.ensures.ok
+
+pub returns-in-OutAscii-clause-err : goal.returns-in-OutAscii-clause-err
+returns-in-OutAscii-clause-err g c = c.push_grid.ensures.err

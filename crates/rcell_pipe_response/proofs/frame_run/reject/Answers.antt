@@ -1,0 +1,5 @@
+use Rattle.rcell_pipe_response.specs.FrameBytes.{response_magic}
+use Rattle.rcell_pipe_response.proofs.frame_run.reject.Goals as goal
+
+pub returns : goal.returns
+returns g c = c.end_response.ensures _ _ response_magic c.begin_response-block.ensures

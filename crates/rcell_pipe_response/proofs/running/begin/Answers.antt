@@ -1,5 +1,0 @@
-use Rattle.std.proofs.Common.{[]}
-use Rattle.rcell_pipe_response.proofs.running.begin.Goals as goal
-
-pub returns : goal.returns
-returns g c = c.push.ensures.adds _ _ [] (c.new-block.ensures.nothing _ _)

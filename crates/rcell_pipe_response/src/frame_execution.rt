@@ -1,0 +1,140 @@
+//! Statements are executed in order: those that make maps put them on the shelf, the others write their frame.
+
+ghost use Rattle.std.specs.Prelude.{◌≡◌, ◌<◌, ◌≤◌, All, length, IfSome, OnOk, OnErr, IfErr};
+ghost use Rattle.cell_core_devices.specs.Blocks.{Appends};
+ghost use Rattle.rcell_script_commands.specs.FittingCommands.{FitsCommand};
+ghost use Rattle.rcell_script.specs.FittingScripts.{Fits};
+ghost use Rattle.rcell.specs.After.{IsShelfAfter};
+ghost use Rattle.rcell_pipe_response.specs.Frames.{command_frames, stats_frame};
+ghost use Rattle.rcell_pipe_response.specs.FrameBytes.{frame_bytes, frames_bytes};
+ghost use Rattle.rcell_pipe_response.specs.parts.FrameExecution.{HasGiven, StopsFrames};
+
+use crate::cells_frame::push_cells_frame;
+use crate::frames::push_grid;
+use crate::table_frame::push_table;
+use cell_core::block::OutputBlock;
+use cell_core::memory::Memory;
+use cell_core::shelf::Shelf;
+use cell_core::sink::Sink;
+use cell_stats::tallying::tally;
+use rcell::making::{make_classes, make_numbers, make_values};
+use rcell_script::statement::{Command, Statement, StatsOptions};
+use std::alloc::Global;
+
+/// What stops an execution.
+#[derive(Clone, Copy, Debug)]
+pub(crate) enum PipeStop {
+    /// Memory ran out; the line is that of the statement.
+    Memory { line: u64 },
+    /// A write failed.
+    Write,
+}
+
+// Writes the frame of r.stats. It has all that it needs of memory before its first byte.
+fn push_stats<W: Sink>(
+    alloc: Global,
+    shelf: &Shelf,
+    line: u64,
+    places: &[usize],
+    options: &StatsOptions,
+    block: &mut OutputBlock,
+    out: &mut W,
+) -> Result<(), Memory>
+    requires within { All (λ place. place < length shelf.now.maps) places.now }
+    requires some { 1 ≤ length places.now }
+    requires most { length places.now ≤ 16 }
+    requires width { IfSome options.now.after (λ k. length k ≡ length places.now) }
+    ensures ok { OnOk result (Appends W.taken W.faults out.old block.old
+        (frame_bytes (stats_frame shelf.now line places.now options.now)) out.new block.new) }
+    ensures err { OnErr result ((out.new ≡ out.old) × (block.new ≡ block.old)) }
+{
+    if options.cells {
+        return push_cells_frame(alloc, out, block, line, shelf, places, options);
+    }
+    let Ok(table) = tally(alloc, shelf, places, options.skip) else {
+        return Err(Memory);
+    };
+    push_table(out, block, line, shelf, places, &table, options);
+    Ok(())
+}
+
+// Executes a statement. It has all that it needs of memory before its first byte.
+fn execute_statement<W: Sink>(
+    alloc: Global,
+    shelf: &mut Shelf,
+    statement: &Statement,
+    block: &mut OutputBlock,
+    out: &mut W,
+) -> Result<(), Memory>
+    requires { FitsCommand shelf.old.names statement.now.command }
+    ensures after { OnOk result (IsShelfAfter shelf.old statement.now.command shelf.new) }
+    ensures ok { OnOk result
+        (Appends W.taken W.faults out.old block.old
+        (frames_bytes (command_frames shelf.old statement.now.line statement.now.command))
+        out.new block.new) }
+    ensures err { OnErr result ((out.new ≡ out.old) × (block.new ≡ block.old)) }
+{
+    let _maps = shelf.len();
+    let line = statement.line;
+    match &statement.command {
+        Command::Mapcalc { target, bound } => make_values(alloc, shelf, target, bound),
+        Command::Reclass {
+            place,
+            target,
+            rules,
+        } => make_classes(alloc, shelf, *place, target, rules),
+        Command::Clump {
+            place,
+            target,
+            joining,
+        } => make_numbers(alloc, shelf, *place, target, *joining),
+        Command::Stats { places, options } => {
+            push_stats(alloc, shelf, line, places.as_slice(), options, block, out)
+        }
+        Command::OutAscii { place, null_text } => push_grid(
+            alloc,
+            out,
+            block,
+            line,
+            null_text.bytes(),
+            shelf.name(*place).bytes(),
+            shelf.map(*place),
+        ),
+    }
+}
+
+/// Executes statements in order, and writes their frames.
+///
+/// # Errors
+///
+/// [`PipeStop::Memory`] with the line of the first statement for which memory ran out, which has written nothing, or
+/// [`PipeStop::Write`] if the sink failed.
+pub(crate) fn execute<W: Sink>(
+    alloc: Global,
+    shelf: &mut Shelf,
+    statements: &[Statement],
+    block: &mut OutputBlock,
+    out: &mut W,
+) -> Result<(), PipeStop>
+    requires { Fits shelf.old.names statements.now }
+    ensures ok { OnOk result (HasGiven W.taken W.faults shelf.old statements.now out.old block.old
+        out.new block.new shelf.new) }
+    ensures err { IfErr result
+        (StopsFrames W.taken W.faults shelf.old statements.now out.old block.old
+        out.new block.new) }
+{
+    for statement in statements {
+        match execute_statement(alloc, shelf, statement, block, out) {
+            Ok(()) => block.empty(out),
+            Err(_) => {
+                return Err(PipeStop::Memory {
+                    line: statement.line,
+                });
+            }
+        }
+        if block.has_failed() {
+            return Err(PipeStop::Write);
+        }
+    }
+    Ok(())
+}

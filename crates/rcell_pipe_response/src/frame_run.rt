@@ -1,0 +1,160 @@
+//! A run, from a request to bytes.
+
+ghost use Rattle.std.specs.Prelude.{ℕ, ◌≡◌, List, [], ◌++◌, Option, Some, Result, Ok};
+ghost use Rattle.cell_core_devices.specs.Device.{Faults};
+ghost use Rattle.cell_core_devices.specs.Blocks.{Appended};
+ghost use Rattle.rcell_script.specs.FittingScripts.{Fits};
+ghost use Rattle.rcell_pipe_request.specs.declared.error.RequestError.{RequestError};
+ghost use Rattle.rcell_pipe_request.specs.Requests.{RunRequestValue, run_request_value};
+ghost use Rattle.rcell_pipe_response.specs.FrameBytes.{response_magic, response_bytes, end_bytes};
+ghost use Rattle.rcell_pipe_response.specs.RunEnds.{end_status_after, IsPipeAccepted, IsResponse, end_value};
+ghost use Rattle.rcell_pipe_response.specs.FrameEndings.{error_after, Finished, Rejected, EndsAs};
+ghost use Rattle.rcell_pipe_response.specs.parts.LastFrames.{EndsResponse};
+
+use crate::end::{End, PipeError, done_end, end_status_after, is_memory, memory_end, script_end};
+use crate::frame_execution::{PipeStop, execute};
+use crate::frames::push_end;
+use cell_core::block::OutputBlock;
+use cell_core::shelf::Shelf;
+use cell_core::sink::Sink;
+use rcell::loading::shelf_names;
+use rcell_pipe_request::request::Request;
+use rcell_script::script_fault::ScriptFault;
+use rcell_script::script_parsing::parse_script;
+use rcell_script::statement::Script;
+use std::alloc::Global;
+
+/// What a run did.
+#[derive(Clone, Copy, Debug, PartialEq, Eq)]
+pub struct PipeOutcome {
+    /// 0 if it is done, 1 if the request or the script was rejected, 3 if memory ran out, 4 if a read or a write failed.
+    pub status: u8,
+    /// Why it is not done.
+    pub error: Option<PipeError>,
+}
+
+// Puts the last frame, and flushes the sink. Returns whether all of that went well.
+fn finish<W: Sink>(out: &mut W, mut block: OutputBlock, end: &End<'_>) -> bool
+    ensures { EndsResponse W.taken W.faults out.old block (end_value end.now) out.new result }
+{
+    push_end(out, &mut block, end);
+    block.empty(out);
+    if block.has_failed() {
+        return false;
+    }
+    match out.flush() {
+        Ok(()) => true,
+        Err(_) => false,
+    }
+}
+
+// The outcome of a run with this error, if its last frame was written.
+fn outcome_of(error: Option<PipeError>, wrote: bool) -> PipeOutcome
+    ensures error { result.error ≡ error_after error wrote }
+    ensures status { result.status ≡ end_status_after result.error }
+{
+    let error = if wrote { error } else { Some(PipeError::Write) };
+    PipeOutcome {
+        status: end_status_after(error),
+        error,
+    }
+}
+
+/// Puts the last frame, and returns the error, or a failed write.
+pub fn end_response<W: Sink>(
+    out: &mut W,
+    block: OutputBlock,
+    error: Option<PipeError>,
+    end: &End<'_>,
+) -> PipeOutcome
+    ensures { (before : Option (List ℕ)) (start : Faults) (text : List ℕ)
+        → Appended before start text (W.taken out.old) (W.faults out.old) block
+        → Finished before start (W.taken out.new) (W.faults out.new) error
+        (text ++ end_bytes (end_value end.now)) result }
+{
+    let wrote = finish(out, block, end);
+    outcome_of(error, wrote)
+}
+
+/// The first eight bytes of a response, in a block.
+pub fn begin_response<W: Sink>(out: &mut W) -> OutputBlock
+    ensures { Appended (W.taken out.old) (W.faults out.old) response_magic
+        (W.taken out.new) (W.faults out.new) result }
+{
+    let mut block = OutputBlock::new();
+    block.push(out, b"RCELLA1\n");
+    block
+}
+
+/// A response with no frame but the last.
+pub fn reject<W: Sink>(out: &mut W, error: PipeError, end: &End<'_>) -> PipeOutcome
+    ensures { Finished (W.taken out.old) (W.faults out.old) (W.taken out.new) (W.faults out.new)
+        (Some error) (response_bytes [] (end_value end.now)) result }
+{
+    let block = begin_response(out);
+    end_response(out, block, Some(error), end)
+}
+
+/// Rejects a script, with the text of its error, or for want of memory if there is none for the text.
+pub fn reject_script<W: Sink>(alloc: Global, out: &mut W, error: ScriptFault) -> PipeOutcome
+    ensures { Rejected (W.taken out.old) (W.faults out.old) (W.taken out.new) (W.faults out.new)
+        error result }
+{
+    let kind = error.kind;
+    match format!(in alloc; "{kind}") {
+        Ok(text) => reject(
+            out,
+            PipeError::Script(error),
+            &script_end(error, text.as_bytes()),
+        ),
+        Err(_) => reject(out, PipeError::Memory, &memory_end(0)),
+    }
+}
+
+// Runs statements over the maps on a shelf.
+fn run_statements<W: Sink>(
+    alloc: Global,
+    mut shelf: Shelf,
+    script: &Script,
+    out: &mut W,
+) -> PipeOutcome
+    requires { Fits shelf.names script.now }
+    ensures { (read : Result RunRequestValue RequestError) → IsPipeAccepted read shelf script.now
+        → EndsAs (IsResponse read) (W.taken out.old) (W.faults out.old) (W.taken out.new)
+        (W.faults out.new) result }
+{
+    let mut block = begin_response(out);
+    match execute(alloc, &mut shelf, script.statements(), &mut block, out) {
+        Ok(()) => end_response(out, block, None, &done_end()),
+        Err(stop) => match stop {
+            PipeStop::Memory { line } => end_response(
+                out,
+                block,
+                Some(PipeError::MemoryAt { line }),
+                &memory_end(line),
+            ),
+            PipeStop::Write => outcome_of(None, false),
+        },
+    }
+}
+
+/// Runs the script of a request over its maps.
+pub fn run_request<W: Sink>(alloc: Global, request: Request, out: &mut W) -> PipeOutcome
+    ensures { EndsAs (IsResponse (Ok (run_request_value request))) (W.taken out.old)
+        (W.faults out.old) (W.taken out.new) (W.faults out.new) result }
+{
+    let Request { shelf, script } = request;
+    let Ok(names) = shelf_names(alloc, &shelf) else {
+        return reject(out, PipeError::Memory, &memory_end(0));
+    };
+    match parse_script(alloc, &script, &names) {
+        Ok(statements) => run_statements(alloc, shelf, &statements, out),
+        Err(error) => {
+            if is_memory(error.kind) {
+                reject(out, PipeError::Memory, &memory_end(0))
+            } else {
+                reject_script(alloc, out, error)
+            }
+        }
+    }
+}
