@@ -18,6 +18,7 @@ WORKED = "Worked.antt"
 # The crates that the steps of an expression are for: those that make them, the one that evaluates them, and the one that
 # says how far they reach.
 CRATES_OF_STEPS = {"cell_calc_grammar", "cell_calc_language", "cell_calc_binding", "cell_calc", "rcell_plan"}
+EXAMPLE = re.compile(r"^//! ```\n(.*?)^//! ```$", re.MULTILINE | re.DOTALL)
 STEPS = re.compile(r"\.steps\(|\bstep::Step\b|declared\.step\b")
 
 
@@ -203,6 +204,15 @@ def unused_edges():
     return found
 
 
+def examples():
+    """Crates whose front matter has an example that is in no test, word for word."""
+    tests = [text for crate, _, text in sources.read_files("src", True) if sources.OF_TESTS.match(crate)]
+    tests += [path.read_text(encoding="utf-8") for path in (sources.CRATES.parent / "tools").rglob("test_*.py")]
+    known = [" ".join(text.split()) for text in tests]
+    return [crate for crate, _, text in sources.read_files("src") for found in EXAMPLE.findall(text)
+            if not any(" ".join(found.replace("//!", "").split()) in it for it in known)]
+
+
 def symbolic_links():
     """Symbolic links, which rt ci refuses wherever they are."""
     listed = subprocess.run(["git", "ls-files", "-s"], cwd=sources.CRATES.parent, capture_output=True, text=True, check=True).stdout
@@ -210,5 +220,5 @@ def symbolic_links():
 
 
 ALL = {it.__name__: it for it in (wide_clauses, widest_clauses, wide_proofs, crate_limits, undocumented, names, uncited, dead_lemmas, parts, steps,
-                                  unused_edges, symbolic_links, licences_of_files.licences)}
+                                  unused_edges, examples, symbolic_links, licences_of_files.licences)}
 COUNTED = {"wide_clauses", "widest_clauses", "wide_proofs"}

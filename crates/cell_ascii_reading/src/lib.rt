@@ -1,4 +1,21 @@
-//! Words of a grid and their lines; the header, and the cell that a word denotes.
+//! The reader of a grid below its rows: words, their lines, the header, and the cell that a word
+//! denotes (GRASS manual: r.in.ascii).
+//!
+//! - `scanner`: `Scanner`, the words of a source with their lines, from 1; a word has at most 64
+//!   bytes, blanks in a row at most 1,048,576 (profile)
+//! - `header_reading`: `read_header`, which gives each header line to `HeaderKeys`
+//! - `keys`: `HeaderKeys`, the lines so far; `key_names`: the nine keys
+//! - `header`: `Header`, the region, null text and multiplier; `cell_of_word`
+//! - `number`: `side`, a number of rows or columns; `coordinate`, in units of 10^-8
+//! - private: `input`, a source with a buffer of 65,536 bytes; `header_null`, the null text
+//!
+//! Coordinates:
+//!
+//! ```
+//! assert_same!(rt; coordinate(b"10.50"), Some(1050000000));
+//! assert_same!(rt; coordinate(b"-.25"), Some(-25000000));
+//! assert_same!(rt; coordinate(b"north"), None);
+//! ```
 #![tactic(auto)]
 
 pub mod header;

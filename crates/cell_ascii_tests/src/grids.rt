@@ -6,6 +6,7 @@ use crate::assertions::assert_same;
 use cell_ascii::grid_fault::{GridFault, GridKind};
 use cell_ascii::grid_reader::read_map;
 use cell_ascii::writer::write_map;
+use cell_ascii_reading::number::coordinate;
 use cell_core::device::DeviceFault;
 use cell_core::map::CellMap;
 use cell_core::region::RegionFault;
@@ -116,7 +117,8 @@ fn followed_by<R: AllocGlobal>(rt: &R, text: &[u8], byte: u8, count: u32) -> Res
 
 #[test]
 fn reads_a_grid(rt: HostRuntime) -> Result<(), Fail> {
-    let map = read_good(&rt, GRID)?;
+    let source = MemorySource::new(GRID.to_vec(rt.alloc())?, 7, false);
+    let map = read_map(rt.alloc(), source)?;
     assert_same!(rt; (map.region().rows(), map.region().cols()), (3, 4));
     expect_categories(&rt, &map, &[(0, 2, Some(2)), (0, 3, None), (2, 0, Some(3))]);
     Ok(())
@@ -347,6 +349,9 @@ fn written_again<R: Abort + AllocGlobal>(rt: &R, text: &[u8]) -> Result<Vec<u8>,
 
 #[test]
 fn reads_what_it_writes(rt: HostRuntime) -> Result<(), Fail> {
+    assert_same!(rt; coordinate(b"10.50"), Some(1050000000));
+    assert_same!(rt; coordinate(b"-.25"), Some(-25000000));
+    assert_same!(rt; coordinate(b"north"), None);
     let row = b"north: 10.50\nsouth: -.25\neast: 4.\nwest: +0\nrows: 1\ncols: 2\n7 *";
     let map = read_good(&rt, row)?;
     let text = written_again(&rt, row)?;

@@ -1,4 +1,15 @@
-//! Writing a map as a grid text (r.out.ascii).
+//! Writing a map as a grid (GRASS manual: r.out.ascii).
+//!
+//! - `writer`: `write_map`, the grid of a map on a sink, which returns the number of bytes;
+//!   `write_grid`, the same through an `OutputBlock`
+//! - private: `fields`, texts of cells that were written before, copied as eight bytes
+//!
+//! `map` was read from `GRID`, which it reproduces:
+//!
+//! ```
+//! let length = write_map(&map, b"*", &mut sink)?;
+//! assert_same!(rt; length, GRID.len() as u64);
+//! ```
 #![tactic(auto)]
 
 mod fields;

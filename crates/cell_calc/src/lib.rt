@@ -1,4 +1,24 @@
-//! Rows of cells, rows around a centre, the values of an expression along a row.
+//! The values of an expression along a row of its maps (GRASS manual: r.mapcalc).
+//!
+//! Users need this crate alone; it re-exports `parse`, `resolve` and their types.
+//!
+//! - `rows_of_values`: `eval_row`, the values along a row, from one window for each map
+//! - `window`: `RowWindow`, the rows of a map around a centre row, which moves down; outside the
+//!   map its cells are null (profile); private `window_rows` keeps them
+//! - `rows`, `calls`: operators and functions on rows of cells; private `modes` for `mode`
+//! - `common_stretches`: spans of columns in which no map changes; one value each is enough
+//! - private: `along`, the steps of an expression one after another, in strips of 1,024 columns,
+//!   with a stack of operands (`operand`, `strip`); `in_place`, whether one value for each span is
+//!   enough
+//!
+//! A window with one row above and one below the centre, over a map of three rows:
+//!
+//! ```
+//! let Ok(mut window) = RowWindow::new(rt.alloc(), &map, 1, 1) else {
+//!     return Err("no memory".into());
+//! };
+//! assert_same!(rt; (window.centre(), window.capacity()), (0, 3));
+//! ```
 #![tactic(auto)]
 
 mod along;

@@ -1,4 +1,24 @@
-//! Operators and functions of cells; map names replaced by indices, and how far an expression reads.
+//! The value of an expression at one cell, and how far from the cell it reads (GRASS manual:
+//! r.mapcalc). Results out of the range of categories, and cells outside the region, are null
+//! (profile).
+//!
+//! - specs/Value.antt: `value`, what an expression means; specs/Applied.antt: its operators and
+//!   functions
+//! - `cell_operators`: the same as calls on cells: `sum`, `quotient`, `chosen_cell`, ..
+//! - `binding`: `resolve`, which replaces the names of maps with their indices in a list
+//! - `bound`: `Bound`, such an expression; `top`, one more than the largest index; `reach`, how
+//!   many rows it reads above and below
+//! - `compacting`: `over_read_maps`, the same expression over just the maps that it reads
+//!
+//! The map `g` one row below and one row above (`bound_of` calls `parse` and `resolve`):
+//!
+//! ```
+//! let bound = bound_of(alloc, &worked_names(alloc)?, b"g[1,0] + g[-1,0]")?;
+//! assert_same!(rt; bound.top(), 1);
+//! if bound.top() > 0 {
+//!     assert_same!(rt; bound.reach(0), (1, 1));
+//! }
+//! ```
 #![tactic(auto)]
 
 pub mod binding;

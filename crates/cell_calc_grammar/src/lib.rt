@@ -1,5 +1,15 @@
-//! Tokens, operators and functions; definitions: which tokens are which expression; the steps of an expression in
-//! postfix order.
+//! Expressions of r.mapcalc over integers: their tokens, their grammar and their steps (GRASS manual:
+//! r.mapcalc). Limits and the columns of errors are our own choice (profile).
+//!
+//! - `token`, `tokens`: at most 1000 tokens, each with its column
+//! - `operator`, `function`: what tokens stand for, and how many arguments a function takes
+//! - `calc_fault`: `CalcFault`, a `CalcKind` and its column in bytes, from 1
+//! - `step`, `map_name`: the steps of an expression, its operands first. Only crates that make,
+//!   evaluate or plan expressions may use them
+//! - `law`: a list of tokens is at most one expression
+//!
+//! What an expression is: specs/Grammar.antt. How it is read, with one token ahead:
+//! specs/TokensRead.antt.
 #![tactic(auto)]
 
 pub mod calc_fault;

@@ -1,4 +1,24 @@
-//! Rules of r.reclass and maps by rules; areas, as `cell_cats_areas` numbers them.
+//! Rules, and the maps that are made from rules (GRASS manual: r.reclass). Re-exports `clump` and
+//! `clump_with` of `cell_cats_areas`.
+//!
+//! - `rules`: `Rules`, to which `add_line` adds a line or returns its `RuleFault`; the last rule
+//!   that lists a category counts
+//! - `reclassing`: `reclass`, a map whose categories and labels are those of the rules
+//! - specs/Rule.antt: what rules give; specs/RuleLine.antt: which line is which rule; comments and
+//!   commas are our own choice (profile)
+//! - `law`: a line is read as a rule exactly if it spells one; `* = *` keeps every cell
+//! - private: `line` and `rule`, a line and its rule; `pieces`, the number line cut at the ends of
+//!   ranges; `known`, new categories that were found before
+//!
+//! A case of the tests: lines, categories of a map, its new categories, and a label:
+//!
+//! ```
+//! lines: &[b"1 thru 3 = 7 low", b"2 = NULL", b"* = *"],
+//! given: &[1, 2, 3, 9, NULL, 0, 4, -7],
+//! wanted: &[7, NULL, 7, 9, NULL, 0, 4, -7],
+//! category: 7,
+//! label: Some(b"low"),
+//! ```
 #![tactic(auto)]
 
 mod known;

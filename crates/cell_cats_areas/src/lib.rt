@@ -1,7 +1,27 @@
-//! The connected areas of a map, and their numbers (GRASS: r.clump).
+//! The clumps of a map and their numbers (GRASS manual: r.clump).
 //!
-//! What an area is follows the r.clump manual. The order of the numbers is this project's own choice:
-//! its text says profile.
+//! A clump is a connected component of equal cells that are not null. Cells are adjacent if they
+//! share an edge or, if asked for, a corner. Clumps are numbered 1, 2, 3 and so on in the order of
+//! their first cells, row by row (profile).
+//!
+//! - `clump`: `clump_with`, the map of the numbers, by a `Joining`; `clump`, the same by edges
+//! - specs/Areas.antt: `IsClumping`, what the map of the numbers is
+//! - `law`: there is one such map, and its numbers are 1 to the number of clumps
+//! - private, in the order of work: `scan`, a new label for each cell that shares none with an
+//!   earlier neighbour; `near`, the earlier neighbours of a cell; `labels`, the union-find over
+//!   labels; `area_numbers`, the second walk, which writes numbers in place of labels
+//!
+//! Categories 1 2 over 2 1 are four clumps by edges:
+//!
+//! ```
+//! let region = Region::new(1, 0, 1, 0, 2, 2)?;
+//! let mut builder = MapBuilder::new(rt.alloc(), region);
+//! builder.push_row(&[one, other])?;
+//! builder.push_row(&[other, one])?;
+//! let numbers = clump(rt.alloc(), &builder.finish())?;
+//! let below = (numbers.cell(1, 0).get(), numbers.cell(1, 1).get());
+//! assert_eq!(rt; (below, numbers.label(1)), ((Some(3), Some(4)), None));
+//! ```
 #![tactic(auto)]
 
 mod area_numbers;

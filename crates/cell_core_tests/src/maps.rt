@@ -3,7 +3,8 @@
 use crate::assertions::{assert_holds, assert_same};
 use crate::fixture::{NULL, cell, map_of};
 use cell_core::cell::Cell;
-use cell_core::map::CellMap;
+use cell_core::map::{CellMap, MapBuilder};
+use cell_core::region::Region;
 use std::alloc::{AllocGlobal, Global};
 use std::process::Abort;
 use std::test::Fail;
@@ -40,6 +41,18 @@ fn expect_runs_of_rows<R: Abort + AllocGlobal>(
     for (row, wanted) in rows {
         expect_runs(rt, map, *row, *wanted)?;
     }
+    Ok(())
+}
+
+#[test]
+fn keeps_the_rows_that_are_pushed(rt: HostRuntime) -> Result<(), Fail> {
+    let (one, other) = (Cell::value(1).ok_or("null")?, Cell::value(2).ok_or("null")?);
+    let region = Region::new(1, 0, 1, 0, 2, 2)?;
+    let mut builder = MapBuilder::new(rt.alloc(), region);
+    builder.push_row(&[one, other])?;
+    builder.push_row(&[other, one])?;
+    let map = builder.finish();
+    assert_same!(rt; (map.cell(0, 1), map.cell(1, 1)), (other, one));
     Ok(())
 }
 

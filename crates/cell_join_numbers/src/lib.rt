@@ -1,6 +1,16 @@
-//! Numbers of the clumps of a map whose parts have labelled them, from the pairs of labels that meet at the seams.
+//! Numbers of clumps from pairs of labels that meet at seams.
 //!
-//! Only the labels of the pairs are held: the numbers of all others follow.
+//! The clumps of all tiles are labelled 0, 1, 2 and so on in the order of their first cells. A pair
+//! says that two of them are one clump of the full map. Only labels of pairs are held, 24 bytes
+//! each; the numbers of all others follow by counting.
+//!
+//! - `numbers`: `number_pairs`, from pairs to `SparseNumbers`
+//! - `sparse`: the labels of pairs, each once and in order; `place_of`, how many come before a
+//!   label
+//! - `union_find`: the nodes of these labels, and uniting two of them
+//! - `law`: `sparse_labels_number`, the numbers are those of the clumps of the full map
+//!
+//! It is tested through `cell_join_tiles`.
 #![tactic(auto)]
 
 pub mod law;

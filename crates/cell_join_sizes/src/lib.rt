@@ -1,4 +1,26 @@
-//! The sizes of the clumps of the full map, of a numbering and the tables of the numbers of its parts.
+//! Sizes of the clumps of the full map, from a numbering and the tables of the clump maps of the
+//! tiles. This is what `rcell-join sizes` does.
+//!
+//! - `table_sizes`: `join_table_sizes`; it reads all before it writes, and takes 8 bytes for each
+//!   clump
+//! - `size_fault`: `SizesFault`, the first error, of the numbering or of a table
+//! - `size_lines`: `write_sizes`, a line for each clump
+//! - private: `held_numbering`, the runs of the numbering; `tally`, sizes added by number
+//!
+//! Two tiles, and the sizes that they add up to:
+//!
+//! ```
+//! /// The numbering of these tiles.
+//! pub(crate) const AREAS: &[u8] = b"1 1 2 1\n2 1 2 2\n2 3 3 1\n";
+//!
+//! /// The table of the first.
+//! pub(crate) const FIRST: &[u8] = b"1 5\n2 7\n* 3\n";
+//!
+//! /// That of the second.
+//! pub(crate) const SECOND: &[u8] = b"1 20\n2 30\n3 40\n";
+//!
+//! const SIZES: &[u8] = b"1 45\n2 27\n3 30\n";
+//! ```
 #![tactic(auto)]
 
 mod held_numbering;

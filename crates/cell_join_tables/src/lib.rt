@@ -1,5 +1,23 @@
-//! Texts of tables merged to one text: each combination that some text lists, once, in order, with the sum of its counts and, where
-//! labels are printed, with the labels that all texts have.
+//! Merging the texts of the tables of tiles to the table of the full map. This is what
+//! `rcell-join tables` does.
+//!
+//! - `table_joining`: `join_texts`, each combination once, in order, with the sum of its counts;
+//!   labels have to be the same in all texts
+//! - `join_fault`: `JoinFault`; `label_fault`: `LabelFault`, also for two labels
+//! - `text_heads`, `text_joining`: how texts are opened, and how a merge ends
+//! - `law`: the smallest combination that any table begins with comes first
+//! - private: `ordered_texts`, the texts by their next combination; `least_entry`, `labels_at`
+//!
+//! ```
+//! let north = b"1;forest;5\n3;;2\n*;no data;4\n".as_slice();
+//! let south = b"1;forest;7\n2;lake;1\n".as_slice();
+//! let mut out = MemorySink::new(vec![in rt.alloc(); 0u8; ROOM]?, 4096, false);
+//! let outcome = join(rt.alloc(), &[north, south, b""], piece, &mut out)?;
+//! assert_eq!(rt;
+//!     (outcome.fault.is_none(), outcome.written, out.bytes()),
+//!     (true, CARRIED.len() as u64, CARRIED)
+//! );
+//! ```
 #![tactic(auto)]
 
 pub mod join_fault;

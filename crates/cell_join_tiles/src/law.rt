@@ -1,4 +1,4 @@
-//! How many clumps begin in each row of each tile is enough to label them all in the order of their first cells.
+//! The laws of joined borders.
 
 ghost use Rattle.cell_join_tiles.specs.Beginnings.{ClumpLabelsAreLabels, LabelsFollowFirstCells};
 ghost use Rattle.cell_join_tiles.specs.Borders.{BordersAreLabelled, BordersCountTheWhole, BordersNumberTheWhole, CellsBearLabels, RisesCountBegun};

@@ -1,6 +1,28 @@
-//! Borders of tiles, and the joining of their clumps to those of the full map.
+//! Joining the borders of tiles to the clumps of the full map, one row of tiles at a time.
 //!
-//! How many clumps begin in each row of each tile is enough to label them all in the order of their first cells in the full map.
+//! How many clumps begin in each row of each tile is enough to label all clumps in the order of
+//! their first cells. So memory grows with the seams, not with the clumps.
+//!
+//! - `border`: `Border`, four sides, each with its cells and the numbers of their clumps, and the
+//!   counts by row; `begun`: `begun_by_row`, these counts
+//! - `joiner`: `TileJoiner`; `add` takes a row of tiles from the left, `finish` returns
+//!   `JoinedTiles`, the numbers in the full map as runs, and how many there are
+//! - `law`: from borders to labels, from labels to numbers; `joined_tiles_number` is the main law
+//! - private, in the order of work: `tile_rows`, one row of tiles; `row_labels` and `spans`, its labels;
+//!   `marks`, cells along a seam; `meetings`, the pairs there; `label_runs` and `run_lines`, the result
+//!
+//! `row_of_tiles` of the tests makes the borders of a row:
+//!
+//! ```
+//! let mut joiner = TileJoiner::new(alloc, joining);
+//! let mut top: u32 = 0;
+//! for height in heights {
+//!     let row = row_of_tiles(alloc, whole, top, *height, widths, joining, &mut numbered)?;
+//!     joiner = joined(joiner.add(alloc, row))?;
+//!     top = top.saturating_add(*height);
+//! }
+//! let all = joiner.finish(alloc)?;
+//! ```
 #![tactic(auto)]
 
 pub mod begun;

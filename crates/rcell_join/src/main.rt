@@ -1,5 +1,16 @@
-//! The program `rcell-join`: puts together what `rcell` made of the tiles of a map, by `rcell-join tables`, `border`, `clumps` or
-//! `sizes`.
+//! The program `rcell-join`: puts together what `rcell` made of the tiles of a map, with
+//! `rcell-join tables`, `border`, `clumps` or `sizes`.
+//!
+//! The work is done by the crates `cell_join_tables`, `cell_join_borders`, `cell_join_clumps` and
+//! `cell_join_sizes`. Here is what only a process has, in the order of work:
+//! - `join_words`: `read_join_words`, arguments to a `JoinRequest`, defined in `join_request`
+//! - `join_opening`: the files; `join_refusal`: why nothing was joined
+//! - `tables_report`, `border_report`, `clumps_report`, `sizes_report`: a command's error as a
+//!   line; `report_line` prints it and returns the status: 1 bad text, 2 arguments, 3 memory, 4 a
+//!   file
+//! - `kind_status`, `shown`: the status of a text's error; paths without control characters
+//!
+//! Example: this folder. `args` has the arguments, data/ the files, `stdout` the output.
 #![tactic(auto)]
 
 mod border_report;

@@ -1,5 +1,8 @@
-//! The program `rcell-pipe`: reads a request from standard input, maps as bytes or names, and a script, and writes its
-//! response to standard output. It takes no arguments and opens no file.
+//! The program `rcell-pipe`: reads a request from standard input, maps as bytes or names, and a
+//! script, and writes its response to standard output. It takes no arguments and opens no file.
+//!
+//! All work is done by `respond` of `rcell_plan_response`. Example: this folder, `stdin` and
+//! `stdout`.
 #![tactic(auto)]
 
 use cell_core::sink::WriteSink;

@@ -1,4 +1,13 @@
-//! Responses of `rcell-pipe`: reads a request, runs its script over its maps, and writes the results as frames.
+//! Responses of `rcell-pipe`: a frame for each statement that writes, and a last frame that says
+//! how the run ended. docs/pipe.md defines the bytes (profile).
+//!
+//! - `frame_run`: `run_request`, from a request to its response; `PipeOutcome`
+//! - `end`: `End`, the fields of the last frame; `PipeError`, why the work was not done
+//! - `bytes`: numbers, texts and cells as bytes
+//! - specs/FrameBytes.antt: the bytes of a response; specs/Frames.antt: the frames of a script
+//! - `law`: `frames_are_output`, frames as text are what `rcell` writes for the same maps
+//! - private: `frame_execution`, the statements in order; `table_frame`, `cells_frame`, and `frames` for
+//!   maps and the end; `cells`, `coordinates`, `null_sink`, what these need
 #![tactic(auto)]
 
 pub mod bytes;

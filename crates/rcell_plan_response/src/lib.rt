@@ -1,4 +1,11 @@
-//! Responses to plan requests, and to requests of either form.
+//! Responses of `rcell-pipe` to requests of either form: a run or a plan. docs/pipe.md defines the
+//! bytes (profile).
+//!
+//! - `responding`: `respond`, from a source of bytes to its response; all that `rcell-pipe` does
+//! - `plan_request`: `read_plan`, names of maps and a script, or their first error
+//! - `plan_response`: `plan_request`, the plan of each statement, as `rcell_plan` makes it
+//! - specs/Responses.antt: the response of every request
+//! - private: `plan_frames`, `plan_options`: a plan as bytes; `made_names`: the names of all maps
 #![tactic(auto)]
 
 mod made_names;
