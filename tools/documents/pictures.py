@@ -21,6 +21,7 @@ import numpy as np
 from matplotlib.colors import ListedColormap
 
 import documents
+import figures
 
 ROOT = documents.ROOT
 ISLANDS = f"{ROOT}/examples/islands"
@@ -187,7 +188,7 @@ CHARTED = (
 
 
 def speed(output, _):
-    tables = documents.tables_of_speed()
+    tables = figures.tables_of_results()
     rows = [tables[task, grids] for _, task, grids in CHARTED]
     places, width = np.arange(len(rows)), 0.38
     figure, axes = plt.subplots(figsize=(11, 4.2), dpi=100)
