@@ -25,7 +25,7 @@ def test_the_study_runs(tmp_path: pathlib.Path, monkeypatch: pytest.MonkeyPatch)
     (kernel / "kernel.json").write_text(json.dumps({"argv": words, "display_name": "Python 3", "language": "python"}))
     monkeypatch.setenv("JUPYTER_PATH", str(tmp_path / "jupyter"))
     notebook = nbformat.read(examples / "study.ipynb", as_version=4)
-    preprocessors.ExecutePreprocessor(timeout=300, kernel_name="python3").preprocess(notebook, {"metadata": {"path": str(tmp_path)}})
+    preprocessors.ExecutePreprocessor(timeout=3600, kernel_name="python3").preprocess(notebook, {"metadata": {"path": str(tmp_path)}})
     outputs = [output for cell in notebook.cells if cell.cell_type == "code" for output in cell.outputs]
     said = "".join(output.get("text", "") for output in outputs)
     assert "the table is the same: True\nthe islands are the same: True\n" in said

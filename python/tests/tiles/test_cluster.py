@@ -179,6 +179,7 @@ def test_a_mosaic_that_is_forgotten_ends_its_processes(tif: MakeTif, temporary: 
     mosaic = rcell.tiles.open(size=4, scheduler=1, lc=tif("lc", np.ones((4, 4), np.uint8)))
     mosaic.table("r.stats -c input=lc")
     del mosaic
+    gc.collect()
     assert leftovers(temporary) == []
 
 
