@@ -5,4 +5,6 @@ mod alone;
 mod counting;
 pub mod counts;
 mod gathered;
+mod paired;
+mod scattered;
 pub mod selection;
