@@ -4,7 +4,7 @@ use Rattle.cell_stats_counts.specs.declared.gathered.Gathered.{Gathered}
 use Rattle.std.specs.Cmp.{eq_by_cmp_equiv}
 use Rattle.std.proofs.lemmas.List.Sums.{sum_by-append, sum_by-set}
 use Rattle.cell_stats_counts.specs.declared.counting.CountPlace.{CountPlace}
-use Rattle.cell_stats_counts.specs.declared.counting.Places.{Places}
+use Rattle.cell_stats_counts.specs.declared.counting.CountPlaces.{CountPlaces}
 use Rattle.cell_stats_combinations.specs.Combinations.{Combination, combination_cmp_total}
 use Rattle.cell_stats_counts.specs.parts.HeldPlaces.{is_same, held_by, held_of, wide_total, gathered_of, IsWideCounting, IsCounting}
 use Rattle.cell_stats_combinations.proofs.OrderLemmas.{combination_cmp-exact, is_equal}
@@ -64,6 +64,6 @@ going_at {places = places} at held going = record {
   no_zero = going.no_zero;
 }
 
-pub going_of : {w width : ℕ} {spare : Combination} {places : Places} {m : Gathered} → w ≡ width
+pub going_of : {w width : ℕ} {spare : Combination} {places : CountPlaces} {m : Gathered} → w ≡ width
     → IsCounting w spare places m → IsCounting width spare places m
 going_of {spare = spare} {places = places} {m = m} same going = subst (λ n. IsCounting n spare places m) same going

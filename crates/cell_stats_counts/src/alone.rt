@@ -11,7 +11,7 @@ ghost use Rattle.cell_stats_counts.specs.parts.Alone.{alone};
 ghost use Rattle.cell_stats_counts.specs.parts.ByteCounts.{sum_counted};
 ghost use Rattle.cell_stats_counts.specs.parts.HeldPlaces.{total_of, HasRoom, IsCounting};
 
-use crate::counting::{Places, add_count};
+use crate::counting::{CountPlaces, add_count};
 use crate::gathered::Gathered;
 use cell_core::map::CellMap;
 use cell_core::memory::Memory;
@@ -30,7 +30,7 @@ fn count_stretches(
     stretches: Stretches<'_>,
     skip: Skip,
     spare: &mut Combo,
-    places: &mut Places,
+    places: &mut CountPlaces,
     counted: &mut Gathered,
 ) -> Result<(), Memory>
     requires going { IsCounting 1 spare.old places.old counted.old }
@@ -69,7 +69,7 @@ fn count_bytes(
     bytes: &[u8],
     skip: Skip,
     spare: &mut Combo,
-    places: &mut Places,
+    places: &mut CountPlaces,
     counted: &mut Gathered,
 ) -> Result<(), Memory>
     requires going { IsCounting 1 spare.old places.old counted.old }
@@ -100,7 +100,7 @@ pub(crate) fn count_alone(
     row: u32,
     skip: Skip,
     spare: &mut Combo,
-    places: &mut Places,
+    places: &mut CountPlaces,
     counted: &mut Gathered,
 ) -> Result<(), Memory>
     requires row_in_range { row < grid.now.region.rows }

@@ -43,7 +43,7 @@ pub(crate) struct CountPlace {
 
 // Where cells are counted: those of combinations of one or two maps in a table, those of more at places.
 #[derive(Drop)]
-pub(crate) struct Places {
+pub(crate) struct CountPlaces {
     pub(crate) wide: Vec<CountPlace>,
     pub(crate) pairs: PairTable,
 }
@@ -196,7 +196,7 @@ pub(crate) fn add_count(
     cells: &[Cell],
     count: u64,
     spare: &mut Combo,
-    places: &mut Places,
+    places: &mut CountPlaces,
     counted: &mut Gathered,
 ) -> Result<(), Memory>
     requires going { IsCounting (length cells.now) spare.old places.old counted.old }
@@ -242,31 +242,21 @@ fn empty_places(alloc: Global, many: usize) -> Result<Vec<CountPlace>, Memory>
     Ok(places)
 }
 
-// Places that hold nothing.
-fn places_of(alloc: Global, wide: usize, pairs: usize) -> Result<Places, Memory>
-    requires { (0 < wide) × (0 < pairs) }
-    ensures some { IfOk result (λ places. 0 < length places.wide.items) }
-    ensures nothing { IfOk result (λ places. AreEmpty places.wide.items) }
-    ensures some_pairs { IfOk result (λ places. 0 < length places.pairs.places.items) }
-    ensures no_pairs { IfOk result (λ places. AreFree places.pairs.places.items) }
-{
-    let wide = empty_places(alloc, wide)?;
-    let pairs = PairTable::new(alloc, pairs)?;
-    Ok(Places { wide, pairs })
-}
-
-// The places to begin with, more of those that combinations of so many maps are counted at. They hold nothing.
-pub(crate) fn first_places(alloc: Global, shelf: &Shelf, width: usize) -> Result<Places, Memory>
+// The places to begin with, for combinations of so many maps. They hold nothing.
+pub(crate) fn first_places(
+    alloc: Global,
+    shelf: &Shelf,
+    width: usize,
+) -> Result<CountPlaces, Memory>
     ensures some { IfOk result (λ places. 0 < length places.wide.items) }
     ensures nothing { IfOk result (λ places. AreEmpty places.wide.items) }
     ensures some_pairs { IfOk result (λ places. 0 < length places.pairs.places.items) }
     ensures no_pairs { IfOk result (λ places. AreFree places.pairs.places.items) }
 {
     let many = places_for(shelf);
-    if width <= PAIR {
-        return places_of(alloc, 1, many);
-    }
-    places_of(alloc, many, 1)
+    let wide = empty_places(alloc, if width > PAIR { many } else { 1 })?;
+    let pairs = PairTable::new(alloc, many)?;
+    Ok(CountPlaces { wide, pairs })
 }
 
 // Brings all that the places hold to the map.

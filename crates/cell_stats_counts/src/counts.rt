@@ -10,7 +10,7 @@ ghost use Rattle.cell_stats_counts.specs.parts.HeldPlaces.{total_of, AreCounted,
 ghost use Rattle.cell_stats_combinations.specs.LeftOut.{kept_cells};
 
 use crate::alone::count_alone;
-use crate::counting::{Places, add_count, first_places, flush_all, make_room};
+use crate::counting::{CountPlaces, add_count, first_places, flush_all, make_room};
 use crate::gathered::{Gathered, ordered_entries};
 use crate::paired::list_pairs;
 use crate::selection::Selection;
@@ -31,7 +31,7 @@ fn count_columns<'a>(
     cursors: &mut [Cursor<'a>],
     cells: &mut [Cell],
     spare: &mut Combo,
-    places: &mut Places,
+    places: &mut CountPlaces,
     counted: &mut Gathered,
 ) -> Result<(), Memory>
     requires row_in_range { row < selection.shelf.now.region.rows }
@@ -70,7 +70,7 @@ fn count_row<'a>(
     cursors: &mut [Cursor<'a>],
     cells: &mut [Cell],
     spare: &mut Combo,
-    places: &mut Places,
+    places: &mut CountPlaces,
     counted: &mut Gathered,
 ) -> Result<(), Memory>
     requires picked { ArePicks selection.shelf.now selection.picks.now }

@@ -3,7 +3,7 @@ use Rattle.std.specs.Prelude.{ℕ, ◌≡◌, ◌<◌, ◌≤◌, ◌+◌, ◌^�
 use Rattle.std.specs.Ordering.{eq_by_cmp}
 use Rattle.cell_core.specs.Shelf.{ShelfValue}
 use Rattle.cell_stats_counts.specs.declared.counting.CountPlace.{CountPlace}
-use Rattle.cell_stats_counts.specs.declared.counting.Places.{Places}
+use Rattle.cell_stats_counts.specs.declared.counting.CountPlaces.{CountPlaces}
 use Rattle.cell_stats_counts.specs.declared.paired.PairPlace.{PairPlace}
 use Rattle.cell_stats_counts.specs.declared.gathered.Gathered.{Gathered}
 use Rattle.cell_stats_combinations.specs.Combinations.{Combination, all_combinations, combination_cmp}
@@ -83,23 +83,23 @@ abbrev pub AreFree : List PairPlace → Type 0
 AreFree places = (width : ℕ) (k : Combination) → paired_of width k places ≡ 0
 
 -- how many there are
-abbrev pub total_of : ℕ → Combination → Places → Gathered → ℕ
+abbrev pub total_of : ℕ → Combination → CountPlaces → Gathered → ℕ
 total_of width k places m = paired_of width k places.pairs.places.items + wide_total width k places.wide.items m
 
 -- so many more can be told of each combination
-abbrev pub HasRoom : ℕ → Places → Gathered → ℕ → Type 0
+abbrev pub HasRoom : ℕ → CountPlaces → Gathered → ℕ → Type 0
 HasRoom width places m count = (k : Combination) → total_of width k places m + count < 2 ^ 64
 
 -- the cells above a row that are not left out were counted
-abbrev pub AreCounted : ShelfValue → List ℕ → Skip → ℕ → Places → Gathered → Type 0
+abbrev pub AreCounted : ShelfValue → List ℕ → Skip → ℕ → CountPlaces → Gathered → Type 0
 AreCounted shelf picks skip row places m = (k : Combination) → total_of (length picks) k places m ≡ count_of k (kept_cells skip (all_combinations shelf.maps picks row shelf.region.cols))
 
 -- counts of combinations of so many maps can go on
-pub record IsCounting (width : ℕ) (spare : Combination) (places : Places) (m : Gathered) : Type 0 where
+pub record IsCounting (width : ℕ) (spare : Combination) (places : CountPlaces) (m : Gathered) : Type 0 where
   pub wide : IsWideCounting width spare places.wide.items m
   pub pairs : 0 < length places.pairs.places.items
 
 -- so many cells of a combination were counted, and counts can go on
-pub record HasCounted (cells : Combination) (count : ℕ) (places : Places) (m : Gathered) (spare : Combination) (more : Places) (n : Gathered) : Type 0 where
+pub record HasCounted (cells : Combination) (count : ℕ) (places : CountPlaces) (m : Gathered) (spare : Combination) (more : CountPlaces) (n : Gathered) : Type 0 where
   pub counts : (k : Combination) → total_of (length cells) k more n ≡ total_of (length cells) k places m + cond (is_same k cells) count 0
   pub going : IsCounting (length cells) spare more n
