@@ -12,5 +12,9 @@ if command -v Rscript > /dev/null; then
     export R_LIBS="$room/library"
 fi
 add 'the table of cases' /usr/bin/python3 fronts/run.py "$@"
-add 'random rasters' /usr/bin/python3 fronts/random_rasters.py "$@"
+if /usr/bin/python3 -c 'import numpy, osgeo' 2> /dev/null; then
+    add 'random rasters' /usr/bin/python3 fronts/random_rasters.py "$@"
+else
+    skip fronts/rasters 'GDAL for Python or numpy is not installed' python3-gdal python3-numpy
+fi
 closing
