@@ -41,12 +41,12 @@ SOURCES = crates.txt $(shell find $(wildcard $(CRATES:%=%/src) $(CRATES:%=%/spec
 
 all: bin/rcell bin/rcell-join bin/rcell-pipe
 
-# One after another, rcell first: it needs the fewest crates, and what two need is proved once.
-bin/rcell-join: bin/rcell
-bin/rcell-pipe: bin/rcell-join
-bin/rcell bin/rcell-join bin/rcell-pipe: $(SOURCES)
+# One run for all that is wanted: the programs share most of their crates, and not every kit keeps proofs from run to run.
+WANTED = rcell rcell-join rcell-pipe
+example: WANTED = rcell
+bin/rcell bin/rcell-join bin/rcell-pipe &: $(SOURCES)
 	@sh tools/needs.sh
-	@$(if $(OBJECTS),python3 tools/build/objects.py --from $(OBJECTS) $(@F) ||) python3 tools/build/build.py $(if $(JOBS),--jobs $(JOBS)) $(@F)
+	@$(if $(OBJECTS),python3 tools/build/objects.py --from $(OBJECTS) $(WANTED) ||) python3 tools/build/build.py $(if $(JOBS),--jobs $(JOBS)) $(WANTED)
 
 try:
 	@sh tools/needs.sh

@@ -3,7 +3,7 @@
 
 #include "grid.h"
 
-// Labels from 1 on, each with a label that it belongs to, never a greater one; one that belongs to itself is the first of
+// Labels from 1 on, each with a label that it belongs to, never a larger one; one that belongs to itself is the first of
 // an area's.
 class Labels {
 public:

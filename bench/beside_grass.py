@@ -1,7 +1,7 @@
-"""Times rcell beside the modules of GRASS, whose answers must be the same: part of run.py.
+"""Times rcell and the modules of GRASS, whose results must be the same: part of run.py.
 
-Each task is done in four ways, which take turns: by GRASS, where the map is in GRASS already; by rcell, after r.out.ascii; by
-rcell, where the text is there; and by GRASS, after r.in.ascii. A module's start counts, that of a session of GRASS does not.
+Each task is done in four ways, which take turns: with GRASS, if the map is in GRASS already; with rcell, after r.out.ascii; by
+rcell, from the text; and with GRASS, after r.in.ascii. A module's start counts, the start of a session of GRASS does not.
 """
 import os
 import subprocess
@@ -61,7 +61,7 @@ def ways(task):
 
 
 def check(task, environment):
-    """The table of rcell is that of GRASS; of areas, whose numbers differ, the counts are."""
+    """The table of rcell is the table of GRASS; of areas, whose numbers differ, the counts are."""
     texts = []
     for command in (ways(task)[0], ways(task)[2]):
         texts.append(subprocess.run(["sh", "-c", command], env=environment, check=True, capture_output=True, text=True).stdout)

@@ -4,10 +4,10 @@
     beyond_parts.py [--rows N] [--cols N] [--height N] [--width N] [--jobs N] [--rcell PROGRAM] [--program PROGRAM] [--folder F]
 
 The map, 62,000 x 65,000 where no numbers are given, is of blocks of 50 x 52 cells, one of 9 residues each: of the number of the block's
-row less that of its column. Residue 0 is null, the others are categories. So blocks of one category meet at corners alone, and by
+row less the number of its column. Residue 0 is null, the others are categories. So blocks of one category meet at corners alone, and by
 corners each diagonal is a clump, whose cells are reckoned without a look at the map. Tiles of 1,025 rows cut blocks and diagonals; they
-have all columns unless a width is given. Each tile is written, counted and clumped by rcell, its border is taken, and its text is
-deleted: what stays of it is small. The map is that of python/bench/beyond.py. Seconds are of the processor; it needs Debian's package time.
+have all columns unless a width is given. Each tile is written, counted and clumped with rcell, its border is taken, and its text is
+deleted: what stays of it is small. The map is the same as in python/bench/beyond.py. Seconds are of the processor; it needs Debian's package time.
 """
 from __future__ import annotations
 

@@ -4,8 +4,8 @@
 dimensions.py [--program PATH] [--only WORD] [--write]. Instructions are counted by callgrind, so that sizes can be small and what
 else runs on the machine disturbs nothing; where valgrind is not installed, the table is left out. A row has the instructions for each
 unit of its dimension at three sizes, and the last divided by the one before: 1 where all is linear, less where more units share a
-fixed cost, a little above 1 where something is sorted or found in a sorted table. What an empty run takes is taken off first, and
-where it is said, what reading the same grids takes. A row that grows by more than n log n would is marked. --write puts the table
+fixed cost, a little above 1 if something is sorted or found in a sorted table. The cost of an empty run is taken off first, and
+if it is said, the cost of reading the same grids. A row that grows by more than n log n would is marked. --write puts the table
 into bench/RESULTS.md.
 """
 import argparse
@@ -38,7 +38,7 @@ class Run:
 
 @dataclass(frozen=True)
 class Dimension:
-    """What grows, the least of its three sizes, and the run of a size. `off` is what is taken off it, an empty run or BEYOND."""
+    """What grows, the smallest of its three sizes, and the run of a size. `off` is what is taken off it, an empty run or BEYOND."""
     title: str
     least: int
     run: Callable[[int], Run]

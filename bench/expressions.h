@@ -62,7 +62,7 @@ inline int32_t new_category(int32_t category) {
     return OTHERS;
 }
 
-// By a table from the least category to the greatest where that is short.
+// By a table from the smallest category to the largest if that is short.
 inline void reclass(Map &map) {
     auto made = new_cells(map.size());
     const CategoryRange range = category_range(map);

@@ -35,7 +35,7 @@ struct Map {
     size_t size() const { return rows * cols; }
 };
 
-// The least and the greatest category of a map.
+// The smallest and the largest category of a map.
 struct CategoryRange {
     int32_t least = INT32_MAX, greatest = -INT32_MAX;
 
@@ -55,7 +55,7 @@ inline CategoryRange category_range(const Map &map) {
 
 inline bool is_blank(char byte) { return byte == ' ' || byte == '\n' || byte == '\r' || byte == '\t'; }
 
-// The bytes of a file, a block at a time. In front of the block there is room for a token that the block before cut, and
+// The bytes of a file, a block at a time. Before the block there is room for a token that the block before cut, and
 // the byte at `end` is 0, so that no loop over blanks or digits has to ask whether the block ends.
 class Input {
 public:
@@ -67,7 +67,7 @@ public:
     Input(const Input &) = delete;
     ~Input() { close(file); }
 
-    // Moves the bytes from `at` on in front of the next block; false at the end of the file.
+    // Moves the bytes from `at` on before the next block; false at the end of the file.
     bool fill() {
         const size_t kept = size_t(end - at);
         if (kept > LONGEST_TOKEN) fail("token too long");
@@ -194,7 +194,7 @@ public:
 
     char *start() const { return written; }
 
-    // Where to go on writing after `at`: there is room for a token and a byte.
+    // Where writing continues after `at`: there is room for a token and a byte.
     char *room(char *at) {
         if (at <= limit) return at;
         wrote_to(at);
@@ -238,7 +238,7 @@ constexpr std::array<char, 201> PAIRS = [] {
 // The decimal text of a number, written from the right by pairs of digits; the end of it.
 inline char *put_number(char *at, uint64_t number) {
     if (number < 100) {
-        // No branch on one digit or two: nobody foretells it where categories stand at random.
+        // No branch on one digit or two: nobody foretells it if categories are random.
         const bool two = number >= 10;
         std::memcpy(at, &PAIRS[2 * number + (two ? 0 : 1)], 2);
         return at + (two ? 2 : 1);

@@ -1,9 +1,9 @@
 #!/usr/bin/env python3
-"""What the ways into a grid cost: processor time of 20 million cells of patchy land cover, the least of some rounds by turns.
+"""What the ways into a grid cost: processor time of 20 million cells of patchy land cover, the smallest of some rounds by turns.
 
     bench/helpers.py [--cells N] [--rounds N]
 
-rcell-aaigrid beside cat, to a file and through pipes, also on noise; rcell-tif and rcell from a GeoTIFF to its table beside
+rcell-aaigrid compared with cat, to a file and through pipes, also on noise; rcell-tif and rcell from a GeoTIFF to its table beside
 r.in.gdal and r.stats of GRASS, where these are installed (their time is taken within a session, without its start). Each table
 must be the same. The last line is 'N passed, M failed': passed is what keeps to its bound, five times cat and twice GRASS.
 """
@@ -19,7 +19,7 @@ ROOT = os.path.dirname(os.path.dirname(os.path.abspath(__file__)))
 PYTHON = "/usr/bin/python3"
 COLUMNS = 5000
 TIMES_CAT, TIMES_GRASS = 5, 2
-# Patches of 12 classes of some 20 cells each way, 5 in 100 null: lc.tif and lc.asc. Noise, in which all bytes of the words that
+# Patches of 12 classes of about 20 cells each way, 5 in 100 null: lc.tif and lc.asc. Noise, in which all bytes of the words that
 # rcell-aaigrid looks for occur: noise.asc.
 MAKE = """
 import sys
@@ -75,7 +75,7 @@ def taken(room, commands, inside=()):
 
 
 def measured(room, rounds):
-    """The least time of each way, over rounds by turns."""
+    """The smallest time of each way, over rounds by turns."""
     least = {}
     helpers = {name: command.format(helpers=f"{ROOT}/helpers", rcell=f"{ROOT}/bin/rcell") for name, command in HELPERS.items()}
     has_grass = bool(shutil.which("grass"))

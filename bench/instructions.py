@@ -1,6 +1,6 @@
 #!/usr/bin/env python3
 """Prints tables of the instructions that rcell and both yardsticks take for a cell, function by function, with their page faults, and
-of those of rcell-pipe.
+of the instructions of rcell-pipe.
 
 instructions.py [--program PATH] [--pipe PATH] [--only rcell|rcell-pipe] [--write]; they are counted by callgrind, so valgrind has
 to be installed. Grids of 4 million cells. The yardsticks are built anew without AVX-512, which valgrind does not know. Functions

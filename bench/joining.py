@@ -1,12 +1,12 @@
 #!/usr/bin/python3
-"""Times rcell-join beside sort and scipy, and writes what it measured into bench/RESULTS.md.
+"""Times rcell-join, sort and scipy, and writes what it measured into bench/RESULTS.md.
 
     joining.py [--rounds N] [--short] [--only WORD] [--program PATH] [--write]
 
 Three parts: `tables` of the tables of 2, 64 and 1,000 tiles, each entry in one of them, in some or in all, next to `sort -m` alone and
 next to `sort -m` and awk, which adds up equal lines; `clumps` of the borders of many tiles, next to scipy's connected_components on
 the pairs of clumps that meet over seams; and `sizes`. All are made here, at random and always the same, and the results of the
-contenders are compared before they are timed. They take turns, and the least processor time (user and system, of all processes of a
+contenders are compared before they are timed. They take turns, and the smallest processor time (user and system, of all processes of a
 pipe) of all rounds counts. Memory is the peak of the process. Each part is doubled some times, so that the cost of an entry, of a
 clump and of a cell can be read down its column. The last rows of `clumps` are 488 tiles of 1,025 x 8,200 cells in 61 rows, and 1,500
 and 5,000 tiles of 256 x 256.
@@ -31,7 +31,7 @@ ROOT = os.path.dirname(HERE)
 DOCUMENT = f"{ROOT}/bench/RESULTS.md"
 MARKS = ("<!-- The tables of bench/joining.py -->\n", "<!-- End of them -->\n")
 ENVIRONMENT = {"PATH": "/usr/bin:/bin", "LC_ALL": "C"}
-ROW_OF_CATEGORIES = 4  # categories of the cells of a side: few, so that clumps go on in the next tile
+ROW_OF_CATEGORIES = 4  # categories of the cells of a side: few, so that clumps continue in the next tile
 LENGTH_OF_A_RUN = 8
 ADDING = "NR == 1 || $1 != before { if (NR > 1) print before, cells; before = $1; cells = 0 } { cells += $2 } END { print before, cells }"
 MEGABYTE = 2**20
@@ -49,7 +49,7 @@ class Cost:
 
 
 def cost_of(commands: list[list[str]], output: str = "/dev/null") -> Cost:
-    """What a pipe of commands costs; all must end well. Of memory `time` tells, since a process that Python starts begins with its own."""
+    """What a pipe of commands costs; all must end well. Memory comes from `time`, since a process that Python starts begins with its own."""
     running: list[subprocess.Popen[bytes]] = []
     with open(output, "wb") as file, tempfile.TemporaryDirectory() as told:
         for place, words in enumerate(commands):
@@ -66,7 +66,7 @@ def cost_of(commands: list[list[str]], output: str = "/dev/null") -> Cost:
 
 
 def least(contenders: dict[str, Callable[[], Cost]], rounds: int) -> dict[str, Cost]:
-    """The contenders by turns: of each the least seconds of all rounds, and the least memory."""
+    """The contenders by turns: of each the fewest seconds of all rounds, and the smallest memory."""
     found: dict[str, Cost] = {}
     for _ in range(rounds):
         for name, run in contenders.items():
@@ -204,7 +204,7 @@ def union(made: Made) -> tuple[int, Cost]:
 
 
 def greatest_number(path: str) -> int:
-    """The greatest number of a numbering."""
+    """The largest number of a numbering."""
     ran = subprocess.run(["awk", "{ n = $4 + $3 - $2; if (n > most) most = n } END { printf \"%d\\n\", most }", path], check=True, capture_output=True)
     return int(ran.stdout)
 

@@ -15,7 +15,7 @@
 //   heights      numbers of four digits: a surface of hills with a little noise
 //
 // Cells are apart by one blank, or as SPELLING says: `two` blanks, `tabs`, a cell a line (`lines`), or each word set right in
-// five places and a blank behind it (`padded`).
+// five places and a blank after it (`padded`).
 #include <algorithm>
 #include <charconv>
 #include <cstdint>
@@ -131,7 +131,7 @@ private:
         return Random(down * 65536 + right + side * 1000003).below(65536);
     }
 
-    // What stands between the four corners of its square for each size of hills, and a little noise.
+    // What is between the four corners of its square for each size of hills, and a little noise.
     int32_t height(size_t r, size_t c) {
         uint64_t sum = LOWEST + random.below(4);
         for (const auto &[side, most] : HILLS) {

@@ -1,6 +1,6 @@
 // measure OUTPUT PROGRAM WORD..: runs a program with its standard output to a file, and prints the microseconds of the
 // processor that it took, the peak of its memory in bytes and its exit status. It is small, since the peak of a process is
-// never below that of the one that started it.
+// never below its parent's.
 #include <cstdio>
 #include <cstdlib>
 #include <fcntl.h>

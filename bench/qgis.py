@@ -1,5 +1,5 @@
-"""Times the plugin for QGIS beside QGIS's own algorithms and GRASS's: nanoseconds of the processor a cell (user and system, children
-too), by turns in one process, the least of the rounds, with everything from GeoTIFF to file.
+"""Times the plugin for QGIS, QGIS's own algorithms and GRASS's: nanoseconds of the processor a cell (user and system, children
+included), by turns in one process, the smallest of the rounds, with everything from GeoTIFF to file.
 
     RCELL=bin/rcell QT_QPA_PLATFORM=offscreen /usr/bin/python3 bench/qgis.py [--short] [--write]
 
@@ -44,7 +44,7 @@ class Map:
 
 @dataclass(frozen=True)
 class Way:
-    """A way of answering a question: an algorithm and its parameters over a map."""
+    """A way to a result: an algorithm and its parameters over a map."""
 
     question: str
     name: str
@@ -58,7 +58,7 @@ def patches(seed: int, rows: int, cols: int, classes: int) -> NDArray[np.uint8]:
     generator = np.random.default_rng(seed)
     codes = generator.choice(np.array([0, *range(11, 11 + 6 * classes, 6)], np.uint8), (rows // 16 + 3, cols // 16 + 3),
                              p=[0.024, *[0.976 / classes] * classes])
-    # Patches get ragged edges: each cell takes the code of a block beside its own, as far as two waves say.
+    # Patches get ragged edges: each cell takes the code of a block next to its own, as far as two waves say.
     down, across = np.arange(rows)[:, None], np.arange(cols)[None, :]
     shift_down = 6 * np.sin(across / 9.0) + 3 * np.sin(down / 5.0)
     shift_across = 6 * np.sin(down / 11.0) + 3 * np.sin(across / 4.0)
@@ -110,12 +110,12 @@ WAYS = [
 
 
 def spent() -> float:
-    """Seconds of the processor so far, those of children that have ended among them."""
+    """Seconds of the processor so far, children that have ended included."""
     return sum(os.times()[:4])
 
 
 def measured(found: list[Map], rounds: int) -> dict[tuple[str, str, str], float]:
-    """The least nanoseconds a cell of each way over each map, by question, way and map."""
+    """The fewest nanoseconds a cell of each way over each map, by question, way and map."""
     least: dict[tuple[str, str, str], float] = {}
     for turn in range(rounds):
         for way in WAYS:

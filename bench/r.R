@@ -1,9 +1,9 @@
-# Times the package for R beside terra: nanoseconds of the processor (user and system, children too) a cell, by turns in one run, the
-# least of the rounds.
+# Times the package for R and terra: nanoseconds of the processor (user and system, children included) a cell, by turns in one run, the
+# smallest of the rounds.
 #
 #     RCELL=bin/rcell Rscript bench/r.R [--short]      maps of 2000 x 2000 cells, or of 300 x 300
 #
-# The package rcell must be installed, and the reference for all ratios is what stands in the same line.
+# The package rcell must be installed, and the reference for all ratios is what is in the same line.
 
 suppressMessages({
   library(terra)
@@ -21,7 +21,7 @@ dir.create(room)
 
 spent <- function() sum(proc.time()[c(1, 2, 4, 5)])
 
-# Runs each way in turn, and answers the least nanoseconds a cell of each.
+# Runs each way in turn, and returns the fewest nanoseconds a cell of each.
 by_turns <- function(ways, cells) {
   least <- rep(Inf, length(ways))
   for (round in seq_len(ROUNDS)) for (place in seq_along(ways)) {

@@ -1,5 +1,5 @@
 #!/usr/bin/env python3
-"""Writes the real maps of the benchmark as grids under bench/out, from packages of Debian, where they are not there yet.
+"""Writes the real maps of the benchmark as grids under bench/out, from packages of Debian, if they are not there yet.
 
     real-land.txt       land, lakes, islands in lakes and their ponds of South-East Asia in steps of 30 arc seconds, 7080 by 3840
                         cells of five categories (coasts of GSHHG 2.3.7, by way of GMT)
@@ -8,7 +8,7 @@
                         side until it has 5040 by 5014 cells: each patch is a real one, and the map is large
     real-heights.txt    heights and depths of the globe in metres, ETOPO5, 4320 by 2161 cells (of ferret-datasets)
 
-It needs the packages gmt, gmt-gshhg-full, gmt-dcw, gdal-bin, python3-gdal and python3-numpy; those of the last two maps are only
+It needs the packages gmt, gmt-gshhg-full, gmt-dcw, gdal-bin, python3-gdal and python3-numpy; the ones for the last two maps are only
 unpacked. Run it by the Python of Debian, /usr/bin/python3.
 """
 import glob

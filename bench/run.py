@@ -1,14 +1,14 @@
 #!/usr/bin/env python3
-"""Times rcell beside a yardstick by hand in C++ (bench/yardstick.cpp), task by task, and prints tables of the figures.
+"""Times rcell and a yardstick by hand in C++ (bench/yardstick.cpp), task by task, and prints tables of the figures.
 
 run.py [--short] [--rounds N] [--only WORD] [--program PATH] [--write]
 
-First each task is done once by both, and their outputs are compared byte for byte. Then they take turns, and the least
+First each task is done once by both, and their outputs are compared byte for byte. Then they take turns, and the smallest
 processor time (user and system) of all rounds counts, so that other work on the machine disturbs little; grids of up to 4
 million cells have three times N rounds. In "Runs and words" a second yardstick takes part, which looks up what texts repeat
 (words.h), and there are three runs of N rounds each. All times are
-milliseconds for a million cells of one map, from the start of a program to its end, output to /dev/null. What a task costs
-beyond reading is its time without that of reading the same grids by the same program. Memory is the peak of the process,
+milliseconds for a million cells of one map, from the start of a program to its end, output to /dev/null. The cost of a task
+beyond reading is its time without the time of reading the same grids with the same program. Memory is the peak of the process,
 in bytes a cell of one map.
 
 --short takes grids of a million cells; otherwise they are those that the tables name, written once under bench/out. The real
@@ -31,11 +31,11 @@ HERE = os.path.dirname(os.path.abspath(__file__))
 ROOT = os.path.dirname(HERE)
 OUT = f"{HERE}/out"
 DOCUMENT = f"{ROOT}/bench/RESULTS.md"
-# What stands before and after the tables there.
+# What is before and after the tables there.
 MARKS = ("<!-- The tables of bench/run.py -->\n", "<!-- End of the tables -->\n")
 NAMES = "ghi"
 SHORT_SIDE = 1000
-# Grids of few cells are timed in more rounds, since what disturbs a short run is a greater part of it.
+# Grids of few cells are timed in more rounds, since what disturbs a short run is a larger part of it.
 FEW_SIDE = 2000
 ROUNDS_FOR_FEW = 3
 ROUNDS_OF_GRASS = 3
@@ -73,7 +73,7 @@ class Bench:
 
 @dataclass
 class Least:
-    """The least processor time, in seconds, and the greatest peak of memory, in bytes."""
+    """The smallest processor time, in seconds, and the largest peak of memory, in bytes."""
     seconds: float = float("inf")
     peak: int = 0
 
@@ -83,7 +83,7 @@ class Least:
 
 @dataclass(frozen=True)
 class Race:
-    """Tasks over grids of one kind, of seeds 1, 2, .., by rcell and both yardsticks; with each the ratio aimed at, or None."""
+    """Tasks over grids of one kind, of seeds 1, 2, .., with rcell and both yardsticks; with each the ratio aimed at, or None."""
     title: str
     kind: str
     tasks: tuple[tuple[Task, float | None], ...]
@@ -182,7 +182,7 @@ PARTS[REAL_MAPS] = tuple(
         ("real heights of the globe, 9 million cells", f"{REAL}heights"),
     )
 )
-# The title of a table of GRASS is that of the grid.
+# The title of a table of GRASS is the title of the grid.
 GRASS_GRIDS = (("patchy land cover, 25 million cells", "patchy", 1, 5000),
                ("real land and lakes of South-East Asia, 27 million cells", f"{REAL}land", 0, 0))
 TITLES = (*PARTS, "GRASS")
@@ -193,7 +193,7 @@ def say(text):
 
 
 def build():
-    """The programs in C++, for this machine: by clang, which makes the faster yardstick, where it is installed."""
+    """The programs in C++, for this machine: with clang, which makes the faster yardstick, if it is installed."""
     os.makedirs(OUT, exist_ok=True)
     for name in ("make_grid", "measure", YARDSTICK):
         compile_to(name, name)
@@ -206,7 +206,7 @@ def compile_to(program, name, *flags, machine="native"):
 
 
 def grid_file(kind, seed, side):
-    """The path of a grid, which is written where it is not there yet."""
+    """The path of a grid, which is written if it is not there yet."""
     if kind.startswith(REAL):
         return f"{OUT}/{kind}.txt"
     path = f"{OUT}/{kind.replace(':', '-')}-{seed}-{side}.txt"
@@ -237,7 +237,7 @@ def measure(words, output="/dev/null", environment=None):
 
 @dataclass
 class Contest:
-    """One task by rcell, the yardstick and, if that takes part, the one that knows words, over given grids."""
+    """One task with rcell, the yardstick and, if that takes part, the one that knows words, over given grids."""
     task: Task
     paths: list[str]
     program: str
@@ -272,7 +272,7 @@ class Contest:
 
 
 def ratio_cell(ratio, most):
-    """A ratio, and beside it what it is to be at most where it is more."""
+    """A ratio, and next to it its limit if it is larger."""
     return f"{ratio:.2f}" + (f" (missed: {most:g})" if most is not None and ratio > most else "")
 
 
@@ -296,7 +296,7 @@ HEAD = ("Task", "rcell ms", "yardstick ms", "ratio", "beyond reading: rcell", "y
 
 
 def run(bench, program, rounds, side):
-    """The lines of a table. Reading the same grids is measured too, as what the tasks stand on."""
+    """The lines of a table. Reading the same grids is measured too, since the tasks need it."""
     paths = [grid_file(kind, seed, side) for kind, seed in bench.grids]
     tasks = bench.tasks if bench.tasks[0].title == READ.title else (READ, *bench.tasks)
     contests = [Contest(task, paths, program, number) for number, task in enumerate(tasks)]
@@ -318,7 +318,7 @@ RACE_HEAD = ("Task", "rcell ms", "yardstick ms", "ratio, by runs", "knowing word
 
 
 def race(bench, program, rounds, side):
-    """The lines of a table of all three contenders: the least times of all runs, and the ratios of each run. The goal is
+    """The lines of a table of all three contenders: the smallest times of all runs, and the ratios of each run. The goal is
     missed where the middle one is above it."""
     paths = [grid_file(bench.kind, seed + 1, side) for seed in range(max(task.maps for task, _ in bench.tasks))]
     both = (YARDSTICK, KNOWS_WORDS)
@@ -335,7 +335,7 @@ def race(bench, program, rounds, side):
 
 
 def ratios_cell(ours, theirs, most):
-    """The ratios of runs, and beside them what they are to be at most where the middle one is more."""
+    """The ratios of runs, and next to them their limit if the middle one is larger."""
     ratios = [own / other for own, other in zip(ours, theirs)]
     is_missed = most is not None and sorted(ratios)[len(ratios) // 2] > most
     return ", ".join(f"{ratio:.2f}" for ratio in ratios) + (f" (missed: {most:g})" if is_missed else "")
@@ -368,7 +368,7 @@ def tables(benches, wanted):
 
 
 def grass_tables(wanted):
-    """What GRASS takes for some tasks, where it is installed."""
+    """What GRASS takes for some tasks, if it is installed."""
     if wanted.short or not shutil.which("grass"):
         say("  GRASS is not installed, or the run is a short one: it is left out")
         return

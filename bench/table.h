@@ -74,7 +74,7 @@ private:
     std::unordered_map<Key, uint64_t, Hash> counts;
 };
 
-// Counts in one array of places, at most half of them taken: a combination stands at the first free one from where its
+// Counts in one array of places, at most half of them taken: a combination is at the first free one from where its
 // hash says.
 template <typename Form> class OwnCounts {
 public:

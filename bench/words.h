@@ -1,6 +1,6 @@
 // Cells read and written by what texts repeat: the second contender, which knows runs and words (yardstick.cpp with KNOWS_WORDS).
 //
-// Reading: a word is compared with the bytes behind it, sixteen at a time, and read once as often as it comes again; where few
+// Reading: a word is compared with the bytes after it, sixteen at a time, and read once as often as it comes again; where few
 // do, the ends of words are found 64 bytes at once, and a word of up to eight bytes is looked up by its bytes. Writing: a cell's
 // text with its space is looked up by the cell, and stored as eight bytes.
 #pragma once
@@ -60,7 +60,7 @@ inline uint64_t blanks_in(const char *bytes) {
     return bits;
 }
 
-// How many of the bytes from `at` on are those that stand `size` before them, as far as sixteen are held.
+// How many of the bytes from `at` on are those that are `size` before them, as far as sixteen are held.
 inline size_t alike(const char *at, size_t size, const char *end) {
     const char *from = at;
     for (; end - at >= 16; at += 16) {
@@ -168,7 +168,7 @@ private:
         int32_t cell = 0;
     };
 
-    // The field of a cell, or none of its size where it is longer than eight bytes.
+    // The field of a cell, or none of its size if it is longer than eight bytes.
     [[gnu::noinline]] static Field made(int32_t cell) {
         std::array<char, 16> text{};
         const size_t size = size_t(put_cell(text.data(), cell) - text.data()) + 1;

@@ -36,10 +36,10 @@ class Case:
     over : str
         The path of the raster over which `write` writes.
     expected : dict of str to (list of str, bool)
-        The lines that must come out, or of a refusal those that must be told, and whether it is one: under the name of a front where
-        its answer is another, and else under no name.
+        The lines that must come out, or the lines of an error, and whether it is one: under the name of a package if
+        its result differs, and else under no name.
     left_out : dict of str to str
-        Why a front does not run the case, by its name.
+        Why a package does not run the case, by its name.
     """
 
     name: str
@@ -57,7 +57,7 @@ class Case:
     left_out: dict[str, str] = field(default_factory=dict)
 
     def expected_of(self, front: str) -> tuple[list[str], bool]:
-        """What must come out on a front, and whether it is a refusal."""
+        """What must come out of a package, and whether it is an error."""
         return self.expected.get(front, self.expected.get("", ([], False)))
 
 
@@ -111,7 +111,7 @@ def read(path: pathlib.Path) -> Case:
 
 
 def copied(path: str, folder: str) -> str:
-    """Copies a raster with what stands beside it, and returns the path of the copy."""
+    """Copies a raster with the files next to it, and returns the path of the copy."""
     source = pathlib.Path(path)
     for beside in source.parent.glob(f"{source.name}*"):
         shutil.copy(beside, folder)

@@ -32,7 +32,7 @@ def raster_of(path: str) -> str:
 
 
 def import_all() -> None:
-    """All rasters of the cases, whatever their reference system; those that r.in.gdal refuses are not there."""
+    """All rasters of the cases, whatever their reference system; the ones that r.in.gdal rejects are not there."""
     for path in sorted({path for case in cases() for path in case.maps.values()}):
         module = "r.in.ascii" if path.endswith(".txt") else "r.in.gdal"
         words = ("null_value=*",) if path.endswith(".txt") else ("-o", "band=1")
@@ -79,7 +79,7 @@ def refusal(case: Case, told: str) -> list[str]:
     text = " ".join(line.removeprefix("ERROR: ").strip() for line in told.splitlines() if not line.startswith(("    ", "WARNING")))
     found = REFUSED.search(text)
     if found:
-        # The mark stands beneath its column, four blanks farther to the right, and what was added to the line comes before it.
+        # The mark is below its column, four blanks farther to the right, and what was added to the line comes before it.
         shown = [line[4:] for line in told.splitlines() if line.startswith("    ")]
         marks = [len(mark) - len(ADDED) * (ADDED in line[: len(mark)]) for line, mark in zip(shown, shown[1:]) if mark.endswith("^")]
         lines = [("kind", "refused"), ("source", found[1]), ("line", int(found[2]) or None), ("column", marks[0] if marks else None)]

@@ -21,7 +21,7 @@ from cases import ANSWERS, Case, cases, copied  # noqa: E402  (the path above ha
 from osgeo import gdal  # noqa: E402
 from qgis.core import NULL, QgsApplication, QgsProcessingException, QgsRasterLayer, QgsVectorLayer  # noqa: E402
 
-# QGIS has one kind of error; which of ours it was is told by the text, as fronts/README.md lists it.
+# QGIS has one kind of error; which of ours it was is known by the text, as fronts/README.md lists it.
 KINDS = [
     ("other crs", r"its coordinate reference system is |it has no coordinate reference system"),
     ("other region", r"not of the region of |shifted by |cells of "),
@@ -102,13 +102,13 @@ def answer(case: Case, room: str) -> list[str]:
 
 
 def refusal(message: str) -> list[str]:
-    """The parts of a refusal: `SOURCE, line N: TEXT`, or `SOURCE: TEXT`."""
+    """The parts of an error: `SOURCE, line N: TEXT`, or `SOURCE: TEXT`."""
     first, *rest = message.removeprefix("Unable to execute algorithm\n").splitlines()
     place, _, text = first.partition(": ")
     source, _, line = place.partition(", line ")
     kind = next(name for name, form in KINDS if re.match(form, text))
     cell = re.search(r"the cell at row (\d+), column (\d+)", text)
-    # The mark stands beneath its column, two blanks farther to the right.
+    # The mark is below its column, two blanks farther to the right.
     column = next((len(line) - 2 for line in rest if line.endswith("^")), None)
     found = [("kind", kind), ("source", source), ("line", line), ("row", cell and cell[1])]
     found += [("column", cell[2] if cell else column), ("text", text)]
@@ -125,7 +125,7 @@ def main() -> None:
     plugin = RcellPlugin()
     plugin.initProcessing()
     with tempfile.TemporaryDirectory(prefix="R\u00e4ume von QGIS ") as room:
-        # QGIS leaves statistics beside a raster that it opens.
+        # QGIS leaves statistics next to a raster that it opens.
         shutil.copytree(HERE / "rasters", f"{room}/rasters")
         shutil.copytree(HERE.parent / "examples/rasters", f"{room}/rasters", dirs_exist_ok=True)
         for case in (it for it in cases() if "qgis" not in it.left_out):

@@ -1,5 +1,5 @@
 #!/bin/sh
-# Runs the table of cases, and some random rasters, on the fronts that are installed, over bin/rcell. The last line is
+# Runs the table of cases, and some random rasters, on the packages that are installed, over bin/rcell. The last line is
 # 'N passed, M failed, K skipped'.
 cd "$(dirname "$0")/.." || exit 1
 room=$(mktemp -d) || exit 1

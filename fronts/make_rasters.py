@@ -1,4 +1,4 @@
-"""Makes the rasters of the table of cases anew: fronts/rasters/*.tif, by rasterio.
+"""Makes the rasters of the table of cases anew: fronts/rasters/*.tif, with rasterio.
 
     /usr/bin/python3 fronts/make_rasters.py
 """
@@ -7,7 +7,7 @@ from __future__ import annotations
 
 import json
 import pathlib
-from typing import Sequence
+from typing import Mapping, Sequence
 from xml.sax.saxutils import escape
 
 import numpy as np
@@ -41,7 +41,7 @@ def write(name: str, cells: object, dtype: str = "int16", *, transform: Affine =
 
 
 def write_wide(name: str, cells: object) -> None:
-    """Whole numbers of 64 bits, by GDAL itself: rasterio 1.3 takes signed ones for unsigned."""
+    """Whole numbers of 64 bits, with GDAL itself: rasterio 1.3 takes signed ones for unsigned."""
     array = np.asarray(cells, "int64")
     file = gdal.GetDriverByName("GTiff").Create(str(ROOM / f"{name}.tif"), array.shape[1], array.shape[0], 1, gdal.GDT_Int64, ["COMPRESS=DEFLATE"])
     file.SetGeoTransform(METRES.to_gdal())
@@ -93,17 +93,17 @@ def write_edges() -> None:
 
 
 def write_labels(name: str) -> None:
-    """Category names where GDAL keeps them: beside the raster."""
+    """Category names where GDAL keeps them: next to the raster."""
     names = "".join(f"<Category>{label}</Category>" for label in LABELS)
     text = f'<PAMDataset><PAMRasterBand band="1"><CategoryNames>{names}</CategoryNames></PAMRasterBand></PAMDataset>\n'
     (ROOM / f"{name}.tif.aux.xml").write_text(text, encoding="utf-8")
 
 
-def write_table(name: str, labels: dict[int, str]) -> None:
-    """An attribute table beside the raster."""
+def write_table(name: str, labels: Mapping[float, str]) -> None:
+    """An attribute table next to the raster."""
     rows = "".join(f'<Row index="{at}"><F>{value}</F><F>{escape(label)}</F></Row>' for at, (value, label) in enumerate(labels.items()))
     fields = "".join(f'<FieldDefn index="{at}"><Name>{title}</Name><Type>{kind}</Type><Usage>{usage}</Usage></FieldDefn>'
-                     for at, (title, kind, usage) in enumerate([("Value", 0, 5), ("Class", 2, 2)]))
+                     for at, (title, kind, usage) in enumerate([("Value", int(any(value % 1 for value in labels)), 5), ("Class", 2, 2)]))
     text = f'<PAMDataset><PAMRasterBand band="1"><GDALRasterAttributeTable tableType="thematic">{fields}{rows}</GDALRasterAttributeTable></PAMRasterBand></PAMDataset>\n'
     (ROOM / f"{name}.tif.aux.xml").write_text(text, encoding="utf-8")
 
@@ -127,9 +127,14 @@ def write_polygons() -> None:
 
 
 def write_legends() -> None:
-    """Legends of the cover: one that is right and one class short, and one with a class twice."""
+    """Legends of the cover: one that is right and one class short, one with a class twice, and those of which no label may be guessed."""
     (ROOM / "legend.csv").write_text('value,label,colour\n1,"wood, wet",#228b22\n2,Wiese \u00fc,#9acd32\n', encoding="utf-8")
     (ROOM / "twice.csv").write_text("value,label\n1,wood\n2,meadow\n1,town\n", encoding="utf-8")
+    (ROOM / "latin.csv").write_text("value,label\n1,wood\n2,Gr\u00fcnland\n3,town\n", encoding="latin-1")
+    (ROOM / "sixteens.csv").write_text("value,label\n0x1,wood\n", encoding="utf-8")
+    (ROOM / "lines.csv").write_text("value,label\n0_1,wood\n", encoding="utf-8")
+    (ROOM / "comma.csv").write_text("value,label\n1,wood, wet\n2,meadow\n", encoding="utf-8")
+    (ROOM / "comma_for_colour.csv").write_text("value,label,colour\n1,wood, wet\n2,meadow,#9acd32\n", encoding="utf-8")
 
 
 def write_masked(name: str, cells: object) -> None:
@@ -138,6 +143,20 @@ def write_masked(name: str, cells: object) -> None:
         write(name, np.where(np.asarray(cells) == NULL, 1, cells), "uint8", nodata=None)
         with rasterio.open(ROOM / f"{name}.tif", "r+") as file:
             file.write_mask(np.asarray(cells) != NULL)
+
+
+def write_other_masks() -> None:
+    """Null is told by a mask of the band, not of the file, and by a nodata value for all bands of the file."""
+    cover = np.asarray(COVER)
+    write_by_gdal("band_mask", [np.where(cover == NULL, 1, cover)], gdal.GDT_Byte)
+    file = gdal.Open(str(ROOM / "band_mask.tif"), gdal.GA_Update)
+    gdal.SetConfigOption("GDAL_TIFF_INTERNAL_MASK", "NO")
+    file.GetRasterBand(1).CreateMaskBand(0)
+    file.GetRasterBand(1).GetMaskBand().WriteArray(np.where(cover == NULL, 0, 255).astype("uint8"))
+    gdal.SetConfigOption("GDAL_TIFF_INTERNAL_MASK", None)
+    write_by_gdal("nodata_of_all", [cover], gdal.GDT_Int16)
+    file = gdal.Open(str(ROOM / "nodata_of_all.tif"), gdal.GA_Update)
+    file.SetMetadataItem("NODATA_VALUES", str(NULL))
 
 
 def noise(rows: int, cols: int) -> object:
@@ -186,8 +205,11 @@ def main() -> None:
     write_wide("beyond_wide", changed(3, 1, 3e9))
     write("odd", [[-3, 7, 12], [100000, 100001, NULL]], "int32")
     write_table("odd", ODD_LABELS)
+    write("halves", COVER)
+    write_table("halves", {1: "wood", 1.5: "heath", 2.5: "moor", 2: "meadow"})
     write("noise", noise(9, 12))
     write_masked("masked", COVER)
+    write_other_masks()
     write("later", LATER)
     write("heights", HEIGHTS, "int32")
     write("lonlat", COVER, transform=Affine(0.0003, 0, 8.9999, 0, -0.0002, 48.75305), crs="EPSG:4326")

@@ -1,9 +1,9 @@
-"""Random rasters through the fronts, cell by cell against numpy: types, nodata, alpha, masks, blocks, transforms, reference systems, labels.
+"""Random rasters through the packages, cell by cell against numpy: types, nodata, alpha, masks, blocks, transforms, reference systems, labels.
 
     /usr/bin/python3 fronts/random_rasters.py [--count N] [--seconds N] [--seed N] [FRONT...]
 
-Sixteen rasters of one place go through one call of a front, and their cells come back with the labels of one of them. A raster that is no
-map must be refused, by row and column if a cell is bad, and so must maps of two places. Of r.rcell its own part is tried, from the
+Sixteen rasters of one place go through one call of a package, and their cells come back with the labels of one of them. A raster that is no
+map must be rejected, by row and column if a cell is bad, and so must maps of two places. Of r.rcell its own part is tried, from the
 numbers that GRASS hands out to the text of a grid; `shell` is rcell-tif and rcell; `tiles` writes one map of each call by tiles.
 Progress comes every 5,000 rasters; a group is made again by --seed and --from. The last line is 'N passed, M failed, K skipped'.
 """
@@ -61,7 +61,7 @@ class Place:
 
 @dataclass
 class Made:
-    """A raster, its cells, and what a refusal has to say if it is no map."""
+    """A raster, its cells, and what an error has to say if it is no map."""
 
     path: str
     cells: Any
@@ -71,7 +71,7 @@ class Made:
     has_wide_null: bool
 
     def reason_in(self, front: str) -> str:
-        """Why a front refuses it: R refuses masks, and nulls that a float cannot tell from their neighbours."""
+        """Why a package rejects it: R rejects masks, and nulls that a float cannot distinguish from their neighbours."""
         own = ["mask of its own"] * self.has_mask + ["64 bits"] * self.has_wide_null
         return "|".join(filter(None, [self.reason, *(own if front == "r" else [])]))
 
@@ -97,7 +97,7 @@ def place_of(random: Any) -> Place:
 
 
 def cells_of(random: Any, dtype: Any, shape: tuple[int, int]) -> Any:
-    """Whole numbers that the type holds: a few, many, or any; sometimes the greatest among them."""
+    """Whole numbers that the type holds: a few, many, or any; sometimes the largest among them."""
     is_real = np.dtype(dtype).kind == "f"
     limits = (-(2**24), 2**24) if dtype == np.float32 else (-MOST_CATEGORY, MOST_CATEGORY) if is_real else (np.iinfo(dtype).min, np.iinfo(dtype).max)
     least, most = max(int(limits[0]), -MOST_CATEGORY), min(int(limits[1]), MOST_CATEGORY)
@@ -134,7 +134,7 @@ def null_cells(cells: Any, nodata: Any, opaque: list[Any]) -> Any:
 
 
 def spoil(random: Any, cells: Any, nodata: Any, null: Any) -> str:
-    """Puts a cell that is no category, and tells where; nothing if the type has none."""
+    """Puts a cell that is no category, and returns where; nothing if the type has none."""
     kind = cells.dtype
     if kind.kind == "f":
         bad: Any = random.choice([0.5, 1e12, -2147483648.0, np.inf])
@@ -176,7 +176,7 @@ def form_of(random: Any, kind: int, shape: tuple[int, int]) -> Form:
 
 
 def make(random: Any, place: Place, path: str, projection: str) -> Made:
-    """Writes a raster, and reckons what a front must answer."""
+    """Writes a raster, and computes what a package must return."""
     shape, kind = (place.rows, place.cols), list(TYPES)[random.integers(len(TYPES))]
     cells, form = cells_of(random, TYPES[kind], shape), form_of(random, kind, shape)
     nodata = nodata_of(random, cells)
@@ -213,7 +213,7 @@ def write(place: Place, path: str, projection: str, cells: Any, nodata: Any, for
         dataset.GetRasterBand(number).WriteArray(np.ascontiguousarray(array[::step]))
     if form.mask is not None:
         gdal.SetConfigOption("GDAL_TIFF_INTERNAL_MASK", "YES" if form.mask[0, 0] else "NO")
-        dataset.CreateMaskBand(gdal.GMF_PER_DATASET)
+        band.CreateMaskBand(0 if not form.mask[0, 0] and form.mask[-1, -1] else gdal.GMF_PER_DATASET)
         band.GetMaskBand().WriteArray(np.ascontiguousarray(form.mask[::step]))
 
 
@@ -224,7 +224,7 @@ def projection_of(epsg: int) -> str:
     return str(system.ExportToWkt()) if epsg else ""
 
 
-# What a front answers: the cells of all maps, those of one of them again, and its labels
+# What a package returns: the cells of all maps, the cells of one of them again, and its labels
 
 
 class Asked(NamedTuple):
@@ -289,8 +289,8 @@ def answer_of_grass(asked: Asked) -> Answer:
     region = {"n": asked.rows, "s": 0, "e": asked.cols, "w": 0, "rows": asked.rows, "cols": asked.cols}
     inputs = [rcell.Input(name, f"{path}.cells") for name, path in zip(asked.names, asked.paths)]
     with handing_out():
-        own = rcell.run(asked.script, inputs, [], {}, {}, region)[0]
-    return parsed(asked, b"".join(bytes(piece) for frame in own for piece in rcell.printed(frame))), {}
+        maps = [rcell.source_of(it, {}, region, rcell.Progress(1)) for it in inputs]
+        return parsed(asked, b"".join(rcell.tables_of(asked.script, rcell.judged(asked.script, asked.names), lambda: maps))), {}
 
 
 def answer_of_shell(asked: Asked) -> Answer:
@@ -300,7 +300,7 @@ def answer_of_shell(asked: Asked) -> Answer:
     def text_of(path: str) -> bytes:
         written: list[bytes] = []
         dataset = gdal.Open(path)
-        rcell_tif.write_grid(dataset, rcell_tif.one_band(dataset), written.append)
+        rcell_tif.write_grid(f"{os.environ['RCELL']}-pipe", dataset, rcell_tif.one_band(dataset), written.append)
         return b"".join(written)
 
     return answer_of_program(asked, text_of)
@@ -339,12 +339,12 @@ def work(answer: Callable[[Asked], Answer]) -> None:
         sys.stdout.buffer.flush()
 
 
-# The fronts at work
+# The packages at work
 
 
 @dataclass
 class Front:
-    """A front at work, and what it answered wrongly."""
+    """A package at work, and its wrong results."""
 
     name: str
     passed: int = 0
@@ -357,7 +357,7 @@ class Front:
         self._process = subprocess.Popen(words, stdin=subprocess.PIPE, stdout=subprocess.PIPE, env=known)
 
     def ask(self, place: Place, rasters: list[Made], again: int) -> tuple[str, bytes]:
-        """What the front answers of some rasters of one call."""
+        """What the package returns for some rasters of one call."""
         assert self._process.stdin is not None and self._process.stdout is not None
         line = "\t".join([str(place.rows), str(place.cols), str(again), *(made.path for made in rasters)])
         self._process.stdin.write(line.encode() + b"\n")
@@ -366,7 +366,7 @@ class Front:
         return head, self._process.stdout.read(int(head.split()[1])) if head.startswith("cells ") else b""
 
     def judge(self, place: Place, rasters: list[Made], again: int) -> None:
-        """Compares what the front answers with what numpy says."""
+        """Compares what the package returns with what numpy says."""
         head, told = self.ask(place, rasters, again)
         wanted, labels = [made.cells.tobytes() for made in [*rasters, rasters[again]]], rasters[again].labels
         size = len(wanted[0])
@@ -380,7 +380,7 @@ class Front:
                 self.wrong.append(f"{made.path}: {head[:300]}; {np.frombuffer(b''.join(found[at:at + 1]), np.int32)[:20]}, not {made.cells[:20]}")
 
     def refuses(self, place: Place, rasters: list[Made], reason: str) -> None:
-        """Sees that rasters are refused, and why."""
+        """Sees that rasters are rejected, and why."""
         head = self.ask(place, rasters, 0)[0]
         if not head.startswith("cells ") and re.search(reason, head):
             self.passed += 1
@@ -388,7 +388,7 @@ class Front:
             self.wrong.append(f"{' '.join(made.path for made in rasters)}: {head[:300]}, and not refused as {reason}")
 
     def end(self) -> None:
-        """Ends the front."""
+        """Ends the package's process."""
         self._process.communicate()
 
 

@@ -1,8 +1,8 @@
-"""Runs the table of cases on each front that is installed, and compares; the last line is 'N passed, M failed, K skipped'.
+"""Runs the table of cases on each package that is installed, and compares; the last line is 'N passed, M failed, K skipped'.
 
     /usr/bin/python3 fronts/run.py [FRONT...]
 
-A front is a program that prints for each case a line `case NAME`, and below it, each after a blank, what came out.
+The runner of a package is a program that prints for each case a line `case NAME`, and below it, each after a blank, what came out.
 """
 
 from __future__ import annotations
@@ -67,7 +67,7 @@ COMMANDS = {
 
 
 def found_by(front: str) -> tuple[dict[str, list[str]], str]:
-    """What a front answers for each case, and what it said besides."""
+    """What a package gives for each case, and what it printed besides."""
     ran = subprocess.run(COMMANDS[front], env=environment(), capture_output=True, encoding="utf-8", errors="replace")
     found: dict[str, list[str]] = {}
     name = ""
@@ -81,7 +81,7 @@ def found_by(front: str) -> tuple[dict[str, list[str]], str]:
 
 
 def is_right(case: Case, front: str, lines: list[str]) -> bool:
-    """An answer must be the same; of a refusal all that the case names, the text as far as it goes."""
+    """A result must be the same; of an error all that the case names, the text as far as it goes."""
     expected, is_refused = case.expected_of(front)
     if not is_refused:
         return lines == expected
@@ -92,7 +92,7 @@ def is_right(case: Case, front: str, lines: list[str]) -> bool:
 
 
 def run(front: str) -> tuple[int, int, int]:
-    """How many cases passed on a front, failed, and were skipped since the front is not installed."""
+    """How many cases passed on a package, failed, and were skipped since the package is not installed."""
     tried = [case for case in cases() if front not in case.left_out]
     missing = MISSING[front]()
     if missing:

@@ -1,5 +1,5 @@
-# make fronts    installs what the fronts need of Debian, builds, checks and tests R (and QGIS where it is there); then the table of cases
-# make fronts-cases  runs the table of cases of fronts/ on the fronts that are installed
+# make fronts    installs what the packages need of Debian, builds, checks and tests R (and QGIS if it is there); then the table of cases
+# make fronts-cases  runs the table of cases of fronts/ on the packages that are installed
 
 .PHONY: fronts fronts-cases
 

@@ -7,13 +7,12 @@ import sys
 
 from rcell_front.advice import INDENT, Messages, marked, shown
 from rcell_front.grids import EDGES, FORGOTTEN, GridFile, SIX, SOUGHT, cause_of, quoted
-from rcell_front.mending import first_of, is_of_expression, mended_lines, order_of
-from rcell_front.script import Script, is_name
+from rcell_front.mending import asker, is_name, names_in, rejected_lines, warnings
 from rcell_run import Missing, Run, found_program
 
 MESSAGE = re.compile(r"rcell: ([A-Za-z0-9_.]+):([0-9]+): (.*)")
 COLUMN = re.compile(r" at column ([0-9]+)$")
-MOST_FAULTS = 200
+MOST_LINES = 200
 LONGEST_MENDED = 8000  # characters of a corrected line that is printed
 MOST_COUNTED = 1 << 30  # bytes of a grid whose words are counted
 
@@ -21,8 +20,8 @@ MOST_COUNTED = 1 << 30  # bytes of a grid whose words are counted
 class Explanation:
     """The lines that are printed below a message."""
 
-    def __init__(self, run, words):
-        self.run, self.words, self.messages = run, words, Messages()
+    def __init__(self, run, words, ask):
+        self.run, self.words, self.ask, self.messages = run, words, ask, Messages()
         self.lines = []
 
     def say(self, text=""):
@@ -62,7 +61,7 @@ class Explanation:
         elif source == "script":
             self.explain_script(line, text, "expression" if column else "script")
         if source != "script":
-            self.further_faults(0, self.script(), is_known=source != "arguments")
+            self.further_lines("the script also has errors:", self.rejected_lines(source != "arguments"))
 
     # The command line
 
@@ -234,66 +233,44 @@ class Explanation:
 
     # The script
 
-    def script(self):
+    def rejected_lines(self, has_names=True):
+        """Return the rejected lines of the script with their errors; without names of maps, all that it reads are there."""
         given = self.run.given.script
-        if given is None or not given.start(1):
-            return None
-        return Script(given.start((1 << 20) + 1), [name for name, _ in self.run.given.grids], quoted(given.path))
+        script = given.start((1 << 20) + 1) if given else b""
+        if not script or self.ask is None:
+            return iter(())
+        names = [name for name, _ in self.run.given.grids] if has_names else names_in(script)
+        return rejected_lines(self.ask, script, names, quoted(given.path))
 
     def explain_script(self, line, text, part):
-        script = self.script()
-        if script is None or text == "no memory":
-            self.say_all(part, text)
-            return
-        here = [fault for fault in script.faults if fault.line == line]
-        if any(fault.text == text or fault.cause == "line ends" for fault in here):
-            self.say_line(script, line, here, text)
+        lines = self.rejected_lines() if text != "no memory" else iter(())
+        first = next(lines, None)
+        if first and (first.number == line or first.faults[0].cause == "line ends"):
+            self.say_line(first)
+            self.further_lines("further errors in the script:", lines)
         else:
-            self.say_source(script, line, [])
             self.say_all(part, text)
-        self.further_faults(line, script)
 
-    def further_faults(self, line, script, is_known=True):
-        """Add the errors after the line of the message; with `is_known`, also errors about the names of maps."""
-        if script is None:
-            return
-        faults = [fault for fault in script.faults if fault.reported_at > line and fault.line != line]
-        faults = [fault for fault in faults if is_known or fault.text not in ("unknown map", "map exists")]
-        others = list(dict.fromkeys(fault.line for fault in sorted(faults, key=lambda fault: fault.reported_at)))
-        if not others:
-            return
-        self.say()
-        self.lines.append("rcell-explain: %s" % ("further errors in the script:" if line else "the script also has errors:"))
-        for number in others[:MOST_FAULTS]:
-            here = [fault for fault in faults if fault.line == number]
-            self.lines.append("script:%d: %s" % (number, first_of(here).text))
-            self.say_line(script, number, here, first_of(here).text)
-        if len(others) > MOST_FAULTS:
-            self.say("and %d lines more" % (len(others) - MOST_FAULTS))
+    def further_lines(self, title, lines):
+        """Add the other lines that are rejected."""
+        for count, line in enumerate(lines):
+            if not count:
+                self.say()
+                self.lines.append("rcell-explain: " + title)
+            if line is None or count == MOST_LINES:
+                self.say("the rest of the script was not checked")
+                return
+            self.lines.append("script:%d: %s" % (line.number, line.faults[0].text))
+            self.say_line(line)
 
-    def say_source(self, script, line, faults):
-        if not 1 <= line <= len(script.lines) or any(fault.cause == "line size" for fault in faults):
-            return
-        spans = [(fault.start, fault.end) for fault in faults]
-        text, marks = marked(script.lines[line - 1], spans or [(0, 0)])
-        self.say("  " + text)
-        if spans:
-            self.say("  " + marks)
-
-    def say_line(self, script, line, faults, text):
-        faults = sorted(faults, key=lambda fault: (fault.text != text, order_of(fault)))
-        self.say_source(script, line, faults)
-        printed = set()
-        for fault in faults:
-            part = "expression" if is_of_expression(script, fault) else "script"
-            said = self.messages.said(part, fault.text, fault.cause, fault.values)
-            if said not in printed:
-                self.say_cause(*said)
-            printed.add(said)
-        whole = next((fault.values["whole"] for fault in faults if "whole" in fault.values), None)
-        mended = [whole] if whole else mended_lines(script, line, faults)
-        rules = next((fault.values["file"] for fault in faults if fault.cause == "rules"), None)
-        mended += ["(the rules of %s)" % rules, "end"] if mended and rules is not None else []
+    def say_line(self, line):
+        if line.text and line.faults[0].cause != "line size":
+            for it in marked(line.text, [(fault.start, fault.end) for fault in line.faults]):
+                self.say("  " + it)
+        for said in dict.fromkeys(self.messages.said(it.part, it.text, it.cause, it.values) for it in line.faults):
+            self.say_cause(*said)
+        rules = next((fault.values["file"] for fault in line.faults if fault.cause == "rules"), None)
+        mended = line.mended + (["(the rules of %s)" % rules, "end"] if line.mended and rules is not None else [])
         if mended and sum(map(len, mended)) <= LONGEST_MENDED:
             self.say("write:")
             for it in mended:
@@ -327,16 +304,12 @@ def is_near(first, grid):
 # Warnings after a successful run
 
 
-def warnings_of(run):
+def warnings_of(run, ask):
     """Return the warnings about input that is valid but probably a mistake: their places, names and values."""
-    given = run.given
-    found = []
-    if given.script is not None:
-        text = given.script.start((1 << 20) + 1)
-        script = Script(text, [name for name, _ in given.grids])
-        found += [("script: ", "line ends", {"path": quoted(given.script.path)})] * any(it.cause == "line ends" for it in script.faults)
-        if not script.faults:
-            found += [("script:%d: " % line if line else "script: ", name, values) for line, name, values in script.warnings]
+    given, found = run.given, []
+    if given.script and ask:
+        for line, name, values in warnings(ask, given.script.start((1 << 20) + 1), [name for name, _ in given.grids]):
+            found.append(("script:%d: " % line if line else "script: ", name, {"path": quoted(given.script.path), **values}))
     for name, file in given.grids:
         for word in forgotten_in(file):
             values = {"name": name, "word": word.decode(), "path": quoted(file.path)}
@@ -366,11 +339,11 @@ def report(lines):
     sys.stderr.flush()
 
 
-def explained(run, words):
+def explained(run, words, ask):
     found = MESSAGE.match(run.message.decode("utf-8", "replace"))
     if found is None:
         return []
-    explanation = Explanation(run, words)
+    explanation = Explanation(run, words, ask)
     try:
         explanation.explain(found[1], int(found[2]), found[3])
     except Exception as fault:  # rcell's message and status count, even if explaining fails
@@ -384,33 +357,40 @@ def ended(status):
     return ["rcell-explain: rcell was killed by signal %d%s" % (-status, causes.get(status, ""))]
 
 
+def found_asker(folder):
+    """Return the function that asks rcell-pipe, or None; without it, all causes of an error of the script are printed."""
+    try:
+        return asker(found_program(folder, "rcell-pipe", "RCELL_PIPE"))
+    except Missing:
+        return None
+
+
 def main(words, folder):
     try:
-        program = found_program(folder)
-        run = Run(program, words)
+        run = Run(found_program(folder), words)
     except (Missing, OSError) as fault:
         report(["rcell-explain: %s" % fault])
         sys.exit(127)
     except KeyboardInterrupt:
         sys.exit(130)
     try:
-        say(run, words)
+        say(run, words, found_asker(folder))
         sys.stderr.flush()
     except OSError:
         pass  # standard error is full or closed, so nothing can be reported
     os._exit(128 - run.status if run.status < 0 else run.status)  # a thread may be waiting for a pipe that nobody writes
 
 
-def say(run, words):
+def say(run, words, ask):
     """Print rcell's message and explain it."""
     sys.stderr.buffer.write(run.message)
     sys.stderr.buffer.flush()
     if run.status == 0:
         messages = Messages()
-        for place, name, values in warnings_of(run):
+        for place, name, values in warnings_of(run, ask):
             cause, instead = messages.warned(name, values)
             report(["rcell-explain: warning: %s%s" % (place, cause)] + ([INDENT + instead] if instead else []))
     elif run.status < 0:
         report(ended(run.status))
     else:
-        report(explained(run, words))
+        report(explained(run, words, ask))

@@ -1,14 +1,14 @@
 # SPDX-License-Identifier: Apache-2.0 OR GPL-2.0-or-later
 """Convert rasters that GDAL reads to rcell grids, and grids to GeoTIFFs. Needs numpy, and GDAL's Python for opening files.
 
-    CellText(null_values).of(..)        the rows of a grid for a block of an array, as text
-    Region.of_transform(..), .header()  exact edges for rcell, from a geotransform
-    write_grid(dataset, number, ..)     write a band of an open dataset as a grid, block by block
+    Region.of_transform(..)             exact edges for rcell, from a geotransform
+    write_grid(program, dataset, ..)    write a band of an open dataset as a grid; the program rcell-pipe gets it block by block
     Grid(read), rows_of(grid)           a grid's header, and its cells as arrays of 32 bits
     write_tif(grid, path, ..)           write a grid as a GeoTIFF
 
 If a raster cannot be a grid, `Refused` says why. GDAL's settings are not changed.
 """
+import contextlib
 import os
 import re
 import warnings
@@ -16,11 +16,11 @@ from fractions import Fraction
 
 import numpy as np
 
+from rcell_front import pipe
 from rcell_front.maps import DECIMALS, UNITS, edge_text
-from rcell_front.spelling import rows_text
+from rcell_front.pipe import NULL
 
-GREATEST = 2147483647  # the limit of cells, above and below 0
-NULL = -GREATEST - 1  # in arrays of cells and in new GeoTIFFs
+GREATEST = 2147483647  # the limit of cells, above and below 0; NULL is below it
 GREATEST_SIDE, MOST_CELLS = 65535, 2147483647
 EDGE_DIGITS = 10
 EDGES = ("north", "south", "east", "west")
@@ -80,10 +80,6 @@ class Region:
         wide, high = (self.east - self.west) / self.cols, (self.north - self.south) / self.rows
         return tuple(float(value) for value in (self.west, wide, 0, self.north, 0, -high))
 
-    def header(self):
-        lines = ["%s: %s\n" % (edge, self.texts[edge]) for edge in EDGES]
-        return "".join(lines + ["rows: %d\ncols: %d\n" % (self.rows, self.cols)]).encode()
-
     def with_edges_of(self, other, name):
         """Return another region of the same size, whose edges may differ from these by half a cell."""
         if (self.rows, self.cols) != (other.rows, other.cols):
@@ -98,38 +94,31 @@ class Region:
         return other
 
 
-# Cells to text
+# Cells
 
 
-class CellText:
-    """The text of blocks of cells, as the rows of a grid."""
+def cells_of(block, null, null_values=()):
+    """Return an array of integers as cells of 32 bits: NULL where `null` is true, and for each of some whole numbers."""
+    kind = np.iinfo(block.dtype)
+    for value in null_values:
+        if kind.min <= value <= kind.max:
+            here = block == block.dtype.type(value)
+            null = here if null is None else null | here
+    check_range(block, null)
+    cells = np.ascontiguousarray(block.astype(np.int32))
+    if null is not None:
+        cells[null] = NULL
+    return cells
 
-    def __init__(self, null_values=()):
-        """Cells with these whole numbers are null."""
-        self.null_values = null_values
 
-    def of(self, block, null=None):
-        """Return the text of a two-dimensional array of integers; cells are also null if `null` is true for them."""
-        kind = np.iinfo(block.dtype)
-        for value in self.null_values:
-            if kind.min <= value <= kind.max:
-                here = block == block.dtype.type(value)
-                null = here if null is None else null | here
-        self.check(block, null)
-        cells = np.ascontiguousarray(block.astype(np.int32))
-        if null is not None:
-            cells[null] = NULL
-        return rows_text(cells, NULL)
-
-    @staticmethod
-    def check(block, null):
-        if block.min() >= -GREATEST and block.max() <= GREATEST:
-            return
-        bad = (block > GREATEST) | (block < -GREATEST) if block.dtype.kind == "i" else block > GREATEST
-        bad = bad if null is None else bad & ~null
-        if bad.any():
-            row, col = np.argwhere(bad)[0]
-            raise BadCell(int(row), int(col), "%d is beyond %d" % (int(block[row, col]), GREATEST))
+def check_range(block, null):
+    if block.min() >= -GREATEST and block.max() <= GREATEST:
+        return
+    bad = (block > GREATEST) | (block < -GREATEST) if block.dtype.kind == "i" else block > GREATEST
+    bad = bad if null is None else bad & ~null
+    if bad.any():
+        row, col = np.argwhere(bad)[0]
+        raise BadCell(int(row), int(col), "%d is beyond %d" % (int(block[row, col]), GREATEST))
 
 
 class BadCell(Refused):
@@ -173,13 +162,12 @@ def null_values_of(band, given):
 
 
 def masks_of(dataset, number, given):
-    """Return the bands in which 0 makes a cell null: the raster's own mask, and its alpha band."""
+    """Return the bands in which 0 makes a cell null: the mask of the band or of all bands, and the alpha band."""
     from osgeo import gdal
     if given is not None:
         return []
     band = dataset.GetRasterBand(number)
-    flags = band.GetMaskFlags()
-    masks = [band.GetMaskBand()] if flags & gdal.GMF_PER_DATASET and not flags & gdal.GMF_ALPHA else []
+    masks = [band.GetMaskBand()] if band.GetMaskFlags() in (0, gdal.GMF_PER_DATASET, gdal.GMF_PER_DATASET | gdal.GMF_NODATA) else []
     return masks + [dataset.GetRasterBand(at) for at in alphas_of(dataset) if at != number]
 
 
@@ -209,37 +197,41 @@ def blocks_of(band, is_turned):
     return [(start, min(step, rows - start)) for start in (reversed(starts) if is_turned else starts)]
 
 
-def write_grid(dataset, number, write, nodata=None, like=None, like_name="the other grid"):
-    """Write a band of a dataset as a grid: its region, with exact edges, then its cells, block by block."""
+def write_grid(program, dataset, number, write, nodata=None, like=None, like_name="the other grid"):
+    """Write a band of a dataset as a grid with exact edges, as the program rcell-pipe prints it."""
     band = dataset.GetRasterBand(number)
     region, is_turned = Region.of_transform(dataset.GetGeoTransform(can_return_null=True), band.YSize, band.XSize)
     if like is not None:
         region = region.with_edges_of(like, like_name)
     check_meaning(dataset, band)
-    values, masks = null_values_of(band, nodata), masks_of(dataset, number, nodata)
-    whole = [int(value) for value in values if value == value and abs(value) < 2**64 and value == int(value)]
-    texts = CellText(whole)
-    write(region.header())
+    blocks = sent_blocks(band, null_values_of(band, nodata), masks_of(dataset, number, nodata), is_turned)
+    source = pipe.Map("map", tuple(region.texts.values()), region.rows, region.cols, "i32", blocks, NULL)
+    with contextlib.closing(pipe.text(program, [source], b"r.out.ascii input=map")) as pieces:
+        for piece in pieces:
+            write(piece)
+
+
+def sent_blocks(band, values, masks, is_turned):
+    """Yield the cells of a band for rcell-pipe, from north to south."""
     for first, count in blocks_of(band, is_turned):
         block = read_block(band, first, count)
         null = np.logical_or.reduce([read_block(mask, first, count) == 0 for mask in masks]) if masks else None
         try:
-            write(text_of(block, null, values, texts, is_turned))
+            cells = checked_cells(block, values, null, is_turned)
         except BadCell as fault:
             north = band.YSize - first - count if is_turned else first  # rows count from the north, as in the grid
             raise BadCell(north + fault.row, fault.col, fault.fault) from None
-    return region
+        yield pipe.Block(cells.data)
 
 
-def text_of(block, null, values, texts, is_turned):
+def checked_cells(block, values, null, is_turned):
     if block.dtype.kind == "c":
         raise Refused("the cells are complex numbers")
     if is_turned:
         block, null = block[::-1], null if null is None else null[::-1]
     if block.dtype.kind == "f":
-        block, null = whole_cells(block, values, null)
-        texts = CellText()
-    return texts.of(block, null)
+        return cells_of(*whole_cells(block, values, null))
+    return cells_of(block, null, [int(value) for value in values if value == value and abs(value) < 2**64 and value == int(value)])
 
 
 def read_block(band, first, count):

@@ -1,5 +1,5 @@
 # make helpers        tries the helpers, rcell-aaigrid, rcell-tif, rcell-explain and rcell-split, on the built program
-# make helpers-speed  times the ways into a grid beside cat and GRASS, on 20 million cells
+# make helpers-speed  times the ways into a grid compared with cat and GRASS, on 20 million cells
 
 .PHONY: helpers helpers-speed
 

@@ -2,7 +2,7 @@
 # Runs python/check.sh in a root of Debian 12 that has its base system and nothing else: there the wheel is installed, and each
 # package of Debian that is missing, by name. As root, with debootstrap of Debian; not part of the gate.
 #
-#     python/debian12.sh [FOLDER [ROOT]]      FOLDER has the wheel, dist where it is not given; ROOT is made where it is not there
+#     python/debian12.sh [FOLDER [ROOT]]      FOLDER has the wheel, dist if it is not given; ROOT is made if it is missing
 #
 # The last line is 'N passed, M failed'.
 set -eu

@@ -1,6 +1,6 @@
 #!/bin/sh
 # Checks the plugin for QGIS that is in dist/: its bytes when it is built again, types, the tests of its core and of a session, and the
-# zip in profiles of its own, by qgis_process and in a window without a screen, beside QGIS's own algorithms and GRASS. The last line
+# zip in profiles of its own, by qgis_process and in a window without a screen, compared with QGIS's own algorithms and GRASS. The last line
 # is 'N passed, M failed, K skipped'.
 cd "$(dirname "$0")/.." || exit 1
 zip=$PWD/dist/rcell-qgis-$(cat VERSION).zip

@@ -66,7 +66,7 @@ def draw_dialog(country: QgsRasterLayer, hemisphere: QgsRasterLayer) -> None:
 
 
 def draw_result(country: QgsRasterLayer) -> None:
-    """The greatest islands and parts of countries, as a layout that could be printed."""
+    """The largest islands and parts of countries, as a layout that could be printed."""
     import processing
 
     found = processing.run("rcell:patches", {"INPUT": country, "CONNECTIVITY": "8", "LEAST": 250, "MAP": f"{ROOM}/areas.tif", "OUTPUT": "TEMPORARY_OUTPUT"})

@@ -1,6 +1,6 @@
 # make qgis-zip  builds dist/rcell-qgis-VERSION.zip, the plugin for QGIS with the static programs in it
 # make qgis      the same, and runs its tests without a screen
-# make qgis-speed  times the plugin beside QGIS's own algorithms; SHORT=--short is small, WRITE=--write puts the tables into bench/RESULTS.md
+# make qgis-speed  times the plugin compared with QGIS's own algorithms; SHORT=--short is small, WRITE=--write puts the tables into bench/RESULTS.md
 # make qgis-pictures  draws the pictures of docs/qgis.md
 
 .PHONY: qgis qgis-zip qgis-speed qgis-pictures

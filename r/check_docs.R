@@ -13,7 +13,7 @@ copied <- file.copy(list.files("examples/rasters", full.names = TRUE), room)
 setwd(room)
 options(width = 110L, digits = 7L)
 Sys.setenv(LANGUAGE = "en")
-# The messages are those of the package, whatever Python has.
+# The messages are the package's, whatever Python has.
 options(rcell.python = "")
 suppressMessages(library(terra))
 terraOptions(progress = 0)

@@ -1,6 +1,6 @@
 # make r-package builds dist/rcell_VERSION.tar.gz, the package for R with the static program in it
 # make r         the same, and runs R CMD check, its tests and docs/r.md
-# make r-speed   times the package for R beside terra; SHORT=--short is small
+# make r-speed   times the package for R compared with terra; SHORT=--short is small
 
 .PHONY: r r-package r-speed
 

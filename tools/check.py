@@ -1,5 +1,5 @@
 #!/usr/bin/env python3
-"""The gate: every proof, then the proved programs on the cases, the documents and the release, and each front.
+"""The gate: every proof, then the proved programs on the cases, the documents and the release, and each package.
 
     check.py [--complete] [PART..]
 
@@ -133,6 +133,8 @@ def run_all(parts):
         if part is PROOFS:
             for crate in build.PROGRAMS:
                 build.take_built(crate, ROOT)
+            for crate in build.crates_of(build.PROGRAMS):
+                crate.note_proved()
     return results
 
 

@@ -1,5 +1,5 @@
 #!/usr/bin/python3
-"""Make landcover.tif and zones.tif from the grids beside them: PYTHONPATH=python/src python3 examples/study/make.py"""
+"""Make landcover.tif and zones.tif from the grids next to them: PYTHONPATH=python/src python3 examples/study/make.py"""
 import pathlib
 
 import rcell

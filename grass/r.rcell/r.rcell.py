@@ -71,7 +71,6 @@ import tempfile
 import time
 from collections import namedtuple
 from contextlib import contextmanager
-from dataclasses import replace
 
 import grass.script as gs
 from grass.exceptions import CalledModuleError
@@ -80,7 +79,6 @@ NULL = -2147483648  # of r.out.bin and r.in.bin; no category has this value
 MOST_SIDE = 65535  # rows or columns that rcell takes
 MOST_CELLS = 2147483647
 BLOCK_CELLS = 1 << 20  # cells that are sent at a time
-ENTRIES_OF_A_PIECE = 1 << 16  # of a table that is printed
 BYTES_OF_A_PIECE = 1 << 20  # of a table that is copied
 SECONDS_OF_A_STEP = 0.5  # of the line of progress
 BLANKS = b" \t\r"
@@ -92,7 +90,7 @@ Output = namedtuple("Output", "name map")
 
 
 class Stopped(Exception):
-    """The run cannot go on; the text says why. Lines of a script stand beneath as they are."""
+    """The run cannot continue; the text says why. Lines of a script are below as they are."""
 
     def __init__(self, text, beneath=""):
         super().__init__(text)
@@ -111,6 +109,15 @@ def with_labels(script, statements):
     return "\n".join(lines)
 
 
+def without_tables(script, statements):
+    """The script without the statements that write; each is a line."""
+    lines = script.split("\n")
+    for it in statements:
+        if not it.made:
+            lines[it.line - 1] = ""
+    return "\n".join(lines)
+
+
 def labelled_maps(statements):
     """The maps of the tables with labels."""
     return {name for it in statements if "l" in it.options for name in it.inputs}
@@ -125,7 +132,7 @@ def stopped(end, script, names):
     """What rcell says of a script or a map, with the line of the user's script beneath."""
     from rcell_front.pipe import Fault
 
-    fault = Fault(**end.parts(script, names))
+    fault = Fault(**end.parts(program(), script, names))
     said, word, line = "rcell: %s:%d: %s" % (fault.source, fault.line, fault.text), "", fault.content
     if line is None:
         return Stopped(said)
@@ -185,28 +192,6 @@ def end_of(module, raster):
 
 
 # What rcell writes
-
-
-def printed(frame):
-    """The text of a table, a list of cells or a grid, as rcell prints it, piece by piece."""
-    if hasattr(frame, "rows"):
-        yield from printed_grid(frame)
-        return
-    width = len(frame.names)
-    for first in range(0, frame.entries, ENTRIES_OF_A_PIECE):
-        entries = slice(first, min(first + ENTRIES_OF_A_PIECE, frame.entries))
-        cells = slice(width * entries.start, width * entries.stop)
-        counts, labels = frame.counts and frame.counts[entries], frame.labels and frame.labels[cells]
-        yield replace(frame, entries=entries.stop - first, counts=counts, cells=frame.cells[cells], labels=labels).printed()
-
-
-def printed_grid(frame):
-    yield ("north: %s\nsouth: %s\neast: %s\nwest: %s\nrows: %d\ncols: %d\n" % (*frame.edges, frame.rows, frame.cols)).encode()
-    if frame.null_text != b"*":
-        yield b"null: %s\n" % frame.null_text
-    for first in range(0, len(frame.cells), frame.cols):
-        row = frame.cells[first : first + frame.cols].tolist()
-        yield b" ".join(frame.null_text if cell == frame.null else b"%d" % cell for cell in row) + b"\n"
 
 
 def label_lines(frame):
@@ -330,20 +315,29 @@ def told(script, names):
         raise Stopped(_("{} failed: {}").format(program(), fault)) from None
 
 
-def run(script, inputs, outputs, labels, made, region):
-    """Runs a script; returns what it writes, the cells of the outputs, and the labels of some, by their names."""
+def tables_of(script, statements, sources):
+    """Runs a script for what it writes, piece by piece; `sources()` are its maps."""
     from rcell_front import pipe
 
-    names = [it.name for it in inputs]
+    if all(it.made for it in statements):
+        return
+    maps = sources()
+    with told(script, [it.name for it in maps]):
+        yield from pipe.text(program(), maps, script.encode("utf-8", "surrogateescape"))
+
+
+def maps_of(script, statements, sources, outputs, labels):
+    """Runs a script for the cells of the outputs, and the labels of some, by their names."""
+    from rcell_front import pipe
+
+    if not outputs:
+        return [], {}
+    made, maps = made_by(statements), sources()
     labelled = [it.name for it in outputs if made.get(it.name) == "r.reclass" or labels.get(it.name)]
     lines = [*("r.out.ascii input=%s" % it.name for it in outputs), *("r.stats -l -n input=%s" % name for name in labelled)]
-    progress = Progress(region["rows"] * (len(inputs) + len(outputs)))
-    with told(script, names):
-        sources = [source_of(it, labels.get(it.name, {}), region, progress) for it in inputs]
-        frames = pipe.run(program(), sources, "\n".join([script, *lines]).encode("utf-8", "surrogateescape"))
-    own = len(frames) - len(lines)
-    cells = frames[own : own + len(outputs)]
-    return frames[:own], cells, dict(zip(labelled, frames[own + len(outputs) :])), progress
+    with told(script, [it.name for it in maps]):
+        frames = pipe.run(program(), maps, "\n".join([without_tables(script, statements), *lines]).encode("utf-8", "surrogateescape"))
+    return frames[: len(outputs)], dict(zip(labelled, frames[len(outputs) :]))
 
 
 def labels_of(raster):
@@ -476,7 +470,7 @@ class Table:
                 write_all(stream.fileno(), piece)
 
     def mode(self):
-        """The mode of the file that is replaced, or that of a new file."""
+        """The mode of the file that is replaced, or the mode of a new file."""
         if os.path.exists(self.target):
             return stat.S_IMODE(os.stat(self.target).st_mode)
         mask = os.umask(0)
@@ -518,9 +512,14 @@ def done(options, flags):
     wanted = labelled_maps(statements) | {it.name for it in outputs}
     labels = {it.name: labels_of(it.map) for it in inputs if it.name in wanted}
     table = Table(options["table"], options["script"])
-    own, cells, texts, progress = run(script, inputs, outputs, labels, made, region)
-    for frame in own:
-        table.file.writelines(printed(frame))
+    runs = bool(outputs) + any(not it.made for it in statements)
+    progress = Progress(region["rows"] * (runs * len(inputs) + len(outputs)))
+
+    def sources():
+        return [source_of(it, labels.get(it.name, {}), region, progress) for it in inputs]
+
+    table.file.writelines(tables_of(script, statements, sources))
+    cells, texts = maps_of(script, statements, sources, outputs, labels)
     imports = Imports(region)
     for output, frame in zip(outputs, cells):
         name = imports.add(output, frame, progress)

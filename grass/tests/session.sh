@@ -1,4 +1,4 @@
-# A short session: the study's patches by r.rcell are those of GRASS, and a wrong script leaves nothing behind.
+# A short session: the study's patches from r.rcell are the same as in GRASS, and a wrong script leaves no file.
 #     session.sh REPOSITORY FOLDER
 set -e
 cd "$2"

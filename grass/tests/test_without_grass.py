@@ -76,8 +76,13 @@ class Session(unittest.TestCase):
 
     def run_(self, script, outputs=(), labels=None):
         inputs, wanted = [rcell.Input("a", f"{self.room}/a")], [rcell.Output(name, name) for name in outputs]
-        own, cells, texts, _ = rcell.run(script, inputs, wanted, {"a": labels or {}}, rcell.made_by(self.statements(script)), REGION)
-        return b"".join(bytes(piece) for frame in own for piece in rcell.printed(frame)).decode(), cells, texts
+        statements = self.statements(script)
+
+        def sources():
+            return [rcell.source_of(it, labels or {}, REGION, rcell.Progress(1)) for it in inputs]
+
+        text = b"".join(rcell.tables_of(script, statements, sources)).decode()
+        return text, *rcell.maps_of(script, statements, sources, wanted, {"a": labels or {}})
 
     def refused(self, script, names=("a",)):
         with self.assertRaises(rcell.Stopped) as caught:

@@ -31,7 +31,7 @@ LAND = HEADER + "1 1 2 *\n1 2 2 2\n3 3 1 1\n"
 
 
 class Room:
-    """A folder that the helpers are run in, and where they are."""
+    """A folder that the helpers are run in, and their paths."""
 
     def __init__(self, path, programs, rcell):
         self.path, self.programs, self.rcell = path, programs, rcell

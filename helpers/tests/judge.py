@@ -1,15 +1,18 @@
-"""What rcell-explain finds beside the model, in scripts and grids that are spoiled at random.
+"""What rcell-explain says of scripts and grids that are spoiled at random, with the model in place of the program.
 
-Of a script both name the same first fault; of a refused grid there is a cause in messages.json, with all its words.
+Of a script it names the model's first error, each proposal is accepted, and it asks few questions; of a rejected grid there is a cause
+in messages.json; and all words are filled in.
 """
 import glob
 import os
 import random
 import re
 import sys
+from types import SimpleNamespace
 
 ROOT = os.path.abspath(f"{__file__}/../../..")
-SCRIPTS, GRIDS = 4000, 4000
+SCRIPTS, GRIDS = 1500, 4000
+MOST_QUESTIONS = 60  # for an error
 LONGEST_START = 4000  # bytes of a script that is spoiled
 SEED = 1
 PIECES = ["\"", "'", "=", " = ", ",", ", ", "-", "--o", " --overwrite", "#", " # x", ";", "@P", "(", ")", "[", "]", "[1]", "1.5", "null",
@@ -30,7 +33,7 @@ GRID_PIECES = ["NORTH:", "north: ", "null: NA\n", "null: -9\n", "type: float\n",
 
 
 def spoiled(text, pieces, chance):
-    """A text with one to three pieces put in, taken out or exchanged."""
+    """A text with one to three pieces put in, taken out or swapped."""
     for _ in range(chance.randint(1, 3)):
         at = chance.randint(0, len(text))
         end = min(len(text), at + chance.choice([0, 0, 0, 1, 1, 2, 5]))
@@ -38,29 +41,45 @@ def spoiled(text, pieces, chance):
     return text
 
 
-def model_fault(model, script, names):
-    """The line and text of the first fault by the model, or None."""
+def first_error(model, script, names):
+    """The statements by the model and no error, or its first error, as rcell-pipe plans a script."""
+    from rcell_front.pipe import Rejected
+
     try:
-        model.ScriptReader(script, [name.encode() for name in names]).read()
+        statements = model.ScriptReader(script.encode("latin-1"), [name.encode() for name in names]).read()
     except model.Refused as fault:
-        return fault.line, re.sub(r" at column \d+$", "", fault.text)
-    return None
+        column = re.search(r" at column (\d+)$", fault.text)
+        return [], Rejected(1, "script", 0, fault.line, int(column[1]) if column else 0, fault.text)
+    return [SimpleNamespace(line=line, made=getattr(it, "target", b"").decode()) for line, it in statements], None
 
 
-def judged_fault(judge, explain, script, names):
-    """The same by the judge; None in the place of its text where it takes the text for no script."""
-    found = judge.Script(script, names)
-    faults = sorted(found.faults, key=lambda fault: (fault.reported_at, explain.order_of(fault)))
-    if not faults:
+def what_is_wrong(model, messages, script, names):
+    """What is wrong with the explanation of a script, or None."""
+    from rcell_front import mending
+
+    questions = []
+
+    def ask(names, text):
+        questions.append(text)
+        return first_error(model, text, names)
+
+    text, lines = script.decode("latin-1"), list(mending.rejected_lines(ask, script, names))
+    error = first_error(model, text, names)[1]
+    if mending.no_script(script) or not (error or lines):
         return None
-    first = [fault for fault in faults if fault.reported_at == faults[0].reported_at]
-    return first[0].line, {fault.text for fault in first}, any(fault.cause in ("line ends", "utf-16", "no text", "grid") for fault in first)
-
-
-def same(wanted, got):
-    if got is None or wanted is None:
-        return wanted is None and (got is None or got[2])
-    return got[2] or (wanted[0] == got[0] and wanted[1] in got[1])
+    if not (error and lines) or (lines[0].number, lines[0].faults[0].text) != (error.line, re.sub(r" at column \d+$", "", error.text)):
+        return f"{error and error.args}, {lines[:1]}"
+    faults = [fault for line in lines if line for fault in line.faults]
+    said = " ".join(" ".join(messages.said(it.part, it.text, it.cause, it.values)) for it in faults)
+    if re.search(r"\{[a-z_]+\}", said) or len(questions) > MOST_QUESTIONS * len(faults):
+        return f"{len(questions)} questions: {said}"
+    given, first = text.split("\n"), lines[0]
+    joined = next(at for at in range(first.number, len(given) + 1) if at == len(given) or not given[at - 1].rstrip(" \t\r").endswith("\\"))
+    mended = [*given[: first.number - 1], *first.mended, *given[joined:]]
+    error = first_error(model, "\n".join(mended), names)[1] if first.mended else None
+    if error and error.text != "missing end" and first.number <= error.line < first.number + len(first.mended):
+        return f"{first} is rejected: {error.args}"
+    return None
 
 
 def small_cases():
@@ -106,15 +125,14 @@ def test(room, tally):
     folder = next(path for path in (f"{room.programs}/../share/rcell", f"{ROOT}/python/src") if os.path.exists(f"{path}/rcell_front"))
     sys.path[:0] = [folder, f"{ROOT}/tools/model"]
     import model
-    from rcell_front import mending, script
+    from rcell_front.advice import Messages
 
     test_grids(tally)
-    chance, names, differ = random.Random(SEED), ["land", "zone"], []
+    chance, names, messages, wrong = random.Random(SEED), ["land", "zone"], Messages(), []
     starts = [re.sub(r"\b[mn]\b", "land", text) for text in STARTS + small_cases()]
     for at in range(SCRIPTS):
         start = chance.choice(starts)
-        text = (spoiled(start, PIECES, chance) if at >= len(starts) else starts[at]).encode("latin-1")
-        wanted, got = model_fault(model, text, names), judged_fault(script, mending, text, names)
-        if not same(wanted, got):
-            differ.append(f"{text!r}: {wanted}, {got}")
-    tally.true(f"{SCRIPTS} spoiled scripts: {len(differ)} differ", not differ, "\n    " + "\n    ".join(differ[:20]))
+        script = (spoiled(start, PIECES, chance) if at >= len(starts) else starts[at]).encode("latin-1")
+        found = what_is_wrong(model, messages, script, names)
+        wrong += [f"{script!r}: {found}"] if found else []
+    tally.true(f"{SCRIPTS} spoiled scripts: {len(wrong)} are explained badly", not wrong, "\n    " + "\n    ".join(wrong[:20]))

@@ -1,4 +1,4 @@
-"""rcell-tif, where GDAL's Python is installed: types, nodata, masks, edges, refusals, the way back."""
+"""rcell-tif, if GDAL's Python is installed: types, nodata, masks, edges, errors, the way back."""
 import json
 import os
 import subprocess
@@ -10,7 +10,6 @@ import json, sys
 import numpy as np
 from osgeo import gdal, osr
 gdal.UseExceptions()
-gdal.SetConfigOption("GDAL_TIFF_INTERNAL_MASK", "YES")
 codes = {"uint8": 1, "uint16": 2, "int16": 3, "uint32": 4, "int32": 5, "float32": 6, "float64": 7, "complex64": 10}
 for path, kind, nodata, rows, more in json.load(sys.stdin):
     rows = eval(rows)
@@ -31,7 +30,8 @@ for path, kind, nodata, rows, more in json.load(sys.stdin):
     if more.get("points"):
         made.SetGCPs([gdal.GCP(x, y, 0, x, y) for x, y in more["points"]], "")
     if more.get("mask"):
-        made.CreateMaskBand(gdal.GMF_PER_DATASET)
+        gdal.SetConfigOption("GDAL_TIFF_INTERNAL_MASK", "NO" if more.get("of_band") else "YES")
+        made.GetRasterBand(1).CreateMaskBand(0 if more.get("of_band") else gdal.GMF_PER_DATASET)
         made.GetRasterBand(1).GetMaskBand().WriteArray(np.array(more["mask"], "uint8"))
     if more.get("alpha"):
         made.GetRasterBand(2).SetColorInterpretation(gdal.GCI_AlphaBand)
@@ -84,12 +84,13 @@ MAPS = [
     ("float64", None, "[[1, 2, 3], [4, 3e9, 3]]", {}, "the cell in row 2, column 2: 3000000000.0 is beyond 2147483647"),
     ("complex64", None, "[[1, 2, 3], [4, 3, 3]]", {}, "the cells are complex numbers"),
     ("uint8", None, "[[1, 2, 3], [4, 5, 6]]", {"mask": [[255, 0, 255], [255, 255, 0]]}, "1 * 3\n4 5 *\n"),
+    ("uint8", None, "[[1, 2, 3], [4, 5, 6]]", {"mask": [[255, 0, 255], [255, 255, 0]], "of_band": 1}, "1 * 3\n4 5 *\n"),
     ("uint8", None, "[[[1, 2, 3], [4, 5, 6]], [[255, 0, 255], [255, 1, 0]]]", {"bands": 1, "alpha": 1}, "1 * 3\n4 5 *\n"),
     ("uint8", 4, "[[[1, 2, 3], [4, 5, 6]], [[255, 0, 255], [255, 1, 0]]]", {"bands": 1, "alpha": 1}, "1 * 3\n* 5 *\n"),
     ("uint8", None, "[[[1, 2, 3], [4, 5, 6]], [[7, 8, 9], [1, 2, 3]]]", {"bands": 1}, "it has 2 bands: name one with --band"),
 ]
 
-# A geotransform, rows and columns, what stands before the rows or what is said.
+# A geotransform, rows and columns, what is before the rows or what is said.
 TRANSFORMS = [
     ([-180, 1 / 120, 0, 90, 0, -1 / 120], 2, 43200, "north: 90\nsouth: 89.98333333\neast: 180\nwest: -180\n"),
     ([-180, 1 / 60, 0, 90, 0, -1 / 60], 10800, 1, "north: 90\nsouth: -90\neast: -179.98333333\nwest: -180\n"),

@@ -157,7 +157,7 @@ def lines_of(maps: Maps, folder: str, rounds: int) -> list[str]:
     for name, (paths, call, (peer, by_peer)) in calls_of(maps).items():
         recorder = Recorder(folder)
         recorder.record(call)
-        if not recorder.requests:  # alignment does not run the program: what a table of the map takes stands in its place
+        if not recorder.requests:  # alignment does not run the program: what a table of the map takes replaces it
             recorder.record(lambda: rcell.composition(maps["land"]))
         reading = functools.partial(read, *paths)
         found = by_turns({"answer": call, "program": recorder.program, "reading": reading, "peer": by_peer}, rounds)

@@ -1,4 +1,4 @@
-"""Answers by tiles beside one run of the program over the undivided map, and beside GRASS's modules, cell by cell."""
+"""Results by tiles compared with one run of the program over the full map, and with GRASS's modules, cell by cell."""
 
 from __future__ import annotations
 
@@ -28,7 +28,7 @@ TABLE = "r.stats -c input=lc"
 
 
 class Task(NamedTuple):
-    """A map that tiles and one run make, and the map of GRASS that is laid beside them."""
+    """A map that tiles and one run make, and the map of GRASS that is compared with them."""
 
     name: str
     script: str
@@ -54,7 +54,7 @@ ALL = ["table", *(task.grass for task in TASKS), "sizes"]
 
 
 def answers(path: Path, folder: Path, sizes: list[int], workers: int, asked: Collection[str] = ALL) -> list[str]:
-    """Tasks over a map, by tiles of several sizes, each beside one run of the program, and beside GRASS's maps in the folder."""
+    """Tasks over a map, by tiles of several sizes, each compared with one run of the program, and with GRASS's maps in the folder."""
     table = [_row(_table(path, folder, sizes, workers))] if "table" in asked else []
     tasks = [task for task in TASKS if task.grass in asked]
     return [*table, *(_row(line) for task in tasks for line in _answer(task, path, folder, sizes, workers, "sizes" in asked))]
@@ -121,7 +121,7 @@ def _beside_grass(task: Task, grass: Path, out: Path, areas: int) -> str:
 
 
 def _watched(work: Callable[[], Any]) -> tuple[Any, float, int]:
-    """The answer of one run of the program, the seconds of the processor of both processes, and the bytes of the program."""
+    """The result of one run of the program, the seconds of the processor of both processes, and the bytes of the program."""
     start = processor()
     with Watch([os.getpid()]) as watch:
         answer = work()
@@ -129,7 +129,7 @@ def _watched(work: Callable[[], Any]) -> tuple[Any, float, int]:
 
 
 def undivided(lc: Any, script: str, wanted: str = "x") -> tuple[Any, float, int]:
-    """A map of one run of the program over a file or an array, as `_watched` answers it."""
+    """A map of one run of the program over a file or an array, as `_watched` returns it."""
     given = str(lc) if isinstance(lc, Path) else lc
     return _watched(lambda: execute(script, {"lc": source_of("lc", given)}, wanted=(wanted,))[-1].values)
 
@@ -156,7 +156,7 @@ def _sizes_of(cells: Any, areas: int) -> Any:
 
 
 def answers_of_array(side: int, chunk: int, folder: Path, workers: int) -> list[str]:
-    """The table, patches, their sizes and a sum that reaches over seams, of a DataArray of Dask, beside one run over its cells."""
+    """The table, patches, their sizes and a sum that reaches over seams, of a DataArray of Dask, compared with one run over its cells."""
     array = land_cover_array(side, chunk)
     whole = rcell.Map(array.values, nodata=0)
     expected, seconds, _ = _watched(lambda: rcell.table(TABLE, lc=whole))
@@ -186,7 +186,7 @@ def _answer_of_array(task: Task, lazy: Callable[[], Any], mosaic: rcell.tiles.Mo
 
 
 def _differing(mosaic: rcell.tiles.Mosaic, cells: Any, path: Path) -> int:
-    """How many cells of an array of Dask are not those of a file of numpy: each worker looks at its tiles."""
+    """How many cells of an array of Dask differ from a file of numpy: each worker looks at its tiles."""
 
     def count(block: Any, block_info: Any = None) -> Any:
         (top, low), (left, right) = block_info[0]["array-location"]
@@ -219,7 +219,7 @@ done
 
 
 def grass_maps(path: Path, folder: Path, asked: Collection[str] = ALL) -> None:
-    """The same maps by GRASS's modules, as GeoTIFF into the folder, where `answers` lays them beside those of tiles."""
+    """The same maps with GRASS's modules, as GeoTIFF in the folder, where `answers` compares them with the maps of tiles."""
     subprocess.run(["grass", "--tmp-location", "XY", "--exec", "sh", "-c", GRASS], cwd=folder, check=True, stdout=subprocess.DEVNULL,
                    stderr=subprocess.DEVNULL, env={**os.environ, "LC": str(path), "SUM": SUM, "ASKED": " ".join(asked)})
 

@@ -3,12 +3,12 @@
 
     beyond.py [--rows N] [--cols N] [--size S] [--workers W] [--task T ...] [--write]
 
-The map of N x N cells, 62,000 x 65,000 where they are not given, is made tile by tile in the workers, and is nowhere whole, neither in
-memory nor on a disk. It is of blocks of 50 x 52 cells, one of 9 residues each: of the number of the block's row less that of its
+The map of N x N cells, 62,000 x 65,000 if they are not given, is made tile by tile in the workers, and is nowhere whole, neither in
+memory nor on a disk. It is of blocks of 50 x 52 cells, one of 9 residues each: of the number of the block's row less the number of its
 column. Residue 0 is null, the others are categories. So blocks of one category meet at corners alone, along the diagonals; by edges each
 block is an area, by corners each diagonal, and how many cells they have is reckoned without a look at the map. T is one of table,
-corners, edges; table and corners where none is given. Tiles of S x S cells, 4,096 where it is not given, cut blocks and diagonals
-everywhere. With --write the answers take their place in bench/RESULTS.md. Seconds are of the processors, of the workers, of what
+corners, edges; table and corners if none is given. Tiles of S x S cells, 4,096 if it is not given, cut blocks and diagonals
+everywhere. With --write the results take their place in bench/RESULTS.md. Seconds are of the processors, of the workers, of what
 they run and of this process.
 """
 
@@ -59,7 +59,7 @@ def sides(cells: int, side: int) -> Integers:
 
 
 class Known(NamedTuple):
-    """What the answers must be, by arithmetic alone."""
+    """What the results must be, by arithmetic alone."""
 
     heights: Integers
     widths: Integers
@@ -102,7 +102,7 @@ TASKS: dict[str, tuple[str, Callable[[Mosaic], Any]]] = {
 
 
 def is_as_known(task: str, answer: Any, known: Known) -> bool:
-    """Whether an answer has just the numbers that are known."""
+    """Whether a result has just the numbers that are known."""
     if task == "table":
         found = [[None if missing else int(category), int(cells)]
                  for category, missing, cells in zip(answer["made"], answer["made"].isna(), answer["cells"])]

@@ -1,4 +1,4 @@
-"""Maps that the figures are measured on: GeoTIFFs, deflate, blocks of 256 x 256, those of tiles written by strips."""
+"""Maps that the figures are measured on: GeoTIFFs, deflate, blocks of 256 x 256, the maps of tiles written by strips."""
 
 from __future__ import annotations
 
@@ -86,12 +86,12 @@ def comb(side: int) -> Cells:
 
 
 def spiral(side: int) -> Cells:
-    """A way from the corner to the middle, one cell wide, and the wall beside it."""
+    """A way from the corner to the middle, one cell wide, and the wall next to it."""
     row, col = np.indices((side, side), np.int32)
     ring = np.minimum(np.minimum(row, col), np.minimum(side - 1 - row, side - 1 - col))
     cells: Cells = (ring % 2 + 1).astype(np.uint8)
     turns = np.arange(0, (side - 1) // 2 - 1, 2)
-    # Each ring ends below its first cell, and goes on one ring further in.
+    # Each ring ends below its first cell, and continues one ring further in.
     cells[turns + 1, turns] = 2
     cells[turns + 2, turns + 1] = 1
     return cells

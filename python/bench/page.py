@@ -10,7 +10,7 @@ PAGE = Path(__file__).resolve().parents[2] / "bench" / "RESULTS.md"
 
 
 def put(name: str, text: str) -> None:
-    """Replaces what stands between `<!-- NAME -->` and `<!-- End of NAME -->`."""
+    """Replaces the text between `<!-- NAME -->` and `<!-- End of NAME -->`."""
     begin, end = f"<!-- {name} -->\n", f"<!-- End of {name} -->"
     page = PAGE.read_text(encoding="utf-8")
     before, rest = page.split(begin)
@@ -19,7 +19,7 @@ def put(name: str, text: str) -> None:
 
 
 def load() -> str:
-    """What is said of the machine beside figures: its processors, and how many processes wanted one meanwhile."""
+    """What is said of the machine next to figures: its processors, and how many processes wanted one meanwhile."""
     processors = sum(line.startswith("processor") for line in Path("/proc/cpuinfo").read_text().splitlines())
     waiting = float(Path("/proc/loadavg").read_text().split()[1])
     return f"{processors} processors, a load of {waiting:.0f} in the last five minutes"

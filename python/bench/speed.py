@@ -1,13 +1,13 @@
 #!/usr/bin/python3
-"""Measures ten tasks by the package, by that of an earlier commit and by peers, by turns in one run, and writes bench/RESULTS.md.
+"""Measures ten tasks by the package, by the package of an earlier commit and by peers, by turns in one run, and writes bench/RESULTS.md.
 
     speed.py [--side N] [--rounds N] [--before COMMIT] [--show]
 
-Each figure is nanoseconds of the processor a cell (user and system, all processes), the least of the rounds, on a GeoTIFF of patchy land
+Each figure is nanoseconds of the processor a cell (user and system, all processes), the smallest of the rounds, on a GeoTIFF of patchy land
 cover of N x N cells and another of zones. The contenders are started once and get a task after another: ten.py twice, with this
-package and with that of COMMIT over the same program `rcell`; ten.py with numpy, rasterio and scipy; ten.R with terra; ten.sh with GRASS,
+package and with the package of COMMIT over the same program `rcell`; ten.py with numpy, rasterio and scipy; ten.R with terra; ten.sh with GRASS,
 whose maps are there already, and whose modules start anew for each task. Results that can be compared have to be the same. Last come what a
-call takes whatever its map, and the table of a GeoTIFF beside reading it and counting in C++ (bench/yardstick.cpp), whose sum it may
+call takes whatever its map, and the table of a GeoTIFF compared with reading it and counting in C++ (bench/yardstick.cpp), whose sum it may
 not pass by more than a fifth of the one and half of the other. With --show the tables are printed and no file is written.
 """
 
@@ -39,7 +39,7 @@ READING, COUNTING = 1.2, 1.5
 
 
 class Contender:
-    """A process that does tasks, and the least seconds of each."""
+    """A process that does tasks, and the fewest seconds of each."""
 
     def __init__(self, words: list[str], **environment: str) -> None:
         self._process = subprocess.Popen(words, stdin=subprocess.PIPE, stdout=subprocess.PIPE, text=True, env={**os.environ, **environment})

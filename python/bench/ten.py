@@ -1,10 +1,10 @@
 #!/usr/bin/python3
-"""Does ten tasks by rcell, or by the fastest ways of numpy, rasterio and scipy: a name a line in, and out the seconds of the processor.
+"""Does ten tasks with rcell, or by the fastest ways of numpy, rasterio and scipy: a name a line in, and out the seconds of the processor.
 
     ten.py (rcell|numpy) FOLDER
 
 Behind the seconds is a sum of the result: of the counts of a table, in ascending order, or of the cells of a map. Python begins before
-the clock does. `speed.py` runs it with the package of this commit and with that of an earlier one, which has not all tasks.
+the clock does. `speed.py` runs it with the package of this commit and with an earlier one, which lacks some tasks.
 """
 
 from __future__ import annotations

@@ -1,14 +1,14 @@
 #!/usr/bin/python3
-"""Measures maps by tiles: answers beside the undivided map and beside GRASS, workers, memory, the cost of joining clumps.
+"""Measures maps by tiles: results compared with the full map and with GRASS, workers, memory, the cost of joining clumps.
 
     tiles.py [--side N] [--folder F] [--workers W] [--task T ...] [--write] [PART ...]
 
 PART is one of answers, arrays, grass, shapes, workers, memory, joining; without one they are all but grass. Made is a land cover map of
 N x N cells, 4,096 where N is not given; in a folder F that is named, it stays, and so do the maps that the part grass makes, which
-answers then lays beside those of tiles (20,000 x 20,000 cells take some ten minutes of a processor in GRASS, half an hour in tiles,
-and 10 GB). T is one of what these two make: table, edges, corners, total, modes, sizes; all where none is given. With --write each
+answers then compares with the maps of tiles (20,000 x 20,000 cells take about ten minutes of a processor in GRASS, half an hour in tiles,
+and 10 GB). T is one of what these two make: table, edges, corners, total, modes, sizes; all if none is given. With --write each
 part's table takes its place in bench/RESULTS.md. Seconds are of the processors, of the workers, of what they run and of this process;
-only `workers` tells those of the clock, which say something where nothing else runs.
+only `workers` prints the seconds of the clock, which say something if nothing else runs.
 """
 
 from __future__ import annotations
@@ -120,7 +120,7 @@ def of_shapes(given: Settings) -> list[str]:
 
 
 class Work(NamedTuple):
-    """What workers do, and what is told of its answer: a killed worker must change no cell of it."""
+    """What workers do, and what is said of its result: a killed worker must change no cell of it."""
 
     title: str
     do: Callable[[rcell.tiles.Mosaic, Path], Any]
@@ -145,7 +145,7 @@ def sum_of(path: Path) -> int:
 
 
 def of_workers(given: Settings) -> list[str]:
-    """1, 2 and 4 workers by turns, the least of their rounds, and 4 of which one is killed on the way."""
+    """1, 2 and 4 workers by turns, the smallest of their rounds, and 4 of which one is killed on the way."""
     least: dict[tuple[int, bool], list[Figures]] = {}
     answers: list[list[Any]] = []
     for count, is_killed in [*[(count, False) for count in (1, 2, 4)] * ROUNDS, (4, True)]:
@@ -173,7 +173,7 @@ def _of_count(count: int, is_killed: bool, found: list[Figures], alone: list[Fig
 
 
 def _worked(mosaic: rcell.tiles.Mosaic, count: int, work: Work, out: Path, killed_after: float) -> tuple[Any, Figures]:
-    """What is told of an answer, and what it took; a worker is killed after so many seconds, where they are not 0."""
+    """What is said of a result, and what it took; a worker is killed after so many seconds, if they are not 0."""
     mosaic.table(TABLE)  # workers have imported what they need
     client = mosaic._engine.cluster.client
     with contextlib.suppress(TimeoutError):  # one that was killed is not always started anew
@@ -193,7 +193,7 @@ def _worked(mosaic: rcell.tiles.Mosaic, count: int, work: Work, out: Path, kille
 
 
 def of_memory(given: Settings) -> list[str]:
-    """What a worker takes at its peak, beside what the formula says."""
+    """What a worker takes at its peak, compared with the formula."""
     loud, quiet, out = given.folder / "noise.tif", given.folder / "quiet.tif", given.folder / "memory.tif"
     noise(loud, MEMORY_SIDE)
     land_cover(quiet, MEMORY_SIDE)

@@ -1,4 +1,4 @@
-"""What work by tiles takes: seconds of the clock and of the processors, and the memory of the greatest worker."""
+"""What work by tiles takes: seconds of the clock and of the processors, and the memory of the largest worker."""
 
 from __future__ import annotations
 
@@ -20,8 +20,8 @@ MILLION = 1e6
 
 @dataclass
 class Figures:
-    """Seconds by the clock and of the processors of the workers, bytes of the greatest worker alone and with its program, and
-    with its program those of each process that was a worker."""
+    """Seconds by the clock and of the processors of the workers, bytes of the largest worker alone and with its program, and
+    with its program the bytes of each process that was a worker."""
 
     clock: float
     processor: float
@@ -107,7 +107,7 @@ def processor() -> float:
 
 def _of_workers(client: Any) -> dict[str, float]:
     """The same of each worker: by a function that is sent whole, since workers have no module of this
-    name; one that was just killed tells nothing."""
+    name; one that was just killed reports nothing."""
 
     def seconds() -> float:
         from resource import RUSAGE_CHILDREN, RUSAGE_SELF, getrusage
@@ -119,7 +119,7 @@ def _of_workers(client: Any) -> dict[str, float]:
 
 
 def measured(mosaic: Mosaic, work: Callable[[], Any]) -> tuple[Any, Figures]:
-    """The answer of some work of a mosaic, and what it took: of the workers, and of this process, which writes and joins."""
+    """The result of some work of a mosaic, and what it took: of the workers, and of this process, which writes and joins."""
     client = mosaic._engine.cluster.client
     before = _of_workers(client)
     own = time.process_time()

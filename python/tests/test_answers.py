@@ -1,4 +1,4 @@
-"""Answers in the words of pandas, xarray, matplotlib and GDAL."""
+"""Results as objects of pandas, xarray, matplotlib and GDAL."""
 
 from __future__ import annotations
 

@@ -1,4 +1,4 @@
-"""What is at the edge of the package: a cell is read exactly or refused, and what goes wrong is one error that says so."""
+"""What is at the edge of the package: a cell is read exactly or rejected, and what goes wrong is one error that says so."""
 
 from __future__ import annotations
 
@@ -48,9 +48,10 @@ def test_dimensions_are_known_by_their_names() -> None:
     assert cells(upward.transpose("x", "y")) == cells(array)
     renamed = array.rename(y="lat", x="lon")
     assert cells(renamed.transpose("lon", "lat")) == cells(array)
-    told = array.rename(y="rows", x="cols")
-    told.rows.attrs["axis"], told.cols.attrs["axis"] = "Y", "X"
-    assert cells(told.transpose("cols", "rows")) == cells(array)
+    for key, row, column in [("axis", "Y", "X"), ("standard_name", "grid_latitude", "grid_longitude"), ("units", "degrees_north", "degrees_east")]:
+        told = array.rename(y="rows", x="cols")
+        told.rows.attrs[key], told.cols.attrs[key] = row, column
+        assert cells(told.transpose("cols", "rows")) == cells(array)
 
 
 def test_dimensions_of_one_element_keep_their_place() -> None:
@@ -232,7 +233,7 @@ def test_what_is_no_map_is_refused(tmp_path: pathlib.Path, raster: Write) -> Non
 
 
 def test_thousands_of_bands_are_refused_at_once(tmp_path: pathlib.Path) -> None:
-    """A TIFF of 518 bytes may tell of 65,535 bands; each was asked how all others are interpreted."""
+    """A TIFF of 518 bytes may declare 65,535 bands; each was asked how all others are interpreted."""
     bands = "".join(f'<VRTRasterBand dataType="Byte" band="{band}"/>' for band in range(1, 20001))
     path = tmp_path / "many.vrt"
     path.write_text(f'<VRTDataset rasterXSize="1" rasterYSize="1">{bands}</VRTDataset>')

@@ -315,7 +315,7 @@ class Scripts(unittest.TestCase):
 
 
 def done(*fields: Any) -> str:
-    """An answer without a table, for printf: status, source, map, line, column and text."""
+    """A response without a table, for printf: status, source, map, line, column and text."""
     *numbers, told = fields
     text = str(told)
     return "RCELLA1\\nDONE" + "".join(f"\\{byte:03o}" for number in (*numbers, len(text)) for byte in number.to_bytes(8, "little")) + text
@@ -331,7 +331,7 @@ class Programs(unittest.TestCase):
             os.waitpid(-1, os.WNOHANG)
 
     def program(self, body: str, name: str = "rcell") -> Any:
-        """A program of a shell that stands in for rcell or rcell-pipe."""
+        """A shell script in the place of rcell or rcell-pipe."""
         folder = tempfile.TemporaryDirectory()
         self.addCleanup(folder.cleanup)
         path = f"{folder.name}/{name}"
@@ -341,7 +341,7 @@ class Programs(unittest.TestCase):
         return path
 
     def run_with(self, body: str, script: str = "r.stats -c input=lc", given: Any = LAND) -> Any:
-        """Run a script with a stand-in for rcell-pipe."""
+        """Run a script with a script in the place of rcell-pipe."""
         from rcell import _program
 
         path = self.program(body, "rcell-pipe")

@@ -1,4 +1,4 @@
-"""The examples of the docstrings: those that need more than numpy where it is installed."""
+"""The examples of the docstrings: the ones that need more than numpy if that is installed."""
 
 from __future__ import annotations
 

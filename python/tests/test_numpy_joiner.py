@@ -1,4 +1,4 @@
-"""The proved joiner beside the one of numpy and beside the undivided map; it needs numpy alone."""
+"""The proved joiner compared with numpy's and with the full map; it needs numpy alone."""
 
 from __future__ import annotations
 
@@ -16,7 +16,7 @@ from rcell import _joiner
 from rcell._counts import Counts, TooManyCells, counts_of
 from rcell._joiner import border_of, joined, joined_sizes, numbering_of
 from rcell._maps import ArrayMap
-from rcell._program import execute, table_text
+from rcell._program import execute, printed as printed_by_rcell
 from rcell._region import Region
 from rcell_front.pipe import NULL
 from tests.merging import merge
@@ -34,7 +34,7 @@ def printed(counts: Counts) -> bytes:
 def table_of(cells: Any, more: str = "") -> bytes:
     """The table of two maps, of which the second is the first turned over."""
     region = Region.of_cells(*cells[0].shape)
-    return table_text(f"r.stats -c {more}input=a,b", {name: ArrayMap(name, part, region, nodata_value=NULL_CELL) for name, part in zip("ab", cells)})
+    return printed_by_rcell(f"r.stats -c {more}input=a,b", {name: ArrayMap(name, part, region, nodata_value=NULL_CELL) for name, part in zip("ab", cells)})
 
 
 def cuts(random: np.random.Generator, total: int) -> list[tuple[int, int]]:
@@ -90,10 +90,10 @@ def clump_script(diagonal: bool) -> str:
 
 
 def clumped(cells: Any, diagonal: bool) -> tuple[Any, bytes]:
-    """The numbers of the clumps of a map, 0 where it is null, and their table."""
+    """The numbers of the clumps of a map, 0 for null, and their table."""
     maps = {"a": ArrayMap("a", cells, Region.of_cells(*cells.shape), nodata_value=NULL_CELL)}
     numbers = execute(clump_script(diagonal), maps, wanted=("k",))[-1].values
-    return np.maximum(numbers, 0), table_text(f"{clump_script(diagonal)}\nr.stats -c input=k", maps)
+    return np.maximum(numbers, 0), printed_by_rcell(f"{clump_script(diagonal)}\nr.stats -c input=k", maps)
 
 
 def border(cells: Any, diagonal: bool, top: int = 0, left: int = 0) -> bytes:
@@ -124,7 +124,7 @@ class Tiles(unittest.TestCase):
         self.assertEqual(sizes, b"".join(line for line in table.splitlines(keepends=True) if not line.startswith(b"*")))
 
     def renumbered(self, numbering: bytes, tiles: list[Any]) -> list[Any]:
-        """The numbers of tiles with those of the full map in their place."""
+        """The numbers of tiles replaced by the numbers of the full map."""
         found = [np.zeros(tile.max() + 1, np.int64) for tile in tiles]
         for tile, first, last, number in (map(int, line.split()) for line in numbering.splitlines()):
             found[tile - 1][first : last + 1] = np.arange(number, number + last - first + 1)
@@ -195,7 +195,7 @@ class Counted(unittest.TestCase):
 
 
 class Programs(unittest.TestCase):
-    """Programs that do not answer as they should: scripts in the place of rcell-join."""
+    """Programs that do not respond as they should: scripts in the place of rcell-join."""
 
     def join_with(self, body: str) -> bytes:
         return joined([b"1 1\n"], program=known_program(self, body))

@@ -18,7 +18,6 @@ import numpy as np
 import rcell
 from rcell._program import find_pipe
 from rcell_front import pipe
-from rcell_front.spelling import rows_text
 
 EDGES = ("2", "0", "3.5", "-.5")
 LAND = bytes([1, 1, 2, 255, 2, 2])
@@ -46,7 +45,7 @@ PLAN = (
 
 
 class Asked(unittest.TestCase):
-    """A folder with stand-ins for the program."""
+    """A folder with scripts in the place of the program."""
 
     def setUp(self) -> None:
         folder = tempfile.TemporaryDirectory()
@@ -67,7 +66,7 @@ class Asked(unittest.TestCase):
         return path
 
     def answering(self, answer: bytes, after: str = "") -> str:
-        """A program that keeps the request, and gives an answer."""
+        """A program that keeps the request, and gives a response."""
         with open(f"{self.folder}/answer", "wb") as file:
             file.write(answer)
         return self.program(f"cat > {self.folder}/request\ncat {self.folder}/answer\n{after}")
@@ -115,11 +114,11 @@ class Answers(Asked):
         self.assertEqual((table.line, table.names, table.separator, table.null_text, table.entries), (4, ("lc",), b";", b"NA", 2))
         assert table.counts is not None
         self.assertEqual((table.counts.tolist(), table.cells.tolist(), table.labels), ([5, 2**40], [-7, pipe.NULL], [b"wood", b"no data"]))
-        self.assertEqual(table.printed(), b"-7;wood;5\nNA;no data;1099511627776\n")
+        self.assertEqual(table.null_text, b"NA")
         self.assertEqual((grid.line, grid.name, grid.null_text, grid.rows, grid.cols, grid.type, grid.null), (5, "k", b"*", 1, 2, "i32", pipe.NULL))
         self.assertEqual((grid.cells.tolist(), array("i", grid.cells).tolist()), ([300, pipe.NULL], [300, pipe.NULL]))
         self.assertEqual(grid.edges, ("2", "0", "3.5", "-0.5"))
-        self.assertEqual((cells.line, cells.names, cells.counts, cells.cells.tolist(), cells.printed()), (6, ("lc",), None, [1, pipe.NULL], b"1\n*\n"))
+        self.assertEqual((cells.line, cells.names, cells.counts, cells.cells.tolist(), cells.null_text), (6, ("lc",), None, [1, pipe.NULL], b"*"))
 
     def test_a_statement(self) -> None:
         [found] = pipe.plan(self.answering(MAGIC + PLAN + DONE), ["lc", "ws"], b"x")
@@ -190,14 +189,31 @@ class Answers(Asked):
         self.assertEqual(table.counts.tolist(), [9_000_000])
 
 
-class Spelling(unittest.TestCase):
+class Texts(Asked):
     def test_rows_are_those_of_a_grid(self) -> None:
         chance = np.random.default_rng(2)
-        for shape in ((1, 1), (3, 5), (2, 200_000)):
-            for dtype, null, low, high in (("u1", 255, 0, 256), ("i4", pipe.NULL, -3, 12), ("i4", pipe.NULL, -(2**31) + 1, 2**31), ("i4", -9, -9, -8)):
-                cells = np.where(chance.random(shape) < 0.1, null, chance.integers(low, high, shape)).astype(dtype)
-                wanted = "".join(" ".join("*" if cell == null else str(cell) for cell in row) + "\n" for row in cells.tolist())
-                self.assertEqual(rows_text(cells, null), wanted.encode())
+        for rows, cols in ((1, 1), (3, 5), (20, 20_000)):
+            for kind, dtype, null, low, high in (("u8", "u1", 255, 0, 256), ("i32", "i4", pipe.NULL, -3, 12), ("i32", "i4", -9, -(2**31) + 1, 2**31)):
+                cells = np.where(chance.random((rows, cols)) < 0.1, null, chance.integers(low, high, (rows, cols))).astype(dtype)
+                land = pipe.Map("land", (f"{rows}.5", "0.50", f"{cols}", "-0"), rows, cols, kind, [pipe.Block(cells.data)], null)
+                wanted = f"north: {rows}.5\nsouth: 0.5\neast: {cols}\nwest: 0\nrows: {rows}\ncols: {cols}\n"
+                wanted += "".join(" ".join("*" if cell == null else str(cell) for cell in row) + "\n" for row in cells.tolist())
+                self.assertEqual(b"".join(pipe.text(find_pipe(), [land], b"r.out.ascii input=land")), wanted.encode())
+
+    def test_text_is_all_that_comes(self) -> None:
+        for given in (b"", b"RCELLA1\nDON", MAGIC + DONE + b"7\n", b"7\n" * 300_000 + MAGIC + DONE):
+            self.assertEqual(b"".join(pipe.text(self.answering(given), [a_map()], b"")), given)
+
+    def test_rejections(self) -> None:
+        rejection = MAGIC + b"DONE" + struct.pack("<5Q", 1, 2, 0, 3, 0) + text(b"unknown map")
+        for given, status, wanted in ((rejection, 1, (1, "script", 3, "unknown map")), (rejection, 3, (3, "", 0, "no memory")), (b"7\n", 3, (3, "", 0, "no memory"))):
+            with self.assertRaises(pipe.Rejected) as caught:
+                list(pipe.text(self.answering(given, f"exit {status}"), [a_map()], b""))
+            found = caught.exception
+            self.assertEqual((found.status, found.source, found.line, found.text), wanted)
+        for given, status in ((b"7\n", 1), (rejection, 4), (rejection[:-1], 1)):
+            with self.assertRaises(pipe.NoAnswer):
+                list(pipe.text(self.answering(given, f"exit {status}"), [a_map()], b""))
 
 
 class Runs(unittest.TestCase):
@@ -220,7 +236,7 @@ class Runs(unittest.TestCase):
                 with open(f"{folder}/script", "wb") as script_file:
                     script_file.write(script)
                 wanted = subprocess.run([rcell.program(), f"{folder}/script", *words], capture_output=True, check=True).stdout
-            self.assertEqual(b"".join(frame.printed() for frame in pipe.run(find_pipe(), maps, script)), wanted)  # type: ignore[union-attr]
+            self.assertEqual(b"".join(pipe.text(find_pipe(), maps, script)), wanted)
 
     def test_plans(self) -> None:
         script = (

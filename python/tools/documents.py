@@ -5,7 +5,7 @@
 
 A document is run in a folder of its own that holds what examples/rasters holds, its blocks from the top:
     pycon            a session of Python: lines after `>>> ` and `... ` are executed, one session a document
-    console          lines after `$ ` are given to sh, those after `> ` go on with the line above
+    console          lines after `$ ` are given to sh, those after `> ` continue the line above
     text file=PATH   a file (also python file=PATH)
     text, python, sh shown and not run
 What is run finds `python3` and `rcell` on the path of the caller. With --write what is printed takes the place of what is

@@ -1,7 +1,7 @@
 #!/usr/bin/python3
 """Makes examples/rasters from the grid of South-East Asia: example_rasters.py GRID LABELS
 
-GRID is examples/islands/archipelago.txt, and LABELS a file of rules `1 = 1 Indonesia`, as they stand in its scripts. Written are
+GRID is examples/islands/archipelago.txt, and LABELS a file of rules `1 = 1 Indonesia`, as they are in its scripts. Written are
 country.tif, the land by country, and hemisphere.tif, which side of the equator a cell lies on (1 north, 2 south).
 """
 

@@ -1,4 +1,4 @@
-"""Writes a map and two tables where a file may have some hundred bytes, and tells what is said of each: full_disk.py RASTER FOLDER."""
+"""Writes a map and two tables where a file may have a few hundred bytes, and prints what is said of each: full_disk.py RASTER FOLDER."""
 
 from __future__ import annotations
 

@@ -1,6 +1,6 @@
-"""What is done inside the window of QGIS: installs the zip as Install from ZIP does, runs algorithms as the toolbox does, and tells what came of it.
+"""What is done inside the window of QGIS: installs the zip as Install from ZIP does, runs algorithms as the toolbox does, and prints what came of it.
 
-QGIS runs this file (`--code`); the environment names the zip, a room with the raster cover.tif, and the file that is told to.
+QGIS runs this file (`--code`); the environment names the zip, a room with the raster cover.tif, and the file for the result.
 """
 
 from __future__ import annotations
@@ -66,7 +66,7 @@ def run_in_dialog() -> dict[str, Any]:
 
 
 def marked_in_log() -> dict[str, Any]:
-    """A line of a script that is refused: what the log of the dialog shows."""
+    """A line of a script that is rejected: what the log of the dialog shows."""
     cover = QgsProject.instance().mapLayersByName("cover")[0]
     dialog = dialog_of("rcell:script", {"INPUT": [cover.id()], "NAMES": "lc", "SCRIPT": "r.mapcalc x = lc + 1.5"})
     dialog.runButton().click()

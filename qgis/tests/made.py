@@ -15,7 +15,7 @@ DEGREES = (8.0, 0.5, 0.0, 48.0, 0.0, -0.5)
 
 def write(path: str, cells: Any, dtype: int = gdal.GDT_Int32, *, transform: Any = METRES, epsg: int = 32632, nodata: float | None = None,
           names: list[str] | None = None, driver: str = "GTiff", bands: int = 1) -> str:
-    """Writes cells as a raster, and answers its path."""
+    """Writes cells as a raster, and returns its path."""
     array = np.atleast_2d(np.asarray(cells))
     memory = gdal.GetDriverByName("MEM").Create("", array.shape[1], array.shape[0], bands, dtype)
     if transform is not None:
@@ -92,7 +92,7 @@ def _around(at: tuple[int, ...], diagonal: bool) -> Iterator[tuple[int, int]]:
 
 
 def commonest(cells: NDArray[Any], size: int) -> NDArray[np.int32]:
-    """The commonest category of the square around each cell, the least where several are; 0 is null."""
+    """The commonest category of the square around each cell, the smallest if there are several; 0 is null."""
     rows, cols = cells.shape
     reach = size // 2
     made = np.zeros((rows, cols), np.int32)
@@ -105,5 +105,5 @@ def commonest(cells: NDArray[Any], size: int) -> NDArray[np.int32]:
 
 
 def left_in(folder: str) -> list[str]:
-    """What stands in a folder that no one asked for."""
+    """What is in a folder that no one asked for."""
     return sorted(name for name in os.listdir(folder) if ".part" in name)

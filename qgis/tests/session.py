@@ -37,7 +37,7 @@ def has(algorithm: str) -> bool:
 
 
 class Log(QgsProcessingFeedback):
-    """What a run tells."""
+    """What a run prints."""
 
     def __init__(self) -> None:
         super().__init__(False)
@@ -61,7 +61,7 @@ class Log(QgsProcessingFeedback):
 
 
 def run(algorithm: Any, log: QgsProcessingFeedback | None = None, **parameters: Any) -> dict[str, Any]:
-    """Runs an algorithm, by its name or a model, and answers its results."""
+    """Runs an algorithm, by its name or a model, and returns its results."""
     import processing
 
     found: dict[str, Any] = processing.run(algorithm, parameters, feedback=log or Log())

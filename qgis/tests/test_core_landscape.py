@@ -1,4 +1,4 @@
-"""The seven answers beside plain loops over cells."""
+"""The seven results compared with plain loops over cells."""
 
 from __future__ import annotations
 

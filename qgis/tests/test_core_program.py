@@ -1,4 +1,4 @@
-"""The program: where it is looked for, and what becomes of a run that is cancelled, killed or not understood."""
+"""The program: its search path, and what becomes of a run that is cancelled, killed or not understood."""
 
 from __future__ import annotations
 
@@ -89,7 +89,7 @@ class ProgramTest(unittest.TestCase):
             asked.table(self.script("cat > /dev/null; echo 1 2 3"), [self.raster], False)
 
     def cancelled(self, path: str, after: float, raster: Raster | None = None) -> float:
-        """How long a run goes on after it was cancelled."""
+        """How long a run continues after it was cancelled."""
         cancel = threading.Event()
         at: list[float] = []
         timer = threading.Timer(after, lambda: (at.append(time.monotonic()), cancel.set()))

@@ -1,4 +1,4 @@
-"""Rasters in and out: types, nodata, places, labels, and what is refused."""
+"""Rasters in and out: types, nodata, places, labels, and what is rejected."""
 
 from __future__ import annotations
 

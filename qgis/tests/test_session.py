@@ -1,4 +1,4 @@
-"""A short session of QGIS: each algorithm once, what the dialog refuses, legends, labels, names of fields."""
+"""A short session of QGIS: each algorithm once, what the dialog rejects, legends, labels, names of fields."""
 
 from __future__ import annotations
 
@@ -112,7 +112,7 @@ class TableTest(InSession):
 
 
 class RefusalsTest(InSession):
-    """What the dialog refuses before the run; the same words come from qgis_process."""
+    """What the dialog rejects before the run; the same words come from qgis_process."""
 
     def test_maps(self) -> None:
         shifted = made.write(self.path("shifted.tif"), COVER, transform=(500010, 20, 0, 5400000, 0, -20))
@@ -234,7 +234,7 @@ class MapsTest(InSession):
         band = dataset.GetRasterBand(1)
         band.GetNoDataValue()
         self.assertEqual(band.GetRasterCategoryNames()[1], "green, all of it")
-        # What it leaves goes on to the next algorithm: the label, and not the count of the legend.
+        # What it leaves passes to the next algorithm: the label, and not the count of the legend.
         rows = session.rows(self.run_("cross", INPUT=[QgsRasterLayer(found["OUTPUT"], "r")], OUTPUT="TEMPORARY_OUTPUT")["OUTPUT"])[1]
         self.assertEqual(rows[0][:3], [1, "green, all of it", 14])
 

@@ -1,4 +1,4 @@
-"""Answers equal to those of QGIS's own algorithms and of GRASS, on random, patchy and one real map."""
+"""Results equal to QGIS's own algorithms and of GRASS, on random, patchy and one real map."""
 
 from __future__ import annotations
 
@@ -23,7 +23,7 @@ class AnswersTest(InSession):
 
     def setUp(self) -> None:
         super().setUp()
-        # QGIS leaves statistics beside a raster that it opens.
+        # QGIS leaves statistics next to a raster that it opens.
         shutil.copytree(ISLANDS, self.path("islands"))
 
     def maps(self) -> dict[str, str]:

@@ -4,9 +4,9 @@
     build.py [--jobs N] PROGRAM..       PROGRAM is rcell, rcell-join or rcell-pipe
     build.py --list PROGRAM|all         the crates that it needs, each after those below it
 
-The proofs are those of `rt ci`, in a folder that has these crates alone, without tests and edits: what passes is kept on this
-machine and counts for the gate, and what the gate passed counts here. A line names each crate that is done; the whole log is
-bin/PROGRAM.log.
+The proofs are made by `rt ci`, in a folder that has these crates alone, without tests and edits. If the kit keeps proofs, as 13f
+does, what passes here is not proved again in the gate, nor the other way round. A line names each crate that is done; the whole
+log is bin/proofs.log.
 """
 import argparse
 import contextlib
@@ -24,6 +24,7 @@ import time
 
 ROOT = os.path.abspath(f"{__file__}/../../..")
 PROGRAMS = {"rcell_program": "rcell", "rcell_join": "rcell-join", "rcell_pipe": "rcell-pipe"}
+LOG = f"{ROOT}/bin/proofs.log"
 PROVED = ("src", "specs", "proofs")
 RUN_ON = ("stdin", "args", "data", "status", "stdout")
 LINES_OF_A_LOG = 40
@@ -64,6 +65,19 @@ class Crate:
         """A sum of all that the crate's proof depends on."""
         parts = [kit_version(), self.of_kit, self.name, self.files, [it.stamp for it in self.below]]
         return hashlib.sha256(repr(parts).encode()).hexdigest()
+
+    @property
+    def proved(self):
+        """The file that holds the stamp of the library that the gate left. `rt check` leaves a library with a stamp of its own."""
+        return pathlib.Path(os.path.dirname(self.rlib), "proved")
+
+    def note_proved(self):
+        if os.path.isdir(self.rlib) and not self.proved.with_name("stamp").exists():
+            self.proved.write_text(self.stamp, encoding="ascii")
+
+    def has_proved(self):
+        """Whether the gate left the library of exactly these sources."""
+        return self.proved.exists() and self.proved.read_text(encoding="ascii") == self.stamp
 
     def command(self, verb, jobs=1):
         """The command that proves the crate (`check`), or also compiles it (`build`), over the libraries below it that `rt` left."""
@@ -202,16 +216,17 @@ def take_built(crate, root, where=HERE):
     put(out, name)
 
 
-def build(program, jobs):
-    """Proves a program, puts it into bin/, and returns the status of the process."""
-    crates, name = crates_of([program]), PROGRAMS[program]
-    print(f"Proving {len(crates)} crates, then building bin/{name}.", flush=True)
+def build(programs, jobs):
+    """Prove the crates of programs in one run, put the programs into bin/, and return the status of the process."""
+    crates, names = crates_of(programs), " and ".join(f"bin/{PROGRAMS[it]}" for it in programs)
+    print(f"Proving {len(crates)} crates, then building {names}.", flush=True)
     os.makedirs(f"{ROOT}/bin", exist_ok=True)
     with cut(crates) as folder:
-        status = prove(folder, crates, jobs, f"{ROOT}/bin/{name}.log")
+        status = prove(folder, crates, jobs, LOG)
         if not status:
-            take_built(program, folder)
-            print(f"bin/{name} is proved and built", flush=True)
+            for it in programs:
+                take_built(it, folder)
+            print(f"proved and built: {names}", flush=True)
     return status
 
 
@@ -224,10 +239,9 @@ def main():
     if given.list:
         print(*(it.name for it in crates_of(crate for crate, name in PROGRAMS.items() if given.list in (name, "all"))), sep="\n")
         return 0
-    for crate in (crate for crate, name in PROGRAMS.items() if name in given.programs):
-        if status := build(crate, given.jobs):
-            return status
-    return 0
+    if not given.programs:
+        words.error("no program is named")
+    return build([crate for crate, name in PROGRAMS.items() if name in given.programs], given.jobs)
 
 
 if __name__ == "__main__":

@@ -1,5 +1,5 @@
 #!/usr/bin/env python3
-"""Makes the release of what is built, and tries it: the static programs beside the documents and the models, its files
+"""Makes the release of what is built, and tries it: the static programs against the documents and the models, its files
 (tools/build/check_artefacts.py), the quick start, the helpers and the joiner from the unpacked files, `make install`.
 
     check_release.py [--keep FOLDER]
@@ -33,14 +33,14 @@ PAGES = "share/man/man1"
 # The packages of Debian that a release is made with, each by a file of it.
 PACKAGES = {"libc6-dev": "/usr/lib/x86_64-linux-gnu/libc.a", "libgcc-12-dev": "/usr/lib/gcc/x86_64-linux-gnu/12/libgcc.a",
             "python3-hatchling": "/usr/lib/python3/dist-packages/hatchling", "r-base-core": "/usr/bin/R"}
-# Two bands of a map, and the table of the whole.
+# Two bands of a map, and the table of the full map.
 HEADER = "north: {}\nsouth: {}\neast: 3\nwest: 0\nrows: {}\ncols: 3\n"
 BANDS = {"upper": HEADER.format(3, 1, 2) + "5 5 *\n-1 5 7\n", "lower": HEADER.format(1, 0, 1) + "7 * 9\n"}
 TABLE_OF_THE_WHOLE = "-1 1\n5 3\n7 2\n9 1\n* 2\n"
 
 
 class Count:
-    """How many checks passed, failed and were skipped so far; each is told on a line as soon as it is known."""
+    """How many checks passed, failed and were skipped so far; each is printed on a line as soon as it is known."""
 
     def __init__(self):
         self.passed = self.failed = self.skipped = 0
@@ -64,7 +64,7 @@ class Count:
 
 
 def check_static(count):
-    """The static programs give what the documents show, and answer as the plain models do on runs made at random."""
+    """The static programs give what the documents show, and print what the plain models do on runs made at random."""
     static, joiner, pipe = (f"{ROOT}/bin/{name}-static" for name in PROGRAMS)
     for what, words in (("the documents by the static programs",
                          ["tools/documents/documents.py", "--program", static, "--joiner", joiner, "--pipe", pipe, *documents.DOCUMENTS]),

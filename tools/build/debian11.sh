@@ -1,8 +1,8 @@
 #!/bin/sh
-# Runs the quick start of the release in a root of Debian 11, whose C library is older than that of Debian 12: from the tarball,
+# Runs the quick start of the release in a root of Debian 11, whose C library is older than Debian 12's: from the tarball,
 # and again from the package, which is really installed there. As root, with debootstrap of Debian; not part of the gate.
 #
-#     tools/build/debian11.sh [FOLDER [ROOT]]      FOLDER has the release, dist where it is not given; ROOT is made where it is not there
+#     tools/build/debian11.sh [FOLDER [ROOT]]      FOLDER has the release, dist if it is not given; ROOT is made if it is missing
 #
 # The last line of each run is 'N passed, M failed'.
 set -eu

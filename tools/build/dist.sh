@@ -23,7 +23,7 @@ stage() {
 stage "$room/$name" --with-islands
 pack "$name" "$dist/$name.tar.gz"
 
-# The changes of the package in Debian's form; CHANGELOG.md next to it has those of the program.
+# The changes of the package in Debian's form; CHANGELOG.md next to it has the program's.
 changelog() {
     printf 'rcell (%s) unstable; urgency=medium\n\n  * CHANGELOG.md says what changed.\n\n' "$version"
     printf ' -- %s  %s\n' "$(sed -n 's/^Maintainer: //p' packaging/control.in)" "$(date -u -R -d "@$SOURCE_DATE_EPOCH")"

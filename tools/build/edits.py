@@ -1,12 +1,12 @@
 #!/usr/bin/env python3
-"""Tries the edits of crates/NAME/edits, many in one check: each must be refused by the function that it changes.
+"""Tries the edits of crates/NAME/edits, many in one check: each must be rejected by the function that it changes.
 
     edits.py [--one-by-one] [--all | CRATE..]       without names, the crates that tools/edits.txt names for the gate
 
-A check judges each function by itself, over the contracts of what it calls. So edits of different functions stand in one copy of
-the crate and do not touch each other; each next copy begins with what the check before it kept. An edit is refused if a function
-that it changes is not proved for a reason of its own, and not because it calls another that is not proved. What is not refused in
-company is tried alone. What is refused is kept next to the kit, by a sum of all that it stands on, and not tried again. The last
+A check judges each function by itself, over the contracts of what it calls. So edits of different functions are made in one copy of
+the crate and do not touch each other; each next copy begins with what the check before it kept. An edit is rejected if a function
+that it changes is not proved for a reason of its own, and not because it calls another that is not proved. What is not rejected in
+company is tried alone. What is rejected is kept next to the kit, by a sum of all that it uses, and not tried again. The last
 line is 'N passed, M failed'.
 """
 import argparse
@@ -119,7 +119,7 @@ def verdicts(crate, edits, kept):
 
 
 def is_of(path, name, function):
-    """Whether a path of a verdict is that of the function of a file, or of a closure in it. A method is in the module of its type."""
+    """Whether a path of a verdict names the function of a file, or a closure in it. A method is in the module of its type."""
     parts = [it.split("+")[0] for it in path.split("::")]
     owner, _, function = function.rpartition("::")
     if owner:
@@ -137,7 +137,7 @@ def is_refused(edit, found):
 
 
 class Kept:
-    """The edits that were refused before, by a sum of the kit, the crate with all below it, this file, and the edit."""
+    """The edits that were rejected before, by a sum of the kit, the crate with all below it, this file, and the edit."""
 
     def __init__(self, crate):
         self.folder = pathlib.Path(os.path.dirname(build.kit()), "rcell-kept-edits")
@@ -160,7 +160,7 @@ class Kept:
 
 
 def try_groups(crate, edits, one_by_one, kept):
-    """Tries edits, those again alone that are not refused in company, and returns those that are not refused, and how many checks it took."""
+    """Tries edits, those again alone that are not rejected in company, and returns those that are not rejected, and how many checks it took."""
     groups, checks, missed = groups_of(edits, one_by_one), 0, []
     with tempfile.TemporaryDirectory(prefix="rcell-edits-kept-") as room:
         while groups:
@@ -178,7 +178,7 @@ def try_groups(crate, edits, one_by_one, kept):
 
 
 def try_crate(crate, one_by_one):
-    """Tries the edits of a crate, and returns how many were refused, how many were not, and how many of the first were kept."""
+    """Tries the edits of a crate, and returns how many were rejected, how many were not, and how many of the first were kept."""
     edits, kept = [edit_of(it) for it in edits_in(crate.name)], Kept(crate)
     left = [it for it in edits if not kept.has(it)]
     missed, checks = try_groups(crate, left, one_by_one, kept) if left else ([], 0)
@@ -200,18 +200,25 @@ def checks_at_a_time():
     return max(1, min(len(os.sched_getaffinity(0)), int(available[1]) * 1024 // BYTES_OF_A_CHECK))
 
 
+def try_over(root, names, one_by_one):
+    """Try the edits of crates over the libraries below a root, the largest crates first, and return the counts of each crate."""
+    tried = [it for it in build.crates_of(names, root) if it.name in names]
+    for crate in tried:
+        crate.folder = f"{build.ROOT}/crates/{crate.name}"
+    with ThreadPoolExecutor(checks_at_a_time()) as pool:
+        return list(pool.map(lambda crate: try_crate(crate, one_by_one), sorted(tried, key=lambda crate: -crate.work)))
+
+
 def try_all(names, one_by_one):
-    """Tries the edits of crates over one copy of what is below them, the largest crates first; returns the counts of each crate."""
+    """Try the edits of crates over the libraries that the gate left, or over a copy that is proved here."""
     crates = build.crates_of(names)
     below = [it for it in crates if any(it.name in other.all_below for other in crates)]
+    if all(it.has_proved() for it in below):
+        return try_over(build.ROOT, names, one_by_one)
     with build.cut(below) as folder:
         if build.prove(folder, below, 0, f"{folder}/log"):
             return [(0, len(edits_in(name)), 0) for name in names]
-        tried = [it for it in build.crates_of(names, folder) if it.name in names]
-        for crate in tried:
-            crate.folder = f"{build.ROOT}/crates/{crate.name}"
-        with ThreadPoolExecutor(checks_at_a_time()) as pool:
-            return list(pool.map(lambda crate: try_crate(crate, one_by_one), sorted(tried, key=lambda crate: -crate.work)))
+        return try_over(folder, names, one_by_one)
 
 
 def main():

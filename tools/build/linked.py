@@ -3,9 +3,9 @@
 
     linked.py FOLDER [--without-own] [--with-islands]
 
-Copies into FOLDER the texts of rcell's own two licences (--without-own leaves them out: Debian has them), with --with-islands that of
+Copies into FOLDER the texts of rcell's own two licences (--without-own leaves them out: Debian has them), with --with-islands the licence of
 the data of examples/islands, and below linked/ the notices of the libraries that are linked into the programs, with the texts of
-the licences that they name. The libraries are those of the kit that crates.txt names for the programs, with all below them, and
+the licences that they name. The libraries are the kit's that crates.txt names for the programs, with all below them, and
 of Debian the GNU C Library and the startup code of GCC.
 """
 import argparse

@@ -5,9 +5,9 @@
     objects.py --from FILE PROGRAM..    puts programs into bin/ that are linked from the objects of a release
     objects.py --stamps FOLDER          writes PROGRAM.stamp for each program
 
-An object is right if the kit links it to the bytes of its program. One is left where a program was proved; where the proofs were
-kept from an earlier run, the program's own crate is proved and compiled once more over the libraries that were kept.
-With --from, the stamp of an object must be that of these sources: a sum of the kit's version and all that the proof reads.
+An object is right if the kit links it to the bytes of its program. Proving a program leaves one. If the kit took the proofs from
+an earlier run, the program's own crate is proved and compiled once more over the libraries below it.
+With --from, the stamp of an object must fit these sources: a sum of the kit's version and all that the proof reads.
 """
 import argparse
 import filecmp
@@ -38,11 +38,11 @@ def is_right(made, program, room):
 
 
 def compiled(crate, room):
-    """The object of a program, from the sources of its crate over the libraries that are kept."""
+    """Compile the object of a program from the sources of its crate over the libraries below it."""
     crates, made = build.crates_of([crate]), f"{room}/{crate}.o"
-    print(f"bin/{build.PROGRAMS[crate]}.o is missing: compiling {crate} over the libraries that are kept", flush=True)
+    print(f"bin/{build.PROGRAMS[crate]}.o is missing: compiling {crate} over the libraries below it", flush=True)
     with build.cut(crates) as folder:
-        if build.prove(folder, crates, 0, f"{build.ROOT}/bin/{build.PROGRAMS[crate]}.log"):
+        if build.prove(folder, crates, 0, build.LOG):
             return made
         program = build.crates_of([crate], folder)[-1]
         words = program.command("build", len(os.sched_getaffinity(0)))

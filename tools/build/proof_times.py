@@ -6,7 +6,7 @@
 It proves the crate by one process from nothing, over the libraries below it that `rt check` or `rt lib` left, and prints
 the seconds of each function and each file of lemmas, the slowest first: how long its states take (what the prover knows of
 each local at each place where the paths of a function meet, so they grow with both), the goals that are left to a search, the
-answers that are written, and all else. What it tells is the time from one kept module to the next, so it wants an idle
+proofs that are written, and all else. It prints the time from one kept module to the next, so it wants an idle
 machine. The first function that needs a set of lemmas also takes the time of reading the set.
 """
 import argparse

@@ -3,8 +3,8 @@
 
     proved.py
 
-The programs, dynamic and static, and their objects are those in bin/. The commit, the kit and the libraries of Debian are those of
-this machine now. The closing line of the gate is that of bin/gate, which `make check` leaves; if there is none for this commit
+The programs, dynamic and static, and their objects are in bin/. The commit, the kit and the libraries of Debian are from
+this machine now. The closing line of the gate is in bin/gate, which `make check` leaves; if there is none for this commit
 and these programs, the page says so. What is proved, only tested and trusted is the section of the README.
 """
 import glob

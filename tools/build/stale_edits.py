@@ -1,7 +1,7 @@
 #!/usr/bin/env python3
-"""Tells each edit of crates/*/edits/ whose old text does not stand exactly once in its file.
+"""Prints each edit of crates/*/edits/ whose old text is not exactly once in its file.
 
-The gate tries only those of the crates of tools/edits.txt (`make edits` all), but none may go stale.
+The gate tries only the edits of the crates in tools/edits.txt (`make edits` all), but none may go stale.
 """
 import glob
 import os

@@ -2,7 +2,7 @@
 # Links the programs statically: bin/NAME-static, each one file that runs on each Linux on x86-64,
 # whatever its C library.
 #
-#     tools/build/static.sh [FOLDER]         FOLDER is bin where it is not given
+#     tools/build/static.sh [FOLDER]         FOLDER is bin if it is not given
 #
 # Each is linked from its object bin/NAME.o, from which the kit links bin/NAME, by the
 # kit's ld.lld with the C library of Debian (libc.a of libc6-dev; libgcc-12-dev), as a position-independent program. First an

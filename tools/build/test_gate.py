@@ -1,5 +1,6 @@
 #!/usr/bin/env python3
-"""Tries how the gate counts (tools/check.py, tools/counting.sh), and how edits.py groups edits and reads a check. The last line is 'N passed, M failed'."""
+"""Tries how the gate counts (tools/check.py, tools/counting.sh), which libraries it leaves for edits.py, and how that groups edits and
+reads a check. The last line is 'N passed, M failed'."""
 import os
 import pathlib
 import subprocess
@@ -8,6 +9,7 @@ import tempfile
 
 sys.path.insert(1, os.path.abspath(f"{__file__}/../.."))
 
+import build
 import check
 import edits
 
@@ -63,7 +65,7 @@ impl<'a> Iterator for Range<'a> {
 PLACES = {"MOST": "", "let found": "first", "found as": "first", "self.source": "Reader::next", "self.low": "RangeIterator::least", "impl": ""}
 BY_ANOTHER = "no proof: it calls `first`, which is not proved"
 OPEN = "no proof: at `found as u64`, `search` did not prove `result = 3`"
-# The functions that an edit changes, the verdicts of a check, and whether that refuses the edit.
+# The functions that an edit changes, the verdicts of a check, and whether that rejects the edit.
 VERDICTS = [
     ({("src/lib.rt", "first")}, [("first", OPEN)], True),
     ({("src/lib.rt", "first")}, [("first", "proved")], False),
@@ -100,6 +102,24 @@ def faults_of_edits():
     yield "" if edits.groups_of([one, other], True) == [[one], [other]] else "edits in company, one by one"
 
 
+def faults_of_libraries():
+    with tempfile.TemporaryDirectory() as room:
+        source, library = pathlib.Path(room, "crates/one/src/lib.rt"), pathlib.Path(room, "crates/one/out/rlib/one.rlib")
+        for folder in (source.parent, library):
+            folder.mkdir(parents=True)
+        source.write_text(SOURCE, encoding="utf-8")
+        one = build.Crate("one", [], {}, room)
+        yield "a library that the gate did not leave" if one.has_proved() else ""
+        one.note_proved()
+        yield "" if one.has_proved() else "the library that the gate left is not taken"
+        source.write_text(f"{SOURCE}// changed", encoding="utf-8")
+        yield "a library of other sources" if build.Crate("one", [], {}, room).has_proved() else ""
+        one.proved.unlink()
+        one.proved.with_name("stamp").touch()
+        one.note_proved()
+        yield "a library of rt check" if one.has_proved() else ""
+
+
 def faults_of_counts():
     for what, text, status, has_counts, wanted in COUNTED:
         found = check.counts_of(text.splitlines(keepends=True), status, has_counts)
@@ -110,7 +130,7 @@ def faults_of_counts():
 
 
 def main():
-    found = [*faults_of_counts(), *faults_of_edits()]
+    found = [*faults_of_counts(), *faults_of_libraries(), *faults_of_edits()]
     bad = [it for it in found if it]
     print(*bad, f"{len(found) - len(bad)} passed, {len(bad)} failed", sep="\n")
     return 1 if bad else 0

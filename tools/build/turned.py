@@ -7,12 +7,12 @@ tools/build/turned/NAME.edit is one turned definition. Its lines are
 
     law: CRATE                    the crate of laws
     of: CRATE MODULE              where the definition is
-    old: TEXT and new: TEXT       what it is turned from, which stands there once, and to; further pairs after that
+    old: TEXT and new: TEXT       what it is turned from, which is there once, and to; further pairs after that
     falls: LAW..                  the laws that it makes false
 
-In a copy of the sources the turned module is put into the crate of laws, and with it each module of its own crate that stands
-between it and the lemmas of the laws; where the definition is the laws' own, it is turned where it stands. The crates below stay
-as they are, so nothing but the laws is proved again. Each law that is to fall has to be refused there, and each of them has to
+In a copy of the sources the turned module is put into the crate of laws, and with it each module of its own crate that is
+between it and the lemmas of the laws; if the definition is the laws' own, it is turned in place. The crates below stay
+as they are, so nothing but the laws is proved again. Each law that is to fall has to be rejected there, and each of them has to
 prove where the same modules are copied and nothing is turned. That the others are still proved is not asked: a proof may fail of
 a law that still holds. The last line is 'N passed, M failed'.
 """
@@ -45,7 +45,7 @@ class Turned:
 
 
 def turned_of(path):
-    """What a file tells to turn."""
+    """What a file says to turn."""
     lines = [line.split(": ", 1) for line in path.read_text(encoding="utf-8").splitlines() if line and not line.startswith("#")]
     words = {key: text for key, text in lines if key not in ("old", "new")}
     texts = [text for key, text in lines if key in ("old", "new")]
@@ -55,13 +55,13 @@ def turned_of(path):
 
 @functools.cache
 def below():
-    """Each crate with those that it stands on."""
+    """Each crate with the crates that it uses."""
     lines = [line.split(":") for line in (ROOT / "crates.txt").read_text(encoding="utf-8").splitlines() if ":" in line]
     return {name: words.split() for name, words in lines}
 
 
 def all_below(crate):
-    """The crates of the repository that a crate stands on, and itself."""
+    """The crates of the repository that a crate uses, and itself."""
     names = {crate}
     for name in below()[crate]:
         if name in below():
@@ -97,7 +97,7 @@ def antt_files(crate_folder):
 
 
 def between(turned):
-    """The modules of the definition's crate that the laws come to and that stand on the definition."""
+    """The modules of the definition's crate that the laws come to and that use the definition."""
     found, waiting = set(), set()
     for path in antt_files(ROOT / "crates" / turned.law):
         waiting |= imports_of(path, turned.crate)

@@ -83,7 +83,7 @@ def rows_with_clauses(text):
 
 
 def labels_cited(cell):
-    """The labels that a cell of a column of clauses names: words in backticks, and those that stand alone between commas."""
+    """The labels that a cell of a column of clauses names: words in backticks, and those alone between commas."""
     alone = [part.strip() for part in re.split(r"[,;:]", CODE.sub("", cell))]
     return [*CODE.findall(cell), *(part for part in alone if re.fullmatch(r"[a-z_]+", part))]
 

@@ -156,7 +156,7 @@ def faults_of_flags(tried, command, named, needs):
 
 
 def faults_of_keys(tried, command, named, needs):
-    """Each key beside those that are required, and each of these left out: what is wrong, or ''."""
+    """Each key added to the required ones, and each of these left out: what is wrong, or ''."""
     for key in (*VALUES, *KEYS_OF_GRASS):
         wanted = "" if key in named.keys else "1: bad option"
         said = tried.options(command, "", [*needs, *({key} - set(needs))])

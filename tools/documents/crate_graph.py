@@ -1,9 +1,9 @@
 #!/usr/bin/env python3
-"""Draws which crate stands on which, from crates.txt: `make pictures`, or by itself.
+"""Draws which crate uses which, from crates.txt: `make pictures`, or by itself.
 
     crate_graph.py OUT.svg          the picture, by dot (of Debian: graphviz)
 
-An arrow goes from a crate to one that it stands on; what others imply is left out, and so are tests and the libraries of the kit.
+An arrow goes from a crate to one that it uses; what others imply is left out, and so are tests and the libraries of the kit.
 """
 import html
 import os
@@ -26,7 +26,7 @@ HEAD = """digraph crates {
 
 
 def crates():
-    """What each crate of the product stands on, of the product alone."""
+    """What each crate of the product uses, of the product alone."""
     with open(f"{ROOT}/crates.txt", encoding="ascii") as file:
         found = {name: words.split() for name, _, words in (line.partition(":") for line in file) if name.strip()}
     is_of_tests = re.compile(r"_tests$|_test_maps$")
@@ -35,12 +35,12 @@ def crates():
 
 
 def all_below(name, uses):
-    """Every crate that one stands on, also by others."""
+    """Every crate that one uses, also through others."""
     return set(uses[name]).union(*(all_below(below, uses) for below in uses[name])) if uses[name] else set()
 
 
 def edges(uses):
-    """Each crate with those it stands on, but for those that another of them stands on, too."""
+    """Each crate with the crates it uses, but for those that another of them also uses."""
     for name, direct in uses.items():
         implied = set().union(*(all_below(below, uses) for below in direct)) if direct else set()
         for below in direct:
@@ -54,7 +54,7 @@ def room(name):
 
 
 def dot():
-    """The graph in the language of dot, with a frame around each room; what the program does not stand on has a dashed line."""
+    """The graph in the language of dot, with a frame around each room; what the program does not use has a dashed line."""
     uses, lines = crates(), []
     of_the_program = {it for program in PROGRAMS for it in (program, *all_below(program, uses))}
     for place, colour in ROOMS.items():

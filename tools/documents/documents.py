@@ -3,17 +3,17 @@
 
     documents.py [--program PATH] [--joiner PATH] [--pipe PATH] [--write] [--texts [WORD..] | DOCUMENT..]
 
-A document is run in a folder of its own that has the programs in bin/, the helpers beside them, and examples/.
+A document is run in a folder of its own that has the programs in bin/, the helpers next to them, and examples/.
 Its fenced blocks are taken from the top:
-    console          lines that begin with `$ ` are given to sh, those with `> ` go on with the command above; the lines
+    console          lines that begin with `$ ` are given to sh, those with `> ` continue the command above; the lines
                      after a command are what it must print, standard output and standard error together
     pycon            a session of Python, which must print what it shows
     console needs=A,B  the same where A and B are installed, programs, files by their paths or packages such as python3-rasterio;
                      else it is skipped
     text file=PATH   a file (also python file=PATH); the commands of later blocks find it
     text, sh         shown and not run: such a block has no command with its output
-The folder that a block goes to by `cd` is that of the next. With --write what is printed takes the place of what is shown.
-Of docs/grass.md the program's side of each table is run, too (differences.py), and the flags and keys that docs/commands.md,
+The folder that a block goes to with `cd` is also the next one's. With --write what is printed takes the place of what is shown.
+Of docs/grass.md the program's side of each table is also run (differences.py), and the flags and keys that docs/commands.md,
 docs/rcell-join.md and the manual pages name are tried (command_options.py). What needs no program is tried first, and with --texts
 alone, or what ends in a WORD, as in `--texts links`: docs/errors.md has the table of python/src/rcell_front/messages.json (messages.py), docs/crates.svg the crates of crates.txt
 (crate_graph.py), docs/proofs.md and README.md the numbers of lines that have to be believed (reading.py), README.md and docs/speed.md
@@ -47,7 +47,7 @@ DOCUMENTS = ["README.md", "docs/tutorial.md", "docs/howto.md", "docs/large-maps.
              "docs/pipe.md", "docs/errors.md", "docs/grass.md", "examples/islands/README.md", "docs/proofs.md",
              *(f"examples/{name}/README.md" for name in ("change", "woodland", "stream", "majority", "protected", "large-map"))]
 FENCE = re.compile(r"```(\S*)(?: file=(\S+))?(?: needs=(\S+))?\n(.*?)^```$", re.MULTILINE | re.DOTALL)
-# What is said of the lines that have to be believed: numbers, and what stands around them.
+# What is said of the lines that have to be believed: numbers, and what is around them.
 READING_ROW = re.compile(r"(`make reading(?: COMMAND=(?P<command>\S+))?` \| )(\d+)( \| )(\d+)( \| )(\d+)( \|)")
 READING_SENTENCE = re.compile(r"(for a table of (?P<command>r\.\w+) )(\d+)( lines, )(\d+)( with comments)")
 LANGUAGES = {"console", "pycon", "text", "python", "sh"}
@@ -161,7 +161,7 @@ def is_installed(name):
 
 
 def judge(block, room):
-    """What is wrong with a block, or '', and its text as it must be; None in place of a fault where nothing is run."""
+    """What is wrong with a block, or '', and its text as it must be; None in place of an error if nothing is run."""
     if block.language not in LANGUAGES:
         return f"a block of an unknown kind: {block.language!r}", block.text
     if block.file:
@@ -262,7 +262,7 @@ def names_not_read():
 
 
 def warnings_of_man(page):
-    """What man warns of on a manual page of the sources, or on that of a path."""
+    """What man warns of on a manual page of the sources, or at a path."""
     environment = {**os.environ, "LC_ALL": "C.UTF-8", "MANROFFSEQ": "", "MANWIDTH": "80"}
     ran = subprocess.run(["man", "--warnings", "-E", "UTF-8", "-l", "-Tutf8", "-Z", os.path.join(ROOT, page)], env=environment,
                          stdout=subprocess.DEVNULL, stderr=subprocess.PIPE, text=True)
@@ -274,7 +274,7 @@ def has_man():
 
 
 def check_pages():
-    """Whether man has nothing to warn of on the manual pages, also those of the helpers, where it is installed."""
+    """Whether man has nothing to warn of on the manual pages, the helpers' included, if it is installed."""
     if not has_man():
         print("skipped  documents: man or groff is not installed, for the manual pages; install: apt-get install man-db groff")
         return 0, []

@@ -1,6 +1,6 @@
-"""The figures of the documents: README.md and docs/speed.md have those of bench/RESULTS.md, and each table has its commit.
+"""The figures of the documents: README.md and docs/speed.md have the figures of bench/RESULTS.md, and each table has its commit.
 
-- A mark `<!-- figures: COMMIT -->` stands before a table that was measured, or recorded, at this commit.
+- A mark `<!-- figures: COMMIT -->` is before a table that was measured, or recorded, at this commit.
 - Each mark of README.md, docs/speed.md and bench/RESULTS.md has a table below it, and its commit is an ancestor of this
   one within the same version. So has each section of bench/RESULTS.md with a table, and each table of docs/speed.md.
 - A commit that a page marks has a mark in bench/RESULTS.md, and a commit that a page names has a mark on that page.

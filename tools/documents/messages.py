@@ -16,7 +16,7 @@ import build
 
 FILE, DOCUMENT = f"{ROOT}/python/src/rcell_front/messages.json", f"{ROOT}/docs/errors.md"
 TABLES = re.compile(r"^## Of the command line .*", re.MULTILINE | re.DOTALL)
-# Kinds of a fault that no run of the program reports.
+# Kinds of an error that no run of the program reports.
 UNREPORTED = {"reader failed"}
 
 
@@ -56,7 +56,7 @@ def tables():
 
 
 def messages_of_the_code():
-    """The texts of faults in the sources of the program, with N for a number; those that only hand on another text are left out."""
+    """The texts of errors in the sources of the program, with N for a number; those that only hand on another text are left out."""
     found = set()
     for path in [it for crate in build.crates_of(["rcell_program"]) for it in glob.glob(f"{crate.folder}/src/**/*.rt", recursive=True)]:
         with open(path, encoding="utf-8") as file:

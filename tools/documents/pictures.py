@@ -175,7 +175,7 @@ def examples(folder, program):
         plt.close(figure)
 
 
-# The tasks of the chart: what it says of each, and where the row stands in bench/RESULTS.md.
+# The tasks of the chart: what it says of each, and where the row is in bench/RESULTS.md.
 CHARTED = (
     ("reading\npatchy land cover", "reading", "patchy land cover, 25 million cells"),
     ("r.stats -c\npatchy land cover", "r.stats -c", "patchy land cover, 25 million cells"),

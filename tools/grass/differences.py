@@ -1,7 +1,7 @@
 #!/usr/bin/env python3
-"""Reads the tables of docs/grass.md, and asks the program and GRASS for their answers.
+"""Reads the tables of docs/grass.md, and runs the program and GRASS on their inputs.
 
-A row whose first three cells are code has an input and the answers of GRASS and of rcell; the other rows are prose. The
+A row whose first three cells are code has an input and the results of GRASS and of rcell; the other rows are prose. The
 form of the cells is said at the head of the document.
 """
 import itertools
@@ -23,7 +23,7 @@ GRID_TITLE = "## Grids"
 
 @dataclass
 class Row:
-    """A row of a table: a script, the lines of the grid `m` where the row is about a grid, and both answers."""
+    """A row of a table: a script, the lines of the grid `m` if the row is about a grid, and both results."""
 
     line: int
     script: list[str]
@@ -40,7 +40,7 @@ def cells_of(line):
 
 
 def rows():
-    """The rows that have an input and two answers."""
+    """The rows that have an input and two results."""
     with open(f"{ROOT}/{DOCUMENT}", encoding="utf-8") as file:
         lines = file.read().splitlines()
     title = ""
@@ -117,7 +117,7 @@ def joined(text, row):
 
 
 def by_rcell(row, program, room):
-    """The program's answer: its output, or its message without the program's name."""
+    """The program's result: its output, or its message without the program's name."""
     for name, text in {"script": "\n".join(asked(row.script)) + "\n", **grids_of(row)}.items():
         with open(f"{room}/{name}", "w", encoding="ascii") as file:
             file.write(text)
@@ -147,7 +147,7 @@ def commands_of_grass(script, room):
 
 
 def by_grass(row, room):
-    """The answer of GRASS in a location of its own: its output, `refused`, or `no end` where it does not end."""
+    """The result of GRASS in a location of its own: its output, `refused`, or `no end` if it does not end."""
     subprocess.run(["rm", "-rf", f"{room}/here"], check=True)
     subprocess.run(["grass", "-e", "-c", "XY", f"{room}/here"], check=True, capture_output=True)
     grids, commands = grids_of(row), ["set -e"]

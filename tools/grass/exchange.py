@@ -1,5 +1,5 @@
 #!/usr/bin/env python3
-"""Holds the program and the documents against GRASS and GDAL, each where it is installed (Debian: grass-core, gdal-bin).
+"""Compares the program and the documents with GRASS and GDAL, each if it is installed (Debian: grass-core, gdal-bin).
 
     exchange.py [CHECK..]
 
@@ -7,14 +7,14 @@ Without words all checks are made, and these are they:
     grids        GRASS reads what bin/rcell writes, and bin/rcell what its r.out.ascii writes; GRASS writes no line for
                  another null text than `*`, so that line is put into what it wrote
     exports      the commands by which README.md and docs/howto.md export a map from GRASS and take labels there and back,
-                 run as they stand there, in locations in metres, in degrees and without a projection
-    areas        square kilometres by row (docs/howto.md) beside those of r.stats -a
-    differences  each answer of GRASS in docs/grass.md
+                 run as they are there, in locations in metres, in degrees and without a projection
+    areas        square kilometres by row (docs/howto.md) compared with r.stats -a
+    differences  each result of GRASS in docs/grass.md
     pairs        each pair of docs/grass.md, in both
     random       100 runs of tools/grass/runs.py: grids and scripts made at random, in both
     addon        the tests of grass/r.rcell in the three locations, on a million cells
-    tasks        tools/grass/tasks.py: five tasks on 20 million cells, by GRASS, by rcell and by r.rcell
-    gdal         GDAL reads what bin/rcell writes, and what it writes as AAIGrid comes back by rcell-aaigrid; the commands of
+    tasks        tools/grass/tasks.py: five tasks on 20 million cells, with GRASS, rcell and r.rcell
+    gdal         GDAL reads what bin/rcell writes, and what it writes as AAIGrid comes back through rcell-aaigrid; the commands of
                  the documents export a GeoTIFF
     pictures     the pictures of docs/howto.md are those that its commands make
 What is not installed is skipped with a message. The last line is 'N passed, M failed'.
@@ -63,7 +63,7 @@ def environment():
 
 
 def ran(words, room):
-    """What a program writes, or what it told where it was refused."""
+    """What a program writes, or its message if it was rejected."""
     done = subprocess.run(words, cwd=room, capture_output=True, env=environment())
     return done.stdout if done.returncode == 0 else done.stderr
 
@@ -119,7 +119,7 @@ def grids_by_grass():
 
 
 def differences_by_grass():
-    """Which answers of GRASS are not as docs/grass.md says, one list a row."""
+    """Which results of GRASS are not as docs/grass.md says, one list a row."""
     for row in differences.rows():
         with tempfile.TemporaryDirectory() as room:
             answer = differences.by_grass(row, room)
@@ -203,7 +203,7 @@ def exports_by_grass():
 
 
 def areas_by_grass():
-    """What differs between square kilometres by row and those of r.stats -a, in degrees."""
+    """What differs between square kilometres by row and the output of r.stats -a, in degrees."""
     files = {name: file_of("docs/howto.md", name) for name in ("world.txt", "rows", "cells.awk")}
     with tempfile.TemporaryDirectory() as room:
         made_location(room, "degrees")

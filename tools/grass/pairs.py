@@ -1,8 +1,8 @@
 #!/usr/bin/env python3
-"""Reads the pairs of docs/grass.md, and asks GRASS and the program for their answers.
+"""Reads the pairs of docs/grass.md, and runs GRASS and the program on them.
 
 A row of its tables whose first two cells begin with code is a pair; the form of the cells is said in the document. An
-answer is the rows of the map that the last line of the script makes, or else what is printed. Run by itself, it asks the
+result is the rows of the map that the last line of the script makes, or else what is printed. Run by itself, it asks the
 program alone: each script must be taken. The last line is then 'N passed, M failed'.
 """
 import os
@@ -39,7 +39,7 @@ class Pair:
 
     @property
     def shown(self):
-        """The lines that are shown where the answers differ: one of GRASS and one of rcell."""
+        """The lines that are shown where the results differ: one of GRASS and one of rcell."""
         return CODE.findall(self.verdict)[:2]
 
     @property
@@ -93,7 +93,7 @@ def put(room):
 
 
 def by_rcell(pair, program, room):
-    """The answer of rcell; a RuntimeError where the script is refused."""
+    """The result of rcell; a RuntimeError if the script is rejected."""
     put(room)
     environment = {"PATH": f"{os.path.dirname(program)}:/usr/bin:/bin", "LC_ALL": "C"}
     if pair.is_shell:
@@ -127,7 +127,7 @@ def commands_of(number, pair, target):
 
 
 def by_grass(asked, room):
-    """The answers of GRASS to pairs, in one session; each pair comes with the map that rcell makes, or None."""
+    """The results of GRASS to pairs, in one session; each pair comes with the map that rcell makes, or None."""
     put(room)
     subprocess.run(["grass", "-e", "-c", "EPSG:32632", f"{room}/here"], check=True, capture_output=True)
     lines = ["export GRASS_VERBOSE=0"]

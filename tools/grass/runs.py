@@ -3,12 +3,12 @@
 
     runs.py --runs N --seed S [--program PATH] [--keep FOLDER] [--first F]
 
-The grids and scripts are those of shared_cases.py, for which docs/grass.md lists no difference but three that
+The grids and scripts come from shared_cases.py, for which docs/grass.md lists no difference but three that
 are undone here: grids of r.out.ascii get no space at the end of a row and a line for another null text (`as_here`), and the
 areas of r.clump are numbered by their first cells (`by_first_cells`). GRASS reads the grids by r.in.ascii, and runs the commands one by one, each in its own
 module. What they write must be what the program writes, byte for byte. Run F of seed S is the same wherever it is made.
-Each difference is printed with its grids, its script and both answers; with --keep it is also written to FOLDER as a case
-whose expected files are those of GRASS, with the program's answer in a folder beside it. The last line is
+Each difference is printed with its grids, its script and both results; with --keep it is also written to FOLDER as a case
+whose expected files come from GRASS, with the program's result in a folder next to it. The last line is
 'N runs, M differences'.
 """
 import argparse
@@ -137,7 +137,7 @@ def program_answer(program, made, room):
 
 
 def report(name, made, expected, got):
-    """A run that differs: its files and both answers."""
+    """A run that differs: its files and both results."""
     texts = {**made.files, "GRASS": expected.output, "GRASS, standard error": expected.told,
              "rcell": got.output, "rcell, standard error": got.told}
     shown = "".join(f"{title}:\n{text.decode(errors='backslashreplace')}\n" for title, text in texts.items())

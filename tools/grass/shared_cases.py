@@ -52,7 +52,7 @@ def has_listed_value(term, place):
     if not isinstance(term, Binary) or None in values:
         return False
     left, right = values
-    # 2147483648 itself is null in GRASS, either way.
+    # 2147483648 itself is null in GRASS, with either sign.
     exact = {b"+": left + right, b"-": left - right, b"*": left * right}.get(term.operator, 0)
     return abs(exact) > GREATEST + 1 or (term.operator == b"%" and right == 0)
 
@@ -168,7 +168,7 @@ class SharedMaker(ScriptMaker):
         return left + self.one([b" = ", b" = ", b"=", b"\t= "]) + self.one(outputs) + label + self.one([b"", b"", b" "])
 
     def reclass(self, known):
-        """Rules of which those of `*` are the last."""
+        """Rules of which the rules of `*` are the last."""
         command, *rules, end = super().reclass(known)
         return [command, *sorted(rules, key=lambda rule: rule.startswith(b"*")), end]
 

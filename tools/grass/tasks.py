@@ -1,11 +1,11 @@
 #!/usr/bin/env python3
-"""Five tasks over 20 million cells by the modules of GRASS and by rcell: are the answers the same, and what does each take?
+"""Five tasks over 20 million cells with the modules of GRASS and with rcell: are the results the same, and what does each take?
 
     tasks.py [--program PATH] [--rows N] [--cols N]
 
 Two land covers are made: patches of 12 classes, some cells changed, 5 % null; cells of 1 m. The maps are in GRASS and the
-texts for rcell are there before a task begins. A task's answers are compared byte for byte, maps as grids. Shown are
-seconds of the processor, from the start of the first program to the end of the last, and those of r.rcell (grass/r.rcell),
+texts for rcell are there before a task begins. A task's results are compared byte for byte, maps as grids. Shown are
+seconds of the processor, from the start of the first program to the end of the last, and the seconds of r.rcell (grass/r.rcell),
 which takes maps of GRASS and makes maps of GRASS. The last line is 'N passed, M failed'.
 """
 import argparse
@@ -150,7 +150,7 @@ def inside():
 
 
 def compared(program, rows, cols):
-    """Runs the tasks in a location of their own; the lines that tell of them."""
+    """Runs the tasks in a location of their own; the lines about them."""
     with tempfile.TemporaryDirectory(prefix="rcell-tasks-") as room:
         os.makedirs(f"{room}/path")
         shutil.copy(program, f"{room}/path/rcell")

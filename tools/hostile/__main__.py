@@ -1,20 +1,20 @@
 #!/usr/bin/env python3
-"""Uses the program as an enemy would, beside the plain model of tools/model/model.py: whatever happens, it ends as the model says.
+"""Uses the program as an enemy would, and compares it with the plain model of tools/model/model.py: whatever happens, it ends as the model says.
 
     tools/hostile [--short] [--slice K/N] [--program PATH] [--seed S] [--keep FOLDER] --clang CLANG [PART..]
 
-    growths   each growth of memory refused in turn, over each case: status 3, and what is written is whole statements
+    growths   each growth of memory denied in turn, over each case: status 3, and what is written is whole statements
     tests     the same over the built test programs of the crates: each ends by what it returns or asserts; in a call that
               leaves its object unchanged it is made again
-    reads     each read fails in turn, for good and once only, each tells an end once, and reads move pieces of each size from 1
+    reads     each read fails in turn, for good and once only, each reports an end once, and reads move pieces of each size from 1
               to 70 and a block more or less one
     writes    the same of writes, and standard error that takes nothing
     outputs   full, closed and waiting outputs, files limited to each size, a disk that fills
     inputs    pipes with names, standard input as script and as grid, readers that stop in the middle of a token
-    terminals each file on a terminal that tells an end at the start of a line and then goes on
+    terminals each file on a terminal that reports an end at the start of a line and then continues
     bytes     each proper prefix of each grid, script, rule block and expression; each byte turned to each of nine others
     stack     each case and the deepest expressions on a stack of 64 KiB
-    sizes     the greatest inputs, 2,000 grids and 1,200 maps made
+    sizes     the largest inputs, 2,000 grids and 1,200 maps made
     memory    the bytes a cell of each command, over patches and over noise
     times     times at 1,000, 10,000 and 100,000 of each kind of thing: none grows by more than its number
 

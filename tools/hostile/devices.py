@@ -48,13 +48,13 @@ class Devices:
 
 
 def written(expected: model.Answer, count: int) -> model.Answer:
-    """The answer of a run that would have ended well, at a writer that took so many bytes."""
+    """The result of a run that would have ended well, at a writer that took so many bytes."""
     told = b"rcell: output:0: write failed after %d bytes\n" % count
     return model.Answer(4, expected.output[:count], told)
 
 
 def places(count: int, settings) -> list[int]:
-    """The numbers from 1 to count, or some of them where they are many."""
+    """The numbers from 1 to count, or some of them if they are many."""
     most = settings.places if count <= LONGEST_WHOLE else min(settings.places, settings.places_of_long)
     return list(range(1, count + 1)) if count <= most else sorted(settings.random.sample(range(1, count + 1), most))
 
@@ -63,7 +63,7 @@ def places(count: int, settings) -> list[int]:
 
 
 def stopped_read(devices: Devices, made: Made, expected: model.Answer, answer_of, **how) -> tuple[str, bool]:
-    """One read fails or tells an end: what is wrong, and whether a read was stopped so."""
+    """One read fails or reports an end: what is wrong, and whether a read was stopped so."""
     got = devices.answer(made, **how)
     place = devices.place_of_stop()
     wanted = expected if place is None else answer_of(made, place, devices.before)
@@ -71,8 +71,8 @@ def stopped_read(devices: Devices, made: Made, expected: model.Answer, answer_of
 
 
 def stopped_reads(devices: Devices, made: Made, expected: model.Answer, settings) -> tuple[str, int]:
-    """Each read fails in turn, for good and then once only, and each tells an end once, with all bytes a read and with one: what
-    is wrong, and how many reads were stopped so. A file that fails or ends once goes on if it is asked again."""
+    """Each read fails in turn, for good and then once only, and each reports an end once, with all bytes a read and with one: what
+    is wrong, and how many reads were stopped so. A file that fails or ends once continues if it is asked again."""
     stopped = 0
     for piece in (0, 1):
         devices.answer(made, READ_PIECE=piece)
@@ -234,12 +234,12 @@ DISK = """mount -t tmpfs -o size="$1" tmpfs "$2" || exit 99
 shift; disk=$1; shift
 "$@" > "$disk/out"; status=$?
 cat "$disk/out"; umount "$disk"; exit $status"""
-# In a chroot whose root is no mount point, the first is refused.
+# In a chroot whose root is no mount point, the first is denied.
 OWN_MOUNTS = (["unshare", "--mount"], ["unshare", "--mount", "--propagation", "unchanged"])
 
 
 def on_a_full_disk(program: Program, made: Made, size: int) -> Optional[model.Answer]:
-    """A run whose output goes to a file system of so many bytes; None where none may be mounted."""
+    """A run whose output goes to a file system of so many bytes; None if none may be mounted."""
     disk = f"{program.room}/disk"
     os.makedirs(disk, exist_ok=True)
     words = ["sh", "-c", DISK, "sh", str(size), disk, program.path, *made.words]
@@ -352,13 +352,13 @@ def inputs(report: Report, devices: Devices, cases: dict[str, Made], settings) -
 
 # Terminals
 
-MOST_TYPED = 2000  # a terminal takes some 4,000 bytes at a time
-END_OF_INPUT = b"\x04"  # at the start of a line it is an end that is told once
+MOST_TYPED = 2000  # a terminal takes about 4,000 bytes at a time
+END_OF_INPUT = b"\x04"  # at the start of a line it is an end that is reported once
 LOCAL_MODES = 3
 
 
 def on_a_terminal(program: Program, made: Made, path: str, at: int) -> model.Answer:
-    """A run that reads one of its files from a terminal, which tells an end behind so many bytes and then goes on."""
+    """A run that reads one of its files from a terminal, which reports an end after so many bytes and then continues."""
     ours, theirs = os.openpty()
     try:
         modes = termios.tcgetattr(theirs)
@@ -380,7 +380,7 @@ def may_be_typed(text: bytes) -> bool:
 
 
 def terminals(report: Report, devices: Devices, cases: dict[str, Made], settings) -> None:
-    """Each file of each case on a terminal that tells an end at the start of a line, and then goes on: the run ends there."""
+    """Each file of each case on a terminal that reports an end at the start of a line, and then continues: the run ends there."""
     program, runs = devices.program, 0
     typed = [(name, made, path) for name, made in cases.items() for path in made.files if may_be_typed(made.files[path])]
     for name, made, path in typed:

@@ -4,7 +4,7 @@
     files.py [--count N] [--tiffs N] [--seed N]
 
 AAIGrids go through rcell-aaigrid, grids through rcell-tif --from, TIFFs with changed or missing bytes through rcell-tif and the package. What is
-written is compared with a plain reading of the same text, or for TIFFs with what GDAL's own arrays say; what is refused is refused by the
+written is compared with a plain reading of the same text, or for TIFFs with what GDAL's own arrays say; what is rejected is rejected by the
 exceptions that end in one line. TIFFs of which GDAL alone reads other cells each time are left out, and counted. Each kind gets N files. Needs
 numpy and, for TIFFs, GDAL's Python. The last line is 'N passed, M failed'.
 """
@@ -66,7 +66,7 @@ def is_null(word, nodata):
 
 
 def cells_of(text):
-    """The cells of a grid of rcell, in the plainest way; None where rcell would refuse one."""
+    """The cells of a grid of rcell, in the plainest way; None if rcell would reject one."""
     lines, fields = text.decode("latin-1").split("\n"), {}
     while lines and ":" in lines[0]:
         key, _, value = lines.pop(0).partition(":")
@@ -104,7 +104,7 @@ def fault_of_aaigrid(helper, chance, folder):
     finally:
         os.close(source)
     found = cells_of(b"".join(written))
-    if found is None or words is None:  # rcell refuses it, or the header was spoiled
+    if found is None or words is None:  # rcell rejects it, or the header was spoiled
         return None
     wanted = [None if is_null(word, nodata) else value_of(word) for word in words]
     return None if found == wanted else f"{text!r}: {found}, not {wanted}"
@@ -162,7 +162,7 @@ def ways_of_tiff(helper, gdal, rcell):
     def by_helper(path):
         written = []
         dataset = gdal.Open(path)
-        helper.write_grid(dataset, helper.one_band(dataset), written.append)
+        helper.write_grid(f"{ROOT}/bin/rcell-pipe", dataset, helper.one_band(dataset), written.append)
         return cells_of(b"".join(written))
 
     def by_package(path):

@@ -1,4 +1,4 @@
-"""Each growth of memory refused in turn: over the program on each case, and over the built test programs of the crates."""
+"""Each growth of memory denied in turn: over the program on each case, and over the built test programs of the crates."""
 from __future__ import annotations
 
 import glob
@@ -19,10 +19,10 @@ MOST_GROWTHS = 2000  # of a test that grows more often, some are chosen
 SECONDS_OF_CHOICE = 60  # and as many as so much time allows
 PASSED, FAILED = 0, 101  # how a test ends that returned
 ASSERTED = -signal.SIGABRT  # how one ends in which an assertion did not hold, and says so
-FIRST_REFUSED = b"rcell: arguments:0: no memory\n"  # the first growth is that of the words
+FIRST_REFUSED = b"rcell: arguments:0: no memory\n"  # the first growth is for the words
 TEST = re.compile(r"^(\S+): test$", re.M)
-AGAIN = "_again"  # ends the name of a test that makes a refused call once more, over an object that is as before
-TOLD_AGAIN = b"made again"  # what such a test tells where it does so
+AGAIN = "_again"  # ends the name of a test that makes a failed call once more, over an object that is as before
+TOLD_AGAIN = b"made again"  # what such a test prints if it does so
 CALLS_AGAIN = 8  # the calls that leave their object unchanged, and a run over a sink whose flush works or fails
 
 
@@ -30,14 +30,14 @@ CALLS_AGAIN = 8  # the calls that leave their object unchanged, and a run over a
 
 
 def numbers(settings, asked: int) -> Iterator[int]:
-    """The growths to refuse: all, counted upwards without an end, or some of those that were asked for."""
+    """The growths to deny: all, counted upwards without an end, or some of those that were asked for."""
     if settings.growths >= asked:
         return itertools.count(1)
     return iter(sorted(settings.random.sample(range(1, asked + 1), settings.growths)))
 
 
 def wrong_growth(program: Program, made: Made, expected: model.Answer, shim: str, settings) -> tuple[str, int]:
-    """What is wrong with a run of which a growth was refused, and how many were refused."""
+    """What is wrong with a run of which a growth was denied, and how many were denied."""
     plain, asked = program.answer_refused(made.words, shim, 0)
     if plain != expected:
         return f"{plain}, and not {expected}", 0
@@ -57,7 +57,7 @@ def wrong_growth(program: Program, made: Made, expected: model.Answer, shim: str
 
 
 def in_turn(program: Program, cases: Cases) -> Iterator[tuple[str, Made, model.Answer]]:
-    """Each case, with its files in the current folder, and what the model answers."""
+    """Each case, with its files in the current folder, and what the model gives."""
     for name, made in cases.made.items():
         program.put(made)
         yield name, made, answer_of_model(made)
@@ -81,7 +81,7 @@ def growths(report: Report, program: Program, shim: str, cases: Cases, settings)
 
 
 def run_test(path: str, test: str, room: str, shim: str, at: int) -> tuple[int, bytes, int]:
-    """How a test ends with growth `at` refused, what it tells, and how many growths it asked for."""
+    """How a test ends with growth `at` denied, what it prints, and how many growths it asked for."""
     count = f"{room}/count"
     environment = {"PATH": "/usr/bin:/bin", "LD_PRELOAD": shim, "REFUSE_AT": str(at), "REFUSE_COUNT": count}
     done = subprocess.run([path, test], cwd=room, env=environment, stdin=subprocess.DEVNULL, capture_output=True, timeout=SECONDS)
@@ -89,7 +89,7 @@ def run_test(path: str, test: str, room: str, shim: str, at: int) -> tuple[int, 
 
 
 def is_end(test: str, status: int, told: bytes) -> bool:
-    """Whether a test may end so with a growth refused. One that makes a refused call once more has to find all as it asserts."""
+    """Whether a test may end so with a growth denied. One that makes a failed call once more has to find all as it asserts."""
     return status in (PASSED, FAILED) or not test.endswith(AGAIN) and status == ASSERTED and b"assert" in told
 
 
@@ -100,7 +100,7 @@ def end_of(status: int, told: bytes) -> str:
 
 
 def wrong_test(path: str, test: str, room: str, shim: str, settings) -> tuple[str, dict[str, int]]:
-    """What is wrong with a test of which each growth is refused in turn, and how its runs ended."""
+    """What is wrong with a test of which each growth is denied in turn, and how its runs ended."""
     status, told, asked = run_test(path, test, room, shim, 0)
     ends = {"growths": asked, "refused": 0, "passed": 0, "made again": 0, "named memory": 0, "failed": 0}
     if status != PASSED:
@@ -121,9 +121,9 @@ def wrong_test(path: str, test: str, room: str, shim: str, settings) -> tuple[st
 
 
 def tests(report: Report, room: str, shim: str, settings) -> None:
-    """The test programs that the gate built: a refused growth ends a test by what it returns or asserts, and in no other way.
+    """The test programs that the gate built: a denied growth ends a test by what it returns or asserts, and in no other way.
 
-    A short run takes those tests alone that make a refused call once more.
+    A short run takes those tests alone that make a failed call once more.
     """
     programs = sorted(glob.glob(f"{ROOT}/crates/*/out/*_tests"))
     made_again = 0

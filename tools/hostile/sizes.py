@@ -1,4 +1,4 @@
-"""The greatest inputs, a stack of 64 KiB, memory a cell, and times as each kind of thing grows."""
+"""The largest inputs, a stack of 64 KiB, memory a cell, and times as each kind of thing grows."""
 from __future__ import annotations
 
 import math
@@ -22,7 +22,7 @@ OUT_OF_TIME = -signal.SIGKILL
 MOST_SECONDS = 30  # of a processor
 MOST_WORDS_KIB = 65536  # the kernel gives a quarter of the stack to the words
 SIZES = (1000, 10000, 100000)
-STEEPEST = 1.5  # the greatest power of the number of things that a time may grow by, once it is longer than this
+STEEPEST = 1.5  # the largest power of the number of things that a time may grow by, once it is longer than this
 SLOW = 0.5
 
 HEADER = b"north: %d\nsouth: 0\neast: %d\nwest: 0\nrows: %d\ncols: %d\n"
@@ -53,7 +53,7 @@ HELD = re.compile(rb"VmHWM:\s*([0-9]+) kB")
 
 
 def spent(program: Program, words: list[bytes], stack_kib: int = 0, shim: str = "") -> Spent:
-    """A run with its time, under a stack of so many KiB where that is asked for, and with its memory where a shim tells it."""
+    """A run with its time, under a stack of so many KiB if that is asked for, and with its memory if a shim reports it."""
     limits = f"ulimit -c 0; ulimit -n {MOST_FILES}; ulimit -t {MOST_SECONDS}; ulimit -s {stack_kib or MOST_WORDS_KIB}; exec \"$@\""
     whole = ["sh", "-c", limits, "sh", program.path, *words]
     more = {"LD_PRELOAD": shim, "DEVICE_STATUS": program.count} if shim else {}
@@ -64,7 +64,7 @@ def spent(program: Program, words: list[bytes], stack_kib: int = 0, shim: str = 
     return Spent(os.waitstatus_to_exitcode(status), seconds, int(held[1]) if held else 0, read(program.told), read(program.output))
 
 
-# A small stack, and the greatest inputs
+# A small stack, and the largest inputs
 
 
 def deep() -> dict[str, bytes]:
@@ -247,7 +247,7 @@ def growing(report: Report, program: Program, shim: str) -> None:
         report.check(f"times of {name}", bad[0] if bad else "more than linear" if is_steep(times) else "")
 
 
-# The greatest inputs
+# The largest inputs
 
 
 def sums_in_a_chain(count: int) -> Made:

@@ -17,7 +17,7 @@ EXPRESSION = re.compile(rb"(?:\A|(?<=\n))[ \t\r]*r\.mapcalc([^\n]*)")
 
 @dataclass(frozen=True)
 class Change:
-    """Bytes of a text of a case that others stand in for."""
+    """Bytes of a text of a case that others replace."""
 
     case: str
     path: str

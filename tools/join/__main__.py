@@ -1,5 +1,5 @@
 #!/usr/bin/env python3
-"""Runs rcell-join beside a plain model of it, and beside rcell over maps that are not cut.
+"""Runs rcell-join against a plain model of it, and against rcell over maps that are not cut.
 
     tools/join [CLANG] [--program PROGRAM] [--rcell PROGRAM] [--runs N] [--maps N] [--seed N]
 
@@ -7,10 +7,10 @@
 - N random sets of tables, short and long, with labels and without;
 - N random maps and some that are hard to cut, each cut into a grid of tiles: tables, numbers and sizes that are joined must be those
   of the full map, cell by cell; tables with labels; and sets of texts of which one is damaged;
-- borders that are cut short, outputs that take few bytes, closed outputs; each growth of memory refused in turn, and each read that
+- borders that are cut short, outputs that take few bytes, closed outputs; each growth of memory denied in turn, and each read that
   fails or ends once.
 
-Some reads move few bytes. CLANG compiles what refuses growths and stops reads; without it these parts are left out. The last line is
+Some reads move few bytes. CLANG compiles what denies growths and stops reads; without it these parts are left out. The last line is
 'N passed, M failed'.
 """
 from __future__ import annotations
@@ -39,7 +39,7 @@ PIECES = [1, 2, 3, 5, 7, 8, 13, 16, 31, 64, 255, 4095]
 READS = [0, 7]  # bytes that a read moves where reads are stopped; 0: as many as are asked for
 FIRST_FILE = 3  # the descriptor of the first file that the program opens
 LONG_IN = 200  # one run of so many is of long texts
-LABELS_IN = 4  # one map of so many has tables with labels, too
+LABELS_IN = 4  # one map of so many also has tables with labels
 SECONDS = 120
 HEADER_LINES = 6
 NAMED = list(named_cases.named_cases())
@@ -163,7 +163,7 @@ def full_numbers(numbering: bytes) -> dict[tuple[int, int], int]:
 
 
 def wrong_cells(numbering: bytes, tiles: Tiles, whole: bytes) -> str:
-    """Where the numbers of tiles, by a numbering, are not those of the full map."""
+    """Where the numbers of tiles, by a numbering, are not the numbers of the full map."""
     numbers, wanted = full_numbers(numbering), read_map(b"whole", whole).rows
     rows = [list(row) for row in wanted]
     for tile, ((top, bottom, left, right), text) in enumerate(zip(tiles.cut.spans, tiles.numbers), 1):
@@ -248,7 +248,7 @@ def try_maps(runner: Runner, count: cases.Count, shims: Mapping[str, str], seeds
             try_labels(runner, count, shims, seed)
 
 
-# Texts that are cut short, and what the system refuses
+# Texts that are cut short, and what the system denies
 
 
 def wrong_prefix(runner: Runner, text: bytes) -> str:
@@ -292,7 +292,7 @@ def limited(runner: Runner, words: list[bytes], files: Mapping[bytes, bytes], wa
 
 
 def growths_refused(runner: Runner, words: list[bytes], files: Mapping[bytes, bytes], wanted: bytes, shim: str) -> str:
-    """What is wrong where growth 1, 2, .. is refused: the message says so, and nothing is written but whole lines of tables."""
+    """What is wrong where growth 1, 2, .. is denied: the message says so, and nothing is written but whole lines of tables."""
     runner.lay_out(files)
     counted, fronts = f"{runner.room}/count", {b""}
     if words[0] == b"tables":

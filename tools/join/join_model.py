@@ -37,7 +37,7 @@ class Fault(Exception):
 # Tables
 
 Entry = tuple[tuple[tuple[bool, int], ...], int]  # cells, each with whether it is null first, and their count
-Labels = tuple[bytes, ...]  # one behind each cell
+Labels = tuple[bytes, ...]  # one after each cell
 
 
 @dataclass(frozen=True)
@@ -47,7 +47,7 @@ class Format:
     labels: bool = False
 
     def is_clear(self) -> bool:
-        """Whether fields printed so can be told apart."""
+        """Whether fields printed so can be distinguished."""
         is_in_number = self.separator.isdigit() or self.separator == b"-"
         is_in_label = self.labels and self.separator in NULL_LABEL
         return not is_in_number and not is_in_label and self.separator not in self.null_text and not is_category(self.null_text)
@@ -120,7 +120,7 @@ class TableText:
 
 
 def opened(names: list[bytes], files: Mapping[bytes, Given]) -> list[bytes | Failing]:
-    """What the files give; the first that cannot be opened is told."""
+    """What the files give; the first that cannot be opened is reported."""
     for name in names:
         if files.get(name) is None:
             raise Fault(name, 0, b"cannot open", 4)
@@ -150,7 +150,7 @@ def tables(form: Format, names: list[bytes], given: list[bytes | Failing]) -> by
 
 
 def labels_of(texts: list[TableText]) -> Labels:
-    """The labels that texts have for the combination that they all go on with; the first text that has others is told."""
+    """The labels that texts have for the combination that they all continue with; the first text that has others is reported."""
     labels = texts[0].labels
     for it in texts[1:]:
         for (_, category), label, other in zip(it.head[0], labels, it.labels):

@@ -192,7 +192,7 @@ NUMBERING = b"1 1 2 1\n2 1 1 2\n3 1 1 3\n4 1 1 4\n"
 
 
 def by_corners(text: bytes) -> bytes:
-    """The same border, of a tile whose clumps are joined by corners, too, and are the same."""
+    """The same border, of a tile whose clumps are also joined by corners, and are the same."""
     return b"\n".join(line[:-1] + b"8" if at == 14 else line for at, line in enumerate(text.split(b"\n")))
 
 

@@ -39,7 +39,7 @@ def as_counts(lines):
 
 
 def faults_of(rule, findings, allowed):
-    """What is wrong with findings beside the exceptions: a list of lines."""
+    """What is wrong with findings and exceptions: a list of lines."""
     if rule in rules.COUNTED:
         found, listed = as_counts(findings), as_counts(allowed)
         more = [f"{key}: {number}, and at most {listed.get(key, 0)} are listed" for key, number in found.items() if number > listed.get(key, 0)]
@@ -80,7 +80,7 @@ def python_faults():
 
 
 def prose_faults():
-    """What is wrong with the English of the documents; the retired words elsewhere are printed, and are no fault."""
+    """What is wrong with the English of the documents; the retired words elsewhere are printed, and are no error."""
     faults = prose.faults() + pages.faults()
     for fault in faults:
         print(f"prose: {fault}")

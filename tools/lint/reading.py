@@ -1,11 +1,11 @@
 #!/usr/bin/env python3
-"""Prints what has to be believed of the program: the definitions that its theorem stands on, in reading order.
+"""Prints what has to be believed of the program: the definitions that its theorem uses, in reading order.
 
     reading.py [--count | --check] [COMMAND]
 
 The theorem is the clause `headline` of rcell::run. From it the definitions and the declarations of Rust types are followed
-that it cites, each printed after those that it stands on, with its comment and under the name of its file. COMMAND (r.mapcalc,
-r.reclass, r.clump, r.stats, r.out.ascii) leaves out what the other commands alone stand on, with the equations and constructors
+that it cites, each printed after the ones that it uses, with its comment and under the name of its file. COMMAND (r.mapcalc,
+r.reclass, r.clump, r.stats, r.out.ascii) leaves out what the other commands alone use, with the equations and constructors
 that are theirs, and r.stats what its lines of single cells (-1) alone do: it is the table that is read. The last line is
 'N lines of definitions, M with comments, T of Rust types'; with --count it is the only one. What the standard library and
 the language define is not printed. --check prints each name that a printed definition uses and that is not printed itself, and
@@ -20,7 +20,7 @@ import sys
 import sources
 
 RUN_FILE, RUN, HEADLINE = "rcell/src/running.rt", "run", "headline"
-# What one command alone stands on begins at these definitions: how a line spells it, and what it makes or prints.
+# What one command alone uses begins at these definitions: how a line spells it, and what it makes or prints.
 BEGINNINGS = {
     "r.mapcalc": ["SpellsMapcalc", "IsWithValues"],
     "r.reclass": ["SpellsReclass", "IsWithClasses", "AreRules", "IsEnd"],
@@ -28,12 +28,12 @@ BEGINNINGS = {
     "r.stats": ["SpellsStats", "stats_text"],
     "r.out.ascii": ["SpellsOutAscii", "out_ascii_text"],
 }
-# What a command's other output alone stands on, where its main one is read.
+# What a command's other output alone uses, if its main one is read.
 BESIDES = {"r.stats": ["cell_lines"]}
 
 
 class Reading:
-    """The definitions and Rust types that others stand on."""
+    """The definitions and Rust types that others use."""
 
     def __init__(self):
         self.definitions = sources.read_definitions("specs")
@@ -117,7 +117,7 @@ class Reading:
         return headline, list(found)
 
     def walk(self, starts, stops):
-        """All that the starts stand on, each behind what it stands on; what is named in stops is left out."""
+        """All that the starts use, each after what it uses; what is named in stops is left out."""
         order, seen = [], set()
 
         def visit(key):

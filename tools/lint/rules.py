@@ -9,7 +9,7 @@ import sources
 
 CLAUSE_COLUMNS, LONGEST_CLAUSE, PROOF_COLUMNS = 100, 120, 120
 MOST_FUNCTIONS, MOST_CODE, MOST_PROOFS = 100, 1600, 5000
-# Names that mean the same wherever they stand: Rust's own, and those that std's traits ask for.
+# Names that mean the same wherever they are: Rust's own, and the ones that std's traits ask for.
 COMMON_FUNCTIONS = {"new", "len", "get", "next", "from", "is_empty", "bytes", "drop", "clone"}
 COMMON_FILES = {"lib", "main", "law"}
 COMMON_SPECS = {"Lib", "parts"}
@@ -68,13 +68,13 @@ def undocumented():
 
 
 def names_alike():
-    """The names that are meant to stand in several files, as kind and name; tools/lint/names_alike.txt says why of each."""
+    """The names that are meant to be in several files, as kind and name; tools/lint/names_alike.txt says why of each."""
     lines = (pathlib.Path(__file__).resolve().parent / "names_alike.txt").read_text(encoding="utf-8").splitlines()
     return {line.partition(": ")[0] for line in lines if line and not line.startswith("#")}
 
 
 def in_several(places, what):
-    """Those names that stand in several files and are not meant to, and those that are meant to and do not."""
+    """Those names that are in several files and are not meant to, and those that are meant to and do not."""
     several, alike = {name: paths for name, paths in places.items() if len(paths) > 1}, names_alike()
     found = [f"{what} {name}: {', '.join(sorted(paths))}" for name, paths in sorted(several.items()) if f"{what} {name}" not in alike]
     return found + [f"{it}: in names_alike.txt, and in one file" for it in sorted(alike) if it.startswith(f"{what} ") and it.partition(" ")[2] not in several]
@@ -105,7 +105,7 @@ def names():
 
 
 def citations(kinds):
-    """Who cites what among definitions: from (module, name) or None, what an answer or a source cites, to (module, name) pairs."""
+    """Who cites what among definitions: from (module, name) or None, what a proof or a source cites, to (module, name) pairs."""
     edges = defaultdict(set)
     of_module = defaultdict(list)
     for kind in kinds:
@@ -158,14 +158,14 @@ def uncited():
 
 
 def dead_lemmas():
-    """Definitions and lemmas of proofs that nothing stands on which is proved, but for worked examples (Worked.antt)."""
+    """Definitions and lemmas of proofs that nothing proved uses, but for worked examples (Worked.antt)."""
     seen = reached_from(citations(("specs", "proofs")), [None])
     return [f"{it.path} {it.name}" for key, it in sorted(sources.read_definitions("proofs", True).items(), key=lambda pair: (pair[1].path, pair[1].line))
             if key not in seen and it.path.rpartition("/")[2] not in {*ANSWERS, WORKED} and not is_infix(it.name)]
 
 
 def is_infix(name):
-    """Whether a name is that of an operator, which stands among its operands without its marks."""
+    """Whether a name is the name of an operator, which is among its operands without its marks."""
     return "◌" in name
 
 
@@ -182,7 +182,7 @@ def citing_of_public():
 
 
 def parts():
-    """Definitions outside specs/parts/ that no contract of a public function stands on."""
+    """Definitions outside specs/parts/ that no contract of a public function uses."""
     definitions = sources.read_definitions("specs", True)
     seen = reached_from(citations(("specs",)), citing_of_public())
     return [f"{it.path} {it.name}" for key, it in sorted(definitions.items(), key=lambda pair: (pair[1].path, pair[1].line))
@@ -205,7 +205,7 @@ def unused_edges():
 
 
 def examples():
-    """Crates whose front matter has an example that is in no test, word for word."""
+    """Crates whose first comment has an example that is in no test, word for word."""
     tests = [text for crate, _, text in sources.read_files("src", True) if sources.OF_TESTS.match(crate)]
     tests += [path.read_text(encoding="utf-8") for path in (sources.CRATES.parent / "tools").rglob("test_*.py")]
     known = [" ".join(text.split()) for text in tests]
@@ -214,7 +214,7 @@ def examples():
 
 
 def symbolic_links():
-    """Symbolic links, which rt ci refuses wherever they are."""
+    """Symbolic links, which rt ci rejects wherever they are."""
     listed = subprocess.run(["git", "ls-files", "-s"], cwd=sources.CRATES.parent, capture_output=True, text=True, check=True).stdout
     return [line.split("\t")[1] for line in listed.splitlines() if line.startswith("120000 ")]
 

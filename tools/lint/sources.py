@@ -103,7 +103,7 @@ def crate_names(with_tests=False):
 
 
 def with_short_imports(text):
-    """A text whose imports stand on one line each, with blank lines after them, so that the others keep their numbers."""
+    """A text whose imports are on one line each, with blank lines after them, so that the others keep their numbers."""
     def joined(match):
         names = ", ".join(name.strip() for name in match[2].split(",") if name.strip())
         return match[1] + names + match[3] + "\n" * match[2].count("\n")
@@ -234,7 +234,7 @@ def definitions_of(crate, path, text):
     for number, line in enumerate(text.split("\n"), 1):
         words, indent = line.strip(), len(line) - len(line.lstrip())
         if re.match(r"(abbrev |unfoldable )?mutual\b|module ", words):
-            # What stands in a module or a mutual block is indented by two.
+            # What is in a module or a mutual block is indented by two.
             outermost, current, comments = indent + 2, None, []
             continue
         if not words or is_import(line) or re.match(r"(pub )?mod ", line):
@@ -278,7 +278,7 @@ def targets_in(text, imports):
 
 @functools.cache
 def crate_edges():
-    """What each crate stands on, by crates.txt: the crates of the repository and the libraries of the kit."""
+    """What each crate uses, by crates.txt: the crates of the repository and the libraries of the kit."""
     edges = defaultdict(list)
     for line in (CRATES.parent / "crates.txt").read_text(encoding="utf-8").splitlines():
         name, colon, used = line.partition("#")[0].partition(":")

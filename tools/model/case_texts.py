@@ -1,4 +1,4 @@
-"""The cases of the repository as texts in memory, what the model answers to them, and a report of what passed."""
+"""The cases of the repository as texts in memory, what the model gives for them, and a report of what passed."""
 from __future__ import annotations
 
 import os
@@ -55,7 +55,7 @@ def with_text(made: Made, path: str, text: bytes) -> Made:
 
 
 def answer_of_stopped(made: Made, place: int, stopped) -> model.Answer:
-    """What the model answers where the file at a place, the script being 0, gives what `stopped` makes of its text."""
+    """What the model gives if the file at a place, the script being 0, gives what `stopped` makes of its text."""
     def given(at, path):
         text = made.files[path]
         return stopped(text) if at == place else text
@@ -65,12 +65,12 @@ def answer_of_stopped(made: Made, place: int, stopped) -> model.Answer:
 
 
 def answer_of_failing(made: Made, place: int, taken: int) -> model.Answer:
-    """What the model answers where a file gives so many bytes and then fails."""
+    """What the model gives if a file gives so many bytes and then fails."""
     return answer_of_stopped(made, place, lambda text: Failing(text[:taken]))
 
 
 def answer_of_ending(made: Made, place: int, taken: int) -> model.Answer:
-    """What the model answers where a file gives so many bytes and then ends."""
+    """What the model gives if a file gives so many bytes and then ends."""
     return answer_of_stopped(made, place, lambda text: text[:taken])
 
 

@@ -1,16 +1,16 @@
 #!/usr/bin/env python3
-r"""Runs the proved program on each folder of cases/ and examples/, and again with each growth and each write refused in turn.
+r"""Runs the proved program on each folder of cases/ and examples/, and again with each growth and each write denied in turn.
 
 A case is a folder with the files that the program reads and
     args     its words, one a line
     stdout   what it must write; no file: nothing
-    stderr   what it must tell; no file: nothing
+    stderr   its message; no file: nothing
     status   its exit status; no file: 0
     output   where its standard output goes in place of a pipe that is read: a path, or `closed` for a closed pipe
     more     lines FILE COUNT TEXT: so many times the text, in which \n, \r and \x20 are bytes, follows what the file has
-    refused  lines SOURCE LINE BYTES: what is told where growths are refused, and how many bytes are out then; each such
+    refused  lines SOURCE LINE BYTES: what is reported if growths are denied, and how many bytes are out then; each such
              line has to come, and no other; no file: those that the model allows
-A run whose growth is refused has written just what the statements before the line that it tells write, of which
+A run whose growth is denied has written just what the statements before the line that it reports write, of which
 tools/model/model.py says what it is. The last line is 'N passed, M failed'.
 """
 import glob
@@ -64,7 +64,7 @@ def output_to(place):
 
 
 def folders():
-    """The folders of cases: those of cases/, and those of examples/ that have the words of a run."""
+    """The folders of cases: all of cases/, and those in examples/ that have the words of a run."""
     return sorted(glob.glob(f"{ROOT}/cases/*") + [os.path.dirname(it) for it in glob.glob(f"{ROOT}/examples/*/args")])
 
 
@@ -85,7 +85,7 @@ def run_to(output, case, folder, restore_signals=True, **more):
 
 
 def run(case, folder, **more):
-    """What the program answers to the words of the case."""
+    """What the program gives for the words of the case."""
     output = output_to(read(f"{case}/output").decode().strip())
     answer = run_to(output, case, folder, **more)
     if output is not subprocess.PIPE:
@@ -94,9 +94,9 @@ def run(case, folder, **more):
 
 
 def refusal(wanted, got):
-    """The source, line and number of bytes out where memory was refused; None where that is not told, where no such source is
-    among those of the run, or where what is out is not the whole output of the statements before the line. `wanted` is what
-    the run answers with memory enough."""
+    """The source, line and number of bytes out where memory ran out; None if that is not reported, if no such source is
+    in the run, or if what is out is not the whole output of the statements before the line. `wanted` is what
+    the run gives with enough memory."""
     told = NO_MEMORY.fullmatch(got.told)
     if got.status != 3 or not told:
         return None
@@ -109,7 +109,7 @@ def refusal(wanted, got):
 def refused_in_turn(case, folder, shim, room, wanted):
     """Refuses growth 1, 2, .. until a run asks for fewer. Answers how many there were, or what went wrong.
 
-    Where the standard library asks once more for what it was refused, the run does all its work.
+    Where the standard library asks once more for what it was denied, the run does all its work.
     """
     count, found = f"{room}/count", set()
     for at in range(1, 100000):
@@ -126,7 +126,7 @@ def refused_in_turn(case, folder, shim, room, wanted):
 
 
 def wrong_refusals(case, found):
-    """What is wrong with where growths were refused, if the case says where that is."""
+    """What is wrong with where growths were denied, if the case says where that is."""
     lines = (line.split() for line in read(f"{case}/refused").decode().splitlines())
     wanted = {(source, int(line), int(count)) for source, line, count in lines}
     return f"refused at {sorted(found)}, and not at {sorted(wanted)}" if wanted and found != wanted else ""
@@ -156,7 +156,7 @@ def limited_in_turn(case, folder, wanted):
 
 
 def judge(case, room, shim):
-    """What is wrong with a case, or '', and how many growths and how many writes were refused in turn."""
+    """What is wrong with a case, or '', and how many growths and how many writes were denied in turn."""
     folder = f"{room}/folder"
     shutil.rmtree(folder, ignore_errors=True)
     lay_out(case, folder)

@@ -1,17 +1,17 @@
 #!/usr/bin/env python3
-"""Compares the model of tools/model/model.py with the cases that stand in the repository, or with the built program.
+"""Compares the model of tools/model/model.py with the cases of the repository, or with the built program.
 
     compare.py --cases
     compare.py --runs N --seed S --program PATH [--first F] [--keep FOLDER] [--maps KIND] [--pieces CLANG] [--refuse CLANG]
 
-With --cases the model answers each folder of cases/ and examples/ (as tools/model/cases.py describes them), apart from those
+With --cases the model runs each folder of cases/ and examples/ (as tools/model/cases.py describes them), apart from the ones
 whose standard output goes elsewhere. With --runs random grids and scripts go to both, and output, standard error and
 exit status must agree byte for byte. Run F of seed S is the same wherever it is made. KIND is `any`, small grids in many
 spellings, or `stretches`, long runs (tools/model/made_stretches.py). With --pieces two runs of three are made again with reads
 that move few bytes, so that blocks end anywhere within words. With --refuse each run is made
-again with one of its growths refused: it must tell that, and have written just what the statements before that line
-write. Each difference is written to FOLDER as a case whose expected files are the model's, with the program's answer in
-a folder beside it. The last line is 'N runs, M differences'.
+again with one of its growths denied: it must report that, and have written just what the statements before that line
+write. Each difference is written to FOLDER as a case whose expected files are the model's, with the program's result in
+a folder next to it. The last line is 'N runs, M differences'.
 """
 import argparse
 import collections
@@ -89,13 +89,13 @@ class Program:
         return model.Answer(status, read(self.output), read(self.told))
 
     def answer_refused(self, words, shim: str, at: int) -> tuple[model.Answer, int]:
-        """The answer with growth number `at` refused (0: none), and how many were asked for."""
+        """The result with growth number `at` denied (0: none), and how many were asked for."""
         got = self.answer(words, LD_PRELOAD=shim, REFUSE_AT=str(at), REFUSE_COUNT=self.count)
         return got, int(read(self.count, b"0"))
 
 
 def is_told_refusal(expected, got):
-    """Whether the answer tells that memory was refused, with what was written by the statements before that line."""
+    """Whether the result reports that memory ran out, with what was written by the statements before that line."""
     return cases.refusal(expected, got) is not None
 
 
@@ -104,7 +104,7 @@ def answer_of_model(made: Made) -> model.Answer:
 
 
 def keep(folder, made: Made, expected, got):
-    """Writes a run as a case, and beside it, in FOLDER.got, what the program answered."""
+    """Writes a run as a case, and next to it, in FOLDER.got, the program's result."""
     for place in (folder, f"{folder}.got"):
         os.makedirs(place, exist_ok=True)
     for name, content in made.files.items():
@@ -117,7 +117,7 @@ def keep(folder, made: Made, expected, got):
 
 
 def kind_of(answer):
-    """How a run ended, without its numbers: good runs, and each fault by its words."""
+    """How a run ended, without its numbers: good runs, and each error by its words."""
     if not answer.told:
         return "done, with output" if answer.output else "done, without output"
     words = answer.told.decode(errors="replace").rstrip("\n").split(": ", 2)
@@ -126,7 +126,7 @@ def kind_of(answer):
 
 
 def wrong_answer(program, made, expected, shims, choice):
-    """An answer of the program that is not as it must be, or None."""
+    """A result of the program that is not as it must be, or None."""
     program.put(made)
     got = program.answer(made.words)
     if got == expected and shims["devices"] and choice.random() < 2 / 3:

@@ -1,12 +1,12 @@
 #!/usr/bin/env python3
-"""Random grids, scripts, rules, expressions and words: the program beside the plain model of tools/model/model.py.
+"""Random grids, scripts, rules, expressions and words: the program against the plain model of tools/model/model.py.
 
     fuzz.py [--seconds N] [--seed S] [--first F] [--program PATH] [--keep FOLDER]
 
 Most runs are good and a few a little bad. Output, standard error and status must agree byte for byte. What differs is
-made smaller and written to FOLDER as a case that can be put under cases/, with the program's answer in a folder beside
-it. Run number F of seed S is the same wherever it is made. At the end stand the rate and how often each command was run
-and each fault was told; the last line is 'N runs, M differences'.
+made smaller and written to FOLDER as a case that can be put under cases/, with the program's result in a folder next to
+it. Run number F of seed S is the same wherever it is made. At the end are the rate and how often each command was run
+and each error was reported; the last line is 'N runs, M differences'.
 """
 from __future__ import annotations
 
@@ -122,7 +122,7 @@ def made_at(seed: int, number: int, cases: list[Made]) -> Made:
 
 
 def answers(program: Program, made: Made) -> tuple[model.Answer, model.Answer]:
-    """What the model and the program answer."""
+    """What the model and the program give."""
     for name in os.listdir("."):
         if name not in made.files and name.startswith("grid"):
             os.unlink(name)
@@ -186,7 +186,7 @@ class Shrinking:
 
 
 class Counts:
-    """How often each command was run and each fault was told."""
+    """How often each command was run and each error was reported."""
 
     def __init__(self):
         self.commands, self.ends = collections.Counter(), collections.Counter()

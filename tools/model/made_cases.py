@@ -87,7 +87,7 @@ class Maker:
         return sign + zeros + b"%d" % abs(number)
 
     def damaged(self, text: bytes) -> bytes:
-        """The text with a few bytes put in, left out, or cut off behind."""
+        """The text with a few bytes put in, left out, or cut off at the end."""
         for _ in range(self.number(1, 2)):
             at = self.number(0, len(text))
             kind = self.number(0, 9)
@@ -381,7 +381,7 @@ class ScriptMaker(GridMaker, ExpressionMaker):
         return self.one(makers)(known)
 
     def damaged_statement(self, known: list[bytes]) -> list[bytes]:
-        """A statement that has most likely a fault, deep inside as often as not."""
+        """A statement that most likely has an error, deep inside as often as not."""
         kind = self.number(0, 3)
         self.badness = 0.05
         if kind > 0:

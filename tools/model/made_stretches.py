@@ -20,7 +20,7 @@ BAD_BYTES = [b"\x00", b"\x0b", b"\x0c", b"\xa0", b":", b"*", b"-", b".", b"\xff"
 
 
 class StretchMaker(ScriptMaker):
-    """Grids of one region whose rows are stretches of equal words, and scripts that tell of each cell."""
+    """Grids of one region whose rows are stretches of equal words, and scripts that print each cell."""
 
     def __init__(self, random_source: random.Random):
         super().__init__(random_source)
@@ -65,13 +65,13 @@ class StretchMaker(ScriptMaker):
         return b"-" + spelled.lstrip(b"+-") if word.startswith(b"-") or (spelled.startswith(b"-") and int(digits)) else spelled
 
     def separators(self, count: int) -> list[bytes]:
-        """What stands behind each cell: one separator for the whole map, or now and then another, and the ends of the rows."""
+        """What is after each cell: one separator for all of the map, or now and then another, and the ends of the rows."""
         usual, row_end = self.one(SEPARATORS), self.one(ROW_ENDS)
         part_of_others = self.one([0, 0, 0, 0.005, 0.1])
         found = [self.one(SEPARATORS) if part_of_others and self.chance(part_of_others) else usual for _ in range(count)]
         kind = self.number(0, 9)
         for at in range(self.cols - 1, count, self.cols):
-            if kind > 0:  # else all cells stand on one line
+            if kind > 0:  # else all cells are on one line
                 found[at] = row_end if kind > 1 else self.one(ROW_ENDS)
         if kind == 9:  # lines that end anywhere
             for at in self.random.sample(range(count), min(count, 5)):
@@ -106,7 +106,7 @@ class StretchMaker(ScriptMaker):
         return header + self.one([b" ", b"\n", b"\t", b"\r"]) * blanks + cells
 
     def whole_script(self, names: list[bytes]) -> bytes:
-        """All that tells of the cells: areas, tables over all maps, and the maps themselves."""
+        """All that prints the cells: areas, tables over all maps, and the maps themselves."""
         lines = [b"r.clump %sinput=%s output=areas" % (self.one([b"", b"-d "]), self.one(names))] if self.chance(0.5) else []
         lines += [b"r.mapcalc %s" % self.one([b"z = %s[0,1] == %s" % (names[0], names[-1]), b"z = if(isnull(%s), 7, %s)" % (names[0], names[-1]),
                                               b"z = %s + %s" % (names[0], names[-1]), b"z = %s == 1 ? %s : row()" % (names[0], names[-1])])]

@@ -1,7 +1,7 @@
 #!/usr/bin/env python3
-"""rcell SCRIPT NAME=PATH...: what the program must write and tell, straight from its definitions, plain and slow.
+"""rcell SCRIPT NAME=PATH...: what the program must write and report, straight from its definitions, plain and slow.
 
-It shares no code with the program and keeps to whole lists: a grid's faults are all gathered and the first place
+It shares no code with the program and keeps to whole lists: a grid's errors are all gathered and the first place
 wins, areas are found by walking from each first cell, a table by asking each cell. `tools/model/compare.py` runs both.
 """
 from __future__ import annotations
@@ -258,7 +258,7 @@ def input_names(command: bytes, value: bytes) -> list[bytes]:
 
 
 class ScriptReader:
-    """Reads a script over the names of the grids: its statements, or the first fault from the top."""
+    """Reads a script over the names of the grids: its statements, or the first error from the top."""
 
     def __init__(self, text: bytes, names: list[bytes]):
         self.lines = script_lines(text)
@@ -432,7 +432,7 @@ def contents(folder: bytes, path: bytes, source: bytes) -> Given:
 
 
 def program(words: list[bytes], folder: bytes = b"") -> Answer:
-    """What the program answers to its words; paths are those of the folder."""
+    """What the program gives for its words; paths are in the folder."""
     try:
         if len(words) < 2 or any(word.startswith(b"-") or not is_utf8(word) for word in words):
             raise Refused(b"arguments", 0, "usage: rcell SCRIPT NAME=PATH...", 2)

@@ -222,7 +222,7 @@ def word_token(text: bytes, column: int) -> CalcToken:
 
 
 def calc_tokens(text: bytes) -> list[CalcToken]:
-    """The tokens of an assignment, and the end behind them."""
+    """The tokens of an assignment, and the end after them."""
     tokens, at = [], 0
     while at < len(text):
         if text[at] in BLANKS:
@@ -244,7 +244,7 @@ LEVELS = ((b"||", b"|||"), (b"&&", b"&&&"), (b"==", b"!="), (b"<", b"<=", b">", 
 
 
 class Parser:
-    """Reads an assignment from the left and tells the first fault that can be told."""
+    """Reads an assignment from the left and reports the first error that can be seen."""
 
     def __init__(self, text: bytes):
         self.tokens = calc_tokens(text)

@@ -1,4 +1,4 @@
-"""Cells, maps and grid texts of the model in tools/model/model.py: what a text denotes, or which fault is its first."""
+"""Cells, maps and grid texts of the model in tools/model/model.py: what a text denotes, or which error is its first."""
 from __future__ import annotations
 
 import re
@@ -32,7 +32,7 @@ class Answer:
 
 
 class Refused(Exception):
-    """A fault that ends the run: who is named, at which line, in which words, with which status."""
+    """An error that ends the run: who is named, at which line, in which words, with which status."""
 
     def __init__(self, source: bytes, line: int, text: str, status: int = 1):
         super().__init__(text)
@@ -155,7 +155,7 @@ class Failing:
 
 
 class GridText:
-    """A grid text with all that its places tell; `read` answers its map or its first fault."""
+    """A grid text with all that its places say; `read` returns its map or its first error."""
 
     def __init__(self, given: bytes | Failing):
         self.ends = not isinstance(given, Failing)
@@ -178,7 +178,7 @@ class GridText:
         return min(self.faults) if self.faults else self.map()
 
     def judge_failure(self) -> None:
-        """A text that fails has no end, so nothing that an end tells is told there."""
+        """A text that fails has no end, so nothing that an end shows is reported there."""
         end = len(self.text)
         self.faults = [told for told in self.faults if told.place < end or told.rank not in TOLD_AT_AN_END]
         self.tell(end, READ_FAILS, self.line_at(end), "read failed")

@@ -1,11 +1,11 @@
 #!/usr/bin/env python3
-"""Runs rcell-pipe beside rcell over the same maps as text, and beside a plain reader of requests.
+"""Runs rcell-pipe against rcell over the same maps as text, and against a plain reader of requests.
 
     test_pipe.py [CLANG] [--program PROGRAM] [--rcell PROGRAM] [--runs N] [--seed N]
 
 - N random requests of all types, with nodata, masks, labels and scripts of tools/model/fuzz.py: the printed frames must be the output of
-  rcell, and the errors of scripts those of rcell;
-- each error of a request by name, each truncation of ten requests, and random damage: the first error must be that of the plain reader;
+  rcell, and the errors of scripts the errors of rcell; as text, the response must be that output, or the same rejection;
+- each error of a request by name, each truncation of ten requests, and random damage: the first error must be the plain reader's;
 - a caller that stops reading, a request that announces a large map, and, with CLANG, each growth, read and write that fails.
 
 The last line is 'N passed, M failed'.
@@ -127,12 +127,21 @@ def random_request(choice: random.Random) -> tuple[list[Raster], bytes]:
 # What is wrong, or ''
 
 
+def as_text(data: bytes) -> bytes:
+    """The same request for text."""
+    return b"RCELLT1\n" + data[8:] if data.startswith(b"RCELLQ1\n") else data
+
+
 def wrong_run(programs: Programs, maps: list[Raster], script: bytes) -> str:
     """Whether an accepted request gives what rcell gives."""
-    *frames, end = programs.frames(request(maps, script))
+    data = request(maps, script)
+    *frames, end = programs.frames(data)
     status, output, message, before = programs.over_text(maps, script)
     if end["status"] != status:
         return f"{end}; rcell: {status} {message!r}; {script!r}"
+    as_rcell = (status, output) if status == STATUS_DONE else programs.run(data)
+    if programs.run(as_text(data)) != as_rcell:
+        return f"{script!r}: as text {programs.run(as_text(data))} is not {as_rcell}"
     if status == STATUS_DONE:
         text = b"".join(map(printed, frames))
         return "" if text == output else f"{script!r}: {text!r} is not {output!r}"
@@ -146,15 +155,16 @@ def wrong_run(programs: Programs, maps: list[Raster], script: bytes) -> str:
 
 def wrong_reading(programs: Programs, data: bytes) -> str:
     """Whether any bytes are read as the plain reader does, to the same first error."""
-    if data.startswith(b"RCELLP1\n"):
-        return ""  # damage made a plan of it: test_plan.py
+    if data.startswith((b"RCELLP1\n", b"RCELLT1\n")):
+        return ""  # damage made another form of it
     try:
         maps, script = Reader(data).run()
     except Rejected as error:
         *frames, end = programs.frames(data)
         got = end["status"], end["source"], (end["text"], end["maps"], end["line"]), end["column"], len(frames)
         wanted = STATUS_REJECTED, 1, error.place, 0, 0
-        return "" if got == wanted else f"{data!r}: {got} is not {wanted}"
+        is_same = programs.run(as_text(data)) == programs.run(data)
+        return "" if got == wanted and is_same else f"{data!r}: {got} is not {wanted}, or not as text"
     if not all(is_plain(it) for it in maps):
         programs.frames(data)
         return ""
@@ -231,11 +241,11 @@ def wide_request() -> bytes:
     return request([Raster(b"land", (b"400", b"0", b"1000", b"0"), 1, rows)], b"r.out.ascii input=land\n" * 3)
 
 
-def wrong_stop(programs: Programs, taken: int) -> str:
+def wrong_stop(programs: Programs, data: bytes, taken: int) -> str:
     """A caller that takes so many bytes of a long response, and stops reading: the program ends."""
     with subprocess.Popen([programs.pipe], stdin=subprocess.PIPE, stdout=subprocess.PIPE, stderr=subprocess.PIPE) as ran:
         assert ran.stdin and ran.stdout
-        ran.stdin.write(wide_request())
+        ran.stdin.write(data)
         ran.stdin.close()
         ran.stdout.read(taken)
         ran.stdout.close()
@@ -277,7 +287,7 @@ def few_bytes() -> bytes:
 
 
 def wrong_growths(programs: Programs, shim: str) -> str:
-    """Each growth of memory refused in turn: all is done, or the last frame says that memory ran out after whole frames."""
+    """Each growth of memory denied in turn: all is done, or the last frame says that memory ran out after whole frames."""
     data, counter = few_bytes(), os.path.join(programs.room, "count")
     wanted, at, asked = programs.frames(data), 0, 1
     while at < asked:
@@ -291,9 +301,30 @@ def wrong_growths(programs: Programs, shim: str) -> str:
     return ""
 
 
+def wrong_text_growths(programs: Programs, shim: str) -> str:
+    """Each growth of memory denied in turn: the text is whole, or the text of the first statements, or the request is rejected."""
+    data, counter = few_bytes(), os.path.join(programs.room, "count")
+    texts = [printed(frame) for frame in programs.frames(data)[:-1]]
+    starts = [b"".join(texts[:count]) for count in range(len(texts) + 1)]
+    at, asked = 0, 1
+    while at < asked:
+        at += 1
+        status, output = programs.run(as_text(data), LD_PRELOAD=shim, REFUSE_AT=str(at), REFUSE_COUNT=counter)
+        with open(counter, encoding="ascii") as file:
+            asked = int(file.read())
+        is_end = output.startswith(b"RCELLA1\n") and Response(output).frames()[-1]["text"] == b"no memory"
+        if not (output == starts[-1] if status == STATUS_DONE else status == STATUS_MEMORY and (is_end or output in starts)):
+            return f"with growth {at} refused: status {status}, {output!r}"
+    return ""
+
+
 def wrong_devices(programs: Programs, shim: str) -> str:
+    """The system fails for a request of either form."""
+    return wrong_device(programs, shim, few_bytes()) or wrong_device(programs, shim, as_text(few_bytes()))
+
+
+def wrong_device(programs: Programs, shim: str, data: bytes) -> str:
     """Each read that fails or ends once, reads and writes that move little, and each write that fails."""
-    data = few_bytes()
     wanted = programs.run(data)
     for piece in (1, 7, 64):
         if programs.run(data, LD_PRELOAD=shim, READ_PIECE=str(piece), WRITE_PIECE=str(piece)) != wanted:
@@ -316,15 +347,17 @@ def wrong_devices(programs: Programs, shim: str) -> str:
 
 def check_system(programs: Programs, count: cases.Count, clang: Optional[str]) -> None:
     for taken in (0, 1, 100_000):
-        count.add(f"a caller that stops after {taken} bytes", wrong_stop(programs, taken))
+        for data in (wide_request(), as_text(wide_request())):
+            count.add(f"a caller of {data[:7]!r} that stops after {taken} bytes", wrong_stop(programs, data, taken))
     count.add("a header that announces 8 GB", wrong_announcement(programs, 32767, 65535, 0))
     count.add("a header that announces labels", wrong_announcement(programs, 1, 1, 2**32 - 1))
     count.add("half of a request", wrong_order(programs))
     if clang:
-        for name, wrong in (("refuse", wrong_growths), ("devices", wrong_devices)):
+        for name, *wrong in (("refuse", wrong_growths, wrong_text_growths), ("devices", wrong_devices)):
             shim = os.path.join(programs.room, f"{name}.so")
             cases.build_shim(clang, shim, name)
-            count.add(f"the system fails: {name}", wrong(programs, shim))
+            for one in wrong:
+                count.add(f"the system fails: {name}, {one.__name__}", one(programs, shim))
 
 
 def main() -> int:

@@ -1,5 +1,5 @@
 #!/usr/bin/env python3
-"""Sends plan requests to rcell-pipe, and compares each response with that of a plain model of docs/pipe.md, field by field.
+"""Sends plan requests to rcell-pipe, and compares each response with a plain model of docs/pipe.md, field by field.
 
     test_plan.py [--program PROGRAM] [--runs N] [--seed N]
 

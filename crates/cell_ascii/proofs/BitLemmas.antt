@@ -8,7 +8,7 @@ use Rattle.std.proofs.lemmas.Nat.{and_block, and_mask, one_shl, mod-pow-add, fie
 use Rattle.std.proofs.lemmas.List.{length-map, take-map, take-take, drop-take, get_or-take}
 use Rattle.std.specs.Int.Bits.{bit_and, bit_or, and_self}
 use Rattle.cell_ascii_meaning.specs.GridTokens.{is_line_feed, is_space, is_word_byte, newlines}
-use Rattle.cell_ascii.proofs.ByteLemmas.{digits-mod, digits-number}
+use Rattle.cell_ascii_writer.proofs.ByteLemmas.{digits-mod, digits-number}
 use Rattle.cell_ascii.specs.TableWords.{blanks, feeds, cleared_front, kept_bytes}
 use lib.Count.{count_trailing_zeros}
 use lib.Lanes.{mask_l, number_l, digits_l, top, zip2}

@@ -13,7 +13,7 @@ use Rattle.std.proofs.lemmas.List.{take-append-drop, take-take, get_or-take}
 use Rattle.std.proofs.Math.Nat.{pow-le-pow_right}
 use Rattle.std.proofs.Math.Seq.{take-length}
 use Rattle.cell_ascii_reading.proofs.DigitLemmas.{value_below}
-use Rattle.cell_ascii_reading.proofs.StartLemmas.{start-next, start-begins, word-stops, word-more}
+use Rattle.cell_ascii_meaning.proofs.TokenLemmas.{start-next, start-begins, word-stops, word-more}
 
 pub both : (a b : Bool) → (a && b) ≡ true → (a ≡ true) × (b ≡ true)
 both true b e = (refl, e)

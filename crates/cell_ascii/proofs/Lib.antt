@@ -3,8 +3,8 @@ pub mod BufferedLemmas
 pub mod BufferedRowLemmas
 pub mod AgainLemmas
 pub mod LaneLemmas
-mod ByteLemmas
 pub mod BitLemmas
+pub mod DigitLemmas
 pub mod RunLemmas
 pub mod WordLemmas
 pub mod RowReadLemmas

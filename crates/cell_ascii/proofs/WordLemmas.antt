@@ -16,7 +16,7 @@ use Rattle.cell_ascii.specs.BufferedCells.{HoldsCells, run_after}
 use Rattle.cell_ascii.specs.TableWords.{HoldsLines, AreCellsRead}
 use Rattle.cell_ascii.proofs.BufferedLemmas.{both, no_space, word_ahead}
 use Rattle.cell_ascii.proofs.ManyLemmas.{many_more, many_add, snoc, with_last, glue, and_then}
-use Rattle.cell_ascii_reading.proofs.StartLemmas.{start-next, start-begins}
+use Rattle.cell_ascii_meaning.proofs.TokenLemmas.{start-next, start-begins}
 use Rattle.cell_ascii.proofs.BufferedRowLemmas.{lent_rest}
 use Rattle.cell_ascii.specs.parts.InLine.{AreCellsInLine}
 
@@ -202,16 +202,6 @@ newlines-few (b ∷ bs) (suc n) = omega (arith, at_most (b == 10), newlines-appe
     at_most false = omega arith
 
 -- cells that were read into the lent front of a row
-pub lent_in_line : (h : HeaderValue) (bs : List ℕ) (end : ℕ) (part row : List CellValue) (read : ℕ × ℕ)
-    → length part ≡ length (take end row) → AreCellsInLine h bs (take end row) part read
-    → AreCellsInLine h bs row (part ++ drop end row) read
-lent_in_line h bs end part row read size is = record {
-  cells = rw (take-append-le read.0 part (drop end row) (omega (arith, size, is.count))) is.cells;
-  count = omega (arith, is.count, length-take end row);
-  within = is.within;
-  rest = lent_rest read.0 end part row is.count size is.rest;
-}
-
 pub lent_cells : (h : HeaderValue) (bs : List ℕ) (end : ℕ) (part row : List CellValue) (read : ℕ × ℕ × ℕ)
     → length part ≡ length (take end row) → AreCellsRead h bs (take end row) part read
     → AreCellsRead h bs row (part ++ drop end row) read

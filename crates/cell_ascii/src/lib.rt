@@ -6,7 +6,8 @@
 //! - `writer`: `write_map`, re-exported from `cell_ascii_writer`
 //! - `law`: what reading means, re-exported from `cell_ascii_law` and `cell_ascii_law_faults`
 //! - `short_cells`, `word_table`, `pace`: the fast ways to read cells that are in the buffer: words
-//!   in place, words that occurred before, and how often to try each. They change no result.
+//!   in place, words that occurred before, numbers by their digits, and which way is next. They
+//!   change no result.
 //!
 //! `GRID` is a text of three rows and four columns, here in pieces of seven bytes:
 //!

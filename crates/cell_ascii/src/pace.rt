@@ -1,99 +1,111 @@
-//! How long cells are read in which way.
+//! Which way cells are read next.
 
-// How many cells are read one by one, or without a look-up, at first. They are twice as many each time that few were found, up to
-// the last of these.
+// A way that was of no use is left alone for so many cells, and for twice as many each next time, up to the last of these.
 const FIRST_WAIT: usize = 16;
 
 const LAST_WAIT: usize = 4096;
 
-// The credit for words that come again lasted for few cells where it lasted for so many at most.
-const FEW_CELLS: usize = 64;
+// Words come again often where so many cells were read so.
+const MANY_CELLS: usize = 64;
 
-// So many words are looked up at once where most of the last were not found.
-const FEW_SOUGHT: usize = 16;
+// So many words are looked up to see whether that is of use again.
+const FEW_WORDS: usize = 16;
 
-/// How cells are read: words that come again are looked for, and words that were read before are looked up, both less and less
-/// often where few are found. It says nothing of what is read.
+/// A way to read cells.
+#[derive(Clone, Copy)]
+pub(crate) enum Way {
+    /// Words that come again and again, each read once.
+    Repeated,
+    /// Words looked up among those that were read before.
+    Sought,
+    /// Numbers by their digits.
+    Digits,
+    /// Words one by one, as at the last bytes buffered.
+    Single,
+}
+
+// How long a way is left alone.
+#[derive(Drop)]
+struct Pause {
+    // For how many cells yet.
+    left: usize,
+    // For how many from the next time on that it is of no use.
+    next: usize,
+}
+
+impl Pause {
+    fn new() -> Pause {
+        Pause {
+            left: 0,
+            next: FIRST_WAIT,
+        }
+    }
+
+    // The way was tried.
+    fn end_trial(&mut self, is_of_use: bool) {
+        if is_of_use {
+            self.next = FIRST_WAIT;
+            return;
+        }
+        self.left = self.next;
+        if self.next < LAST_WAIT {
+            self.next *= 2;
+        }
+    }
+
+    // So many cells were read in other ways.
+    fn pass(&mut self, count: usize) {
+        self.left = self.left.saturating_sub(count);
+    }
+}
+
+/// Which way cells are read next: a way that was of no use is tried less and less often. It says nothing of what is read.
 #[derive(Drop)]
 pub struct Pace {
-    /// How many cells are to be read one by one, or 0.
-    pub(crate) singles: usize,
-    // How many were the last time.
-    wait: usize,
-    /// How many of them are to be read without a look-up, or 0.
-    pub(crate) unsought: usize,
-    // How many are to be the next time.
-    next_unsought: usize,
+    repeated: Pause,
+    sought: Pause,
 }
 
 impl Pace {
     /// The pace of a reader that has read nothing yet.
     pub fn new() -> Pace {
         Pace {
-            singles: 0,
-            wait: FIRST_WAIT,
-            unsought: 0,
-            next_unsought: FIRST_WAIT,
+            repeated: Pause::new(),
+            sought: Pause::new(),
         }
     }
 
-    /// Where a word that comes again is looked for, none stands as it has to.
-    pub(crate) fn pass_none(&mut self) {
-        self.singles = self.wait;
-        if self.wait < LAST_WAIT {
-            self.wait *= 2;
+    /// The way to read next, and how many cells at most. One by one, where the last try but one found nothing.
+    pub(crate) fn next_way(&self, tries: usize) -> (Way, usize) {
+        if tries == 1 {
+            return (Way::Single, usize::MAX);
         }
-    }
-
-    /// So many cells were read as words that come again, up to the end of a row.
-    pub(crate) fn pass_row(&mut self, count: usize) {
-        if count > FEW_CELLS {
-            self.wait = FIRST_WAIT;
+        if self.repeated.left == 0 {
+            return (Way::Repeated, usize::MAX);
         }
-    }
-
-    /// So many cells were read one by one.
-    pub(crate) fn pass_singles(&mut self, count: usize) {
-        self.singles = self.singles.saturating_sub(count);
-    }
-
-    /// So many cells were read as words that come again.
-    pub(crate) fn pass_repeated(&mut self, count: usize) {
-        if count > FEW_CELLS {
-            self.wait = FIRST_WAIT;
-        } else if self.wait < LAST_WAIT {
-            self.wait *= 2;
+        if self.sought.left > 0 {
+            return (Way::Digits, self.sought.left.min(self.repeated.left));
         }
-        self.singles = self.wait;
-    }
-
-    /// How many words are to be looked up at most. They are few where most of the last were not found.
-    pub(crate) fn most_sought(&self) -> usize {
-        if self.next_unsought == FIRST_WAIT {
-            usize::MAX
+        if self.sought.next == FIRST_WAIT {
+            (Way::Sought, self.repeated.left)
         } else {
-            FEW_SOUGHT
+            (Way::Sought, FEW_WORDS.min(self.repeated.left))
         }
     }
 
-    /// Of so many words that were looked up, so many were not found.
-    pub(crate) fn pass_sought(&mut self, count: usize, missed: usize) {
-        if count == 0 {
-            return;
+    /// So many cells were read in a way, of which so many were looked up in vain. Whether they end where the row does.
+    pub(crate) fn pass(&mut self, way: Way, count: usize, missed: usize, ends_row: bool) {
+        match way {
+            Way::Repeated => {
+                if count > MANY_CELLS || !ends_row {
+                    self.repeated.end_trial(count > MANY_CELLS);
+                }
+                return;
+            }
+            Way::Sought if count > 0 => self.sought.end_trial(missed <= count / 2),
+            Way::Digits => self.sought.pass(count),
+            _ => {}
         }
-        if missed <= count / 2 {
-            self.unsought = 0;
-            self.next_unsought = FIRST_WAIT;
-            return;
-        }
-        self.unsought = self.next_unsought;
-        if self.next_unsought < LAST_WAIT {
-            self.next_unsought *= 2;
-        }
-    }
-
-    /// So many cells were read without a look-up.
-    pub(crate) fn pass_unsought(&mut self, count: usize) {
-        self.unsought = self.unsought.saturating_sub(count);
+        self.repeated.pass(count);
     }
 }

@@ -6,7 +6,7 @@ ghost use Rattle.cell_ascii.specs.TableWords.{AreCellsRead};
 ghost use Rattle.cell_ascii_meaning.specs.EdgeNumbers.{whole_number};
 ghost use Rattle.cell_ascii.specs.parts.InLine.{AreCellsInLine};
 
-use crate::pace::Pace;
+use crate::pace::{Pace, Way};
 use crate::word_table::WordTable;
 use cell_ascii_reading::header::Header;
 use cell_ascii_reading::scanner::is_space;
@@ -28,6 +28,9 @@ const LANES: usize = 16;
 const MOST_CREDIT: usize = 8;
 
 const COST_OF_A_WORD: usize = 2;
+
+// So many ways are tried where none finds a cell.
+const MOST_TRIES: usize = 3;
 
 // One to three digits and a byte that ends them, at the front of four bytes, and how many digits there are.
 #[inline(always)]
@@ -313,107 +316,43 @@ fn single_cells_in(buffered: &[u8], header: &Header, row: &mut [Cell]) -> (usize
     (row.len(), passed)
 }
 
-// The same as `cells_in`, by the words that were read before.
-fn sought_cells_in(
+// How many tries are left: all again where the last found some cells.
+fn tries_left(tries: usize, found: usize) -> usize
+    requires { 0 < tries }
+    // So the tries for all cells come to an end.
+    ensures { result < tries + 4 * found }
+{
+    if found > 0 { MOST_TRIES } else { tries - 1 }
+}
+
+// Some cells in one way, at most so many, and how many of them were looked up in vain.
+#[inline(never)]
+fn cells_by(
+    way: Way,
+    most: usize,
     buffered: &[u8],
     words: &mut WordTable,
     row: &mut [Cell],
-    pace: &mut Pace,
+    missed: &mut usize,
 ) -> (usize, usize, u64)
     ensures cells { AreCellsRead words.old buffered.now row.old row.new result }
     ensures same { words.new ≡ words.old }
 {
-    let end = pace.most_sought().min(row.len());
-    let mut missed = 0;
-    let found = words.cells_in(buffered, &mut row[..end], &mut missed);
-    pace.pass_sought(found.0, missed);
-    found
-}
-
-// The same as `single_cells_in`, as many as are to be read without a look-up.
-fn unsought_cells_in(
-    buffered: &[u8],
-    header: &Header,
-    row: &mut [Cell],
-    pace: &mut Pace,
-) -> (usize, usize)
-    ensures { AreCellsInLine header.now buffered.now row.old row.new result }
-{
-    let end = pace.unsought.min(row.len());
-    let found = single_cells_in(buffered, header, &mut row[..end]);
-    pace.pass_unsought(found.0);
-    found
-}
-
-// The same as `cells_in`, each cell by itself: by the words that were read before, and where that reads none, as at the last
-// bytes held, word by word.
-fn each_cell_in(
-    buffered: &[u8],
-    words: &mut WordTable,
-    row: &mut [Cell],
-    pace: &mut Pace,
-) -> (usize, usize, u64)
-    ensures cells { AreCellsRead words.old buffered.now row.old row.new result }
-    ensures same { words.new ≡ words.old }
-{
-    let found = unsought_cells_in(buffered, words.header(), row, pace);
-    if found.0 > 0 {
-        return (found.0, found.1, 0);
-    }
-    let found = sought_cells_in(buffered, words, row, pace);
-    if found.0 > 0 {
-        return found;
-    }
-    let found = single_cells_in(buffered, words.header(), row);
-    (found.0, found.1, 0)
-}
-
-// The same, as many as are to be read one by one.
-fn next_cells_in(
-    buffered: &[u8],
-    words: &mut WordTable,
-    row: &mut [Cell],
-    pace: &mut Pace,
-) -> (usize, usize, u64)
-    ensures cells { AreCellsRead words.old buffered.now row.old row.new result }
-    ensures same { words.new ≡ words.old }
-{
-    let end = pace.singles.min(row.len());
-    let found = each_cell_in(buffered, words, &mut row[..end], pace);
-    pace.pass_singles(found.0);
-    found
-}
-
-// The same as `cells_in`, in one of the two ways.
-//
-// Each way says the same of the cells, so nothing is proved of the pace.
-fn some_cells_in(
-    buffered: &[u8],
-    words: &mut WordTable,
-    row: &mut [Cell],
-    pace: &mut Pace,
-) -> (usize, usize, u64)
-    ensures cells { AreCellsRead words.old buffered.now row.old row.new result }
-    ensures same { words.new ≡ words.old }
-{
-    if pace.singles > 0 {
-        return next_cells_in(buffered, words, row, pace);
-    }
-    let found = repeated_cells_in(buffered, words.header(), row);
-    if found.0 == 0 {
-        pace.pass_none();
-        return next_cells_in(buffered, words, row, pace);
-    }
-    if found.0 < row.len() {
-        pace.pass_repeated(found.0);
-    } else {
-        pace.pass_row(found.0);
-    }
+    let end = most.min(row.len());
+    let part = &mut row[..end];
+    let found = match way {
+        Way::Repeated => repeated_cells_in(buffered, words.header(), part),
+        Way::Sought => return words.cells_in::<true>(buffered, part, missed),
+        Way::Digits => return words.cells_in::<false>(buffered, part, missed),
+        Way::Single => single_cells_in(buffered, words.header(), part),
+    };
     (found.0, found.1, 0)
 }
 
 /// The cells whose words are held one after another, apart by blanks and line feeds, up to the length of a row: they fill the
 /// front of the row. Returns how many they are, how many bytes they take, and how many of these are line feeds.
+///
+/// Each way says the same of the cells, so nothing is proved of the pace.
 pub fn cells_in(
     buffered: &[u8],
     words: &mut WordTable,
@@ -426,14 +365,23 @@ pub fn cells_in(
     let mut i = 0;
     let mut passed = 0;
     let mut lines = 0;
-    'parts: while i < row.len() {
-        let found = some_cells_in(&buffered[passed..], words, &mut row[i..], pace);
-        if found.0 == 0 {
-            return (i, passed, lines);
-        }
+    let mut tries = MOST_TRIES;
+    'ways: while i < row.len() && tries > 0 {
+        let (way, most) = pace.next_way(tries);
+        let mut missed = 0;
+        let found = cells_by(
+            way,
+            most,
+            &buffered[passed..],
+            words,
+            &mut row[i..],
+            &mut missed,
+        );
         i += found.0;
         passed += found.1;
         lines += found.2;
+        pace.pass(way, found.0, missed, i == row.len());
+        tries = tries_left(tries, found.0);
     }
     (i, passed, lines)
 }

@@ -1,12 +1,13 @@
-//! Cells of words that were read before: each is read once, and then found by its bytes.
+//! Cells of words that were read before: each is read once, and then found by its bytes. Where most are new, numbers are read by
+//! their digits.
 
-ghost use Rattle.std.specs.Prelude.{ℕ, List, true, false, ◌≡◌, ◌+◌, ◌-◌, ◌*◌, ◌%◌, ◌^◌, ◌<◌, ◌≤◌, length, take, drop, Some, Ok, IfOk, IfSome};
-ghost use Rattle.std.specs.List.{All};
+ghost use Rattle.std.specs.Prelude.{ℕ, List, ◌++◌, replicate, true, false, ◌≡◌, ◌+◌, ◌-◌, ◌*◌, ◌%◌, ◌^◌, ◌<◌, ◌≤◌, length, take, drop, Some, Ok, IfOk, IfSome};
+ghost use Rattle.std.specs.List.{All, list_all};
 ghost use Rattle.std.specs.Int.RustNames.{count_ones, bit_and};
-ghost use Rattle.std.specs.Simd.Lanes.{mask_l};
+ghost use Rattle.std.specs.Simd.Lanes.{mask_l, number_l};
 ghost use Rattle.cell_ascii_meaning.specs.GridTokens.{newlines};
 ghost use Rattle.cell_ascii_meaning.specs.CellTexts.{cell_of_word};
-ghost use Rattle.cell_ascii_meaning.specs.EdgeNumbers.{digits_of, whole_number};
+ghost use Rattle.cell_ascii_meaning.specs.EdgeNumbers.{digits_of, is_digit, value_of_digits, whole_number};
 ghost use Rattle.cell_ascii.specs.TableWords.{HoldsLines, IsEntry, IsCellPut, blanks, feeds, kept_bytes, AreCellsRead};
 ghost use Rattle.cell_ascii.specs.parts.WordPlaces.{CanPut};
 ghost use Rattle.cell_ascii.specs.parts.BlankRuns.{IsAtBlank, IsBehindBlanks};
@@ -105,7 +106,8 @@ fn word_key(bytes: &[u8], size: usize) -> u64
     requires some { 0 < size }
     requires few { size ≤ 8 }
     requires buffered { 8 ≤ length bytes.now }
-    ensures { kept_bytes result size ≡ take size bytes.now }
+    ensures kept { kept_bytes result size ≡ take size bytes.now }
+    ensures word { result ≡ number_l 256 (replicate (8 - size) 0 ++ take size bytes.now) }
 {
     let [all] = u64x1::from_le_bytes(u8x8::from_slice(bytes)).to_array();
     all << (64 - 8 * size)
@@ -119,45 +121,102 @@ fn word_place(key: u64) -> usize
     (key.wrapping_mul(0x9E37_79B9_7F4A_7C15) >> (64 - PLACE_BITS)) as usize
 }
 
-// The value of one to nine digits.
+// How many of the first eight bytes are digits, one behind another. Where all are, it may be more.
 #[inline(always)]
-fn value_of(digits: &[u8]) -> Option<u32>
-    ensures { IfSome result (λ value. digits_of digits.now ≡ Some value) }
+fn digits_at(bytes: &[u8]) -> usize
+    requires { 8 ≤ length bytes.now }
+    ensures { (n : ℕ) → n ≤ 8 → n ≤ result → list_all is_digit (take n bytes.now) ≡ true }
 {
-    if digits.is_empty() || digits.len() > MOST_DIGITS {
+    let values = u8x8::from_slice(bytes) - u8x8::splat(b'0');
+    values
+        .simd_ge(u8x8::splat(10))
+        .to_bitmask()
+        .trailing_zeros() as usize
+}
+
+// The value of so many digits, by three multiplications: of pairs of digits, of pairs of these, and of both fours.
+#[inline(always)]
+fn digits_value(bytes: &[u8], size: usize) -> u64
+    requires some { 0 < size }
+    requires few { size ≤ 8 }
+    requires buffered { 8 ≤ length bytes.now }
+    requires digits { list_all is_digit (take size bytes.now) ≡ true }
+    ensures value { result ≡ value_of_digits (take size bytes.now) }
+    ensures small { result < 100000000 }
+{
+    let word = word_key(bytes, size) & 0x0f0f_0f0f_0f0f_0f0f;
+    let pairs = word.wrapping_mul(10).wrapping_add(word >> 8);
+    let first = (pairs & 0x0000_00ff_0000_00ff).wrapping_mul(100 + (1_000_000 << 32));
+    let second = ((pairs >> 16) & 0x0000_00ff_0000_00ff).wrapping_mul(1 + (10_000 << 32));
+    first.wrapping_add(second) >> 32
+}
+
+// The value of nine digits.
+fn nine_value(bytes: &[u8], size: usize) -> Option<u32>
+    requires { 9 ≤ length bytes.now }
+    ensures { IfSome result (λ value. digits_of (take size bytes.now) ≡ Some value) }
+{
+    if size != MOST_DIGITS || digits_at(bytes) < MOST_KEPT {
         return None;
     }
-    let mut value = 0u32;
-    for (i, b) in digits.iter().enumerate() {
-        if !is_digit(*b) {
-            return None;
-        }
-        value = value * 10 + (*b - b'0') as u32;
+    if !is_digit(bytes[MOST_KEPT]) {
+        return None;
     }
-    Some(value)
+    Some(digits_value(bytes, MOST_KEPT) as u32 * 10 + (bytes[MOST_KEPT] - b'0') as u32)
+}
+
+// The value of one to nine digits.
+#[inline(always)]
+fn value_of(bytes: &[u8], size: usize) -> Option<u32>
+    requires { 9 ≤ length bytes.now }
+    ensures { IfSome result (λ value. digits_of (take size bytes.now) ≡ Some value) }
+{
+    if size > MOST_KEPT {
+        return nine_value(bytes, size);
+    }
+    if size == 0 || digits_at(bytes) < size {
+        return None;
+    }
+    Some(digits_value(bytes, size) as u32)
 }
 
 // The number that a word of one to nine digits is, behind a minus or not.
 #[inline(always)]
-fn word_number(word: &[u8]) -> Option<i64>
-    ensures { IfSome result (λ number. whole_number word.now ≡ Some number) }
+fn word_number(bytes: &[u8], size: usize) -> Option<i64>
+    requires some { 0 < size }
+    requires buffered { 10 ≤ length bytes.now }
+    ensures { IfSome result (λ number. whole_number (take size bytes.now) ≡ Some number) }
 {
-    if let [b'-', digits @ ..] = word {
-        return Some(negative(value_of(digits)?));
+    if bytes[0] == b'-' {
+        return Some(negative(value_of(&bytes[1..], size - 1)?));
     }
-    Some(value_of(word)? as i64)
+    Some(value_of(bytes, size)? as i64)
+}
+
+// The cell of the number that a word of one to nine digits is, behind a minus or not.
+#[inline(always)]
+fn number_cell(bytes: &[u8], size: usize, header: &Header) -> Option<Cell>
+    requires some { 0 < size }
+    requires within { size ≤ length bytes.now }
+    requires buffered { 10 ≤ length bytes.now }
+    ensures { IfSome result (λ v. cell_of_word header.now (take size bytes.now) ≡ Ok v) }
+{
+    let number = word_number(bytes, size)?;
+    header.cell_of_number(&bytes[..size], number).ok()
 }
 
 // The cell of a word that is not kept.
 #[inline(always)]
-fn read_word(word: &[u8], header: &Header) -> Option<Cell>
-    ensures { IfSome result (λ v. cell_of_word header.now word.now ≡ Ok v) }
+fn read_word(bytes: &[u8], size: usize, header: &Header) -> Option<Cell>
+    requires some { 0 < size }
+    requires within { size ≤ length bytes.now }
+    requires buffered { 10 ≤ length bytes.now }
+    ensures { IfSome result (λ v. cell_of_word header.now (take size bytes.now) ≡ Ok v) }
 {
-    let cell = match word_number(word) {
-        Some(number) => header.cell_of_number(word, number),
-        None => header.cell_of_word(word),
-    };
-    cell.ok()
+    match number_cell(bytes, size, header) {
+        Some(cell) => Some(cell),
+        None => header.cell_of_word(&bytes[..size]).ok(),
+    }
 }
 
 // Keeps the cell of a word, in the place of another, where the word is short.
@@ -198,7 +257,7 @@ fn read_cell(
     ensures known { All (IsEntry header.now) entries.new }
 {
     *missed = missed.saturating_add(1);
-    let Some(cell) = read_word(&bytes[..size], header) else {
+    let Some(cell) = read_word(bytes, size, header) else {
         return false;
     };
     keep_word(bytes, size, cell, header, entries);
@@ -206,9 +265,10 @@ fn read_cell(
     true
 }
 
-// Writes the cell of the word that the first bytes are to a place of a row. Answers whether it is one.
+// Writes the cell of the word that the first bytes are to a place of a row. Answers whether it is one. A number is looked up
+// where SOUGHT says so, and read by its digits elsewhere.
 #[inline(always)]
-fn put_cell(
+fn put_cell<const SOUGHT: bool>(
     bytes: &[u8],
     size: usize,
     header: &Header,
@@ -222,6 +282,10 @@ fn put_cell(
     ensures none { result ≡ false → row.new ≡ row.old }
     ensures known { All (IsEntry header.now) entries.new }
 {
+    if !SOUGHT && let Some(cell) = number_cell(bytes, size, header) {
+        row[i] = cell;
+        return true;
+    }
     if size <= MOST_KEPT {
         let key = word_key(bytes, size);
         let entry = entries[word_place(key)];
@@ -236,7 +300,7 @@ fn put_cell(
 // The cells of the words that end among the first 64 bytes held, up to the length of a row: how many they are, and where the
 // last of them ends. It ends before a word that is no cell.
 #[inline(always)]
-fn block_cells_in(
+fn block_cells_in<const SOUGHT: bool>(
     buffered: &[u8],
     header: &Header,
     entries: &mut [WordEntry],
@@ -261,7 +325,7 @@ fn block_cells_in(
         let end = ends.trailing_zeros() as usize;
         let size = end - at;
         if size > 0 {
-            if !put_cell(&buffered[at..], size, header, entries, row, i, missed) {
+            if !put_cell::<SOUGHT>(&buffered[at..], size, header, entries, row, i, missed) {
                 return (i, last);
             }
             i += 1;
@@ -286,7 +350,7 @@ pub struct WordTable {
 
 impl Model for WordTable {
     ghost use Rattle.std.specs.Prelude.{◌≡◌, length};
-    ghost use Rattle.std.specs.List.{All};
+    ghost use Rattle.std.specs.List.{All, list_all};
     ghost use Rattle.cell_ascii_meaning.specs.Header.{HeaderValue};
     ghost use Rattle.cell_ascii.specs.TableWords.{IsEntry};
 
@@ -302,7 +366,7 @@ impl Model for WordTable {
 // held out, words of 64 bytes and more, and a word that is no cell with all behind it. Words that are not kept are counted as
 // missed.
 #[inline(never)]
-fn table_cells_in(
+fn table_cells_in<const SOUGHT: bool>(
     buffered: &[u8],
     header: &Header,
     entries: &mut [WordEntry],
@@ -319,7 +383,7 @@ fn table_cells_in(
     let mut lines = 0;
     'blocks: while i < row.len() && buffered.len() - passed >= LEAST_BUFFERED {
         let block = &buffered[passed..];
-        let found = block_cells_in(block, header, entries, &mut row[i..], missed);
+        let found = block_cells_in::<SOUGHT>(block, header, entries, &mut row[i..], missed);
         if found.0 == 0 {
             return (i, passed, lines);
         }
@@ -353,8 +417,8 @@ impl WordTable {
 
     /// The cells whose words are held one after another, apart by blanks and line feeds, up to the length of a row: they fill
     /// its front. Returns how many they are, how many bytes they take, and how many of these are line feeds. Words that were
-    /// not read before, as far as is known, are counted as missed.
-    pub fn cells_in(
+    /// not read before, as far as is known, are counted as missed. Numbers are looked up only where SOUGHT says so.
+    pub fn cells_in<const SOUGHT: bool>(
         &mut self,
         buffered: &[u8],
         row: &mut [Cell],
@@ -363,7 +427,7 @@ impl WordTable {
         ensures cells { AreCellsRead self.old buffered.now row.old row.new result }
         ensures same { self.new ≡ self.old }
     {
-        table_cells_in(
+        table_cells_in::<SOUGHT>(
             buffered,
             &self.header,
             self.entries.as_mut_slice(),

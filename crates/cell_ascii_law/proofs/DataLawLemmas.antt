@@ -8,7 +8,8 @@ use Rattle.cell_ascii_meaning.specs.Header.{At, HeaderValue, ◌>>=◌}
 use Rattle.cell_ascii_meaning.specs.CellTexts.{Reading, at_of, after_cell, cell_after_word, after_start, cell_of_word, cell_from, many, end_of, data_from}
 use Rattle.cell_ascii_meaning.specs.declared.grid_fault.GridKind.{GridKind}
 use Rattle.cell_ascii_meaning.specs.declared.grid_fault.GridFault.{GridFault}
-use Rattle.cell_ascii_law.proofs.LexemeLemmas.{coming, Lines, first_line, rest_lines, put, lex, before_word, next_word}
+use Rattle.cell_ascii_meaning.proofs.TokenLemmas.{coming}
+use Rattle.cell_ascii_law.proofs.LexemeLemmas.{Lines, first_line, rest_lines, put, lex, before_word, next_word}
 
 -- what was read, without the fault
 abbrev pub accepted : {X : Type 0} → Result X GridFault → Option X

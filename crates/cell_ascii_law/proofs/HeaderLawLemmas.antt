@@ -8,12 +8,13 @@ use Rattle.cell_ascii_meaning.specs.GridTokens.{Begins, is_space, grid_start, wo
 use Rattle.cell_ascii_meaning.specs.KeyNames.{header_key_of}
 use Rattle.cell_ascii_meaning.specs.Header.{HeaderValue, OpenedText, KeyValues, no_keys, with_header_key, header_of, is_colon, has_colon, Gap, Word, Feed, Last, Fault, gap_of, value_from, LineEnd, line_end, at_line, key_line, header_ended, opened_text, after_line, line_from, header_from, ◌>>=◌}
 use Rattle.cell_ascii_meaning.specs.CellTexts.{grid_of}
-use Rattle.cell_ascii_meaning.specs.GridText.{is_token, key_text, line_values}
+use Rattle.cell_ascii_meaning.specs.GridText.{is_word, key_text, line_values}
 use Rattle.cell_ascii_meaning.specs.declared.header_key.HeaderKey.{HeaderKey}
 use Rattle.cell_ascii_meaning.specs.declared.grid_fault.GridKind.{GridKind}
 use Rattle.cell_ascii_meaning.specs.declared.grid_fault.GridKind.TheVariants.{BadHeader}
 use Rattle.cell_ascii_meaning.specs.declared.grid_fault.GridFault.{GridFault}
-use Rattle.cell_ascii_law.proofs.LexemeLemmas.{coming, Lines, first_line, rest_lines, lex, before_word, next_word, before_gap}
+use Rattle.cell_ascii_meaning.proofs.TokenLemmas.{coming}
+use Rattle.cell_ascii_law.proofs.LexemeLemmas.{Lines, first_line, rest_lines, lex, before_word, next_word, before_gap}
 use Rattle.cell_ascii_law.proofs.DataLawLemmas.{accepted, all_words, words_by_first, then_agree, then_none, no_word, take_grid, read_grid, grid_first, grid_none}
 use Rattle.cell_ascii_law.proofs.KeyLawLemmas.{open_keys, key_known, header_given, sides}
 
@@ -117,17 +118,17 @@ module _ (rest : KeyValues → ℕ → ℕ → Coming → Result OpenedText Grid
   abbrev taken : List (List ℕ) → Lines → Option Grid
   taken vs ls = after_key (with_values keys key vs) (λ k. take_text k (rest_lines ls))
 
-  value_end : (value : List ℕ) (bs : List ℕ) (f : Bool) → from_end value (line_end line (gap_of line 0 (coming bs f))) ≡ option_and_then (λ ls. taken (value ∷ filter is_token (first_line ls)) ls) (lex 0 [] bs f)
+  value_end : (value : List ℕ) (bs : List ℕ) (f : Bool) → from_end value (line_end line (gap_of line 0 (coming bs f))) ≡ option_and_then (λ ls. taken (value ∷ filter is_word (first_line ls)) ls) (lex 0 [] bs f)
   value_end value bs f = before_gap goes line (λ gap. from_end value (line_end line gap)) (λ e. refl) (closed_none (with_header_key keys key value)) (λ b cs g word. no_word goes (λ x xs ls. refl) b cs g word)
       (λ run cs g low. closed_some value (with_header_key keys key value) refl run cs g low) bs f 0 (omega arith)
     where
       goes : Lines → Option Grid
-      goes ls = taken (value ∷ filter is_token (first_line ls)) ls
+      goes ls = taken (value ∷ filter is_word (first_line ls)) ls
 
   abbrev from_value : Result (List ℕ × Coming) GridFault → Option Grid
   from_value r = accepted (((r >>= (λ value. line_end line (gap_of line 0 value.1) >>= (λ end. at_line line (with_header_key keys key value.0) >>= (λ more. Ok (more, end))))) >>= after_line rest line) >>= read_opened)
 
-  line_is : (a : List ℕ) (bs : List ℕ) (f : Bool) → from_value (value_from line a (coming bs f)) ≡ option_and_then (λ ls. taken (filter is_token (a ∷ first_line ls)) ls) (lex 0 [] bs f)
+  line_is : (a : List ℕ) (bs : List ℕ) (f : Bool) → from_value (value_from line a (coming bs f)) ≡ option_and_then (λ ls. taken (filter is_word (a ∷ first_line ls)) ls) (lex 0 [] bs f)
   line_is (x ∷ xs) bs f = value_end (x ∷ xs) bs f
   line_is [] bs f = ap from_value (value_is line (coming bs f))
       ∙ before_gap goes line (λ gap. from_value (value_at line gap)) (λ e. refl) refl
@@ -135,7 +136,7 @@ module _ (rest : KeyValues → ℕ → ℕ → Coming → Result OpenedText Grid
       (λ run cs g low. sym (then_none (lex run [] cs g))) bs f 0 (omega arith)
     where
       goes : Lines → Option Grid
-      goes ls = taken (filter is_token ([] ∷ first_line ls)) ls
+      goes ls = taken (filter is_word ([] ∷ first_line ls)) ls
 
 -- what is accepted from the first word of a line on
 abbrev from_word : (KeyValues → ℕ → ℕ → Coming → Result OpenedText GridFault) → KeyValues → ℕ → Result (List ℕ × Coming) GridFault → Option Grid

@@ -6,13 +6,15 @@ use Rattle.cell_core_devices.specs.Device.{Coming}
 use Rattle.cell_ascii_meaning.specs.GridTokens.{Start, Begins, Ends, Stops, grid_start, is_space, grid_fault, word_from}
 use Rattle.cell_ascii_meaning.specs.KeyNames.{header_key_of}
 use Rattle.cell_ascii_meaning.specs.Header.{HeaderValue, OpenedText, KeyValues, no_keys, with_header_key, header_of, is_colon, has_colon, Gap, Word, Feed, Last, Fault, gap_of, value_from, LineEnd, line_end, at_line, key_line, header_ended, opened_text, At, after_line, line_from, header_from, ◌>>=◌}
-use Rattle.cell_ascii_meaning.specs.GridText.{is_token, line_words, header_lines, IsHeader}
+use Rattle.cell_ascii_meaning.specs.GridText.{is_word, line_words, header_lines, IsHeader}
 use Rattle.cell_ascii_meaning.specs.declared.header_key.HeaderKey.{HeaderKey}
 use Rattle.cell_ascii_meaning.specs.declared.grid_fault.GridKind.{GridKind}
 use Rattle.cell_ascii_meaning.specs.declared.grid_fault.GridKind.TheVariants.{Read, ReaderStuck, LongToken}
 use Rattle.cell_ascii_meaning.specs.declared.grid_fault.GridFault.{GridFault}
 use Rattle.cell_ascii_law.specs.GridLaw.{HeadersAgree}
-use Rattle.cell_ascii_law.proofs.LexemeLemmas.{coming, Lines, first_line, rest_lines, put, opening, start-ends, start-fails, start-begins, start-stuck, start-more, gap-ends, gap-fails, gap-word, gap-feed, gap-stuck_feed, gap-stuck, gap-more, word-ends, word-fails, word-stops, word-long, word-more}
+use Rattle.cell_ascii_meaning.proofs.TokenLemmas.{coming, start-ends, start-fails, start-begins, start-stuck, start-more}
+use Rattle.cell_ascii_meaning.proofs.TokenLemmas.{gap-ends, gap-fails, gap-word, gap-feed, gap-stuck, gap-more, word-ends, word-fails, word-stops, word-long, word-more}
+use Rattle.cell_ascii_law.proofs.LexemeLemmas.{Lines, first_line, rest_lines, put, opening}
 use Rattle.cell_ascii_law.proofs.HeaderLawLemmas.{with_values, with_line, after_key, take_by, value_is, value_at}
 use Rattle.cell_ascii_law.proofs.KeyLawLemmas.{header_given}
 use Rattle.cell_ascii_law.proofs.LimitLawLemmas.{IsFree, free_more, lines_alone, lines_space, one_more}
@@ -113,15 +115,12 @@ module _ {Y : Type 0} (y : Y) (G : Lines → Option Y) where
         by on (inl space) (inl feed) (inl room) =
             ap G (lines_after b bs space ∙ ap (λ (t : Bool). opening t (line_words bs)) feed)
             ∙ feeds (run + 1) bs f (omega arith) (sym (ap k (gap-feed line run low b bs f feed room)) ∙ e)
-        by on (inl space) (inl feed) (inr full) =
-            none_some y
-            (sym (ap k (gap-stuck_feed line run low b bs f feed full) ∙ fails (grid_fault ReaderStuck line)) ∙ e)
         by on (inl space) (inr blank) (inl room) =
             ap G (lines_after b bs space ∙ ap (λ (t : Bool). opening t (line_words bs)) blank)
             ∙ on (omega arith) (sym (ap k (gap-more line run low b bs f space blank)) ∙ e)
-        by on (inl space) (inr blank) (inr full) =
+        by on (inl space) _ (inr full) =
             none_some y
-            (sym (ap k (gap-stuck line run low b bs f space blank full) ∙ fails (grid_fault ReaderStuck line)) ∙ e)
+            (sym (ap k (gap-stuck line run low b bs f space full) ∙ fails (grid_fault ReaderStuck line)) ∙ e)
 
 -- the header that is read
 abbrev said : Result OpenedText GridFault → Option HeaderValue
@@ -179,9 +178,9 @@ module _ (h : HeaderValue) (rest : KeyValues → ℕ → ℕ → Coming → Resu
       >>= after_line rest line)
 
   value_end : (value bs : List ℕ) (f : Bool) → from_end value (line_end line (gap_of line 0 (coming bs f))) ≡ Some h
-      → taken (value ∷ filter is_token (first_line (line_words bs))) (line_words bs) ≡ Some h
+      → taken (value ∷ filter is_word (first_line (line_words bs))) (line_words bs) ≡ Some h
   value_end value bs f =
-      from_gap h (λ ls. taken (value ∷ filter is_token (first_line ls)) ls) line
+      from_gap h (λ ls. taken (value ∷ filter is_word (first_line ls)) ls) line
       (λ gap. from_end value (line_end line gap)) (λ e. refl)
       (λ e. sym (closed_none (with_header_key keys key value)) ∙ e) (λ b cs g word e. none_some h e)
       (λ run cs g low e. closed_some (with_header_key keys key value) run cs g low e) bs f 0 (omega arith)
@@ -193,13 +192,13 @@ module _ (h : HeaderValue) (rest : KeyValues → ℕ → ℕ → Coming → Resu
       >>= after_line rest line)
 
   line_said : (a bs : List ℕ) (f : Bool) → from_value (value_from line a (coming bs f)) ≡ Some h
-      → taken (filter is_token (a ∷ first_line (line_words bs))) (line_words bs) ≡ Some h
+      → taken (filter is_word (a ∷ first_line (line_words bs))) (line_words bs) ≡ Some h
   line_said (x ∷ xs) bs f e = value_end (x ∷ xs) bs f e
   line_said [] bs f e =
-      from_gap h (λ ls. taken (filter is_token ([] ∷ first_line ls)) ls) line (λ gap. from_value (value_at line gap))
+      from_gap h (λ ls. taken (filter is_word ([] ∷ first_line ls)) ls) line (λ gap. from_value (value_at line gap))
       (λ e. refl)
       (λ e. none_some h e)
-      (λ b cs g word. from_word h (λ ls. taken (filter is_token ([] ∷ first_line ls)) ls) line from_value (λ e. refl)
+      (λ b cs g word. from_word h (λ ls. taken (filter is_word ([] ∷ first_line ls)) ls) line from_value (λ e. refl)
       (λ x xs ds g. value_end (x ∷ xs) ds g) b cs g word)
       (λ run cs g low e. none_some h e) bs f 0 (omega arith) (sym (ap from_value (value_is line (coming bs f))) ∙ e)
 

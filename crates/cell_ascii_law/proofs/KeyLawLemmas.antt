@@ -68,81 +68,65 @@ pub record IsGiven (a : KeyValues) (q : HeaderKey) (value : List ℕ) (k : KeyVa
   pub others : (p : HeaderKey) → (p ≡ q → ⊥) → held k p ≡ held a p
   pub fewer : suc (open_keys k) ≡ open_keys a
 
-pub key_given : (a : KeyValues) (q : HeaderKey) (value : List ℕ) (k : KeyValues) → with_header_key a (Some q) value ≡ Ok k → IsGiven a q value k
+-- a key of a field that is kept by its value
+module _ (a : KeyValues) (q : HeaderKey) (value : List ℕ) (k : KeyValues) {X : Type 0} (wrap : X → Value)
+    (get : KeyValues → Option X) (read : Option X) (keep : X → KeyValues)
+    (sees : (m : KeyValues) → held m q ≡ option_map wrap (get m)) (gives : number_of q value ≡ option_map wrap read)
+    (keeps : (x : X) → get (keep x) ≡ Some x)
+    (others : (x : X) (p : HeaderKey) → (p ≡ q → ⊥) → held (keep x) p ≡ held a p)
+    (fewer : (x : X) → get a ≡ None → suc (open_keys (keep x)) ≡ open_keys a) where
+  given_by : value_given (get a) read keep ≡ Ok k → IsGiven a q value k
+  given_by e =
+      let g = given_is (get a) read keep k e in
+      record {
+        free = sees a ∙ ap (option_map wrap) g.0;
+        number = ap is_some (gives ∙ ap (option_map wrap) g.2);
+        kept = sees k ∙ ap (λ (m : KeyValues). option_map wrap (get m)) (sym g.3)
+            ∙ ap (option_map wrap) (keeps g.1 ∙ sym g.2) ∙ sym gives;
+        others = λ p d. ap (λ (m : KeyValues). held m p) (sym g.3) ∙ others g.1 p d;
+        fewer = ap (λ (m : KeyValues). suc (open_keys m)) (sym g.3) ∙ fewer g.1 g.0;
+      }
+
+pub key_given : (a : KeyValues) (q : HeaderKey) (value : List ℕ) (k : KeyValues)
+    → with_header_key a (Some q) value ≡ Ok k → IsGiven a q value k
 key_given a North value k e =
-    let g = given_is a.north (coordinate value) (λ x. record a { north = Some x }) k e in
-    record {
-      free = ap (option_map Number) g.0;
-      number = ap (λ (o : Option ℤ). is_some (option_map Number o)) g.2;
-      kept = ap (λ (m : KeyValues). option_map Number m.north) (sym g.3) ∙ ap (option_map Number) (sym g.2);
-      others = λ p d. ap (λ (m : KeyValues). held m p) (sym g.3) ∙ by g.1 p d;
-      fewer = ap (λ (m : KeyValues). suc (open_keys m)) (sym g.3) ∙ (let o = ap open_one g.0 in omega arith);
-    }
+    given_by a North value k Number (λ m. m.north) (coordinate value) (λ x. record a { north = Some x })
+    (λ m. refl) refl (λ x. refl) by (λ x none. let o = ap open_one none in omega arith) e
   where
     by : (x : ℤ) (p : HeaderKey) → (p ≡ North → ⊥) → held (record a { north = Some x }) p ≡ held a p
     by x North d = absurd (d refl)
     by x _ d = refl
 key_given a South value k e =
-    let g = given_is a.south (coordinate value) (λ x. record a { south = Some x }) k e in
-    record {
-      free = ap (option_map Number) g.0;
-      number = ap (λ (o : Option ℤ). is_some (option_map Number o)) g.2;
-      kept = ap (λ (m : KeyValues). option_map Number m.south) (sym g.3) ∙ ap (option_map Number) (sym g.2);
-      others = λ p d. ap (λ (m : KeyValues). held m p) (sym g.3) ∙ by g.1 p d;
-      fewer = ap (λ (m : KeyValues). suc (open_keys m)) (sym g.3) ∙ (let o = ap open_one g.0 in omega arith);
-    }
+    given_by a South value k Number (λ m. m.south) (coordinate value) (λ x. record a { south = Some x })
+    (λ m. refl) refl (λ x. refl) by (λ x none. let o = ap open_one none in omega arith) e
   where
     by : (x : ℤ) (p : HeaderKey) → (p ≡ South → ⊥) → held (record a { south = Some x }) p ≡ held a p
     by x South d = absurd (d refl)
     by x _ d = refl
 key_given a East value k e =
-    let g = given_is a.east (coordinate value) (λ x. record a { east = Some x }) k e in
-    record {
-      free = ap (option_map Number) g.0;
-      number = ap (λ (o : Option ℤ). is_some (option_map Number o)) g.2;
-      kept = ap (λ (m : KeyValues). option_map Number m.east) (sym g.3) ∙ ap (option_map Number) (sym g.2);
-      others = λ p d. ap (λ (m : KeyValues). held m p) (sym g.3) ∙ by g.1 p d;
-      fewer = ap (λ (m : KeyValues). suc (open_keys m)) (sym g.3) ∙ (let o = ap open_one g.0 in omega arith);
-    }
+    given_by a East value k Number (λ m. m.east) (coordinate value) (λ x. record a { east = Some x })
+    (λ m. refl) refl (λ x. refl) by (λ x none. let o = ap open_one none in omega arith) e
   where
     by : (x : ℤ) (p : HeaderKey) → (p ≡ East → ⊥) → held (record a { east = Some x }) p ≡ held a p
     by x East d = absurd (d refl)
     by x _ d = refl
 key_given a West value k e =
-    let g = given_is a.west (coordinate value) (λ x. record a { west = Some x }) k e in
-    record {
-      free = ap (option_map Number) g.0;
-      number = ap (λ (o : Option ℤ). is_some (option_map Number o)) g.2;
-      kept = ap (λ (m : KeyValues). option_map Number m.west) (sym g.3) ∙ ap (option_map Number) (sym g.2);
-      others = λ p d. ap (λ (m : KeyValues). held m p) (sym g.3) ∙ by g.1 p d;
-      fewer = ap (λ (m : KeyValues). suc (open_keys m)) (sym g.3) ∙ (let o = ap open_one g.0 in omega arith);
-    }
+    given_by a West value k Number (λ m. m.west) (coordinate value) (λ x. record a { west = Some x })
+    (λ m. refl) refl (λ x. refl) by (λ x none. let o = ap open_one none in omega arith) e
   where
     by : (x : ℤ) (p : HeaderKey) → (p ≡ West → ⊥) → held (record a { west = Some x }) p ≡ held a p
     by x West d = absurd (d refl)
     by x _ d = refl
 key_given a Rows value k e =
-    let g = given_is a.rows (side value) (λ x. record a { rows = Some x }) k e in
-    record {
-      free = ap (option_map Count) g.0;
-      number = ap (λ (o : Option ℕ). is_some (option_map Count o)) g.2;
-      kept = ap (λ (m : KeyValues). option_map Count m.rows) (sym g.3) ∙ ap (option_map Count) (sym g.2);
-      others = λ p d. ap (λ (m : KeyValues). held m p) (sym g.3) ∙ by g.1 p d;
-      fewer = ap (λ (m : KeyValues). suc (open_keys m)) (sym g.3) ∙ (let o = ap open_one g.0 in omega arith);
-    }
+    given_by a Rows value k Count (λ m. m.rows) (side value) (λ x. record a { rows = Some x })
+    (λ m. refl) refl (λ x. refl) by (λ x none. let o = ap open_one none in omega arith) e
   where
     by : (x : ℕ) (p : HeaderKey) → (p ≡ Rows → ⊥) → held (record a { rows = Some x }) p ≡ held a p
     by x Rows d = absurd (d refl)
     by x _ d = refl
 key_given a Cols value k e =
-    let g = given_is a.cols (side value) (λ x. record a { cols = Some x }) k e in
-    record {
-      free = ap (option_map Count) g.0;
-      number = ap (λ (o : Option ℕ). is_some (option_map Count o)) g.2;
-      kept = ap (λ (m : KeyValues). option_map Count m.cols) (sym g.3) ∙ ap (option_map Count) (sym g.2);
-      others = λ p d. ap (λ (m : KeyValues). held m p) (sym g.3) ∙ by g.1 p d;
-      fewer = ap (λ (m : KeyValues). suc (open_keys m)) (sym g.3) ∙ (let o = ap open_one g.0 in omega arith);
-    }
+    given_by a Cols value k Count (λ m. m.cols) (side value) (λ x. record a { cols = Some x })
+    (λ m. refl) refl (λ x. refl) by (λ x none. let o = ap open_one none in omega arith) e
   where
     by : (x : ℕ) (p : HeaderKey) → (p ≡ Cols → ⊥) → held (record a { cols = Some x }) p ≡ held a p
     by x Cols d = absurd (d refl)
@@ -153,18 +137,14 @@ key_given a Null value k e = by (has_colon value) refl e
     others x Null d = absurd (d refl)
     others x _ d = refl
 
-    by : (t : Bool) → has_colon value ≡ t → (if t then Err BadHeader else value_given a.null (Some value) (λ x. record a { null = Some x })) ≡ Ok k → IsGiven a Null value k
+    by : (t : Bool) → has_colon value ≡ t
+        → (if t then Err BadHeader else value_given a.null (Some value) (λ x. record a { null = Some x })) ≡ Ok k
+        → IsGiven a Null value k
     by true is e = cc
     by false is e =
-        let g = given_is a.null (Some value) (λ x. record a { null = Some x }) k e in
-        let read : null_text value ≡ Some g.1 = rw is g.2 in
-        record {
-          free = ap (option_map Text) g.0;
-          number = ap (λ (o : Option (List ℕ)). is_some (option_map Text o)) read;
-          kept = ap (λ (m : KeyValues). option_map Text m.null) (sym g.3) ∙ ap (option_map Text) (sym read);
-          others = λ p d. ap (λ (m : KeyValues). held m p) (sym g.3) ∙ others g.1 p d;
-          fewer = ap (λ (m : KeyValues). suc (open_keys m)) (sym g.3) ∙ (let o = ap open_one g.0 in omega arith);
-        }
+        let read : null_text value ≡ Some value = rw is refl in
+        given_by a Null value k Text (λ m. m.null) (Some value) (λ x. record a { null = Some x }) (λ m. refl)
+        (ap (option_map Text) read) (λ x. refl) others (λ x none. let o = ap open_one none in omega arith) e
 key_given a CellType value k e = by a.kind (is_int value) refl refl e
   where
     others : (p : HeaderKey) → (p ≡ CellType → ⊥) → held (record a { kind = true }) p ≡ held a p
@@ -185,14 +165,8 @@ key_given a CellType value k e = by a.kind (is_int value) refl refl e
           fewer = ap (λ (m : KeyValues). suc (open_keys m)) (sym same) ∙ (let o = ap (λ (t : Bool). open_one (stood t)) stands in omega arith);
         }
 key_given a Multiplier value k e =
-    let g = given_is a.multiplier (whole_in_range value) (λ x. record a { multiplier = Some x }) k e in
-    record {
-      free = ap (option_map Number) g.0;
-      number = ap (λ (o : Option ℤ). is_some (option_map Number o)) g.2;
-      kept = ap (λ (m : KeyValues). option_map Number m.multiplier) (sym g.3) ∙ ap (option_map Number) (sym g.2);
-      others = λ p d. ap (λ (m : KeyValues). held m p) (sym g.3) ∙ by g.1 p d;
-      fewer = ap (λ (m : KeyValues). suc (open_keys m)) (sym g.3) ∙ (let o = ap open_one g.0 in omega arith);
-    }
+    given_by a Multiplier value k Number (λ m. m.multiplier) (whole_in_range value) (λ x. record a { multiplier = Some x })
+    (λ m. refl) refl (λ x. refl) by (λ x none. let o = ap open_one none in omega arith) e
   where
     by : (x : ℤ) (p : HeaderKey) → (p ≡ Multiplier → ⊥) → held (record a { multiplier = Some x }) p ≡ held a p
     by x Multiplier d = absurd (d refl)

@@ -1,140 +1,17 @@
 -- The words of each line of a text, byte by byte, and the steps of the reading against them.
-use Rattle.std.proofs.Common.{◌≡◌, ℕ, suc, ◌+◌, ◌-◌, ◌<◌, ◌≤◌, List, [], ◌∷◌, ◌++◌, Option, Some, None, ◌==◌, Bool, true, false, cond, drop, take, length, refl, ap, sym, ◌∙◌, arith, if◌then◌else◌, append-nil, append_assoc, length-append, Result, Ok, Err, not, ◌&&◌, ◌||◌, ◌⊎◌, inl, inr}
+use Rattle.std.proofs.Common.{◌≡◌, ℕ, ◌+◌, ◌<◌, ◌≤◌, List, [], ◌∷◌, ◌++◌, Option, Some, None, ◌==◌, Bool, true, false, cond, length, length-append, refl, ap, sym, ◌∙◌, arith, if◌then◌else◌, Result, Ok, Err, ◌⊎◌, inl, inr}
 use Rattle.std.specs.Option.{option_map, option_and_then}
-use Rattle.std.specs.List.{prefix_len}
-use Rattle.std.proofs.lemmas.List.Sums.{sum_by-append}
 use Rattle.std.proofs.lemmas.Bool.{cases_Bool, cases_lt}
 use Rattle.std.proofs.lemmas.Bool.Decides.{nat_tests}
 use Rattle.std.specs.Prelude.{nat_lt}
 use Rattle.cell_core_devices.specs.Device.{Coming}
-use Rattle.cell_ascii_meaning.specs.GridTokens.{Start, Begins, Ends, Stops, grid_start, start_at, is_space, is_word_byte, newlines, grid_fault, word_from, word_end}
-use Rattle.cell_ascii_meaning.specs.Header.{Gap, Word, Feed, Last, Fault, gap_of, gap_at, is_grid_blank}
+use Rattle.cell_ascii_meaning.proofs.TokenLemmas.{coming, gap-ends, gap-fails, gap-feed, gap-more, gap-stuck, gap-word}
+use Rattle.cell_ascii_meaning.proofs.TokenLemmas.{start-begins, start-ends, start-fails, start-more, start-stuck}
+use Rattle.cell_ascii_meaning.proofs.TokenLemmas.{word-ends, word-fails, word-long, word-more, word-stops}
+use Rattle.cell_ascii_meaning.specs.GridTokens.{Start, Begins, Ends, Stops, grid_start, is_space, grid_fault, word_from}
+use Rattle.cell_ascii_meaning.specs.Header.{Gap, Word, Feed, Last, Fault, gap_of}
 use Rattle.cell_ascii_meaning.specs.declared.grid_fault.GridKind.TheVariants.{Read, ReaderStuck, LongToken}
 use Rattle.cell_ascii_meaning.specs.declared.grid_fault.GridFault.{GridFault}
-
-abbrev pub coming : List ℕ → Bool → Coming
-coming bs f = record { bytes = bs; fails = f }
-
--- The next word, one byte further.
-abbrev parts : Bool → ℕ → ℕ → List ℕ → Bool → Start
-parts stuck at_fault at_start rest f = if stuck then Stops (grid_fault ReaderStuck at_fault) else start_at at_start rest f
-
-prefix_more : (b : ℕ) (bs : List ℕ) → is_space b ≡ true → prefix_len is_space (b ∷ bs) ≡ suc (prefix_len is_space bs)
-prefix_more b bs space = ap (λ (t : Bool). cond t (1 + prefix_len is_space bs) 0) space ∙ omega arith
-
-less_more : (run : ℕ) → run < 1048576 → 1048576 - run ≡ suc (1048576 - (run + 1))
-less_more run room = omega arith
-
-newlines_more : (line b : ℕ) (bs : List ℕ) → line + newlines (b ∷ bs) ≡ line + cond (b == 10) 1 0 + newlines bs
-newlines_more line b bs = omega (arith, sum_by-append (λ (x : ℕ). cond (x == 10) 1 0) (b ∷ []) bs)
-
-pub no_feed : (b : ℕ) → is_space b ≡ false → (b == 10) ≡ false
-no_feed b e = by (b == 32) (b == 9) (b == 13) (b == 10) e
-  where
-    by : (s t r f : Bool) → ((s || t) || (r || f)) ≡ false → f ≡ false
-    by true t r f e = cc
-    by false true r f e = cc
-    by false false true f e = cc
-    by false false false f e = e
-
-pub feed_space : (b : ℕ) → (b == 10) ≡ true → is_space b ≡ true
-feed_space b e = by (b == 32) (b == 9) (b == 13) (b == 10) e
-  where
-    by : (s t r f : Bool) → f ≡ true → ((s || t) || (r || f)) ≡ true
-    by true t r f e = refl
-    by false true r f e = refl
-    by false false true f e = refl
-    by false false false f e = e
-
-module _ (line run : ℕ) (low : run ≤ 1048576) where
-  pub start-ends : grid_start line run (coming [] false) ≡ Ends line
-  unfolding grid_start
-  start-ends = grind (arith, nat_tests)
-
-  pub start-fails : grid_start line run (coming [] true) ≡ Stops (grid_fault Read line)
-  unfolding grid_start
-  start-fails = grind (arith, nat_tests)
-
-  pub start-begins : (b : ℕ) (bs : List ℕ) (f : Bool) → is_space b ≡ false → grid_start line run (coming (b ∷ bs) f) ≡ Begins line (coming (b ∷ bs) f)
-  unfolding grid_start
-  start-begins b bs f word = grind (arith, nat_tests)
-
-  pub start-stuck : (b : ℕ) (bs : List ℕ) (f : Bool) → is_space b ≡ true → 1048576 ≤ run → grid_start line run (coming (b ∷ bs) f) ≡ Stops (grid_fault ReaderStuck line)
-  unfolding grid_start
-  start-stuck b bs f space full = grind (arith, nat_tests)
-
-  pub start-more : (b : ℕ) (bs : List ℕ) (f : Bool) → is_space b ≡ true → run < 1048576 → grid_start line run (coming (b ∷ bs) f) ≡ grid_start (line + cond (b == 10) 1 0) (run + 1) (coming bs f)
-  unfolding grid_start
-  start-more b bs f space room =
-      let gap = prefix_len is_space bs in
-      let longer : prefix_len is_space (b ∷ bs) ≡ suc gap = prefix_more b bs space in
-      let tests : nat_lt 1048576 (run + suc gap) ≡ nat_lt 1048576 (run + 1 + gap) = ap (nat_lt 1048576) (omega arith) in
-      let stuck : line + newlines (take (1048576 - run) (b ∷ bs)) ≡ line + cond (b == 10) 1 0 + newlines (take (1048576 - (run + 1)) bs) =
-      rw (less_more run room) (newlines_more line b (take (1048576 - (run + 1)) bs)) in
-      ap (λ (n : ℕ). parts (nat_lt 1048576 (run + n)) (line + newlines (take (1048576 - run) (b ∷ bs))) (line + newlines (take n (b ∷ bs))) (drop n (b ∷ bs)) f) longer
-      ∙ (λ i. parts (tests i) (stuck i) (newlines_more line b (take gap bs) i) (drop gap bs) f)
-
-  -- What ends the blanks of a line, one byte further.
-  pub gap-ends : gap_of line run (coming [] false) ≡ Last
-  unfolding gap_of
-  gap-ends = grind (arith, nat_tests)
-
-  pub gap-fails : gap_of line run (coming [] true) ≡ Fault (grid_fault Read line)
-  unfolding gap_of
-  gap-fails = grind (arith, nat_tests)
-
-  pub gap-word : (b : ℕ) (bs : List ℕ) (f : Bool) → is_space b ≡ false → gap_of line run (coming (b ∷ bs) f) ≡ Word (coming (b ∷ bs) f)
-  unfolding gap_of
-  gap-word b bs f word = let e = no_feed b word in grind (arith, nat_tests)
-
-  pub gap-feed : (b : ℕ) (bs : List ℕ) (f : Bool) → (b == 10) ≡ true → run < 1048576 → gap_of line run (coming (b ∷ bs) f) ≡ Feed (run + 1) (coming bs f)
-  unfolding gap_of
-  gap-feed b bs f feed room = let e = feed_space b feed in grind (arith, nat_tests)
-
-  pub gap-stuck_feed : (b : ℕ) (bs : List ℕ) (f : Bool) → (b == 10) ≡ true → 1048576 ≤ run → gap_of line run (coming (b ∷ bs) f) ≡ Fault (grid_fault ReaderStuck line)
-  unfolding gap_of
-  gap-stuck_feed b bs f feed full = let e = feed_space b feed in grind (arith, nat_tests)
-
-  pub gap-stuck : (b : ℕ) (bs : List ℕ) (f : Bool) → is_space b ≡ true → (b == 10) ≡ false → 1048576 ≤ run → gap_of line run (coming (b ∷ bs) f) ≡ Fault (grid_fault ReaderStuck line)
-  unfolding gap_of
-  gap-stuck b bs f space blank full = grind (arith, nat_tests)
-
-  pub gap-more : (b : ℕ) (bs : List ℕ) (f : Bool) → is_space b ≡ true → (b == 10) ≡ false → gap_of line run (coming (b ∷ bs) f) ≡ gap_of line (run + 1) (coming bs f)
-  unfolding gap_of
-  gap-more b bs f space blank =
-      let gap = prefix_len is_grid_blank bs in
-      let longer : prefix_len is_grid_blank (b ∷ bs) ≡ suc gap = (λ i. cond (space i && not (blank i)) (1 + gap) 0) ∙ omega arith in
-      let count : run + suc gap ≡ run + 1 + gap = omega arith in
-      ap (λ (n : ℕ). if nat_lt 1048576 (run + n) then Fault (grid_fault ReaderStuck line) else gap_at line (run + n) (drop n (b ∷ bs)) f) longer
-      ∙ (λ i. if nat_lt 1048576 (count i) then Fault (grid_fault ReaderStuck line) else gap_at line (count i) (drop gap bs) f)
-
--- The rest of a word, one byte further.
-module _ (line : ℕ) (front : List ℕ) (short : length front ≤ 64) where
-  pub word-ends : word_from line front (coming [] false) ≡ Ok (front, coming [] false)
-  unfolding word_from
-  word-ends = grind (arith, nat_tests, append-nil)
-
-  pub word-fails : word_from line front (coming [] true) ≡ Err (grid_fault Read line)
-  unfolding word_from
-  word-fails = grind (arith, nat_tests)
-
-  pub word-stops : (b : ℕ) (bs : List ℕ) (f : Bool) → is_space b ≡ true → word_from line front (coming (b ∷ bs) f) ≡ Ok (front, coming (b ∷ bs) f)
-  unfolding word_from
-  word-stops b bs f space = grind (arith, nat_tests, append-nil)
-
-  pub word-long : (b : ℕ) (bs : List ℕ) (f : Bool) → is_space b ≡ false → 64 ≤ length front → word_from line front (coming (b ∷ bs) f) ≡ Err (grid_fault LongToken line)
-  unfolding word_from
-  word-long b bs f word full = grind (arith, nat_tests)
-
-  pub word-more : (b : ℕ) (bs : List ℕ) (f : Bool) → is_space b ≡ false → word_from line front (coming (b ∷ bs) f) ≡ word_from line (front ++ b ∷ []) (coming bs f)
-  unfolding word_from
-  word-more b bs f word =
-      let more = prefix_len is_word_byte bs in
-      let longer : prefix_len is_word_byte (b ∷ bs) ≡ suc more = ap (λ (t : Bool). cond (not t) (1 + more) 0) word ∙ omega arith in
-      let count : length front + suc more ≡ length (front ++ b ∷ []) + more = omega (arith, length-append front (b ∷ [])) in
-      let whole : front ++ (b ∷ take more bs) ≡ (front ++ b ∷ []) ++ take more bs = sym (append_assoc front (b ∷ []) (take more bs)) in
-      ap (λ (n : ℕ). if nat_lt 64 (length front + n) then Err (grid_fault LongToken line) else word_end line (front ++ take n (b ∷ bs)) (drop n (b ∷ bs)) f) longer
-      ∙ (λ i. if nat_lt 64 (count i) then Err (grid_fault LongToken line) else word_end line (whole i) (drop more bs) f)
 
 -- The words of each line.
 abbrev pub Lines : Type 0
@@ -253,7 +130,6 @@ module _ {Y : Type 0} (G : Lines → Option Y) where
         by on (inr word) _ _ = ap k (gap-word line run low b bs f word) ∙ begins b bs f word ∙ ap (option_and_then G) (sym (lex-begins run b bs f word))
         by on (inl space) (inl feed) (inl room) = ap k (gap-feed line run low b bs f feed room) ∙ feeds (run + 1) bs f (omega arith)
             ∙ sym (ap (option_and_then G) (lex-space run [] b bs f space room) ∙ ap (λ (t : Bool). option_and_then G (option_map (opening t) (lex (run + 1) [] bs f))) feed ∙ then_fed (lex (run + 1) [] bs f))
-        by on (inl space) (inl feed) (inr full) = ap k (gap-stuck_feed line run low b bs f feed full) ∙ fails (grid_fault ReaderStuck line) ∙ ap (option_and_then G) (sym (lex-stuck run [] b bs f space full))
         by on (inl space) (inr blank) (inl room) = ap k (gap-more line run low b bs f space blank) ∙ on (omega arith)
             ∙ sym (ap (option_and_then G) (lex-space run [] b bs f space room) ∙ ap (λ (t : Bool). option_and_then G (option_map (opening t) (lex (run + 1) [] bs f))) blank ∙ then_same (lex (run + 1) [] bs f))
-        by on (inl space) (inr blank) (inr full) = ap k (gap-stuck line run low b bs f space blank full) ∙ fails (grid_fault ReaderStuck line) ∙ ap (option_and_then G) (sym (lex-stuck run [] b bs f space full))
+        by on (inl space) _ (inr full) = ap k (gap-stuck line run low b bs f space full) ∙ fails (grid_fault ReaderStuck line) ∙ ap (option_and_then G) (sym (lex-stuck run [] b bs f space full))

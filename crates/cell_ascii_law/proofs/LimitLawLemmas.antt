@@ -5,8 +5,9 @@ use Rattle.std.specs.List.{All, slice_split, onto_first, filter, list_all}
 use Rattle.std.proofs.lemmas.Bool.{cases_Bool, cases_lt, and_parts, and_from, both_ways}
 use Rattle.std.proofs.lemmas.List.Elements.{All-nil, All-cons, All-head, All-tail, All-append}
 use Rattle.cell_ascii_meaning.specs.GridTokens.{is_space}
-use Rattle.cell_ascii_meaning.specs.GridText.{is_token, grid_words_of, lines_of, line_words, IsWithinLimits}
-use Rattle.cell_ascii_law.proofs.LexemeLemmas.{Lines, put_token, opening, lex, lex-space, lex-stuck, lex-word, lex-long, no_feed}
+use Rattle.cell_ascii_meaning.specs.GridText.{is_word, grid_words_of, lines_of, line_words, IsWithinLimits}
+use Rattle.cell_ascii_meaning.proofs.TokenLemmas.{no_feed}
+use Rattle.cell_ascii_law.proofs.LexemeLemmas.{Lines, put_token, opening, lex, lex-space, lex-stuck, lex-word, lex-long}
 
 -- bytes that p lets through
 abbrev pub IsFree : (ℕ → Bool) → List ℕ → Type 0
@@ -56,19 +57,19 @@ abbrev pub as_word : List ℕ → List (List ℕ)
 as_word [] = []
 as_word (b ∷ bs) = (b ∷ bs) ∷ []
 
-pub as_words : (t : List ℕ) (qs : List (List ℕ)) → filter is_token ((t ++ []) ∷ qs) ≡ as_word t ++ filter is_token qs
-as_words t qs = ap (λ (u : List ℕ). filter is_token (u ∷ qs)) (append-nil t) ∙ by t
+pub as_words : (t : List ℕ) (qs : List (List ℕ)) → filter is_word ((t ++ []) ∷ qs) ≡ as_word t ++ filter is_word qs
+as_words t qs = ap (λ (u : List ℕ). filter is_word (u ∷ qs)) (append-nil t) ∙ by t
   where
-    by : (u : List ℕ) → filter is_token (u ∷ qs) ≡ as_word u ++ filter is_token qs
+    by : (u : List ℕ) → filter is_word (u ∷ qs) ≡ as_word u ++ filter is_word qs
     by [] = refl
     by (x ∷ xs) = refl
 
 pub words_alone : (t : List ℕ) → IsFree is_space t → grid_words_of (t ++ []) ≡ as_word t
-words_alone t free = ap (filter is_token) (split_free is_space t [] free) ∙ as_words t [] ∙ append-nil (as_word t)
+words_alone t free = ap (filter is_word) (split_free is_space t [] free) ∙ as_words t [] ∙ append-nil (as_word t)
 
 pub words_space : (t : List ℕ) (b : ℕ) (bs : List ℕ) → IsFree is_space t → is_space b ≡ true → grid_words_of (t ++ b ∷ bs) ≡ as_word t ++ grid_words_of bs
-words_space t b bs free space = ap (filter is_token) (split_free is_space t (b ∷ bs) free)
-    ∙ ap (λ (s : Bool). filter is_token (onto t (cond s ([] ∷ slice_split is_space bs) (onto_first b (slice_split is_space bs))))) space
+words_space t b bs free space = ap (filter is_word) (split_free is_space t (b ∷ bs) free)
+    ∙ ap (λ (s : Bool). filter is_word (onto t (cond s ([] ∷ slice_split is_space bs) (onto_first b (slice_split is_space bs))))) space
     ∙ as_words t (slice_split is_space bs)
 
 pub lines_alone : (t : List ℕ) → IsFree is_space t → line_words (t ++ []) ≡ put_token t ([] ∷ [])

@@ -9,7 +9,7 @@ use Rattle.cell_core_values.specs.declared.region.RegionFault.TheVariants.{BadEx
 use Rattle.cell_ascii_meaning.specs.GridTokens.{is_word_byte}
 use Rattle.cell_ascii_meaning.specs.KeyNames.{header_key_of}
 use Rattle.cell_ascii_meaning.specs.Header.{HeaderValue, KeyValues, no_keys, with_header_key, value_given, header_of, is_colon, has_colon, usual_null, usual_multiplier}
-use Rattle.cell_ascii_meaning.specs.GridText.{is_token}
+use Rattle.cell_ascii_meaning.specs.GridText.{is_word}
 use Rattle.cell_ascii_meaning.specs.Writing.{coordinate_text, line_of_key, region_text, null_line, IsNullText}
 use Rattle.cell_ascii_meaning.specs.declared.grid_fault.GridKind.TheVariants.{BadHeader}
 use Rattle.cell_ascii_meaning.specs.declared.header_key.HeaderKey.{HeaderKey}
@@ -46,7 +46,7 @@ record IsKeyName (q : HeaderKey) (name : List ℕ) : Type 0 where
   known : header_key_of (before_first is_colon (name ++ codes ":")) ≡ Some q
   alone : after_first is_colon (name ++ codes ":") ≡ []
 
-one_value : (value : List ℕ) → 0 < length value → filter is_token (value ∷ []) ≡ value ∷ []
+one_value : (value : List ℕ) → 0 < length value → filter is_word (value ∷ []) ≡ value ∷ []
 one_value [] some = absurd (omega arith)
 one_value (x ∷ xs) some = refl
 
@@ -64,7 +64,7 @@ line_leads q name value keys more is token takes =
       new = (word ∷ value ∷ []) ∷ [];
       adds = line_adds q name value is token;
       reads = λ ls.
-          (λ i. if is.colon i then after_key (with_values keys (is.known i) (filter is_token (is.alone i ∷ value ∷ []))) (λ k. take_text k ls) else take_data keys (word ∷ ((value ∷ []) ++ all_words ls)))
+          (λ i. if is.colon i then after_key (with_values keys (is.known i) (filter is_word (is.alone i ∷ value ∷ []))) (λ k. take_text k ls) else take_data keys (word ∷ ((value ∷ []) ++ all_words ls)))
           ∙ ap (λ vs. after_key (with_values keys (Some q) vs) (λ k. take_text k ls)) (one_value value token.some)
           ∙ ap (λ r. after_key r (λ k. take_text k ls)) takes;
     }

@@ -12,7 +12,8 @@ use Rattle.cell_core.specs.Text.{cell_text}
 use Rattle.cell_ascii_meaning.specs.Writing.{row_text, grid_text, IsNullText}
 use Rattle.cell_ascii_law.specs.WrittenLaw.{IsWritable, without_labels, WritingIsRead}
 use Rattle.cell_ascii_meaning.specs.declared.grid_fault.GridFault.{GridFault}
-use Rattle.cell_ascii_law.proofs.LexemeLemmas.{coming, Lines, lex}
+use Rattle.cell_ascii_meaning.proofs.TokenLemmas.{coming}
+use Rattle.cell_ascii_law.proofs.LexemeLemmas.{Lines, lex}
 use Rattle.cell_ascii_law.proofs.DataLawLemmas.{accepted, all_words, then_words, take_cell, take_many, take_end, take_grid}
 use Rattle.cell_ascii_law.proofs.HeaderLawLemmas.{take_text, take_data, at_header, after_key, with_line, text_is}
 use Rattle.cell_ascii_law.proofs.GridLawLemmas.{reading_agrees}

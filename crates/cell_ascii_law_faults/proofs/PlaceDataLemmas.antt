@@ -10,12 +10,13 @@ use Rattle.cell_ascii_meaning.specs.GridTokens.{Start, Begins, Ends, is_space, i
 use Rattle.cell_ascii_meaning.specs.Header.{At, HeaderValue, header_of, has_colon, ◌>>=◌}
 use Rattle.cell_ascii_meaning.specs.CellTexts.{Reading, at_of, after_cell, cell_after_word, after_start, cell_of_word, cell_from, many, end_of}
 use Rattle.cell_ascii_meaning.specs.KeyNames.{header_key_of}
-use Rattle.cell_ascii_meaning.specs.GridText.{is_token, is_data_line, is_header_line, header_lines, data_words, key_text, line_values}
+use Rattle.cell_ascii_meaning.specs.GridText.{is_word, is_data_line, is_header_line, header_lines, data_words, key_text, line_values}
 use Rattle.cell_ascii_meaning.specs.FaultPlaces.{FaultPlace, Byte, End, Fails, ends_token, ends_line, is_end_of_words, is_empty, when, in_header_line, keys_of, header_in, long_token, stuck, second_value, line_fault, has_key_of, header_line_ends, header_ends, bad_cell, too_few, too_many, read_fails, whole_table, header_rows, is_opening, opening_table, ◌or◌}
 use Rattle.cell_ascii_meaning.specs.declared.grid_fault.GridKind.{GridKind}
 use Rattle.cell_ascii_meaning.specs.declared.grid_fault.GridKind.TheVariants.{BadHeader, TooFew, TooMany}
 use Rattle.cell_ascii_meaning.specs.declared.grid_fault.GridFault.{GridFault}
-use Rattle.cell_ascii_law.proofs.LexemeLemmas.{coming, Lines}
+use Rattle.cell_ascii_meaning.proofs.TokenLemmas.{coming}
+use Rattle.cell_ascii_law.proofs.LexemeLemmas.{Lines}
 use Rattle.cell_ascii_law.proofs.DataLawLemmas.{all_words, bind_assoc, whole_grid, read_end, read_grid, read_grid_is}
 use Rattle.cell_ascii_law_faults.proofs.SeenLemmas.{with_token, Seen, at_seen, reports, step, scan}
 use Rattle.cell_ascii_law_faults.proofs.PlaceWordLemmas.{one_reported, one_silent, step_word, step_blank, step_feed, before_word, IsAfterWord, next_word, going, gone, settled}
@@ -201,7 +202,7 @@ module _ (h : HeaderValue) (gap : ℕ) (token : List ℕ) (inside : Bool) (ls : 
       ∙ (λ i. if and_never (ends_line place) i then line_fault (has_key_of line (header_lines ls)) (header_key_of (key_text line)) (line_values line) else None)
 
   no_header : (place : FaultPlace) → header_ends header words token place ≡ None
-  no_header place = (λ i. header_ends (is i) words token place) ∙ no_matter ((is_end_of_words place && is_empty words) || ((ends_token place && is_token token) && length words == 1))
+  no_header place = (λ i. header_ends (is i) words token place) ∙ no_matter ((is_end_of_words place && is_empty words) || ((ends_token place && is_word token) && length words == 1))
 
   reported_in_data : (place : FaultPlace) → whole_table gap token inside ls line header words place ≡ data_reported gap token h words place
   reported_in_data place = λ i.

@@ -10,13 +10,14 @@ use Rattle.cell_ascii_meaning.specs.GridTokens.{Begins, is_space, grid_fault, gr
 use Rattle.cell_ascii_meaning.specs.KeyNames.{header_key_of}
 use Rattle.cell_ascii_meaning.specs.Header.{At, HeaderValue, OpenedText, KeyValues, no_keys, with_header_key, header_of, is_colon, has_colon, Gap, Word, Feed, Last, Fault, gap_of, value_from, LineEnd, line_end, at_line, key_line, header_ended, opened_text, after_line, line_from, header_from, ◌>>=◌}
 use Rattle.cell_ascii_meaning.specs.CellTexts.{Reading, at_of, after_start, cell_from, many}
-use Rattle.cell_ascii_meaning.specs.GridText.{is_token, is_data_line, is_header_line, header_lines, data_words, key_text, line_values}
+use Rattle.cell_ascii_meaning.specs.GridText.{is_word, is_data_line, is_header_line, header_lines, data_words, key_text, line_values}
 use Rattle.cell_ascii_meaning.specs.FaultPlaces.{FaultPlace, Byte, End, Fails, ends_token, ends_line, is_empty, when, in_header_line, line_fault, has_key_of, header_line_ends, header_ends, cell_fault, has_all, too_few, keys_of, header_in, why_not, is_opening, header_rows, ◌or◌}
 use Rattle.cell_ascii_meaning.specs.declared.header_key.HeaderKey.{HeaderKey}
 use Rattle.cell_ascii_meaning.specs.declared.grid_fault.GridKind.{GridKind}
 use Rattle.cell_ascii_meaning.specs.declared.grid_fault.GridKind.TheVariants.{BadHeader, TooFew}
 use Rattle.cell_ascii_meaning.specs.declared.grid_fault.GridFault.{GridFault}
-use Rattle.cell_ascii_law.proofs.LexemeLemmas.{coming, Lines, no_feed, feed_space, start-ends}
+use Rattle.cell_ascii_meaning.proofs.TokenLemmas.{coming, no_feed, feed_space, start-ends}
+use Rattle.cell_ascii_law.proofs.LexemeLemmas.{Lines}
 use Rattle.cell_ascii_law.proofs.DataLawLemmas.{read_grid_is, read_end}
 use Rattle.cell_ascii_law.proofs.KeyLawLemmas.{open_keys, key_known, header_given, sides}
 use Rattle.cell_ascii_law.proofs.HeaderLawLemmas.{read_opened, value_at, value_is}
@@ -329,7 +330,7 @@ module _ (whole : Bool) where
           judge = judged_none whole (data_words w_lines) [] (words_none ls no (w ∷ []) head)
 
           empty : line_values (w ∷ []) ≡ []
-          empty = ap (λ (a : List ℕ). filter is_token (a ∷ [])) none
+          empty = ap (λ (a : List ℕ). filter is_word (a ∷ [])) none
 
           at_end : (place : FaultPlace) → ends_line place ≡ true → header_line_ends (in_header_line ls (w ∷ [])) ls (w ∷ []) place ≡ Some BadHeader
           at_end place ends = (λ i. if ends i && inside_is ls no (w ∷ []) head i then line_fault (has_key_of (w ∷ []) (header_lines ls)) w_key (empty i) else None) ∙ no_value_reported (has_key_of (w ∷ []) (header_lines ls)) w_key
@@ -347,7 +348,7 @@ module _ (whole : Bool) where
               (none_all (keys_of (header_lines w_lines)) (data_words w_lines) (words_none ls no (w ∷ []) head)))
 
           done : (y : ℕ) (ys cs : List ℕ) (g : Bool) → IsAfterWord cs g → from_end w_key (y ∷ ys) (line_end line (gap_of line 0 (coming cs g))) ≡ scan (table_of whole) (at_seen line 0 ls (w ∷ []) (y ∷ ys)) cs g
-          done y ys cs g after = value_end (w ∷ (y ∷ ys) ∷ []) head (y ∷ ys) (ap (λ (a : List ℕ). filter is_token (a ∷ (y ∷ ys) ∷ [])) none) cs g
+          done y ys cs g after = value_end (w ∷ (y ∷ ys) ∷ []) head (y ∷ ys) (ap (λ (a : List ℕ). filter is_word (a ∷ (y ∷ ys) ∷ [])) none) cs g
               ∙ sym (settled whole line ls (w ∷ []) y ys (λ place ends. ap (option_map (λ kind. grid_fault kind line)) (word_reported 0 (in_header_line ls both) ls both (header_in (ls ++ both ∷ [])) (data_words (ls ++ both ∷ [])) whole y ys (words_none ls no both head) place ends)) cs g after)
             where
               both : List (List ℕ)
@@ -360,7 +361,7 @@ module _ (whole : Bool) where
       line_is bs f = by (after_first is_colon w) refl
         where
           by : (a : List ℕ) → after_first is_colon w ≡ a → from_value w_key (value_from line a (coming bs f)) ≡ scan (table_of whole) (at_seen line 0 ls (w ∷ []) []) bs f
-          by (y ∷ ys) e = value_end (w ∷ []) head (y ∷ ys) (ap (λ (a : List ℕ). filter is_token (a ∷ [])) e) bs f
+          by (y ∷ ys) e = value_end (w ∷ []) head (y ∷ ys) (ap (λ (a : List ℕ). filter is_word (a ∷ [])) e) bs f
           by [] e = no_value e bs f
 
   -- what is reported from the end of the first word of a line on

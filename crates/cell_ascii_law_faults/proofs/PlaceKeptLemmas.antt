@@ -8,12 +8,13 @@ use Rattle.cell_core.specs.Grid.{CellValue}
 use Rattle.cell_ascii_meaning.specs.GridTokens.{Start, Begins, Ends, Stops, is_space, is_word_byte, newlines, grid_fault, grid_start, word_from}
 use Rattle.cell_ascii_meaning.specs.Header.{At, HeaderValue, OpenedText, KeyValues, header_of, has_colon, LineEnd, at_line, key_line, header_ended, opened_text, after_line, line_from, header_from, ◌>>=◌}
 use Rattle.cell_ascii_meaning.specs.CellTexts.{Reading, at_of, after_cell, cell_after_word, after_start, cell_of_word, cell_from, many}
-use Rattle.cell_ascii_meaning.specs.GridText.{is_token}
+use Rattle.cell_ascii_meaning.specs.GridText.{is_word}
 use Rattle.cell_ascii_meaning.specs.RowPlaces.{is_apart, IsPlaceOf}
 use Rattle.cell_ascii_meaning.specs.declared.grid_fault.GridKind.{GridKind}
 use Rattle.cell_ascii_meaning.specs.declared.grid_fault.GridKind.TheVariants.{ReaderStuck}
 use Rattle.cell_ascii_meaning.specs.declared.grid_fault.GridFault.{GridFault}
-use Rattle.cell_ascii_law.proofs.LexemeLemmas.{coming, start-ends, start-fails, start-begins, start-stuck, start-more, word-ends, word-fails, word-stops, word-long, word-more}
+use Rattle.cell_ascii_meaning.proofs.TokenLemmas.{coming, start-ends, start-fails, start-begins, start-stuck, start-more}
+use Rattle.cell_ascii_meaning.proofs.TokenLemmas.{word-ends, word-fails, word-stops, word-long, word-more}
 
 -- a place where no token waits and no run stands before
 abbrev IsFresh : At → Type 0
@@ -92,7 +93,7 @@ start_far line run c m d far e = let s : grid_start line run c ≡ Stops (grid_f
 
 -- A word, and what comes after it.
 abbrev IsWord : List ℕ × Coming → Type 0
-IsWord y = (is_token y.0 ≡ true) × (list_all is_word_byte y.0 ≡ true) × (is_apart y.1 ≡ true)
+IsWord y = (is_word y.0 ≡ true) × (list_all is_word_byte y.0 ≡ true) × (is_apart y.1 ≡ true)
 
 all_more : (w : List ℕ) (b : ℕ) → list_all is_word_byte w ≡ true → is_space b ≡ false → list_all is_word_byte (w ++ b ∷ []) ≡ true
 all_more [] b all word = rw word

@@ -11,7 +11,9 @@ use Rattle.cell_ascii_meaning.specs.FaultPlaces.{FaultPlace, Byte, End, Fails, e
 use Rattle.cell_ascii_meaning.specs.declared.grid_fault.GridKind.{GridKind}
 use Rattle.cell_ascii_meaning.specs.declared.grid_fault.GridKind.TheVariants.{Read, ReaderStuck, LongToken}
 use Rattle.cell_ascii_meaning.specs.declared.grid_fault.GridFault.{GridFault}
-use Rattle.cell_ascii_law.proofs.LexemeLemmas.{coming, Lines, no_feed, feed_space, start-ends, start-fails, start-begins, start-stuck, start-more, gap-ends, gap-fails, gap-word, gap-feed, gap-stuck_feed, gap-stuck, gap-more, word-ends, word-fails, word-stops, word-long, word-more}
+use Rattle.cell_ascii_meaning.proofs.TokenLemmas.{coming, no_feed, feed_space, start-ends, start-fails, start-begins, start-stuck, start-more}
+use Rattle.cell_ascii_meaning.proofs.TokenLemmas.{gap-ends, gap-fails, gap-word, gap-feed, gap-stuck, gap-more, word-ends, word-fails, word-stops, word-long, word-more}
+use Rattle.cell_ascii_law.proofs.LexemeLemmas.{Lines}
 use Rattle.cell_ascii_law_faults.proofs.SeenLemmas.{Seen, at_seen, here, all_lines, reports, step, step_by, scan}
 
 -- the table of a whole text, or of its opening alone
@@ -170,8 +172,7 @@ module _ (whole : Bool) where
             → (is_space b ≡ true) ⊎ (is_space b ≡ false) → ((b == 10) ≡ true) ⊎ ((b == 10) ≡ false) → (gap < 1048576) ⊎ (1048576 ≤ gap) → k (gap_of line gap (coming (b ∷ bs) f)) ≡ scan (table_of whole) s (b ∷ bs) f
         by on (inr word) _ _ = ap k (gap-word line gap low b bs f word) ∙ begins gap b bs f word
         by on (inl space) (inl feed) (inl room) = ap k (gap-feed line gap low b bs f feed room) ∙ feeds gap b bs f feed room
-        by on (inl space) (inl feed) (inr full) = ap k (gap-stuck_feed line gap low b bs f feed full) ∙ fails (grid_fault ReaderStuck line) ∙ stuck_here space full
-        by on (inl space) (inr blank) (inr full) = ap k (gap-stuck line gap low b bs f space blank full) ∙ fails (grid_fault ReaderStuck line) ∙ stuck_here space full
+        by on (inl space) _ (inr full) = ap k (gap-stuck line gap low b bs f space full) ∙ fails (grid_fault ReaderStuck line) ∙ stuck_here space full
         by on (inl space) (inr blank) (inl room) = ap k (gap-more line gap low b bs f space blank) ∙ on (omega arith)
             ∙ sym (one_silent s (at_seen line (gap + 1) ls ws []) b bs f
             (ap (option_map (λ kind. grid_fault kind line)) (blank_silent gap (in_header_line ls ws) ls ws (header_in (ls ++ ws ∷ [])) (data_words (ls ++ ws ∷ [])) b whole judge space blank room)) (step_blank s b space blank))

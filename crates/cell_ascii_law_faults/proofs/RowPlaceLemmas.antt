@@ -15,7 +15,8 @@ use Rattle.cell_ascii_meaning.specs.RowPlaces.{RowTable, ends_early, cell_rows, 
 use Rattle.cell_ascii_meaning.specs.declared.grid_fault.GridKind.{GridKind}
 use Rattle.cell_ascii_meaning.specs.declared.grid_fault.GridKind.TheVariants.{LongToken, ReaderStuck, TooFew, TooMany, Read}
 use Rattle.cell_ascii_meaning.specs.declared.grid_fault.GridFault.{GridFault}
-use Rattle.cell_ascii_law.proofs.LexemeLemmas.{coming, start-ends, start-fails, start-begins, start-stuck, start-more, word-ends, word-fails, word-stops, word-long, word-more}
+use Rattle.cell_ascii_meaning.proofs.TokenLemmas.{coming, start-ends, start-fails, start-begins, start-stuck, start-more}
+use Rattle.cell_ascii_meaning.proofs.TokenLemmas.{word-ends, word-fails, word-stops, word-long, word-more}
 use Rattle.cell_ascii_law.proofs.LimitLawLemmas.{IsFree}
 use Rattle.cell_ascii_law_faults.proofs.SeenLemmas.{with_token}
 use Rattle.cell_ascii_law_faults.proofs.PlaceWordLemmas.{IsAfterWord}

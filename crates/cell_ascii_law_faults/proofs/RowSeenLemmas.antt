@@ -10,7 +10,7 @@ use Rattle.cell_ascii_meaning.specs.GridText.{grid_words_of}
 use Rattle.cell_ascii_meaning.specs.FaultPlaces.{FaultPlace, Byte, End, Fails, gap_of_place, last_token, ◌or◌}
 use Rattle.cell_ascii_meaning.specs.RowPlaces.{RowTable, run_of, reported_behind, first_behind}
 use Rattle.cell_ascii_meaning.specs.declared.grid_fault.GridFault.{GridFault}
-use Rattle.cell_ascii_law.proofs.LexemeLemmas.{no_feed}
+use Rattle.cell_ascii_meaning.proofs.TokenLemmas.{no_feed}
 use Rattle.cell_ascii_law.proofs.LimitLawLemmas.{IsFree, free_more, split_made, onto, split_free, as_word, words_alone, words_space}
 use Rattle.cell_ascii_law_faults.proofs.SeenLemmas.{with_token, gap_more, last_onto}
 

@@ -9,7 +9,8 @@ use Rattle.cell_ascii_meaning.specs.GridTokens.{is_space, grid_fault}
 use Rattle.cell_ascii_meaning.specs.GridText.{line_words, grid_words_of}
 use Rattle.cell_ascii_meaning.specs.FaultPlaces.{FaultPlace, Byte, End, Fails, last_token, front_of, line_of_place, gap_of_place, token_at_place, Table, kind_at, ◌or◌, reported_fault, first_reported}
 use Rattle.cell_ascii_meaning.specs.declared.grid_fault.GridFault.{GridFault}
-use Rattle.cell_ascii_law.proofs.LexemeLemmas.{Lines, put_token, opening, no_feed}
+use Rattle.cell_ascii_meaning.proofs.TokenLemmas.{no_feed}
+use Rattle.cell_ascii_law.proofs.LexemeLemmas.{Lines, put_token, opening}
 use Rattle.cell_ascii_law.proofs.LimitLawLemmas.{IsFree, free_more, IsMade, split_made, onto, split_free, lines_alone, lines_space}
 
 -- the words of a line with the token that goes on

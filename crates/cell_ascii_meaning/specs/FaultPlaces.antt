@@ -9,7 +9,7 @@ use Rattle.cell_ascii_meaning.specs.EdgeNumbers.{coordinate, side, whole_in_rang
 use Rattle.cell_ascii_meaning.specs.KeyNames.{header_key_of}
 use Rattle.cell_ascii_meaning.specs.Header.{KeyValues, HeaderValue, header_of}
 use Rattle.cell_ascii_meaning.specs.CellTexts.{cell_of_word}
-use Rattle.cell_ascii_meaning.specs.GridText.{is_token, line_words, is_data_line, is_header_line, header_lines, data_words, key_text, line_values, value_of, null_text, int_type}
+use Rattle.cell_ascii_meaning.specs.GridText.{is_word, line_words, is_data_line, is_header_line, header_lines, data_words, key_text, line_values, value_of, null_text, int_type}
 use Rattle.cell_ascii_meaning.specs.declared.header_key.HeaderKey.{HeaderKey}
 use Rattle.cell_ascii_meaning.specs.declared.header_key.HeaderKey.TheVariants.{North, South, East, West, Rows, Cols, Null, CellType, Multiplier}
 use Rattle.cell_ascii_meaning.specs.declared.grid_fault.GridKind.{GridKind}
@@ -169,7 +169,7 @@ why_not (Err kind) = Some kind
 -- the end of the first token of the data, or the end before any
 abbrev pub header_ends : Result HeaderValue GridKind → List (List ℕ) → List ℕ → FaultPlace → Option GridKind
 header_ends header words token place =
-    if (is_end_of_words place && is_empty words) || ((ends_token place && is_token token) && length words == 1) then why_not header else None
+    if (is_end_of_words place && is_empty words) || ((ends_token place && is_word token) && length words == 1) then why_not header else None
 
 -- why a token of the data is no cell, where the header is a good one
 abbrev pub cell_fault : Result HeaderValue GridKind → List (List ℕ) → List ℕ → Option GridKind
@@ -179,7 +179,7 @@ cell_fault (Ok h) (word ∷ words) token = why_not (cell_of_word h token)
 
 -- the end of a token of the data
 abbrev pub bad_cell : Result HeaderValue GridKind → List (List ℕ) → List ℕ → FaultPlace → Option GridKind
-bad_cell header words token place = if ends_token place && is_token token then cell_fault header words token else None
+bad_cell header words token place = if ends_token place && is_word token then cell_fault header words token else None
 
 -- fewer words than the region of a good header has cells
 abbrev pub has_fewer : Result HeaderValue GridKind → List (List ℕ) → Bool
@@ -228,7 +228,7 @@ whole_table gap token inside earlier line header words place =
 
 -- up to the end of the first token of the data
 abbrev pub is_opening : List (List ℕ) → List ℕ → Bool
-is_opening words token = is_empty words || (is_token token && length words == 1)
+is_opening words token = is_empty words || (is_word token && length words == 1)
 
 -- the rows that judge no cell
 abbrev pub header_rows : Table

@@ -4,6 +4,7 @@ use Rattle.std.specs.List.{slice_split, filter, flat_map, list_all, find, take_w
 use Rattle.std.specs.Option.{option_and_then, option_map}
 use Rattle.cell_core_devices.specs.Device.{Coming}
 use Rattle.cell_core_values.specs.Region.{region_fault}
+pub use Rattle.cell_core_values.specs.Words.{is_word}
 use Rattle.cell_core.specs.Grid.{Grid, IsFilled, cell_at, no_labels}
 use Rattle.cell_ascii_meaning.specs.EdgeNumbers.{coordinate, side, whole_in_range}
 use Rattle.cell_ascii_meaning.specs.KeyNames.{header_key_of}
@@ -13,14 +14,9 @@ use Rattle.cell_ascii_meaning.specs.GridWords.{is_line_feed, HeaderValue, is_spa
 abbrev pub lines_of : List ℕ → List (List ℕ)
 lines_of text = slice_split is_line_feed text
 
--- a word has one byte or more
-abbrev pub is_token : List ℕ → Bool
-is_token [] = false
-is_token (b ∷ bs) = true
-
 -- the longest runs of bytes that are neither blank nor line feed
 abbrev pub grid_words_of : List ℕ → List (List ℕ)
-grid_words_of text = filter is_token (slice_split is_space text)
+grid_words_of text = filter is_word (slice_split is_space text)
 
 -- the words of each line
 abbrev pub line_words : List ℕ → List (List (List ℕ))
@@ -52,7 +48,7 @@ key_text (word ∷ words) = before_first is_colon word
 -- the words that stand behind it
 abbrev pub line_values : List (List ℕ) → List (List ℕ)
 line_values [] = []
-line_values (word ∷ words) = filter is_token (after_first is_colon word ∷ words)
+line_values (word ∷ words) = filter is_word (after_first is_colon word ∷ words)
 
 -- the first value of the header line with this key
 abbrev pub value_of : List ℕ → List (List (List ℕ)) → Option (List ℕ)

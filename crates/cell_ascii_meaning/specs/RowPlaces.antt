@@ -5,7 +5,7 @@ use Rattle.std.specs.Option.{option_map, unwrap_or}
 use Rattle.cell_core_devices.specs.Device.{Coming}
 use Rattle.cell_ascii_meaning.specs.GridTokens.{is_space, is_word_byte, newlines, grid_fault}
 use Rattle.cell_ascii_meaning.specs.Header.{HeaderValue, At}
-use Rattle.cell_ascii_meaning.specs.GridText.{is_token, grid_words_of}
+use Rattle.cell_ascii_meaning.specs.GridText.{is_word, grid_words_of}
 use Rattle.cell_ascii_meaning.specs.FaultPlaces.{FaultPlace, Byte, End, Fails, is_empty, gap_of_place, token_at_place, when, ◌or◌, long_token, stuck, bad_cell, read_fails}
 use Rattle.cell_ascii_meaning.specs.declared.grid_fault.GridKind.{GridKind}
 use Rattle.cell_ascii_meaning.specs.declared.grid_fault.GridKind.TheVariants.{TooFew, TooMany}
@@ -38,7 +38,7 @@ cell_rows h count gap token words place =
 
 -- up to the end of the last of some cells
 abbrev pub is_within : ℕ → List (List ℕ) → List ℕ → Bool
-is_within count words token = nat_lt (length words) count || (is_token token && length words == count)
+is_within count words token = nat_lt (length words) count || (is_word token && length words == count)
 
 -- what the next cells tell, and nothing behind them
 abbrev pub cells_table : HeaderValue → ℕ → RowTable
@@ -82,7 +82,7 @@ is_apart c = apart c.bytes c.fails
 -- a place of a text: a run within the limit; a token that waits is one, and has ended
 pub record IsPlaceOf (at : At) : Type 0 where
   pub low : at.run ≤ 1048576
-  pub token : IfSome at.pending (λ w. IsTrue (is_token w))
+  pub token : IfSome at.pending (λ w. IsTrue (is_word w))
   pub whole : IfSome at.pending (λ w. IsTrue (list_all is_word_byte w))
   pub apart : IfSome at.pending (λ w. IsTrue (is_apart at.coming))
   pub fresh : IfSome at.pending (λ w. at.run ≡ 0)

@@ -1,8 +1,8 @@
-pub mod StartLemmas
-pub mod GapLemmas
+pub mod ComingLemmas
 pub mod StepLemmas
 pub mod MapLemmas
 pub mod DigitLemmas
 pub mod NumberLemmas
 pub mod KindLemmas
 pub mod OpeningLemmas
+pub mod KeyLemmas

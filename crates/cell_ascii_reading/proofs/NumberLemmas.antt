@@ -1,6 +1,7 @@
 -- Capped numbers denote the cells that the whole ones do.
-use Rattle.std.proofs.Common.{◌≡◌, ℕ, ℤ, pos, Bool, true, false, List, [], ◌∷◌, ap, sym, ◌∙◌, refl, arith, Option, Some, None, Err, if◌then◌else◌}
+use Rattle.std.proofs.Common.{◌≡◌, ℕ, ℤ, ◌≤◌, pos, negsuc, Bool, true, false, List, [], ◌∷◌, ap, sym, ◌∙◌, refl, arith, Option, Some, None, Err, if◌then◌else◌}
 use Rattle.std.specs.Prelude.{neg_ℤ, ◌==◌, ◌*ℤ◌, bytes_eq}
+use Rattle.std.specs.Int.RustNames.{unsigned_abs}
 use Rattle.std.specs.Option.{option_map}
 use Rattle.std.proofs.lemmas.Bool.Decides.{nat_tests}
 use Rattle.std.proofs.lemmas.Int.{ints}
@@ -103,3 +104,13 @@ pub plain_cell : (h : HeaderValue) (word : List ℕ) (n : ℤ) → whole_number 
 plain_cell h word n is none one =
     let other : bytes_eq word h.null_text ≡ false = bytes_eq-differ word h.null_text (λ same. let no : whole_number word ≡ None = capped_none word (ap capped_number same ∙ none) in cc) in
     rw (other, is) (by_one h.multiplier n one)
+
+-- a word that is not the null text is judged as a number
+pub number_judged : (h : HeaderValue) (word : List ℕ) (number : ℤ) → bytes_eq word h.null_text ≡ false
+    → Some number ≡ capped_number word → cell_of_number h.multiplier (Some number) ≡ cell_of_word h word
+number_judged h word number other is = rw other (ap (cell_of_number h.multiplier) is ∙ capped_cell h.multiplier word)
+
+-- how large a number in range is
+pub number_small : (n : ℤ) → is_in_range n ≡ true → unsigned_abs n ≤ 2147483647
+number_small (pos k) e = grind (arith, nat_tests)
+number_small (negsuc k) e = grind (arith, nat_tests)

@@ -18,7 +18,7 @@ use Rattle.cell_ascii_reading.specs.declared.header_reading.Ending.{Ending}
 use Rattle.cell_ascii_reading.specs.declared.header_reading.Ending.TheVariants.{Feed, Text}
 use Rattle.cell_ascii_reading.specs.declared.scanner.Next.TheVariants.{Word as NextWord}
 use Rattle.cell_ascii_reading.proofs.MapLemmas.{then_map, map_same}
-use Rattle.cell_ascii_reading.proofs.StartLemmas.{at_end}
+use Rattle.cell_ascii_reading.proofs.ComingLemmas.{at_end}
 
 -- what stands behind the colon is the value
 pub value_here : (line : ℕ) (bs : List ℕ) (c : Coming) → 0 < length bs → value_from line bs c ≡ Ok (bs, c)

@@ -7,13 +7,13 @@ use Rattle.cell_ascii_meaning.specs.GridTokens.{Start, is_space, grid_start, gri
 use Rattle.cell_ascii_meaning.specs.declared.grid_fault.GridKind.TheVariants.{Read}
 use Rattle.cell_ascii_meaning.specs.Header.{Gap, gap_of}
 use Rattle.cell_ascii_meaning.specs.declared.grid_fault.GridFault.{GridFault}
+use Rattle.cell_ascii_meaning.proofs.TokenLemmas.{coming, gap-ends, gap-fails, gap-feed, gap-more, gap-stuck, gap-word}
+use Rattle.cell_ascii_meaning.proofs.TokenLemmas.{start-begins, start-ends, start-fails, start-next, start-stuck}
 use Rattle.cell_ascii_reading.specs.Ahead.{bytes_to_come, Agrees}
 use Rattle.cell_ascii_reading.specs.Scan.{Scan}
 use Rattle.cell_ascii_reading.specs.parts.ScanSteps.{step_at, step_of, IsStep, line_step, run_step, start_step, gap_step}
 use Rattle.cell_ascii_reading.specs.declared.scanner.ScanStep.{ScanStep}
 use Rattle.cell_ascii_reading.specs.declared.scanner.ScanStep.TheVariants.{Blank, Feed, Word, End}
-use Rattle.cell_ascii_reading.proofs.StartLemmas.{coming, start-ends, start-fails, start-begins, start-stuck, start-next}
-use Rattle.cell_ascii_reading.proofs.GapLemmas.{gap-ends, gap-fails, gap-begins, gap-stuck, gap-feed, gap-more}
 
 pub has_room : (run : ℕ) → run < 1048576 → nat_lt run 1048576 ≡ true
 has_room run low = grind (arith, nat_tests)
@@ -72,10 +72,10 @@ module _ (line run : ℕ) (low : run ≤ 1048576) where
     gap_byte : (space room feed : Bool) → is_space b ≡ space → nat_lt run 1048576 ≡ room → (b == 10) ≡ feed
         → gap_of line run (coming (b ∷ bs) f)
         ≡ gap_after line run (step_at space room feed line (coming (b ∷ bs) f) (coming bs f))
-    gap_byte false room feed p q r = gap-begins line run low b bs f p
+    gap_byte false room feed p q r = gap-word line run low b bs f p
     gap_byte true false feed p q r = gap-stuck line run low b bs f p (full_of run q)
     gap_byte true true true p q r = gap-feed line run low b bs f r (room_of run q)
-    gap_byte true true false p q r = gap-more line run low b line bs f p r refl
+    gap_byte true true false p q r = gap-more line run low b bs f p r
 
   start_is : (bs : List ℕ) (f : Bool) → grid_start line run (coming bs f)
       ≡ start_after line run (step_of line run (coming bs f))

@@ -26,7 +26,7 @@ pub item_width : {V : Type 0} (f : V → List CellValue) (xs : List V) (width i 
     → i < length xs → x ≡ get_or xs i x → row ≡ f x → length row ≡ width
 item_width f xs width i x row all lt is same = ap (λ l. length l) same ∙ ap (λ v. length (f v)) is ∙ all i x lt
 
--- none where there are no arguments
+-- none if there are no arguments
 pub no_items : {V : Type 0} (xs : List V) → length xs < 1 → xs ≡ []
 no_items [] few = refl
 no_items (x ∷ xs) few = absurd (let no : ⊥ = omega arith in no)
@@ -88,7 +88,7 @@ greatest_all f (y ∷ ys) i k first start r some is from le e =
     all ∙ ap (λ l. fold greater (at start k) (column k (map f l))) (others_are y ys)
     ∙ ap (λ s. fold greater (at s k) (column k (map f ys))) (from ∙ ap f is)
 
--- the least and the greatest of those that are known, one by one
+-- the smallest and the largest of those that are known, one by one
 lesser_from : (v : ℤ) (xs : List CellValue) → fold known_lesser (Some v) xs ≡ fold lesser (Some v) (known_cells xs)
 lesser_from v [] = refl
 lesser_from v (None ∷ xs) = lesser_from v xs

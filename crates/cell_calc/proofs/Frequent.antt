@@ -19,7 +19,7 @@ use Rattle.cell_calc.specs.parts.Modes.{IsLongestRun, HaveLongest}
 use Rattle.cell_calc.specs.RowValues.{at, column}
 use Rattle.cell_calc.proofs.Columns.{column_item, column_length, whole}
 
--- how two categories stand
+-- how two categories are ordered
 by_order : {P : Type 0} (w v : ℤ) → (w <ℤ v → P) → (w ≡ v → P) → (v <ℤ w → P) → P
 by_order {P} w v less same greater = go (int_cmp w v) (int_ranks w v)
   where
@@ -187,7 +187,7 @@ longest_step cells i best most run n cell last some within known_cells sorted is
     (e ∙ ap (λ x. (if cell_eq x last then run else 0) + 1) cell_is ∙ ap (λ x. (if cell_eq (at cells i) x then run else 0) + 1) last_is) in
     rw (here, cell_is, take_more cells i None within) more
 
--- the least of those that pass a test, by the least category that passes it
+-- the smallest of those that pass a test, by the smallest category that passes it
 least_on : (p : CellValue → Bool) (b : ℤ) (cells : List CellValue) (a : ℤ)
     → All (λ cell. is_null cell ≡ false) cells → ((w : ℤ) → w <ℤ b → p (Some w) ≡ false) → p (Some b) ≡ true
     → b ≤ℤ a → (a ≡ b) ⊎ (0 < occurrences (Some b) cells) → fold lesser (Some a) (filter p cells) ≡ Some b
@@ -276,7 +276,7 @@ fails_one q b (y ∷ cells) fails there = by_case (cell_eq (Some b) y) refl (λ 
     by_case true e others = ap (λ x. q x && list_all q cells) (sym ((cell_eq-Decides (Some b) y).0 e)) ∙ ap (λ t. t && list_all q cells) fails
     by_case false e others = ap (λ t. q y && t) (others e) ∙ and-false (q y)
 
--- the least category that occurs most often is the most frequent one
+-- the smallest category that occurs most often is the most frequent one
 frequent_is : (cells : List CellValue) (b : ℤ) (most : ℕ) → All (λ cell. is_null cell ≡ false) cells
     → ((w : ℤ) → occurrences (Some w) cells ≤ most) → ((w : ℤ) → w <ℤ b → occurrences (Some w) cells < most)
     → occurrences (Some b) cells ≡ most → 0 < most → most_frequent cells ≡ Some b
@@ -378,7 +378,7 @@ no_null [] h = refl
 no_null (None ∷ xs) h = let few = few_known xs in absurd (let no : ⊥ = omega (arith, h, few) in no)
 no_null (Some v ∷ xs) h = no_null xs (omega (arith, h))
 
--- where none is null, all are known
+-- if none is null, all are known
 all_are_known : (xs : List CellValue) → list_any is_null xs ≡ false → known_cells xs ≡ xs
 all_are_known [] h = refl
 all_are_known (None ∷ xs) h = cc

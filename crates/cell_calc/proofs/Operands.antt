@@ -14,7 +14,7 @@ use Rattle.cell_calc_grammar.specs.Postfix.{arity, values_after, AreEnough}
 use Rattle.cell_calc.specs.RowValues.{at, column}
 use Rattle.cell_calc_grammar.proofs.PostfixLemmas.{one_step}
 
--- what stands before the last operands, and those
+-- the steps before the last operands, and the operands
 pub front_is : {X : Type 0} (old new ys : List X) (n : ℕ) → old ≡ new ++ ys → length ys ≡ n → new ≡ take (length old - n) old
 front_is old new ys n is count =
     let e : length (new ++ ys) - n ≡ length new = omega (arith, length-append new ys) in

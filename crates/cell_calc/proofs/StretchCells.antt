@@ -74,7 +74,7 @@ goes_more row ws from width all le so_far alike =
     ∙ ap (λ l. take from row ++ l) (sym next)
     ∙ sym (take-add from width row)
 
--- the cell of a column is that of its stretch
+-- the cell of a column is the cell of its stretch
 pub spread-at : (xs : List CellValue) (ws : List ℕ) (c : ℕ) → length xs ≡ length ws → c < total ws
     → at (spread xs ws) c ≡ at xs (owner ws c)
 spread-at [] [] c e lt = absurd (let no : ⊥ = omega (arith, lt) in no)

@@ -32,7 +32,7 @@ IsOver None m = ⊥
 IsOver (Some w) None = ⊥
 IsOver (Some w) (Some m) = IsWindowOf w m
 
--- there is a window that stands at the row and reaches so far up and down
+-- there is a window that is at the row and reaches so far up and down
 abbrev pub HasReach : (row up down : ℕ) → Option Window → Type 0
 HasReach row up down None = ⊥
 HasReach row up down (Some w) = (w.centre ≡ row) × ((up ≤ w.above) × (down ≤ w.below))

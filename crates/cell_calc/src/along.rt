@@ -15,7 +15,7 @@ use cell_core::cell::Cell;
 use cell_core::memory::Memory;
 use std::alloc::Global;
 
-/// The values of an expression along a strip, from windows that stand at its row.
+/// The values of an expression along a strip, from windows that are at its row.
 pub(crate) fn along(
     alloc: Global,
     steps: &[Step<usize>],
@@ -103,7 +103,7 @@ fn step_value(
     }
 }
 
-// The values of a function of the last operands, so many. The argument of a function that takes one is changed where it is.
+// The values of a function of the last operands, so many. A single argument is changed in place.
 fn call_value(
     alloc: Global,
     function: Function,

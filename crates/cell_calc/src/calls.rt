@@ -122,7 +122,7 @@ fn size(arguments: &[Vec<Cell>], row: &mut [Cell])
     rows::size(row);
 }
 
-/// The values of a function along a strip, of those of its arguments.
+/// The values of a function along a strip, from the values of its arguments.
 pub fn call_values(
     alloc: Global,
     function: Function,

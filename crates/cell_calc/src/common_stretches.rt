@@ -92,7 +92,7 @@ fn alike_in_all(windows: &[RowWindow], from: usize, left: usize) -> usize
 ///
 /// # Errors
 ///
-/// [`Memory`] where memory was refused.
+/// [`Memory`] if memory runs out.
 pub fn stretches_of(
     alloc: Global,
     windows: &[RowWindow],
@@ -146,7 +146,7 @@ fn cells_at_starts(alloc: Global, row: &[Cell], widths: &[u32]) -> Result<Vec<Ce
 ///
 /// # Errors
 ///
-/// [`Memory`] where memory was refused.
+/// [`Memory`] if memory runs out.
 pub fn short_windows(
     alloc: Global,
     windows: &[RowWindow],

@@ -137,7 +137,7 @@ fn apply_to_operands(
     }
 }
 
-/// The values of `if` of three arguments. The first choice needs no row of its own where it is a number, or lies in the row of
+/// The values of `if` of three arguments. The first choice needs no row of its own if it is a number, or lies in the row of
 /// a map.
 pub(crate) fn choice_value(
     alloc: Global,

@@ -30,7 +30,7 @@ pub(crate) fn each<F: Fn(Cell) -> Cell>(row: &mut [Cell], f: F)
     }
 }
 
-/// Changes each cell of a row by that of another.
+/// Changes each cell of a row by the cell of another row in its column.
 ///
 /// Callers pass named functions, since a closure would be proved by itself at each place.
 pub(crate) fn combine<F: Fn(Cell, Cell) -> Cell>(row: &mut [Cell], other: &[Cell], f: F)
@@ -195,7 +195,7 @@ pub fn invert(row: &mut [Cell])
     each(row, cell_operators::inverted_cell);
 }
 
-/// `if(a)` of each cell of a row, in place: 1 where it is neither null nor 0.
+/// `if(a)` of each cell of a row, in place: 1 if it is neither null nor 0.
 pub fn one_or_zero(row: &mut [Cell])
     ensures { Becomes row.old row.new
         (λ c. chosen_cell (at row.old c) (Some (pos 1)) (Some (pos 0))) }
@@ -293,7 +293,7 @@ pub fn apply_one(operator: Operator, row: &mut [Cell], b: Cell)
     }
 }
 
-// Where a row lies under a strip: its first cell there, the column of the strip that stands over that cell, and how many
+// Where a row lies under a strip: its first cell there, the column of the strip that is over that cell, and how many
 // cells they share.
 #[derive(Clone, Copy)]
 struct Overlap {

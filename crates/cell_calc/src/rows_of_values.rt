@@ -69,7 +69,7 @@ fn along_columns(
     Ok(cells)
 }
 
-// A value for each stretch of a row: that of each column which has the cells where the stretch begins.
+// A value for each stretch of a row: the value of each column which has the cells where the stretch begins.
 fn along_stretches(
     alloc: Global,
     steps: &[Step<usize>],
@@ -122,11 +122,11 @@ fn write_row(
     Ok(())
 }
 
-/// Writes the values of an expression along a row into a slice, from windows that stand at the row.
+/// Writes the values of an expression along a row into a slice, from windows that are at the row.
 ///
 /// # Errors
 ///
-/// [`Memory`] where memory was refused: the slice is unchanged.
+/// [`Memory`] if memory runs out: the slice is unchanged.
 pub fn eval_row(
     alloc: Global,
     bound: &Bound,

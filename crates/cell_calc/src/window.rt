@@ -25,7 +25,7 @@ pub struct RowWindow {
 }
 
 impl Model for RowWindow {
-    ghost use Rattle.std.specs.Prelude.{length, ◌≡◌, ◌≤◌, ◌<◌, ◌+◌};
+    ghost use Rattle.std.specs.Prelude.{length, min, ◌≡◌, ◌≤◌, ◌<◌, ◌+◌};
     ghost use Rattle.cell_calc.specs.Window.{Window};
     ghost use Rattle.cell_calc.specs.parts.WindowRows.{window_code};
 
@@ -39,16 +39,16 @@ impl Model for RowWindow {
       above : w.above ≤ 255;
       below : w.below ≤ 255;
       centre : w.centre < w.rows;
-      count : length w.held.rows + w.held.free ≡ w.above + w.below + 1;
+      count : length w.held.rows + w.held.free ≡ min (w.above + w.below + 1) w.rows;
     } };
 }
 
 impl RowWindow {
-    /// A window that stands at the first row of a map. Takes all memory that it will need.
+    /// A window that is at the first row of a map. Takes all memory that it will need.
     ///
     /// # Errors
     ///
-    /// [`Memory`] where memory was refused.
+    /// [`Memory`] if memory runs out.
     pub fn new(alloc: Global, map: &CellMap, above: u32, below: u32) -> Result<RowWindow, Memory>
         requires above { above ≤ 255 }
         requires below { below ≤ 255 }
@@ -57,8 +57,9 @@ impl RowWindow {
         ensures centre { IfOk result (λ w. w.centre ≡ 0) }
     {
         let region = map.region();
-        let capacity = above as usize + below as usize + 1;
-        let mut held = WindowRows::new(alloc, capacity, region.cols())?;
+        // A map with fewer rows than the window needs no more memory than its rows.
+        let capacity = (above + below + 1).min(region.rows());
+        let mut held = WindowRows::new(alloc, capacity as usize, region.cols())?;
         for r in 0..below + 1 {
             held.take_in(map, r as u64);
         }
@@ -71,7 +72,7 @@ impl RowWindow {
         })
     }
 
-    /// The row that it stands at, from 0.
+    /// The row that it is at, from 0.
     pub fn centre(&self) -> u32
         ensures value { result ≡ self.now.centre }
         ensures within { self.now.centre < self.now.rows }
@@ -111,11 +112,11 @@ impl RowWindow {
         cell_at(self.row(dr), c)
     }
 
-    /// A window that stands at these cells, and reaches no other row.
+    /// A window that is at these cells, and reaches no other row.
     ///
     /// # Errors
     ///
-    /// [`Memory`] where memory was refused.
+    /// [`Memory`] if memory runs out.
     pub fn of_row(alloc: Global, cells: Vec<Cell>) -> Result<RowWindow, Memory>
         requires { length cells.items ≤ 65535 }
         ensures { IfOk result (λ w. centre_row w ≡ cells.items) }
@@ -130,7 +131,7 @@ impl RowWindow {
         })
     }
 
-    /// The cells of the row that it stands at.
+    /// The cells of the row that it is at.
     pub fn centre_row(&self) -> &[Cell]
         ensures { result.now ≡ centre_row self.now }
     {

@@ -6,7 +6,7 @@ use Rattle.cell_calc_binding.specs.Compact.{ReadsMap, AreReading, AreMapsRead}
 use Rattle.cell_calc_binding.specs.Formula.{Formula, Number, Map, Negated, Not, Binary, Call, Formulas, NoTrees, Then}
 use Rattle.cell_calc_binding.specs.Reach.{top_of, top_of_all}
 
--- below one of two is below the greater
+-- a number below one of two is below the larger
 either : (i a b : ℕ) → (i < a) ⊎ (i < b) → i < max a b
 either i a b (inl h) = omega (arith, h)
 either i a b (inr h) = omega (arith, h)

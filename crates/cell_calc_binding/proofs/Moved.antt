@@ -76,7 +76,7 @@ moved_more places more steps i d others other lt kept listed is here =
     ∙ ap (λ s. map (step_over (index_in more)) (take i steps) ++ s ∷ []) here
     ∙ sym (map_more (step_over (index_in more)) steps i d lt)
 
--- a step whose place stands in a list, after others were put there
+-- a step whose place is in a list, after others were put there
 pub still_listed : (places more : List ℕ) → ((i : ℕ) → index_in places i < length places → index_in more i ≡ index_in places i)
     → length places ≤ length more → (s : Step ℕ) → IsListed places s → IsListed more s
 still_listed places more kept longer (step.Map i down right) h = rw (kept i h) (omega (arith, longer, h))

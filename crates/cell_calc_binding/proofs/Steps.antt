@@ -13,7 +13,7 @@ use Rattle.cell_calc_binding.specs.Formula.{Formula, Number, Map, Negated, Not, 
 use Rattle.cell_calc_binding.specs.Reach.{top_at, up_at, down_at, top_of, top_of_all, up_of, down_of, IsProper}
 use Rattle.cell_calc_binding.specs.parts.TreeSteps.{IsProperStep, ReadsPlace}
 
--- the greater of two joins
+-- the larger of two joins
 pub greatest : IsJoin ℕ 0 max
 greatest = record { left = λ n. omega arith; right = λ n. omega arith; both = λ k m n. omega arith }
 
@@ -34,7 +34,7 @@ up-postfix i f = fold-postfix (up_at i) 0 max greatest f
 pub down-postfix : (i : ℕ) (f : Formula) → fold_steps (down_at i) 0 max (postfix f) ≡ down_of i f
 down-postfix i f = fold-postfix (down_at i) 0 max greatest f
 
--- no step has more than the greatest number
+-- no step has more than the largest number
 pub below_greatest : (at : ℕ → ℤ → ℤ → ℕ) (xs : List (Step ℕ)) → All (λ s. at_step at 0 s ≤ fold_steps at 0 max xs) xs
 below_greatest at [] = All-nil (λ s. at_step at 0 s ≤ fold_steps at 0 max [])
 below_greatest at (x ∷ xs) =

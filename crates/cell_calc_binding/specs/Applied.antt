@@ -1,4 +1,4 @@
--- The values of operators and functions, of those of their operands (r.mapcalc manual; the range and division by zero are the profile's).
+-- The values of operators and functions, from the values of their operands (r.mapcalc manual; the range and division by zero are the profile's).
 use Rattle.std.specs.Prelude.{ℕ, ℤ, pos, ◌+◌, ◌+ℤ◌, ◌-ℤ◌, ◌*ℤ◌, neg_ℤ, unsigned_abs, int_div, int_lt, int_le, not, ◌&&◌, ◌||◌, List, Some, None, if◌then◌else◌}
 use Rattle.cell_core.specs.Grid.{CellValue}
 use Rattle.cell_core_values.specs.Region.{RegionValue}
@@ -19,7 +19,7 @@ pub record GridPosition : Type 0 where
 abbrev pub grid_position : RegionValue → (row col : ℕ) → GridPosition
 grid_position region row col = record { rows = region.rows; cols = region.cols; row = row; col = col }
 
--- minus; 1 where it is 0, else 0; its size
+-- minus; 1 if it is 0, else 0; its size
 abbrev pub negated_cell : CellValue → CellValue
 negated_cell a = of_one (λ x. fit (neg_ℤ x)) a
 
@@ -47,7 +47,7 @@ operator_value operator.Or a b = of_both (λ x y. truth (not (is_zero x) || not 
 operator_value operator.KnownAnd a b = known_and a b
 operator_value operator.KnownOr a b = known_or a b
 
--- the value of a function, of those of its arguments
+-- the value of a function, from the values of its arguments
 abbrev pub call_result : Function → GridPosition → List CellValue → CellValue
 call_result function.If s xs = if_of xs
 call_result function.IsNull s xs = truth (is_null (first_known xs))

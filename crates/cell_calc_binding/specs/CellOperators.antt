@@ -52,19 +52,19 @@ known_and a b = if is_false a || is_false b then Some (pos 0) else (if is_null a
 abbrev pub known_or : CellValue → CellValue → CellValue
 known_or a b = if is_true a || is_true b then Some (pos 1) else (if is_null a || is_null b then None else Some (pos 0))
 
--- null if the condition is null; the first where it is not 0, else the second
+-- null if the condition is null; the first if it is not 0, else the second
 abbrev pub chosen_cell : CellValue → CellValue → CellValue → CellValue
 chosen_cell None a b = None
 chosen_cell (Some x) a b = if is_zero x then b else a
 
--- the lesser of two, and the greater; null if one is null
+-- the smaller of two, and the larger; null if one is null
 abbrev pub lesser : CellValue → CellValue → CellValue
 lesser a b = of_both (λ x y. Some (int_min x y)) a b
 
 abbrev pub greater : CellValue → CellValue → CellValue
 greater a b = of_both (λ x y. Some (int_max x y)) a b
 
--- the least, and the greatest; null if one is null, and where there is none
+-- the smallest, and the largest; null if one is null, or if there are no cells
 abbrev pub least : List CellValue → CellValue
 least [] = None
 least (a ∷ xs) = fold lesser a xs
@@ -85,7 +85,7 @@ occurrences v xs = count_by (cell_eq v) xs
 abbrev pub is_most_frequent : List CellValue → CellValue → Bool
 is_most_frequent xs v = list_all (λ w. nat_le (occurrences w xs) (occurrences v xs)) xs
 
--- the least value than which none occurs more often
+-- the smallest of the values that occur most often
 abbrev pub most_frequent : List CellValue → CellValue
 most_frequent xs = least (filter (is_most_frequent xs) xs)
 
@@ -93,12 +93,12 @@ most_frequent xs = least (filter (is_most_frequent xs) xs)
 abbrev pub mode : List CellValue → CellValue
 mode xs = if list_any is_null xs then None else most_frequent xs
 
--- the first; null where there is none
+-- the first; null if there is none
 abbrev pub first_known : List CellValue → CellValue
 first_known [] = None
 first_known (a ∷ xs) = a
 
--- the last; null where there is none
+-- the last; null if there is none
 abbrev pub last_argument : List CellValue → CellValue
 last_argument xs = slice_index_or xs (length xs - 1) None
 

@@ -15,7 +15,7 @@ row_of m r = item_at [] m.rows r
 abbrev pub cell_at_offset : Grid → ℤ → ℤ → CellValue
 cell_at_offset m r c = item_at None (row_of m r) c
 
--- that of the map at a place
+-- the cell of the map at a place
 abbrev pub cell_in : Option Grid → ℤ → ℤ → CellValue
 cell_in None r c = None
 cell_in (Some m) r c = cell_at_offset m r c

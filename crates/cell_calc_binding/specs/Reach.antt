@@ -16,7 +16,7 @@ up_at i j down right = if i == j then up_by down else 0
 abbrev pub down_at : ℕ → (place : ℕ) (down right : ℤ) → ℕ
 down_at i j down right = if i == j then down_by down else 0
 
--- one more than the greatest place, 0 where no map is read
+-- one more than the largest place, 0 if no map is read
 abbrev pub top_of : Formula → ℕ
 top_of f = fold_maps top_at 0 max f
 

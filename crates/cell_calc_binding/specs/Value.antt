@@ -15,7 +15,7 @@ abbrev mutual
   value (Binary op a b) maps s = operator_value op (value a maps s) (value b maps s)
   value (Call f xs) maps s = call_result f s (argument_values xs maps s)
 
-  -- those of arguments, in order
+  -- the values of arguments, in order
   pub argument_values : Formulas → List Grid → GridPosition → List CellValue
   argument_values NoTrees maps s = []
   argument_values (Then a xs) maps s = value a maps s ∷ argument_values xs maps s

@@ -112,7 +112,7 @@ fn down(i: usize, steps: &[Step<usize>]) -> u32
 }
 
 impl Bound {
-    /// One more than the greatest place that is read, 0 where no map is. Takes no memory.
+    /// One more than the largest place that is read, 0 if no map is. Takes no memory.
     pub fn top(&self) -> usize
         ensures { result ≡ top_of self.now }
     {

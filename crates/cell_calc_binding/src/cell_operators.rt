@@ -29,7 +29,7 @@ pub fn number(number: u32) -> Cell
     fit(number as i32)
 }
 
-/// A result that was found, null where none was.
+/// A result that was found, null if none was.
 #[inline(always)]
 fn cell_or_null(number: Option<i32>) -> Cell
     ensures { result ≡ of_one (λ n. fit n) number }
@@ -302,7 +302,7 @@ pub fn lesser(a: Cell, b: Cell) -> Cell
     }
 }
 
-/// The greater of two cells; null where one of them is null.
+/// The larger of two cells; null if one of them is null.
 #[inline(always)]
 pub fn larger(a: Cell, b: Cell) -> Cell
     ensures { result ≡ greater a b }
@@ -355,7 +355,7 @@ pub fn known_lesser(a: Cell, b: Cell) -> Cell
     lesser(a, b)
 }
 
-/// The greater of two cells, or the one that is not null.
+/// The larger of two cells, or the one that is not null.
 #[inline(always)]
 pub fn known_larger(a: Cell, b: Cell) -> Cell
     ensures { result ≡ known_greater a b }
@@ -381,7 +381,7 @@ pub fn negated_cell(a: Cell) -> Cell
     }
 }
 
-/// `!a`: 1 where `a` is 0, 0 where it is another number, null where it is null.
+/// `!a`: 1 if `a` is 0, 0 if it is another number, null if it is null.
 #[inline(always)]
 pub fn inverted_cell(a: Cell) -> Cell
     ensures { result ≡ inverted_cell a }
@@ -404,7 +404,7 @@ pub fn size(a: Cell) -> Cell
     }
 }
 
-/// `if(condition, yes, no)`: `no` where the condition is 0, `yes` where it is another number, null where it is null.
+/// `if(condition, yes, no)`: `no` if the condition is 0, `yes` if it is another number, null if it is null.
 #[inline(always)]
 pub fn chosen_cell(condition: Cell, yes: Cell, no: Cell) -> Cell
     ensures { result ≡ chosen_cell condition yes no }

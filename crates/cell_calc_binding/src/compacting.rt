@@ -15,7 +15,7 @@ use cell_calc_grammar::step::Step;
 use cell_core::memory::Memory;
 use std::alloc::Global;
 
-// Where a place stands in a list: past its end, if it does not.
+// The index of a place in a list: past its end if it is not in it.
 fn listed_place(places: &[usize], place: usize) -> usize
     ensures { result ≡ index_in places.now place }
 {
@@ -27,7 +27,7 @@ fn listed_place(places: &[usize], place: usize) -> usize
     places.len()
 }
 
-// Where a place stands in a list: last, if it was not there.
+// The index of a place in a list: last if it was not in it.
 fn place_or_new(places: &mut Vec<usize>, place: usize) -> Result<usize, Memory>
     ensures there { IfOk result (λ k. k ≡ index_in places.new.items place) }
     ensures count { IfOk result (λ k. length places.new.items
@@ -88,7 +88,7 @@ impl Bound {
     ///
     /// # Errors
     ///
-    /// [`Memory`] where memory was refused.
+    /// [`Memory`] if memory runs out.
     pub fn over_read_maps(&self, alloc: Global) -> Result<(Bound, Vec<usize>), Memory>
         ensures value { IfOk result (λ r. (maps picked : List Grid)
             → ArePicked r.1.items maps picked → (s : GridPosition)

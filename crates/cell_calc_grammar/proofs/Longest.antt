@@ -212,7 +212,7 @@ word-ends bytes (b ∷ bs) word longest = go (is_name_byte b) refl
         let yes : is_piece (bytes ++ b ∷ []) ≡ true = rw whole refl in
         absurd (let n : ⊥ = cc in n)
 
--- two ways to cut one list: the longer front goes on from the shorter one
+-- two ways to cut one list: the longer start continues from the shorter one
 longer-front : (xs ys zs ws : List ℕ) → xs ++ ys ≡ zs ++ ws → length xs < length zs → (more : List ℕ) × (zs ≡ xs ++ more) × (ys ≡ more ++ ws) × (0 < length more)
 longer-front [] ys zs ws e l = (zs, refl, e, l)
 longer-front (x ∷ xs) ys [] ws e l = absurd (omega arith)

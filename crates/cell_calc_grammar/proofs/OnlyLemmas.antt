@@ -1,4 +1,4 @@
--- A text spells no other tokens than those of its list.
+-- A text spells no other tokens than its list.
 use Rattle.std.proofs.Common.{◌≡◌, ℕ, zero, ◌+◌, ◌<◌, ◌≤◌, Bool, true, false, ◌&&◌, nat_le, List, [], ◌∷◌, ◌++◌, length, refl, ap, sym, ◌∙◌, arith, subst, Some, Ok}
 use Rattle.std.proofs.lemmas.Bool.Decides.{nat_tests}
 use Rattle.std.proofs.Math.Seq.{take-append_seam, drop-append_seam}
@@ -105,7 +105,7 @@ next_token-at count c bytes t low is =
     let below : nat_lt count 1000 ≡ true = grind (arith, nat_tests) in
     rw (below, is) refl
 
--- tokens that are spelled from a column on are those of the pieces from there on
+-- tokens that are spelled from a column on are the tokens of the pieces from there on
 spelled-only : {c : ℕ} {text : List ℕ} {ts : List Placed} → AreSpelled c text ts → (count : ℕ) → count + length ts ≤ 1000 →
     tokens_of count (pieces zero c text) ≡ Ok ts
 unfolding pieces tokens_of

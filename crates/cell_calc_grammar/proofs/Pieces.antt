@@ -1,11 +1,11 @@
--- How the pieces of a text follow from its front, and its tokens from those before.
+-- How the pieces of a text follow from its start, and its tokens from the tokens before.
 use Rattle.std.proofs.Common.{◌≡◌, ℕ, zero, suc, ◌+◌, ◌-◌, true, false, List, [], ◌∷◌, ◌++◌, length, take, drop, refl, ap, sym, ◌∙◌, arith, append_assoc, append-nil, Result, Ok, Err, inl, inr, ◌<◌}
 use Rattle.cell_core_values.specs.Blanks.{is_blank}
 use Rattle.cell_calc_grammar.specs.Tokens.{Piece, pieces, piece_length, tokens_of, next_token, before, token_list, IsTokenFault}
 use Rattle.cell_calc_grammar.specs.declared.calc_fault.CalcFault.{CalcFault}
 use Rattle.cell_calc_grammar.specs.declared.token.Placed.{Placed}
 
--- tokens put before those of what follows
+-- tokens put before the tokens of what follows
 abbrev pub prefixed : List Placed → Result (List Placed) CalcFault → Result (List Placed) CalcFault
 prefixed ts (Ok us) = Ok (ts ++ us)
 prefixed ts (Err f) = Err f
@@ -83,7 +83,7 @@ after_token found t count c b n rest others piece after w split word length some
     let first = next_first found count c b n rest others piece after w split word length some front back kept in
     prefixed-before found t (tokens_of (count + 1) (pieces zero (c + n) after)) ∙ rw is at first
 
--- a fault of the next token is the text's
+-- an error of the next token is the text's
 pub at_fault : (found : List Placed) (reported : CalcFault) (count c b n : ℕ) (rest others piece : List ℕ) (w : Result (List Placed) CalcFault) →
     rest ≡ b ∷ others → is_blank b ≡ false → piece_length rest ≡ n → 0 < n → piece ≡ take n rest →
     prefixed found (tokens_of count (pieces zero c rest)) ≡ w →

@@ -91,7 +91,7 @@ tree-postfix {L = L} f =
     } in
     ap (λ l. tree_of l) (sym (append-nil (postfix f))) ∙ ap (λ l. slice_index_or l 0 (Number 0)) (after_postfix tree_of_step (λ a. a) is f [] [])
 
--- steps that are those of an expression are those of the one that they build
+-- the steps of an expression are the steps of the one that they build
 pub are_of_tree : {L : Type 0} (f : Tree L) (steps : List (Step L)) → steps ≡ postfix f → (tree_of steps ≡ f) × (steps ≡ postfix (tree_of steps))
 are_of_tree f steps e =
     let b : tree_of steps ≡ f = ap (λ l. tree_of l) e ∙ tree-postfix f in

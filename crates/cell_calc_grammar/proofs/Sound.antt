@@ -41,14 +41,14 @@ next_zero (s ∷ rest) = go (operator_of s.token)
     go None = refl
     go (Some op) = grind (arith, nat_tests)
 
--- the token at the front, as it stands there
+-- the token at the start, as it is there
 pub front_is : (ts : List Placed) (t : Token) → head ts ≡ Some t → (c : ℕ) × (ts ≡ record { token = t; column = c } ∷ tail ts)
 front_is [] t e = absurd (let h : ⊥ = cc in h)
 front_is (s ∷ ts) t e =
     let same : s.token ≡ t = cc in
     (s.column, ap (λ u. let x : List Placed = record { token = u; column = s.column } ∷ ts in x) same)
 
--- the token at the front, by what it is
+-- the token at the start, by what it is
 pub data Looks : List Placed → Type 0 where
   NoToken : Looks []
   ANumber : (n c : ℕ) (ts : List Placed) → Looks (token_number_at n c ∷ ts)
@@ -79,7 +79,7 @@ abbrev pub IsNoNumber : Option Token → Type 0
 IsNoNumber (Some (token.Number n)) = ⊥
 IsNoNumber _ = Unit {0}
 
--- what stands in the place of a number: none, or one that is too far
+-- what is in the place of a number: none, or one that is too far
 pub data NoNumber : CalcKind → List Placed → Type 0 where
   none : {ts : List Placed} → IsNoNumber (head ts) → NoNumber Expected ts
   far : {n c : ℕ} {ts : List Placed} → 255 < n → NoNumber BadOffset (token_number_at n c ∷ ts)
@@ -169,7 +169,7 @@ offsets_part ts = one (offset ts) (offset_part ts)
     one (Ok (down, us)) (l, e, o) = comma l down e o (look us)
     one (Err x) (l, e, h) = (l, e, first h)
 
--- the front of the tokens stands for the expression, and does not go on
+-- the start of the tokens stands for the expression, and does not continue
 abbrev Fronts : ℕ → List Placed → Term → List Placed → Type 0
 Fronts k ts a rest = (front : List Placed) × (ts ≡ front ++ rest) × Stands k front a × (next k rest ≡ None)
 
@@ -188,7 +188,7 @@ IsSound (Arguments ts) (GotAll xs rest) = (front : List Placed) × (ts ≡ front
 IsSound (Onward (Got a ts)) (GotAll xs rest) = (front : List Placed) → IsExpression front a → (mid : List Placed) × (ts ≡ mid ++ rest) × AreArguments (front ++ mid) xs
 IsSound s o = ⊥
 
--- an operand that an operator goes on with, and what follows it
+-- an operand that an operator continues with, and what follows it
 pub goes_joined : (j k : ℕ) (s : Placed) (ts : List Placed) (op : Operator) {front us : List Placed} {a b : Term}
     → next k (s ∷ ts) ≡ Some op
     → next (pred j) (s ∷ ts) ≡ None → Stands j front a → Stands (level_of op) us b

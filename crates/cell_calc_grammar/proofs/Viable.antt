@@ -1,4 +1,4 @@
--- What is read before a fault can go on, by its shape.
+-- What is read before an error can continue, by its shape.
 use Rattle.std.proofs.Common.{◌≡◌, ℕ, zero, suc, pred, ◌<◌, ◌≤◌, ℤ, pos, List, [], ◌∷◌, ◌++◌, Some, None, Ok, Err, Bool, true, false, refl, sym, ap, ◌∙◌, subst, arith, append_assoc, append-nil, ◌⊎◌, inl, inr}
 use Rattle.std.specs.Prelude.{nat_le, codes}
 use Rattle.std.proofs.lemmas.Bool.Decides.{nat_tests}
@@ -27,7 +27,7 @@ IsOpen before =
     (front inner rest : List Placed) × (name : List ℕ) × (c d : ℕ)
     × (before ≡ front ++ name_at name c ∷ sign_at OpenBracket d ∷ inner) × NoOffsets BadOffset inner rest
 
--- the tokens from the place of a fault to the one that tells it, where that one belongs to them
+-- the tokens from the place of an error to the one that shows it, where that one belongs to them
 abbrev pub IsSegment : CalcKind → (before seg : List Placed) → Type 0
 IsSegment Expected before seg = seg ≡ []
 IsSegment UnknownFunction before seg =
@@ -39,7 +39,7 @@ IsSegment BadArguments before seg =
 IsSegment BadOffset before seg = (n c : ℕ) × (seg ≡ token_number_at n c ∷ []) × (255 < n) × IsOpen before
 IsSegment _ before seg = ⊥
 
--- the tokens up to the one that tells the fault can go on to what has the property, with other names and numbers
+-- the tokens up to the one that shows the error can continue to what has the property, with other names and numbers
 pub record Viable (P : List Placed → Type 0) (ts : List Placed) (kind : CalcKind) (rest : List Placed) : Type 0 where
   pub before : List Placed
   pub seg : List Placed
@@ -118,7 +118,7 @@ pub zero_expression : IsExpression (token_number_at 0 0 ∷ []) (Tree.Number 0)
 zero_expression =
     grammar.IsExpression.plain (raise zero top (token_number_at 0 0 ∷ []) (Tree.Number 0) (omega arith) grammar.number)
 
--- a number makes what is read go on
+-- a number makes what is read continue
 viable_number : (P : List Placed → Type 0) (front l : List Placed) {ts : List Placed} {kind : CalcKind}
     {rest : List Placed}
     → NoNumber kind rest → (kind ≡ BadOffset → IsOpen front) → ts ≡ front ++ rest
@@ -140,7 +140,7 @@ SomeExpression l = (a : Term) × IsExpression l a
 abbrev SomeArguments : List Placed → Type 0
 SomeArguments l = (xs : Terms) × AreArguments l xs
 
--- what can be read of the state can go on
+-- what can be read of the state can continue
 abbrev pub IsViable : State → ReadOutcome → Type 0
 IsViable s (Got a rest) = Unit {0}
 IsViable s (GotAll xs rest) = Unit {0}
@@ -160,7 +160,7 @@ IsViable s o = Unit {0}
 abbrev SomeOffsets : List Placed → Type 0
 SomeOffsets l = (down right : ℤ) × AreOffsets l down right
 
--- a number goes on where offsets stop, or else another sign where that is expected
+-- a number continues where offsets stop, or else another sign where that is expected
 offsets_go_on : {kind : CalcKind} {front rest : List Placed} → NoOffsets kind front rest
     → ((l : List Placed) × SomeOffsets ((front ++ token_number_at 0 0 ∷ []) ++ l) × NoNumber kind rest)
     ⊎ ((kind ≡ Expected) × (l : List Placed) × SomeOffsets (front ++ l))

@@ -1,4 +1,4 @@
--- Where a list of tokens stands after each of them, by their shape alone.
+-- Where a list of tokens is after each of them, by their shape alone.
 use Rattle.std.proofs.Common.{◌≡◌, ℕ, ℤ, List, [], ◌∷◌, ◌++◌, Option, Some, None, Bool, true, false, refl, sym, ap, ◌∙◌, subst, ◌⊎◌, inl, inr}
 use Rattle.std.proofs.lemmas.List.{map-append}
 use Rattle.cell_calc_grammar.specs.declared.operator.Operator.{Operator}
@@ -113,7 +113,7 @@ named_alone st (token.Sign OpenParenthesis) n = absurd (n.0 refl)
 named_alone st (token.Sign OpenBracket) n = absurd (n.1 refl)
 named_alone st _ n = refl
 
--- a token goes on after it, which opens nothing
+-- a token continues after it, which opens nothing
 pub landed : (st : List Frame) (p : Option Place) (t : Token) → Lands st p → IsAlone (Some t) → step_on p t ≡ after_step st t
 landed st p t (inl e) n = ap (λ q. step_on q t) e
 landed st p t (inr e) n = ap (λ q. step_on q t) e ∙ named_alone st t n
@@ -140,7 +140,7 @@ offsets_make st (grammar.offsets {ts = ts} {us = us} c d h g) =
     ∙ walk_both (Some (Offset true st)) us (sign_at CloseBracket d ∷ [])
     ∙ ap (λ p. walk p (shape (sign_at CloseBracket d ∷ []))) (offset_makes true st g)
 
--- tokens, and another that goes on after them
+-- tokens, and another that continues after them
 pub then_walk : (st : List Frame) (p : Option Place) (ts us : List Placed) (s : Placed) (q : Option Place) → Lands st (walk p (shape ts)) → IsAlone (Some (shape_of s.token)) → after_step st (shape_of s.token) ≡ q
     → walk p (shape (ts ++ s ∷ us)) ≡ walk q (shape us)
 then_walk st p ts us s q l n e =

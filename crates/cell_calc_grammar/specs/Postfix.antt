@@ -14,7 +14,7 @@ abbrev mutual
   postfix (Binary op a b) = postfix a ++ (postfix b ++ step.Binary op ∷ [])
   postfix (Call f xs) = postfix_all xs ++ step.Call f (count xs) ∷ []
 
-  -- those of arguments, in order
+  -- the steps of arguments, in order
   pub postfix_all : {L : Type 0} → Trees L → List (Step L)
   postfix_all NoTrees = []
   postfix_all (Then a xs) = postfix a ++ postfix_all xs

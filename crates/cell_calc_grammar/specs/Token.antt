@@ -17,7 +17,7 @@ name_at n c = record { token = token.Name n; column = c }
 abbrev pub sign_at : (sign : Sign) (column : ℕ) → Placed
 sign_at s c = record { token = token.Sign s; column = c }
 
--- the token at the front
+-- the token at the start
 abbrev pub head : List Placed → Option Token
 head [] = None
 head (s ∷ ts) = Some s.token

@@ -1,4 +1,4 @@
--- The tokens of an assignment (operators: r.mapcalc manual; limits and faults: profile).
+-- The tokens of an assignment (operators: r.mapcalc manual; limits and errors: profile).
 use Rattle.std.specs.Prelude.{◌≡◌, ◌⊎◌, ℕ, zero, suc, ◌+◌, ◌-◌, Bool, ◌++◌, ◌||◌, ◌==◌, nat_le, nat_lt, List, [], ◌∷◌, length, take, map, find, codes, bytes_eq, nat_eq, Option, Result, Ok, Err, if◌then◌else◌}
 use Rattle.std.specs.List.{prefix_len, list_all, list_any, starts_with}
 use Rattle.std.specs.Option.{option_map, option_map_or, ok_or}
@@ -15,7 +15,7 @@ use Rattle.cell_calc_grammar.specs.declared.token.Sign.TheVariants as sign
 use Rattle.cell_calc_grammar.specs.declared.token.Token.{Token}
 use Rattle.cell_calc_grammar.specs.declared.token.Token.TheVariants as token
 
--- a fault at a column
+-- an error at a column
 abbrev pub token_fault : CalcKind → ℕ → CalcFault
 token_fault kind column = record { kind = kind; column = column }
 
@@ -23,7 +23,7 @@ token_fault kind column = record { kind = kind; column = column }
 abbrev pub no_memory : CalcFault
 no_memory = token_fault Memory 0
 
--- a fault that may be reported where this is wanted: its own, or being out of memory
+-- an error that may be reported where this is wanted: its own, or being out of memory
 abbrev pub IsTokenFault : {T : Type 0} → Result T CalcFault → CalcFault → Type 0
 IsTokenFault wanted reported = (reported ≡ no_memory) ⊎ (wanted ≡ Err reported)
 
@@ -65,7 +65,7 @@ not_whole bytes = if list_any is_float_byte bytes then FloatNumber else BadNumbe
 abbrev pub token_name : ℕ → List ℕ → Result Token CalcFault
 token_name column bytes = if nat_le (length bytes) 64 then Ok (token.Name bytes) else Err (token_fault BadName column)
 
--- a number is at most the greatest category
+-- a number is at most the largest category
 abbrev pub token_number : ℕ → List ℕ → Result Token CalcFault
 token_number column digits =
     if nat_le (value_of_digits digits) 2147483647 then Ok (token.Number (value_of_digits digits)) else Err (token_fault BadNumber column)
@@ -85,7 +85,7 @@ mark_of column bytes = ok_or (option_map token.Sign (sign_of bytes)) (token_faul
 abbrev pub token_of : ℕ → List ℕ → Result Token CalcFault
 token_of column bytes = if list_all is_name_byte bytes then word_of column bytes else mark_of column bytes
 
--- the longest spelling that a text begins with, by its length; a byte alone where there is none
+-- the longest spelling that a text begins with, by its length; a byte alone if there is none
 unfoldable pub mark_length : List ℕ → ℕ
 mark_length text = option_map_or length (find (starts_with nat_eq text) (map (λ s. s.0) (triple_signs ++ double_signs))) 1
 
@@ -117,13 +117,13 @@ abbrev pub token_at : ℕ → Result Token CalcFault → Result Placed CalcFault
 token_at column (Ok t) = Ok (record { token = t; column = column })
 token_at column (Err f) = Err f
 
--- what a piece is after so many tokens: its token or its fault, and too long after 1000
+-- what a piece is after so many tokens: its token or its error, and too long after 1000
 abbrev pub next_token : ℕ → Piece → Result Placed CalcFault
 next_token count piece =
     if nat_lt count 1000 then token_at piece.column (token_of piece.column piece.bytes)
     else Err (token_fault TooLong piece.column)
 
--- a token before what follows it; the first fault counts
+-- a token before what follows it; the first error counts
 abbrev pub before : Result Placed CalcFault → Result (List Placed) CalcFault → Result (List Placed) CalcFault
 before (Ok t) (Ok ts) = Ok (t ∷ ts)
 before (Ok t) (Err f) = Err f
@@ -134,6 +134,6 @@ unfoldable pub tokens_of : ℕ → List Piece → Result (List Placed) CalcFault
 tokens_of count [] = Ok []
 tokens_of count (piece ∷ following) = before (next_token count piece) (tokens_of (count + 1) following)
 
--- the tokens of a text, columns from 1, or its first fault
+-- the tokens of a text, columns from 1, or its first error
 unfoldable pub token_list : List ℕ → Result (List Placed) CalcFault
 token_list text = tokens_of 0 (pieces 0 1 text)

@@ -21,7 +21,7 @@ abbrev pub tail : List Placed → List Placed
 tail [] = []
 tail (s ∷ ts) = ts
 
--- what is read of some of the tokens, and the rest of them; or a fault, and the tokens from where it is reported
+-- what is read of some of the tokens, and the rest of them; or an error, and the tokens from its place on
 abbrev pub PartOfExpression : Type 0 → Type 0
 PartOfExpression A = Result (A × List Placed) (CalcKind × List Placed)
 
@@ -30,7 +30,7 @@ abbrev pub read_then : {A B : Type 0} → PartOfExpression A → (A → List Pla
 read_then (Ok x) f = f x.0 x.1
 read_then (Err e) f = Err e
 
--- a distance, by the token at the front
+-- a distance, by the token at the start
 abbrev pub distance_at : Option Token → List Placed → PartOfExpression ℕ
 distance_at (Some (token.Number n)) ts = if nat_le n 255 then Ok (n, tail ts) else Err (BadOffset, ts)
 distance_at _ ts = Err (Expected, ts)
@@ -44,7 +44,7 @@ abbrev pub offset_signed : (ℕ → ℤ) → PartOfExpression ℕ → PartOfExpr
 offset_signed f (Ok x) = Ok (f x.0, x.1)
 offset_signed f (Err e) = Err e
 
--- an offset, by the token at the front
+-- an offset, by the token at the start
 abbrev pub offset_at : Option Token → List Placed → PartOfExpression ℤ
 offset_at (Some (token.Sign Minus)) ts = offset_signed (λ n. neg_ℤ (pos n)) (distance (tail ts))
 offset_at (Some (token.Sign Plus)) ts = offset_signed pos (distance (tail ts))
@@ -54,12 +54,12 @@ offset_at _ ts = offset_signed pos (distance ts)
 abbrev pub offset : List Placed → PartOfExpression ℤ
 offset ts = offset_at (head ts) ts
 
--- the comma between offsets, by the token at the front
+-- the comma between offsets, by the token at the start
 abbrev pub comma_at : Option Token → List Placed → PartOfExpression (Unit {0})
 comma_at (Some (token.Sign Comma)) ts = Ok (tt, tail ts)
 comma_at _ ts = Err (Expected, ts)
 
--- the closing bracket, by the token at the front
+-- the closing bracket, by the token at the start
 abbrev pub bracket_at : Option Token → List Placed → PartOfExpression (Unit {0})
 bracket_at (Some (token.Sign CloseBracket)) ts = Ok (tt, tail ts)
 bracket_at _ ts = Err (Expected, ts)
@@ -72,13 +72,13 @@ to_bracket down ts = read_then (offset ts) (λ right us. read_then (bracket_at (
 abbrev pub offsets : List Placed → PartOfExpression (ℤ × ℤ)
 offsets ts = read_then (offset ts) (λ down us. read_then (comma_at (head us) us) (λ _ vs. to_bracket down vs))
 
--- an expression or arguments and what is left, or a fault and the tokens from where it is reported
+-- an expression or arguments and what is left, or an error and the tokens from its place on
 pub data ReadOutcome : Type 0 where
   Got : (a : Term) (rest : List Placed) → ReadOutcome
   GotAll : (xs : Terms) (rest : List Placed) → ReadOutcome
   Stops : (kind : CalcKind) (rest : List Placed) → ReadOutcome
 
--- what is to be read, or what goes on after what was read
+-- what is to be read, or what continues after what was read
 pub data State : Type 0 where
   Operand : (ts : List Placed) → State
   Whole : (k : ℕ) (ts : List Placed) → State
@@ -95,16 +95,16 @@ abbrev pub below_level : ℕ → Option Operator → Option Operator
 below_level k None = None
 below_level k (Some op) = if nat_lt (level_of op) k then Some op else None
 
--- the operator that a token is, if an expression of the level goes on with it
+-- the operator that a token is, if an expression of the level continues with it
 abbrev pub goes_on : ℕ → Option Token → Option Operator
 goes_on k None = None
 goes_on k (Some s) = below_level k (operator_of s)
 
--- the operator at the front, if an expression of the level goes on with it
+-- the operator at the start, if an expression of the level continues with it
 abbrev pub next : ℕ → List Placed → Option Operator
 next k ts = goes_on k (head ts)
 
--- an expression of the level goes on with this operator, and then with the rest
+-- an expression of the level continues with this operator, and then with the rest
 abbrev pub GoesOn : ℕ → List Placed → Operator → List Placed → Type 0
 GoesOn k ts op rest = (tail ts ≡ rest) × (next k ts ≡ Some op)
 
@@ -142,7 +142,7 @@ abbrev pub after_bracket : Option Token → Term → List Placed → ReadOutcome
 after_bracket (Some (token.Sign CloseParenthesis)) a rest = Got a (tail rest)
 after_bracket _ a rest = Stops Expected rest
 
--- after what stands in parentheses
+-- after what is in parentheses
 abbrev pub close : ReadOutcome → ReadOutcome
 close (Got a rest) = after_bracket (head rest) a rest
 close (GotAll xs rest) = Stops Expected rest

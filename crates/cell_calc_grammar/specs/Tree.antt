@@ -33,7 +33,7 @@ abbrev mutual
   fold_maps at none join (Binary op a b) = join (fold_maps at none join a) (fold_maps at none join b)
   fold_maps at none join (Call f xs) = fold_all at none join xs
 
-  -- those of arguments
+  -- the maps of arguments
   pub fold_all : {L X : Type 0} → (L → ℤ → ℤ → X) → X → (X → X → X) → Trees L → X
   fold_all at none join NoTrees = none
   fold_all at none join (Then a xs) = join (fold_maps at none join a) (fold_all at none join xs)

@@ -18,9 +18,9 @@ pub enum Function {
     RowCount,
     ColumnCount,
     Eval,
-    /// `nmin`: the least of the arguments that are not null.
+    /// `nmin`: the smallest of the arguments that are not null.
     KnownMin,
-    /// `nmax`: the greatest of the arguments that are not null.
+    /// `nmax`: the largest of the arguments that are not null.
     KnownMax,
     /// `nmode`: the most frequent of the arguments that are not null.
     KnownMode,

@@ -27,7 +27,7 @@ pub enum Operator {
     KnownOr,
 }
 
-/// The operator that a token is, if it stands between two operands.
+/// The operator that a token is, if it is between two operands.
 pub fn operator_of(token: &Token) -> Option<Operator>
     ensures { result ≡ operator_of token.now }
 {

@@ -3,7 +3,7 @@
 use crate::function::Function;
 use crate::operator::Operator;
 
-/// A step of an expression in postfix order, over what its maps are: what it takes stands before it.
+/// A step of an expression in postfix order, over what its maps are: what it takes is before it.
 #[derive(Clone, Copy, Drop)]
 pub enum Step<L> {
     Number(u32),

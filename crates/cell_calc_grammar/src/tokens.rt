@@ -15,10 +15,10 @@ use cell_core_values::name::{Name, NameFault, is_name_byte, starts_name};
 use cell_core_values::whole_numbers::{are_digits, value_of_digits};
 use std::alloc::Global;
 
-/// The greatest number of tokens of an assignment (profile).
+/// The largest number of tokens of an assignment (profile).
 const TOKEN_LIMIT: usize = 1000;
 
-/// The greatest category, as of GRASS's CELL type.
+/// The largest category, as of GRASS's CELL type.
 const GREATEST_NUMBER: u64 = 2147483647;
 
 /// Out of memory, which has no column.
@@ -227,7 +227,7 @@ fn token_of(alloc: Global, bytes: &[u8], column: u32) -> Result<Token, CalcFault
     }
 }
 
-// The token of a piece, where so many stand before it.
+// The token of a piece, where so many are before it.
 fn next_token(alloc: Global, count: usize, bytes: &[u8], column: u32) -> Result<Placed, CalcFault>
     ensures { ReportsToken result
         (next_token count (record { column = column; bytes = bytes.now })) }
@@ -243,7 +243,7 @@ fn next_token(alloc: Global, count: usize, bytes: &[u8], column: u32) -> Result<
 ///
 /// # Errors
 ///
-/// The first fault of the text, read from the left, with its column; `Memory`, with column 0, where out of
+/// The first error of the text, read from the left, with its column; `Memory`, with column 0, where out of
 /// memory. A text has at most 1000 tokens (profile).
 pub fn tokens(alloc: Global, text: &[u8]) -> Result<Vec<Placed>, CalcFault>
     requires { length text.now ≤ 65535 }

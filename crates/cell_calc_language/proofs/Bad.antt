@@ -1,4 +1,4 @@
--- Tokens of which one tells a fault, though they can go on: what is read of them stops.
+-- Tokens of which one shows an error, though they can continue: what is read of them stops.
 use Rattle.std.proofs.Common.{◌≡◌, ℕ, ◌<◌, List, [], ◌∷◌, ◌++◌, Some, Err, false, refl, sym, ap, ◌∙◌, subst, arith, append_assoc, append-nil, ◌⊎◌, inl, inr}
 use Rattle.std.specs.Prelude.{nat_le}
 use Rattle.std.proofs.lemmas.Bool.Decides.{nat_tests}
@@ -37,7 +37,7 @@ split_shape (t ∷ ts) us (v ∷ vs) e =
     let h = split_shape ts us vs g in
     (v ∷ h.0, h.1, ap (λ l. v ∷ l) h.2, ap (λ x. x ∷ shape h.0) f ∙ ap (λ l. t ∷ l) h.3)
 
--- what begins so can go on
+-- what begins so can continue
 pub can_before : (ts us : List Placed) → CanGoOn (ts ++ us) → CanGoOn ts
 can_before ts us (vs, after, a, same, h) =
     let s = split_shape (shape ts) (shape us) vs (same ∙ shape_append ts us) in
@@ -47,7 +47,7 @@ can_before ts us (vs, after, a, same, h) =
 abbrev StopsAs : CalcKind → (from : List Placed) → (more rest : List Placed) → Type 0
 StopsAs kind from more rest = (rest ≡ from) ⊎ ((kind ≡ BadOffset) × ((x : Placed) × (y : List Placed) × (rest ≡ x ∷ (y ++ more))))
 
--- the tokens end in a fault of an operand that begins with a name
+-- the tokens end in an error of an operand that begins with a name
 pub record Bad (kind : CalcKind) (ts : List Placed) : Type 0 where
   pub front : List Placed
   pub name : List ℕ
@@ -124,11 +124,11 @@ bad_of BadOffset column b n k ((before, m, e, far, (front, inner, name, c, d, e'
 }
 bad_of _ column b n k t = absurd t
 
--- none ends in such a fault among the tokens
+-- none ends in such an error among the tokens
 abbrev pub HasNoBad : List Placed → Type 0
 HasNoBad l = (kind : CalcKind) (ts : List Placed) (bad : Bad kind ts) (m mid : List Placed) → l ≡ m ++ name_at bad.name bad.column ∷ (bad.ends ++ mid) → ⊥
 
--- tokens that can go on, none of which ends in such a fault, tell none
+-- tokens that can continue, none of which ends in such an error, show none
 pub reports_none : (l : List Placed) → CanGoOn l → HasNoBad l → ReportsNone l
 reports_none l can free = λ before rest next kind column e t. go before rest next kind column e t
   where
@@ -157,7 +157,7 @@ none_in_one s kind ts bad (x ∷ m) mid e =
     let f : [] ≡ m ++ name_at bad.name bad.column ∷ (bad.ends ++ mid) = cc in
     not_nothing m (name_at bad.name bad.column) (bad.ends ++ mid) f
 
--- none ends in what is read before the outcome, where this goes on with more
+-- none ends in what is read before the outcome, where this continues with more
 none_before : {s : State} {o : ReadOutcome} (r : GrammarReads s o) (extra more : List Placed) → left o ≡ extra ++ more → ((rest : List Placed) → o ≡ Stops BadOffset rest → extra ≡ [])
     → (kind : CalcKind) (ts : List Placed) (bad : Bad kind ts) (front m mid : List Placed) → (find r).before ≡ front ++ name_at bad.name bad.column ∷ m → bad.ends ++ mid ≡ m ++ extra → ⊥
 none_before {s = s} {o = o} r extra more e far kind ts bad front m mid f g =

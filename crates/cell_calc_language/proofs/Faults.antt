@@ -1,4 +1,4 @@
--- Where reading ends too early, that is the first fault that the tokens tell.
+-- If reading ends too early, that is the first error that the tokens show.
 use Rattle.std.proofs.Common.{◌≡◌, ℕ, ℤ, List, [], ◌∷◌, ◌++◌, Option, Some, None, refl, sym, ap, ◌∙◌, subst, append_assoc, append-nil, inl, inr, arith}
 use Rattle.std.specs.Prelude.{◌+◌, length, Result, Ok, Err, IfErr, MatchResult}
 use Rattle.std.proofs.lemmas.List.{append_cancel_right}
@@ -43,7 +43,7 @@ not_landed : Lands [] None → ⊥
 not_landed (inl l) = cc
 not_landed (inr l) = cc
 
--- tokens that cannot be walked cannot go on
+-- tokens that cannot be walked cannot continue
 cannot : (ts : List Placed) → walk (Some Start) (shape ts) ≡ None → CanGoOn ts → ⊥
 cannot ts e (us, after, a, alike, h) =
     let stuck : walk (Some Start) (shape us) ≡ None = ap (walk (Some Start)) alike ∙ e in
@@ -66,7 +66,7 @@ none_without_assign s ts n = λ a h. n (ap (λ l. head (tail l)) h.3)
 none_of_expression : (s t : Placed) (ts : List Placed) → ((a : Term) → IsExpression ts a → ⊥) → IsNone (s ∷ t ∷ ts)
 none_of_expression s t ts n = λ a h. n a.expr (subst (λ l. IsExpression l a.expr) (sym (ap (λ l. tail (tail l)) h.3)) h.4)
 
--- tokens of an expression's shape go on after a name and the sign of assignment
+-- tokens of an expression's shape continue after a name and the sign of assignment
 expression_goes_on : (name : List ℕ) (c d : ℕ) (ts us after : List Placed) → shape us ≡ shape ts → SomeExpression (us ++ after) → CanGoOn (name_at name c ∷ sign_at Assign d ∷ ts)
 expression_goes_on name c d ts us after e (a, h) =
     let x : Assignment = record { target = name; expr = a } in
@@ -79,7 +79,7 @@ name_goes_on name c =
 nothing_goes_on : CanGoOn []
 nothing_goes_on = can_before [] (name_at [] 0 ∷ []) (name_goes_on [] 0)
 
--- no token tells a fault
+-- no token shows an error
 expected_at_end : (end : ℕ) (ts : List Placed) → CanGoOn ts → HasNoBad ts → IsNone ts → IsGrammarFault end ts (token_fault Expected end)
 expected_at_end end ts can free none = (inr (refl, can, reports_none ts can free), none)
 
@@ -110,7 +110,7 @@ IsNoEnd o = (a : Term) → o ≡ Got a [] → ⊥
 no_expression : (ts : List Placed) (o : ReadOutcome) → GrammarReads (Expression ts) o → IsNoEnd o → (a : Term) → IsExpression ts a → ⊥
 no_expression ts o r n a h = n a (one_outcome r (read_all ts a h))
 
--- the next token cannot come after those of an expression
+-- the next token cannot come after the tokens of an expression
 refused_after : (name : List ℕ) (c d : ℕ) (before : List Placed) (next : Placed) → step_on (walk (Some (place.Operand [])) (shape before)) (shape_of next.token) ≡ None → CanGoOn (name_at name c ∷ sign_at Assign d ∷ (before ++ next ∷ [])) → ⊥
 refused_after name c d before next e = cannot (name_at name c ∷ sign_at Assign d ∷ (before ++ next ∷ [])) (walk_both (Some (place.Operand [])) before (next ∷ []) ∙ e)
 
@@ -149,7 +149,7 @@ stops_expected end name c d ts rest r can none = go rest refl
         subst (λ l. IsGrammarFault end l (token_fault Expected next.column)) (sym same)
         (unexpected end before more next can free (refused_after name c d (find r).before next refused) (subst IsNone same none))
 
--- the fault is reported later, at the last token of a segment
+-- the error is reported later, at the last token of a segment
 stops_later : (end : ℕ) (name : List ℕ) (c d : ℕ) (ts : List Placed) (kind : CalcKind) (rest : List Placed)
     (r : GrammarReads (Expression ts) (Stops kind rest)) (extra more : List Placed) (next : Placed)
     → rest ≡ (extra ++ next ∷ []) ++ more → ((q : List Placed) → Stops kind rest ≡ Stops BadOffset q → extra ≡ [])
@@ -180,7 +180,7 @@ before_number : {front rest : List Placed} → NoOffsets BadOffset front rest �
 before_number (first h) = grammar_fault.first (offset_sign h.1)
 before_number (second c o h) = grammar_fault.second c o (offset_sign h.1)
 
--- by the segment that tells the fault
+-- by the segment that shows the error
 stops_as : (end : ℕ) (name : List ℕ) (c d : ℕ) (ts : List Placed) (kind : CalcKind) (rest : List Placed)
     (r : GrammarReads (Expression ts) (Stops kind rest)) (seg more : List Placed) → rest ≡ seg ++ more
     → IsSegment kind (find r).before seg → CanGoOn (name_at name c ∷ sign_at Assign d ∷ ((find r).before ++ seg))

@@ -1,4 +1,4 @@
--- A list of tokens has one first fault at most, and stands for an assignment or has one.
+-- A list of tokens has one first error at most, and stands for an assignment or has one.
 use Rattle.std.proofs.Common.{◌≡◌, ℕ, List, [], ◌∷◌, ◌++◌, refl, sym, ap, ◌∙◌, subst, append_assoc, append-nil, ◌⊎◌, inl, inr}
 use Rattle.cell_calc_language.specs.declared.assignment.Assignment.{Assignment}
 use Rattle.cell_calc_grammar.specs.declared.calc_fault.CalcFault.{CalcFault}
@@ -72,7 +72,7 @@ one_miscounted c c' b n ((front, inside, name, d, f, xs, e, u, h, a), can) ((fro
     go (before m i j) = absurd (not_within c d inside xs h (b ++ n ∷ []) (bad_call (b ++ n ∷ []) front' inside' name' c' d' f' xs' e' u' h' a') m j)
     go (behind m i j) = absurd (not_within c' d' inside' xs' h' (b ++ n ∷ []) (bad_call (b ++ n ∷ []) front inside name c d f xs e u h a) m j)
 
--- the kind that a token tells where all up to it can go on
+-- the kind that a token shows where all up to it can continue
 abbrev reported_by : Token → CalcKind
 reported_by (token.Sign OpenParenthesis) = UnknownFunction
 reported_by (token.Sign _) = BadArguments
@@ -121,7 +121,7 @@ one_fault end ts f g (inl (b, r, n, e, t, none), _) (inr (e', can, none'), _) = 
 one_fault end ts f g (inr (e, can, none), _) (inl (b', r', n', e', t', none'), _) = absurd (none b' r' n' g.kind g.column e' t')
 one_fault end ts f g (inr (e, can, none), _) (inr (e', can', none'), _) = e ∙ sym e'
 
--- the list stands for an assignment, or has a fault
+-- the list stands for an assignment, or has an error
 abbrev pub IsJudged : ℕ → List Placed → Type 0
 IsJudged end ts = ((a : Assignment) × IsAssignment ts a) ⊎ ((reported : CalcFault) × IsGrammarFault end ts reported)
 

@@ -33,7 +33,7 @@ use Rattle.cell_calc_language.specs.parts.Waiting.{add_all, Fills, Awaits, IsRea
 use Rattle.cell_calc_grammar.proofs.PostfixLemmas.{are_of_tree}
 use Rattle.cell_calc_grammar.proofs.Sound.{front_is}
 
--- a sign at the front, as it stands there
+-- a sign at the start, as it is there
 pub after_is : (s : Sign) (ts us : List Placed) → FollowsSign s ts us → (c : ℕ) × (ts ≡ sign_at s c ∷ us)
 after_is s ts us h =
     let f = front_is ts (token.Sign s) h.0 in
@@ -60,7 +60,7 @@ add_all_stops : (xs : Terms) (kind : CalcKind) (ts : List Placed) → add_all xs
 add_all_stops NoTrees kind ts = refl
 add_all_stops (Then a xs) kind ts = ap (add a) (add_all_stops xs kind ts)
 
--- a fault goes through whatever waits
+-- an error goes through whatever waits
 stops : (s : State) (fs : List Frame) (steps : List (Step MapName)) (kind : CalcKind) (ts : List Placed) → Fills s fs steps (Stops kind ts) → GrammarReads s (Stops kind ts)
 stops s [] steps kind ts h = h.1
 stops s (frame.Level k ∷ fs) steps kind ts h = stops s fs steps kind ts (h (Stops kind ts) stopped)
@@ -267,7 +267,7 @@ module _ (s : State) (fs : List Frame) (steps : List (Step MapName)) (ts : List 
 pub begins : (fs : List Frame) (steps : List (Step MapName)) (ts : List Placed) → fs ≡ [] → steps ≡ [] → Awaits (Expression ts) (latest_first fs) steps (Expression ts)
 begins fs steps ts e g = λ o r. rw (e, g) (refl, r)
 
--- the latest of the frames goes on
+-- the latest of the frames continues
 pub resumes : (s : State) (fs gs : List Frame) (f : Frame) (steps : List (Step MapName)) (ts : List Placed) → fs ≡ gs ++ f ∷ [] → IsReadExpression s (latest_first fs) steps ts → IsReadExpression s (f ∷ latest_first gs) steps ts
 resumes s fs gs f steps ts e h = subst (λ l. IsReadExpression s l steps ts) (ap latest_first e ∙ reverse-append gs (f ∷ [])) h
 

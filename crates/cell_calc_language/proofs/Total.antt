@@ -18,7 +18,7 @@ abbrev IsTerm : ReadOutcome → Type 0
 IsTerm (GotAll xs rest) = ⊥
 IsTerm _ = Unit {0}
 
--- what goes on goes on from an expression, or from a stop
+-- what continues continues from an expression, or from a stop
 abbrev Starts : State → Type 0
 Starts (More k o) = IsTerm o
 Starts (Choice o) = IsTerm o
@@ -29,7 +29,7 @@ Starts _ = Unit {0}
 abbrev Total : State → Type 0
 Total s = (o : ReadOutcome) × GrammarReads s o
 
--- what begins has the tokens of what goes on, and comes after it
+-- what begins has the tokens of what continues, and comes after it
 abbrev rank : State → ℕ
 rank (Whole k ts) = 1
 rank (Expression ts) = 2

@@ -1,4 +1,4 @@
--- Why a list of tokens stands for no assignment, and which fault it tells first (profile).
+-- Why a list of tokens stands for no assignment, and which error it shows first (profile).
 use Rattle.std.specs.Prelude.{◌≡◌, ◌<◌, ◌+◌, ℕ, ℤ, List, [], ◌∷◌, ◌++◌, length, Some, None, false, ◌⊎◌, MatchResult}
 use Rattle.cell_calc_language.specs.declared.assignment.Assignment.{Assignment}
 use Rattle.cell_calc_grammar.specs.declared.calc_fault.CalcFault.{CalcFault}
@@ -20,7 +20,7 @@ abbrev pub column_of : (end : ℕ) → List Placed → ℕ
 column_of end [] = end
 column_of end (s ∷ rest) = s.column
 
--- by its shape the list can go on: some assignment begins so, with other names and numbers in the
+-- by its shape the list can continue: some assignment begins so, with other names and numbers in the
 -- place of its own (so any name before `(` calls, with any number of arguments, and any number is an
 -- offset)
 abbrev pub CanGoOn : List Placed → Type 0
@@ -50,7 +50,7 @@ pub data IsOffsetSign : List Placed → Type 0 where
   minus : (c : ℕ) → IsOffsetSign (sign_at Minus c ∷ [])
   plus : (c : ℕ) → IsOffsetSign (sign_at Plus c ∷ [])
 
--- what stands between an opening bracket and the number of the first offset, or of the second
+-- what is between an opening bracket and the number of the first offset, or of the second
 pub data IsBeforeNumber : List Placed → Type 0 where
   first : {ts : List Placed} → IsOffsetSign ts → IsBeforeNumber ts
   second : {ts us : List Placed} {down : ℤ} (c : ℕ) → IsOffset ts down → IsOffsetSign us
@@ -68,12 +68,12 @@ IsFar column ts =
     (before : List Placed) × (n : ℕ) × (ts ≡ before ++ token_number_at n column ∷ []) × (255 < n)
     × IsInBrackets before
 
--- the tokens before can go on, and with the next one they cannot
+-- the tokens before can continue, and with the next one they cannot
 abbrev pub IsUnexpected : (column : ℕ) → (before : List Placed) → Placed → Type 0
 IsUnexpected column before next =
     (next.column ≡ column) × CanGoOn before × (CanGoOn (before ++ next ∷ []) → ⊥)
 
--- reading from the left, at the next token a fault of the kind is reported, at the column
+-- reading from the left, at the next token an error of the kind is reported, at the column
 abbrev pub Reports : CalcKind → (column : ℕ) → (before : List Placed) → Placed → Type 0
 Reports Expected column before next = IsUnexpected column before next
 Reports UnknownFunction column before next =
@@ -84,31 +84,31 @@ Reports BadOffset column before next =
     IsFar column (before ++ next ∷ []) × CanGoOn (before ++ next ∷ [])
 Reports _ column before next = ⊥
 
--- none of the tokens tells a fault
+-- none of the tokens shows an error
 abbrev pub ReportsNone : List Placed → Type 0
 ReportsNone ts =
     (before rest : List Placed) (next : Placed) (kind : CalcKind) (column : ℕ)
     → ts ≡ before ++ next ∷ rest → Reports kind column before next → ⊥
 
--- a token tells the fault, and none before it tells any
+-- a token shows the error, and none before it shows any
 abbrev pub IsReportedFirst : List Placed → CalcFault → Type 0
 IsReportedFirst ts token_fault =
     (before rest : List Placed) × (next : Placed) × (ts ≡ before ++ next ∷ rest)
     × Reports token_fault.kind token_fault.column before next × ReportsNone before
 
--- no token tells a fault, and the list can go on: more is expected at the end
+-- no token shows an error, and the list can continue: more is expected at the end
 abbrev pub IsReportedAtEnd : (end : ℕ) → List Placed → CalcFault → Type 0
 IsReportedAtEnd end ts reported = (reported ≡ token_fault Expected end) × CanGoOn ts × ReportsNone ts
 
--- the list stands for no assignment, and this is the first fault that reading from the left can tell
+-- the list stands for no assignment, and this is the first error that reading from the left can show
 abbrev pub IsGrammarFault : (end : ℕ) → List Placed → CalcFault → Type 0
 IsGrammarFault end ts token_fault = (IsReportedFirst ts token_fault ⊎ IsReportedAtEnd end ts token_fault) × IsNone ts
 
--- the fault is one of the grammar, if memory lasts
+-- the error is one of the grammar, if memory lasts
 abbrev pub IsFaultOf : (end : ℕ) → List Placed → CalcFault → Type 0
 IsFaultOf end ts token_fault = (token_fault ≡ no_memory) ⊎ IsGrammarFault end ts token_fault
 
--- the fault is the first of the text's tokens, or else one of the grammar, if memory lasts
+-- the error is the first of the text's tokens, or else one of the grammar, if memory lasts
 abbrev pub IsTextFault : (text : List ℕ) → CalcFault → Type 0
 IsTextFault text token_fault =
     (token_fault ≡ no_memory)

@@ -30,6 +30,6 @@ abbrev mutual
   AreGrammatical NoTrees = Unit {0}
   AreGrammatical (Then a xs) = IsGrammatical a × AreGrammatical xs
 
--- the steps are those of an expression
+-- the steps belong to an expression
 abbrev pub AreOfExpression : {L : Type 0} → List (Step L) → Type 0
 AreOfExpression steps = (steps ≡ postfix (tree_of steps)) × IsGrammatical (tree_of steps)

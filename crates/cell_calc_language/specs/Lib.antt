@@ -1,5 +1,5 @@
--- The language of r.mapcalc: assignments, the faults of the grammar.
--- Laws of the faults of the grammar.
+-- The language of r.mapcalc: assignments, the errors of the grammar.
+-- Laws of the errors of the grammar.
 pub mod Assignment
 pub mod GrammarFault
 pub mod Grammatical

@@ -23,19 +23,19 @@ abbrev pub IsPartStop : {A : Type 0} → PartOfExpression A → ParseStop → Ty
 IsPartStop p Memory = ⊥
 IsPartStop p (At kind rest) = p ≡ Err (kind, rest.now)
 
--- the code answers with what is read of the part, or stops where it does
+-- the code returns what is read of the part, or stops if reading stops
 abbrev pub IsPartRead : {A : Type 0} → PartOfExpression A → Result (A × Bor (List Placed)) ParseStop → Type 0
 IsPartRead p r = MatchResult r (λ x. p ≡ Ok (x.0, x.1.now)) (λ e. IsPartStop p e)
 
--- the sign is at the front, before the rest
+-- the sign is at the start, before the rest
 abbrev pub FollowsSign : Sign → List Placed → List Placed → Type 0
 FollowsSign sign ts rest = (head ts ≡ Some (token.Sign sign)) × (tail ts ≡ rest)
 
--- a name and the opening parenthesis are at the front, before the rest
+-- a name and the opening parenthesis are at the start, before the rest
 abbrev pub IsCallOf : List ℕ → List Placed → List Placed → Type 0
 IsCallOf name ts rest = (head ts ≡ Some (token.Name name)) × FollowsSign OpenParenthesis (tail ts) rest
 
--- the fault of a stop
+-- the error of a stop
 abbrev pub fault_of_stop : (end : ℕ) → ParseStop → CalcFault
 fault_of_stop end Memory = record { kind = kind.Memory; column = 0 }
 fault_of_stop end (At kind rest) = record { kind = kind; column = column_of end rest.now }

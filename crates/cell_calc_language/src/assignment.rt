@@ -24,7 +24,7 @@ pub struct Assignment {
 ///
 /// # Errors
 ///
-/// The first fault of the text's tokens, or else of its grammar, read from the left; columns count bytes
+/// The first error of the text's tokens, or else of its grammar, read from the left; columns count bytes
 /// from 1, and the end of the text is the column after its last byte. `Memory`, with column 0, where out of
 /// memory.
 pub fn parse(alloc: Global, text: &[u8]) -> Result<Assignment, CalcFault>

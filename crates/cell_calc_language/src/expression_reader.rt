@@ -36,7 +36,7 @@ enum Frame<'a> {
     AfterQuestion,
     /// What is chosen otherwise is being read.
     AfterColon,
-    /// What stands in parentheses is being read.
+    /// What is in parentheses is being read.
     Parenthesis,
     /// An argument is being read, after so many; the call begins at `from`.
     Call {
@@ -182,7 +182,7 @@ impl<'a> Reader<'a> {
         self.end(map, rest)
     }
 
-    // A call, from its name; the opening parenthesis stands before what is inside.
+    // A call, from its name; the opening parenthesis is before what is inside.
     fn read_call(
         &mut self,
         name: &Name,
@@ -216,7 +216,7 @@ impl<'a> Reader<'a> {
         }
     }
 
-    // The frame that waited for what has been read goes on.
+    // The frame that waited for what has been read continues.
     fn resume(&mut self, frame: Frame<'a>, tokens: &'a [Placed]) -> Result<Turn<'a>, ParseStop<'a>>
         ensures goes { Resumes self.old frame.entry tokens.now self.new result }
         ensures lighter { LeavesWork (work tokens.now self.old) self.new result }

@@ -1,5 +1,5 @@
 //! The parser of r.mapcalc: from a line of text to an assignment, or its first error (GRASS manual:
-//! r.mapcalc). What an expression is, and how it is read, is defined in `cell_calc_grammar`.
+//! r.mapcalc). `cell_calc_grammar` defines expressions, and how they are read.
 //!
 //! - `assignment`: `parse`, from `NAME = EXPRESSION` to an `Assignment`
 //! - `expr`: `Expr`, an expression; `first_unknown`, its first map that is not among some names

@@ -22,7 +22,7 @@ use std::alloc::Global;
 #[derive(Clone, Copy)]
 pub(crate) enum ParseStop<'a> {
     Memory,
-    /// A fault, and the tokens from where it is reported.
+    /// An error, and the tokens from its place on.
     At(CalcKind, &'a [Placed]),
 }
 
@@ -61,7 +61,7 @@ pub(crate) fn first_token<'a>(tokens: &'a [Placed]) -> Option<(&'a Placed, &'a [
     }
 }
 
-// What comes after a sign, if it is at the front.
+// What comes after a sign, if it is at the start.
 pub(crate) fn after_sign<'a>(sign: Sign, tokens: &'a [Placed]) -> Option<&'a [Placed]>
     ensures some { IfSome result (λ rest. FollowsSign sign tokens.now rest.now) }
     ensures none { IfNone result (IsNot sign (head tokens.now)) }
@@ -74,7 +74,7 @@ pub(crate) fn after_sign<'a>(sign: Sign, tokens: &'a [Placed]) -> Option<&'a [Pl
     }
 }
 
-// The operator at the front and what comes after it, if an expression of the level goes on with it.
+// The operator at the start and what comes after it, if an expression of the level continues with it.
 pub(crate) fn next_operator<'a>(
     level: u32,
     tokens: &'a [Placed],

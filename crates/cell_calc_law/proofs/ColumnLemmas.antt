@@ -42,7 +42,7 @@ more-cmp (x ∷ k) (y ∷ l) v w same =
 more-cmp _ _ v w same = absurd (omega (arith, same))
 
 module _ (given : Combination → CellValue) (wide : ℕ) where
-  -- with the cell that is given behind
+  -- with the cell that is given as the last one
   abbrev more : Combination → Combination
   more k = k ++ given k ∷ []
 

@@ -135,7 +135,7 @@ module _ (region : RegionValue) (r : Rectangle) (row col : ℕ) where
   abbrev there : GridPosition
   there = grid_position region (r.top + row) (r.left + col)
 
-  -- a map of the part has the cells of that of the whole
+  -- a map of the part has the cells of the full map
   cell-cut : (w m : Grid) → IsFilled region w.rows → m.rows ≡ cut_out r w.rows → (down right : ℤ) → (r.top ≡ 0) ⊎ (up_by down ≤ row) → (region.rows ≤ r.top + r.rows) ⊎ (row + down_by down < r.rows) → (r.left ≡ 0) ⊎ (up_by right ≤ col) → (region.cols ≤ r.left + r.cols) ⊎ (col + down_by right < r.cols) → cell_at_offset m (pos row +ℤ down) (pos col +ℤ right) ≡ cell_at_offset w (pos (r.top + row) +ℤ down) (pos (r.left + col) +ℤ right)
   cell-cut w m filled cut down right up_fits down_fits left_fits right_fits =
       let z = pos (r.top + row) +ℤ down in
@@ -208,7 +208,7 @@ module _ (region : RegionValue) (r : Rectangle) (row col : ℕ) where
           let second : HaloOfAll xs = second-halo (λ i. up_of i a) (λ i. down_of i a) (λ i. left_of i a) (λ i. right_of i a) (λ i. up_of_all i xs) (λ i. down_of_all i xs) (λ i. left_of_all i xs) (λ i. right_of_all i xs) (calls asks_rows a) (calls asks_cols a) (call_any asks_rows xs) (call_any asks_cols xs) h in
           ap (λ (x : CellValue). x ∷ argument_values xs part here) (same-value a first) ∙ ap (λ (l : List CellValue). value a whole there ∷ l) (same-values xs second)
 
-    -- and any expression, told of the spot in the whole
+    -- and any expression, if it is given the spot in the full map
     mutual
       same-reported : (f : Formula) → IsHalo region r row col (λ i. up_of i f) (λ i. down_of i f) (λ i. left_of i f) (λ i. right_of i f) false false → value_seen_from f part here there ≡ value f whole there
       same-reported (Number n) h = refl

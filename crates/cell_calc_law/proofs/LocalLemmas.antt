@@ -85,7 +85,7 @@ abbrev mutual
   all_given formula.NoTrees picks k = []
   all_given (formula.Then a xs) picks k = given_by a picks k ∷ all_given xs picks k
 
--- a function that does not ask where it is
+-- a function that does not ask for its row or column
 call-anywhere : (f : Function) (s t : GridPosition) (xs : List CellValue) → asks_where f ≡ false
     → call_result f s xs ≡ call_result f t xs
 call-anywhere function.Row s t xs e = cc

@@ -70,7 +70,7 @@ mutual
 pub maps-are-within-reach : reached.MapsAreWithinReach
 maps-are-within-reach f place = within f place
 
--- ---- along a line: where a stretch with a halo begins, and what is read before and behind a cell of it
+-- ---- along a line: where a stretch with a halo begins, and what is read before and after a cell of it
 
 before : (first up reads i : ℕ) → reads ≤ up → first ≤ i → (first - up ≡ 0) ⊎ (reads ≤ i - (first - up))
 before first up reads i most from =

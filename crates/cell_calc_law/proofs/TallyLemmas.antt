@@ -28,7 +28,7 @@ whole-tally cells =
 
 -- ---- each cell is counted by one entry
 
--- 1 where the entry is that of the combination
+-- 1 if the entry has the combination
 abbrev mark : Combination → Combination × ℕ → ℕ
 mark k e = cond (eq_by_cmp combination_cmp e.0 k) 1 0
 
@@ -46,7 +46,7 @@ mark-none k (e ∷ es) below =
     let first : mark k e ≡ 0 = ap (λ t. cond t 1 0) (eq-swap e.0 k ∙ ap is_eq (is_less _ both.0)) in
     omega (arith, sum-cons (mark k) e es, first, mark-none k es both.1)
 
--- where an entry is that of a combination, or another is: one is
+-- if an entry has a combination, or another entry has it: one has it
 abbrev IsOneIf : Combination → Combination × ℕ → Pairs → ℕ → Bool → Type 0
 IsOneIf k e es n t =
     eq_by_cmp combination_cmp k e.0 ≡ t → cond t (Some e.1) (find combination_cmp k es) ≡ Some n

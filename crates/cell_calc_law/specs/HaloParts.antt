@@ -73,12 +73,12 @@ pub record HasHalo (f : Formula) (region : RegionValue) (r : Rectangle) (row col
   pub rows : (calls asks_rows f ≡ false) ⊎ ((r.top ≡ 0) × (r.rows ≡ region.rows))
   pub cols : (calls asks_cols f ≡ false) ⊎ ((r.left ≡ 0) × (r.cols ≡ region.cols))
 
--- a halo is enough: the value over the part is that over the whole
+-- a halo is enough: the value over the part is that over the full map
 abbrev pub HaloIsEnough : Type 0
 HaloIsEnough = (f : Formula) (whole part : List Grid) (region : RegionValue) (r : Rectangle) (row col : ℕ) → All (λ m. IsFilled region m.rows) whole → AreCutOut r whole part → HasHalo f region r row col → value f part (record { rows = r.rows; cols = r.cols; row = row; col = col }) ≡ value f whole (grid_position region (r.top + row) (r.left + col))
 
 abbrev mutual
-  -- the value where row() and its like tell of another spot than the one that offsets are counted from
+  -- the value where row() and the like report another spot than the one that offsets are counted from
   pub value_seen_from : Formula → List Grid → (here reported : GridPosition) → CellValue
   value_seen_from (Number n) maps here reported = Some (pos n)
   value_seen_from (Map i down right) maps here reported = cell_in (slice_get maps i) (pos here.row +ℤ down) (pos here.col +ℤ right)
@@ -91,10 +91,10 @@ abbrev mutual
   values_seen_from NoTrees maps here reported = []
   values_seen_from (Then a xs) maps here reported = value_seen_from a maps here reported ∷ values_seen_from xs maps here reported
 
--- told of that spot itself, it is the value
+-- if they report that spot itself, it is the value
 abbrev pub SeenFromItself : Type 0
 SeenFromItself = (f : Formula) (maps : List Grid) (s : GridPosition) → value_seen_from f maps s s ≡ value f maps s
 
--- told of the spot in the whole, any expression has the value over the whole
+-- if they report the spot in the full map, any expression has the value over the full map
 abbrev pub ReachIsEnough : Type 0
 ReachIsEnough = (f : Formula) (whole part : List Grid) (region : RegionValue) (r : Rectangle) (row col : ℕ) → All (λ m. IsFilled region m.rows) whole → AreCutOut r whole part → ReadsWithin f region r row col → value_seen_from f part (record { rows = r.rows; cols = r.cols; row = row; col = col }) (grid_position region (r.top + row) (r.left + col)) ≡ value f whole (grid_position region (r.top + row) (r.left + col))

@@ -79,7 +79,7 @@ CountsFollow =
     ≡ sum_by (λ pair. pair.1)
     (filter (λ pair. cell_eq v (given pair.0)) (table_of Nothing (cells_of_shelf shelf picks)))
 
--- after `x = f`: the table of the maps read and of x is that of these maps, with the value behind each combination
+-- after `x = f`: the table of the maps read and of x is the table of these maps, with the value after each combination
 abbrev pub TableHasItsValues : Type 0
 TableHasItsValues =
     (f : Formula) (picks : List ℕ) (given : Combination → CellValue) → GivesValues given f picks

@@ -76,7 +76,7 @@ pub record IsCellInside (region : RegionValue) (r : Rectangle) (row col : ℕ) :
   pub right : r.left ≤ col
   pub left : col < r.left + r.cols
 
--- with a halo of its reach, an expression that does not ask for rows and columns has the values of the whole in a rectangle
+-- with a halo of its reach, an expression that does not ask for rows and columns has the values of the full map in a rectangle
 abbrev pub ItsReachIsEnough : Type 0
 ItsReachIsEnough =
     (f : Formula) (whole part : List Grid) (region : RegionValue) (r : Rectangle)
@@ -85,7 +85,7 @@ ItsReachIsEnough =
     → (row col : ℕ) → IsCellInside region r row col
     → value f part (position_in (with_halo region (reach_of f) r) row col) ≡ value f whole (grid_position region row col)
 
--- and any expression does, where row() and its like are reported of the cell in the whole
+-- and any expression does, where row() and its like are reported of the cell in the full map
 abbrev pub ItsReachIsEnoughElsewhere : Type 0
 ItsReachIsEnoughElsewhere =
     (f : Formula) (whole part : List Grid) (region : RegionValue) (r : Rectangle)

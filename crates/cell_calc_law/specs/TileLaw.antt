@@ -1,4 +1,4 @@
--- Values by tiles: the map made of a tile with its halo is, in the tile, the map made of the whole.
+-- Values by tiles: the map made of a tile with its halo is, in the tile, the map made of the full map.
 use Rattle.std.specs.Prelude.{ℕ, ◌≡◌, ◌≤◌, ◌-◌, false, All}
 use Rattle.cell_core_values.specs.Region.{RegionValue, most_cells}
 use Rattle.cell_core.specs.Grid.{Grid, IsFilled, cell_at}
@@ -16,14 +16,14 @@ use Rattle.rcell.specs.Making.{AreValues}
 abbrev pub haloed_rectangle : Formula → ShelfValue → Rectangle → Rectangle
 haloed_rectangle f whole r = with_halo whole.region (reach_of f) r
 
--- the maps of a tile with its halo, cut out of those of the whole
+-- the maps of a tile with its halo, cut out of the full maps
 pub record IsHaloedTile (f : Formula) (r : Rectangle) (whole tile : ShelfValue) : Type 0 where
   pub filled : All (λ m. IsFilled whole.region m.rows) whole.maps
   pub cells : AreCutOut (haloed_rectangle f whole r) whole.maps tile.maps
   pub rows : tile.region.rows ≡ (haloed_rectangle f whole r).rows
   pub cols : tile.region.cols ≡ (haloed_rectangle f whole r).cols
 
--- `x = f` over the whole, `y = f` over a tile with its halo: y has the cells of x in the tile, if f asks for no row or column
+-- `x = f` over the full map, `y = f` over a tile with its halo: y has the cells of x in the tile, if f asks for no row or column
 abbrev pub TilesMakeTheMap : Type 0
 TilesMakeTheMap =
     (f : Formula) (whole tile : ShelfValue) (r : Rectangle) → IsHaloedTile f r whole tile
@@ -55,7 +55,7 @@ abbrev mutual
   all_placed region r NoTrees = NoTrees
   all_placed region r (Then a xs) = Then (placed region r a) (all_placed region r xs)
 
--- `x = f` over the whole, and over a tile with its halo `y = f` so written, as `row() + t` for `row()`, t the rows above the
+-- `x = f` over the full map, and over a tile with its halo `y = f` so written, as `row() + t` for `row()`, t the rows above the
 -- tile with its halo: y has the cells of x in the tile, whatever expression f is
 abbrev pub PlacedTilesMakeTheMap : Type 0
 PlacedTilesMakeTheMap =

@@ -22,7 +22,7 @@ pub fn counts_follow()
     ensures { CountsFollow }
 {}
 
-/// After `x = f`, the table of the maps that f reads and of x is that of these maps, with the value behind each
+/// After `x = f`, the table of the maps that f reads and of x is the table of these maps, with the value after each
 /// combination.
 pub fn table_has_its_values()
     ensures { TableHasItsValues }
@@ -58,20 +58,20 @@ pub fn shifts_only_lose()
     ensures { ShiftsOnlyLose }
 {}
 
-/// A halo is enough: an expression has the same value over a part of maps as over the whole, where what it reads lies in
+/// A halo is enough: an expression has the same value over a part of maps as over the full map, where what it reads lies in
 /// the part or the maps end.
 pub fn halo_is_enough()
     ensures { HaloIsEnough }
 {}
 
-/// Where `row()` and its like are reported of another spot than offsets are counted from: told of that spot itself, the value is
+/// `row()` and the like may report another spot than offsets are counted from: if they report that spot, the value is
 /// the value.
 pub fn seen_from_itself()
     ensures { SeenFromItself }
 {}
 
-/// Told of the spot in the whole, any expression has the same value over a part as over the whole, where what it reads lies
-/// in the part or the maps end.
+/// If they report the spot in the full map, any expression has the same value over a part as over the full map, where what it
+/// reads lies in the part or the maps end.
 pub fn reach_is_enough()
     ensures { ReachIsEnough }
 {}
@@ -82,23 +82,23 @@ pub fn maps_are_within_reach()
 {}
 
 /// With a halo of its reach, as many rows and columns around a rectangle as the region has there, an expression that does
-/// not ask for rows and columns has the values of the whole in the rectangle.
+/// not ask for rows and columns has the values of the full map in the rectangle.
 pub fn its_reach_is_enough()
     ensures { ItsReachIsEnough }
 {}
 
-/// And any expression does, where `row()` and its like are reported of the cell in the whole.
+/// And any expression does, where `row()` and its like are reported of the cell in the full map.
 pub fn its_reach_is_enough_elsewhere()
     ensures { ItsReachIsEnoughElsewhere }
 {}
 
-/// `x = f` over the whole and `y = f` over a tile with its halo: in the tile, y has the cells of x, if f asks for no row or
+/// `x = f` over the full map and `y = f` over a tile with its halo: in the tile, y has the cells of x, if f asks for no row or
 /// column.
 pub fn tiles_make_the_map()
     ensures { TilesMakeTheMap }
 {}
 
-/// `x = f` over the whole, and over a tile with its halo `y = f` with `row() + t` for `row()`, t the rows above it, and so on for
+/// `x = f` over the full map, and over a tile with its halo `y = f` with `row() + t` for `row()`, t the rows above it, and so on for
 /// `col()`, `nrows()` and `ncols()`: in the tile, y has the cells of x, whatever expression f is.
 pub fn placed_tiles_make_the_map()
     ensures { PlacedTilesMakeTheMap }

@@ -8,7 +8,7 @@ use Rattle.cell_calc_grammar.specs.declared.map_name.MapName.{MapName}
 use Rattle.cell_calc_grammar.specs.declared.step.Step.{Step}
 use Rattle.cell_calc_grammar.specs.declared.step.Step.TheVariants.{Number, Map, Negated, Not, Binary, Call}
 
--- the value of a step, of those of its operands
+-- the value of a step, from the values of its operands
 abbrev pub step_value : List (List ℕ) → List Grid → GridPosition → Step MapName → List CellValue → CellValue
 step_value names maps s (Number n) xs = Some (pos n)
 step_value names maps s (Map m down right) xs = cell_in (slice_get maps (place_in names m)) (pos s.row +ℤ down) (pos s.col +ℤ right)

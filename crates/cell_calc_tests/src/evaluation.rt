@@ -1,4 +1,4 @@
-//! Values along a row, and what a refused growth leaves there.
+//! Values along a row, and what a failed growth leaves there.
 
 ghost use Rattle.std.specs.Prelude.{◌≡◌, ◌<◌, ◌≤◌, ℕ, length, slice_get, IfOk};
 ghost use Rattle.cell_calc_binding.specs.Reach.{top_of, up_of, down_of};
@@ -48,12 +48,12 @@ fn open(alloc: Global, bound: &Bound, shelf: &Shelf, row: u32) -> Result<Vec<Row
     Ok(windows)
 }
 
-/// Writes the values along a row into a slice, and where memory was refused does so again. Answers, where it was,
+/// Writes the values along a row into a slice, and does so again if memory runs out. Returns, if it ran out,
 /// whether the slice was unchanged before that.
 ///
 /// # Errors
 ///
-/// [`Memory`] where memory was refused twice, or for a window.
+/// [`Memory`] if memory runs out twice, or for a window.
 pub fn values_along(
     alloc: Global,
     bound: &Bound,

@@ -1,4 +1,4 @@
-//! Faults and their columns, and how many arguments each function takes.
+//! Errors and their columns, and how many arguments each function takes.
 
 use crate::assertions::assert_same;
 use cell_calc_language::assignment::parse;
@@ -14,7 +14,7 @@ pub(crate) fn fault_of(alloc: Global, text: &[u8]) -> Option<CalcFault> {
     parse(alloc, text).err()
 }
 
-// Texts, and the kind and the column of the fault of each.
+// Texts, and the kind and the column of the error of each.
 const FAULTS: [(&[u8], CalcKind, u32); 34] = [
     (b"x = 1.5", CalcKind::FloatNumber, 5),
     (b"x = 1 +", CalcKind::Expected, 8),
@@ -82,7 +82,7 @@ fn call(alloc: Global, name: &[u8], count: usize) -> Result<Vec<u8>, Fail> {
     Ok(text)
 }
 
-// Functions, and the least and the greatest number of arguments of each.
+// Functions, and the smallest and the largest number of arguments of each.
 const FUNCTIONS: [(&[u8], usize, usize); 15] = [
     (b"if", 1, 3),
     (b"isnull", 1, 1),

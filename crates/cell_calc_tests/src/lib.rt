@@ -1,5 +1,5 @@
-//! Tests of the language over worked texts: tokens, trees and faults.
-//! The value of an expression at a cell, as a plain program of its definition, and tests of expressions and windows beside it.
+//! Tests of the language over worked texts: tokens, trees and errors.
+//! The value of an expression at a cell, as a plain program of its definition, and tests that compare the code with it.
 #![tactic(auto)]
 
 #[cfg(test)]

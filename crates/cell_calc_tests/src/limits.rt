@@ -25,7 +25,7 @@ fn repeated(
     Ok(text)
 }
 
-// What is repeated before a 1 and how often, what behind it and how often, and the column of the token that is too many.
+// What is repeated before a 1 and how often, what after it and how often, and the column of the first token too many.
 const REPEATED: [(&[u8], u32, &[u8], u32, Option<u32>); 7] = [
     (b"-", 1, b" + 1", 498, None),
     (b"-", 2, b" + 1", 498, Some(1999)),

@@ -1,4 +1,4 @@
-//! Values of random expressions, beside those that the definition gives cell by cell.
+//! Values of random expressions, compared with the values that the definition gives cell by cell.
 
 use crate::assertions::assert_same;
 use crate::definition::value::value;
@@ -11,7 +11,7 @@ use std::alloc::{AllocGlobal, Global};
 use std::process::Abort;
 use std::test::Fail;
 
-// The operands that an expression ends in, and the least numbers of arguments of functions.
+// The operands that an expression ends in, and the smallest number of arguments of each function.
 const OPERANDS: [&str; 13] = [
     "g",
     "g[0,1]",

@@ -1,4 +1,4 @@
-//! Tokens and the faults of their spelling.
+//! Tokens and the errors of their spelling.
 
 use crate::assertions::assert_same;
 use cell_calc_language::calc_fault::{CalcFault, CalcKind};
@@ -14,7 +14,7 @@ fn fault_of(alloc: Global, text: &[u8]) -> Option<CalcFault> {
     tokens(alloc, text).err()
 }
 
-// Texts, and the kind and the column of the fault of each.
+// Texts, and the kind and the column of the error of each.
 const FAULTS: [(&[u8], CalcKind, u32); 7] = [
     (b"x = 1e3", CalcKind::FloatNumber, 5),
     (b"x = .", CalcKind::FloatNumber, 5),

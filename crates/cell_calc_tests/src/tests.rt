@@ -202,7 +202,7 @@ fn unknown_names_are_found(rt: HostRuntime) -> Result<(), Fail> {
     Ok(())
 }
 
-// Writes an expression's values along a row into a slice, again where memory was refused, and answers as
+// Writes an expression's values along a row into a slice, again if memory runs out, and returns what
 // [`values_along`] does.
 fn worked_row(
     alloc: Global,
@@ -219,7 +219,7 @@ fn worked_row(
     Ok(values_along(alloc, &bound, &shelf, row, cells)?)
 }
 
-// Run as it is, each growth is granted: tools/hostile.py refuses them in turn, one in each run, and wants the row to be
+// Run as it is, each growth is granted: tools/hostile denies them in turn, one in each run, and wants the row to be
 // evaluated again in some of them.
 #[test]
 fn a_refused_row_is_evaluated_again(rt: HostRuntime) -> Result<(), Fail> {

@@ -9,7 +9,7 @@ use Rattle.cell_cats.specs.RuleReading.{is_end, with_item, items_of, Left, is_lo
 use Rattle.cell_cats.specs.declared.rules.RuleFault.{RuleFault}
 use Rattle.cell_cats.specs.declared.rules.RuleFault.TheVariants.{BadRule}
 
--- what stands before, and then
+-- what is before, and then
 abbrev pub after : {X : Type 0} → List X → Option (List X) → Option (List X)
 after xs o = option_map (λ more. xs ++ more) o
 

@@ -84,7 +84,7 @@ find-one k r = by (labelled_category r)
     by None = refl
     by (Some c) = one c (is_this_category k (Some c))
 
--- all rules: the last stands first
+-- all rules: the last is first
 find-reversed : (k : ℤ) (rules : List RuleValue) → find int_cmp k (filter_map label_entry (reverse rules)) ≡ label_of rules k
 find-reversed k [] = refl
 find-reversed k (r ∷ rules) =
@@ -93,6 +93,6 @@ find-reversed k (r ∷ rules) =
     ∙ find-append k (filter_map label_entry (reverse rules)) (filter_map label_entry (r ∷ []))
     ∙ rw (find-reversed k rules, find-one k r) (map-or (λ rule. rule.label) (last_such (labels k) rules) (cond (labels k r) (Some r) None))
 
--- category by category, the labels are those of the last rules
+-- category by category, the labels are the labels of the last rules
 pub get-labels_of : (rules : List RuleValue) (k : ℤ) → get (labels_of rules) k ≡ label_of rules k
 get-labels_of rules k = get-from_entries int_cmp_total (filter_map label_entry (reverse rules)) k ∙ find-reversed k rules

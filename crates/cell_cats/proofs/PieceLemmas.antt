@@ -52,7 +52,7 @@ same-output {starts} {x} {a} {b} p q =
     let one : starts p.start ≡ Some a = p.begins in
     let two : starts q.start ≡ Some b = q.begins in cc))
 
--- the last beginning that is found is that of the piece
+-- the last beginning that is found is the beginning of the piece
 pub output-found : (starts : ℤ → Option (Option Output)) (outputs : ℤ → Option Output) (x s : ℤ) (output : Option Output)
     → negsuc 2147483647 ≤ℤ x → s ≤ℤ x → starts s ≡ Some output → ((q : ℤ) → q ≤ℤ x → IsSome (starts q) → q ≤ℤ s)
     → AreOutputs outputs starts → output ≡ outputs x

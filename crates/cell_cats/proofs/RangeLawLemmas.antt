@@ -66,7 +66,7 @@ items-spell ((word, Some other) ∷ items) ranges e =
     subst (SpellsRanges (word ∷ codes "thru" ∷ other ∷ flat_map item_words items)) n.whole
     (line.SpellsRanges.thru n.first n.second (items-spell items n.more n.rest))
 
--- words are those of items with these numbers
+-- words are the words of items with these numbers
 record IsRead (words : List (List ℕ)) (ranges : List (ℤ × ℤ)) : Type 0 where
   ends : List (List ℕ × List ℕ)
   items : items_of words ≡ Some ends

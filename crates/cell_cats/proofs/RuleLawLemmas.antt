@@ -1,4 +1,4 @@
--- A rule line is read where it is spelled.
+-- A rule line is read as the rule that it spells.
 use Rattle.std.proofs.Common.{◌≡◌, ◌≢◌, ℕ, ℤ, Bool, true, false, cond, List, [], ◌∷◌, ◌++◌, Option}
 use Rattle.std.proofs.Common.{Some, None, Result, Ok, Err, codes, inl, inr, refl, ap, sym, subst, ◌∙◌}
 use Rattle.std.specs.Prelude.{◌||◌, bytes_eq}
@@ -48,7 +48,7 @@ or-false : (a : Bool) → (a || false) ≡ true → a ≡ true
 or-false true e = refl
 or-false false e = e
 
--- a number may stand on the right
+-- a number may be on the right
 number-fits : (star : Bool) (word : List ℕ) (n : ℤ) → whole_in_range word ≡ Some n → is_output star word ≡ true
 number-fits star [] n e = cc
 number-fits star (b ∷ bs) n e =
@@ -71,7 +71,7 @@ output-complete star word (To (Some category)) s kept = (
   number-fits star word category s,
 )
 
--- `*` stands on the right of a left that is `*`
+-- `*` is on the right of a left that is `*`
 kept-star : (star : Bool) (word : List ℕ) (output : Output) → SpellsOutput word output → is_output star word ≡ true
     → output ≡ Same → star ≡ true
 kept-star star word output s fits same =

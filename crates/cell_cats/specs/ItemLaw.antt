@@ -3,7 +3,7 @@ use Rattle.std.specs.Prelude.{ℕ, ◌≡◌, ◌↔◌, Bool, true, ◌&&◌, L
 use Rattle.std.specs.List.{flat_map, list_all}
 use Rattle.cell_cats.specs.RuleReading.{is_end, items_of}
 
--- an item as it is written: a word, and the one after `thru` where it is a range
+-- an item as it is written: a word, and the word after `thru` if it is a range
 abbrev pub Item : Type 0
 Item = List ℕ × Option (List ℕ)
 
@@ -16,7 +16,7 @@ range_words (Some b) = codes "thru" ∷ b ∷ []
 abbrev pub item_words : Item → List (List ℕ)
 item_words item = item.0 ∷ range_words item.1
 
--- a second word stands for a number, where there is one
+-- a second word stands for a number, if there is one
 abbrev pub is_second : Option (List ℕ) → Bool
 is_second None = true
 is_second (Some b) = is_end b
@@ -34,7 +34,7 @@ second_end a (Some b) = b
 abbrev pub item_ends : Item → List ℕ × List ℕ
 item_ends item = (item.0, second_end item.0 item.1)
 
--- the words are those of items, one item after another, and these are the items' ends
+-- the words are the words of items, one item after another, and these are the items' ends
 pub record AreItems (words : List (List ℕ)) (ends : List (List ℕ × List ℕ)) : Type 0 where
   pub items : List Item
   pub good : list_all is_item items ≡ true

@@ -18,7 +18,7 @@ new_rows rules rows = map (new_row rules) rows
 abbrev pub label_entry : RuleValue → Option (ℤ × List ℕ)
 label_entry rule = option_map (λ k. (k, rule.label)) (labelled_category rule)
 
--- the labels of rules: of two of one category that of the later rule, since `from_entries` keeps the first entry
+-- the labels of rules: if two rules label one category, the later one counts, since `from_entries` keeps the first entry
 abbrev pub labels_of : List RuleValue → FinMap int_cmp (List ℕ)
 labels_of rules = from_entries (filter_map label_entry (reverse rules))
 

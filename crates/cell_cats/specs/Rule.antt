@@ -1,4 +1,4 @@
--- Rules of r.reclass, the new category of a cell, the label of a category (r.reclass manual; a `*` that stands before other rules is the profile's).
+-- Rules of r.reclass, the new category of a cell, the label of a category (r.reclass manual; a `*` before other rules is the profile's).
 use Rattle.std.specs.Prelude.{ℕ, ℤ, int_le, Bool, true, false, ◌&&◌, ◌||◌, ◌==◌, List, [], ◌∷◌, length, Option, Some, None, if◌then◌else◌}
 use Rattle.std.specs.List.{list_any}
 use Rattle.std.specs.Option.{option_map, option_or}
@@ -7,7 +7,7 @@ use Rattle.cell_core.specs.Grid.{CellValue}
 use Rattle.cell_cats.specs.declared.rule.Output.{Output}
 use Rattle.cell_cats.specs.declared.rule.Output.TheVariants.{Same, To}
 
--- the ends of the ranges that it lists, or none where it is a rule of `*`; what it gives; its label, empty where it has none
+-- the ends of the ranges that it lists, or none if it is a rule of `*`; what it gives; its label, empty if it has none
 pub record RuleValue : Type 0 where
   pub listed : Option (List (ℤ × ℤ))
   pub output : Output
@@ -58,12 +58,12 @@ abbrev pub new_category : List RuleValue → CellValue → CellValue
 new_category rules None = None
 new_category rules (Some x) = outcome x (output_for rules x)
 
--- the category that an output always is, where it is one
+-- the category that an output always is, if it is one
 abbrev pub category_of : Output → Option ℤ
 category_of Same = None
 category_of (To cell) = cell
 
--- the category that a rule labels: that of its output, where it has a label
+-- the category that a rule labels: its output, if it has a label
 abbrev pub labelled_category : RuleValue → Option ℤ
 labelled_category rule = if length rule.label == 0 then None else category_of rule.output
 
@@ -76,6 +76,6 @@ is_this_category k (Some c) = int_eq k c
 abbrev pub labels : ℤ → RuleValue → Bool
 labels k rule = is_this_category k (labelled_category rule)
 
--- the label of a category: that of the last rule that labels it
+-- the label of a category: the label of the last rule that labels it
 abbrev pub label_of : List RuleValue → ℤ → Option (List ℕ)
 label_of rules k = option_map (λ rule. rule.label) (last_such (labels k) rules)

@@ -38,11 +38,11 @@ SpellsOutput word (To (Some category)) = whole_in_range word ≡ Some category
 abbrev pub output_word : List ℕ → List ℕ
 output_word right = before_first is_blank right
 
--- what stands after its first word
+-- what is after its first word
 abbrev pub label_of_right : List ℕ → List ℕ
 label_of_right right = trimmed_text (after_first is_blank right)
 
--- a line that spells a rule by what stands left and right of its first equals sign; `*` is an output only where the left is `*`
+-- a line that spells a rule by what is left and right of its first equals sign; `*` is an output only if the left is `*`
 pub record SpellsRule (line : List ℕ) (rule : RuleValue) : Type 0 where
   pub not_skipped : is_skipped (trimmed_text line) ≡ false
   pub not_end : trimmed_text line ≢ codes "end"

@@ -1,4 +1,4 @@
--- How a rule line is read, with its faults, and that it is read where it is spelled (r.reclass manual).
+-- How a rule line is read, with its errors, and that each spelled rule is read (r.reclass manual).
 use Rattle.std.specs.Prelude.{ℕ, ℤ, Bool, true, false, not, ◌&&◌, ◌||◌, ◌≡◌, ◌↔◌, List, [], ◌∷◌, ◌++◌, Option, Some, None, Result, Ok, Err, if◌then◌else◌, bytes_eq, codes}
 use Rattle.std.specs.Option.{option_map, option_and_then, ok_or}
 use Rattle.cell_core_values.specs.Answers.{◌>>=◌}
@@ -56,11 +56,11 @@ abbrev pub some_items : List (List ℕ) → Option (List (List ℕ × List ℕ))
 some_items [] = None
 some_items (w ∷ words) = items_of (w ∷ words)
 
--- the items, or none where it is `*`
+-- the items, or none if it is `*`
 abbrev pub left_side : List (List ℕ) → Option Left
 left_side words = if is_lone_star words then Some None else option_map Some (some_items words)
 
--- a word that may stand on the right; `*` only where the left is `*`
+-- a word that may be on the right; `*` only if the left is `*`
 abbrev pub is_output : Bool → List ℕ → Bool
 is_output star word = (is_word word && not (is_thru word)) && (star || not (is_star word))
 

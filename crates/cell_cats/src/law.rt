@@ -14,7 +14,7 @@ pub fn worked_lines()
     ensures { WorkedLines }
 {}
 
-/// Words are read as items exactly where they are the words of items, one item after another, and as the ends of those; and
+/// Words are read as items exactly if they are the words of items, one item after another, and as the ends of those; and
 /// a line is read as one more rule exactly where it spells that rule.
 pub fn rules_are_read()
     ensures items { ItemsAreRead }

@@ -3,7 +3,7 @@
 //!
 //! - `rules`: `Rules`, to which `add_line` adds a line or returns its `RuleFault`; the last rule
 //!   that lists a category counts
-//! - `reclassing`: `reclass`, a map whose categories and labels are those of the rules
+//! - `reclassing`: `reclass`, a map whose categories and labels come from the rules
 //! - specs/Rule.antt: what rules give; specs/RuleLine.antt: which line is which rule; comments and
 //!   commas are our own choice (profile)
 //! - `law`: a line is read as a rule exactly if it spells one; `* = *` keeps every cell

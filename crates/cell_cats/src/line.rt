@@ -130,7 +130,7 @@ fn output_of(word: &[u8]) -> Option<Output>
     Some(Output::To(cell))
 }
 
-// Whether a word may stand on the right.
+// Whether a word may be on the right.
 fn is_output(star: bool, word: &[u8]) -> bool
     ensures { result ≡ is_output star word.now }
 {
@@ -185,8 +185,8 @@ fn listed_of(
 ///
 /// # Errors
 ///
-/// [`RuleFault::BadRule`] where it has not the shape of a rule, else [`RuleFault::BadNumber`] where a number is bad;
-/// [`RuleFault::Memory`] where memory was refused.
+/// [`RuleFault::BadRule`] if it lacks the shape of a rule, else [`RuleFault::BadNumber`] if a number is bad;
+/// [`RuleFault::Memory`] if memory runs out.
 pub fn rule_of(alloc: Global, line: &[u8]) -> Result<Rule, RuleFault>
     ensures { Answers RuleFault.Memory (λ rule. rule) result (rule_of line.now) }
 {

@@ -14,7 +14,7 @@ use cell_core::memory::Memory;
 use std::alloc::Global;
 use std::collections::BTreeMap;
 
-// The output of each piece by the place where it begins. The last may begin after the greatest category.
+// The output of each piece by the place where it begins. The last may begin after the largest category.
 //
 // Clauses say nothing of the order of the entries, only which look-ups find a beginning.
 #[derive(Drop)]
@@ -34,7 +34,7 @@ impl Pieces {
         Ok(pieces)
     }
 
-    // One piece of the whole line.
+    // One piece for all numbers.
     fn whole(alloc: Global, output: Option<Output>) -> Result<Pieces, Memory>
         ensures { IfOk result (λ pieces. HaveOutputs (λ _. output) pieces) }
     {

@@ -33,7 +33,7 @@ fn write_new(pieces: &Pieces, known: &mut [Known], stretches: Stretches<'_>, row
     }
 }
 
-// Gives a map without labels those of the rules: a later rule's over an earlier one's.
+// Gives a map without labels the labels of the rules: a later rule's over an earlier one's.
 fn set_labels(rules: &Rules, made: &mut CellMap) -> Result<(), Memory>
     requires { made.old.labels ≡ no_labels }
     ensures { OnOk result (made.new ≡ record made.old { labels = labels_of rules.now }) }
@@ -46,12 +46,12 @@ fn set_labels(rules: &Rules, made: &mut CellMap) -> Result<(), Memory>
     Ok(())
 }
 
-/// The map by rules: each cell has its new category; the labels are those of the rules and no others. The ranges of the
+/// The map by rules: each cell has its new category; the labels come from the rules and no others. The ranges of the
 /// rules are sorted once, and the new category of a run is found in a time that grows with the logarithm of their number.
 ///
 /// # Errors
 ///
-/// [`Memory`] where memory was refused.
+/// [`Memory`] if memory runs out.
 pub fn reclass(alloc: Global, given: &CellMap, rules: &Rules) -> Result<CellMap, Memory>
     ensures made { IfOk result (λ made. made ≡ reclassed_map rules.now given.now) }
     ensures labels { IfOk result (λ made. (k : ℤ) → get made.labels k ≡ label_of rules.now k) }

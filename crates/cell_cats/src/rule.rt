@@ -29,7 +29,7 @@ impl Output {
     }
 }
 
-/// A rule: the ends of the ranges that it lists, or none where it is a rule of `*`; its output; its label, or no bytes.
+/// A rule: the ends of the ranges that it lists, or none if it is a rule of `*`; its output; its label, or no bytes.
 #[derive(Debug, Drop)]
 pub struct Rule {
     listed: Option<Vec<(i32, i32)>>,
@@ -76,7 +76,7 @@ impl Rule {
         self.ranges().iter().any(|ends| is_between(*ends, x))
     }
 
-    // The ends of the ranges that it lists: none where it is a rule of `*`.
+    // The ends of the ranges that it lists: none if it is a rule of `*`.
     pub(crate) fn ranges(&self) -> &[(i32, i32)]
         ensures { (x : ℤ) → lists x self.now ≡ list_any (λ ends. is_in_ends ends x) result.now }
     {

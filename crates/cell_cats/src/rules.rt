@@ -28,11 +28,11 @@ pub enum LineKind {
 /// Why a line is none.
 #[derive(Clone, Copy, Debug, PartialEq, Eq)]
 pub enum RuleFault {
-    /// It has not the shape of a rule.
+    /// It lacks the shape of a rule.
     BadRule,
     /// One of its numbers is not whole or not in range.
     BadNumber,
-    /// Memory was refused.
+    /// Memory ran out.
     Memory,
 }
 
@@ -146,8 +146,8 @@ impl Rules {
     ///
     /// # Errors
     ///
-    /// [`RuleFault::BadRule`] where it has not the shape of a rule, else [`RuleFault::BadNumber`] where a number is bad,
-    /// [`RuleFault::Memory`] where memory was refused. The rules are unchanged, and further lines may be added.
+    /// [`RuleFault::BadRule`] if it lacks the shape of a rule, else [`RuleFault::BadNumber`] if a number is bad,
+    /// [`RuleFault::Memory`] if memory runs out. The rules are unchanged, and further lines may be added.
     pub fn add_line(&mut self, line: &[u8]) -> Result<LineKind, RuleFault>
         ensures said { Answers RuleFault.Memory (λ kind. (kind, self.new)) result
             (with_line self.old line.now) }

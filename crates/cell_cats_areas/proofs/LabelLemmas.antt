@@ -77,7 +77,7 @@ LeadsToOpen-closed table high low open_of inside le high_open low_open reports =
           ⊎_elim (λ e. let is = to_low k e in omega arith) (λ ne. let is = stays k ne in omega arith) (cases_eq (open_of k) high);
     }
 
--- what holds of two numbers both ways holds of the greater and the other
+-- what holds of two numbers both ways holds of the larger and the other
 pub by_order : (P : ℕ → ℕ → Type 0) (x y : ℕ) → P x y → P y x → P (max x y) (min x y)
 by_order P x y one other =
     ⊎_elim (λ lt. let e : max x y ≡ y = omega arith in let d : min x y ≡ x = omega arith in rw (e, d) other)

@@ -21,7 +21,7 @@ after_join_one f a b =
     (closed_high f (f a) (f b) a refl ∙ sym (closed_low f (f a) (f b) b refl))
     (closed_low f (f b) (f a) a refl ∙ sym (closed_high f (f b) (f a) b refl))
 
--- a cell is joined to that of the label that its own leads to
+-- a cell is joined to the cell of the label that its own leads to
 to_open : (j : Joining) (m : Grid) (table : List ℕ) (f : ℕ → ℕ) (k : ℕ) (v : ℤ) → AreSound j m table f → k < length table → cell_at_position m (start_of_run j m k) ≡ Some v → AreJoined j m (start_of_run j m k) (start_of_run j m (f k))
 to_open j m table f k v sound inside is =
     ⊎_elim (λ e. subst (λ (n : ℕ). AreJoined j m (start_of_run j m k) (start_of_run j m n)) (sym e) (AreJoined-refl j m (start_of_run j m k) v is)) (λ h. h) (sound.joined k inside)

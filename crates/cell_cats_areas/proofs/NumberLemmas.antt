@@ -40,7 +40,7 @@ count_most j m labels (suc k) =
     ⊎_elim (λ yes'. let e = count_more j m labels k yes' in omega arith)
     (λ no'. let e = ap (length {A = Position}) (firsts_same j m labels k no') in omega arith) (cases_Bool (is_first labels k))
 
--- of two open labels the greater has the greater number
+-- of two open labels the larger has the larger number
 pub number_lt : (j : Joining) (m : Grid) (labels : List ℕ) (a b : ℕ) → a < b → is_first labels b ≡ true → area_number j m labels a < area_number j m labels b
 number_lt j m labels a b lt is =
     let before = grows (λ n. length (firsts_below j m labels n)) (count_step j m labels) (suc a) b (omega arith) in

@@ -5,7 +5,7 @@ use Rattle.cell_core.specs.Grid.{Grid, CellValue, cell_at, no_labels}
 use Rattle.cell_cats_areas.specs.declared.clump.Joining.{Joining}
 use Rattle.cell_cats_areas.specs.declared.clump.Joining.TheVariants.{Edges, EdgesAndCorners}
 
--- where a cell stands, by its row and its column from 0
+-- where a cell is, by its row and its column from 0
 pub record Position : Type 0 where
   pub row : ℕ
   pub col : ℕ

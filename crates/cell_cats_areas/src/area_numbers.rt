@@ -13,8 +13,8 @@ use cell_core::map::{CellMap, MapBuilder};
 use cell_core::memory::Memory;
 use std::alloc::Global;
 
-// Replaces a label by a number: an open one by the next number, a closed one by that of the label that it points
-// to. Returns the greatest number so far.
+// Replaces a label by a number: an open one by the next number, a closed one by the number of the label that it points
+// to. Returns the largest number so far.
 fn number_label(table: &mut [u32], place: u32, count: u32) -> u32
     requires inside { place < length table.old }
     requires short { length table.old < 2147483648 }
@@ -46,7 +46,7 @@ fn number_labels(table: &mut [u32])
     }
 }
 
-// What null has for a number: no category is so great.
+// What null has for a number: no category is so large.
 const NO_NUMBER: u32 = 1 << 31;
 
 // The cell of a number.
@@ -60,7 +60,7 @@ fn number_cell(number: u32) -> Cell
     }
 }
 
-// The number of a cell: one that it shares with its neighbours, or else that of the next label.
+// The number of a cell: one that it shares with its neighbours, or else the number of the next label.
 fn number_of_cell(joining: Joining, cell: Cell, near: &Near, table: &[u32], next: &mut usize) -> u32
     ensures null { cell ≡ None → result ≡ 2147483648 }
     ensures number { NumbersCell joining cell near.now table.now next.old result }
@@ -82,7 +82,7 @@ fn number_of_cell(joining: Joining, cell: Cell, near: &Near, table: &[u32], next
 }
 
 // Replaces the cells of a row by their numbers. The line is as for the labels. The first cell of the row that shares no label
-// has this one. Returns that of the first such cell after the row.
+// has this one. Returns the number of the first such cell after the row.
 #[inline(never)]
 fn number_row(
     map: &CellMap,

@@ -17,7 +17,7 @@ pub(crate) struct Labelled {
     pub(crate) label: u32,
 }
 
-// What stands where the map ends.
+// What is where the map ends.
 pub(crate) fn outside() -> Labelled
     ensures { result.cell ≡ None }
 {
@@ -37,7 +37,7 @@ pub(crate) struct Near {
 }
 
 impl Near {
-    // The neighbours before the first cell of a row: nothing stands there.
+    // The neighbours before the first cell of a row: nothing is there.
     #[inline(always)]
     pub(crate) fn at_the_edge() -> Near
         ensures left { result.left.cell ≡ None }
@@ -51,7 +51,7 @@ impl Near {
         }
     }
 
-    // The neighbours of the cell at a column, of those in hand at the one before it, which itself stands on the left by now,
+    // The neighbours of the cell at a column, of those in hand at the one before it, which itself is on the left by now,
     // and of the line.
     #[inline(always)]
     pub(crate) fn at_next_column(self, line: &[Labelled], col: usize) -> Near

@@ -21,7 +21,7 @@ fn most_labels(map: &CellMap) -> usize {
     most
 }
 
-// Labels the cells of a row. The line holds the row above it, and then the row; what stands after it is null.
+// Labels the cells of a row. The line holds the row above it, and then the row; what is after it is null.
 #[inline(never)]
 fn label_row(
     map: &CellMap,
@@ -53,7 +53,7 @@ fn label_row(
     Ok(())
 }
 
-/// The table of the labels of a map, once those of each two adjacent cells of one category were joined.
+/// The table of the labels of a map, once the labels of each two adjacent cells of one category were joined.
 ///
 /// No cell's label is kept. `number_cells` walks the map again, and meets the cells that share no label with earlier neighbours
 /// in the same order. The table says which labels are joined, so no row of labels is rewritten.

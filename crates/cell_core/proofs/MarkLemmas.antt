@@ -69,7 +69,7 @@ module _ (x : CellValue) (cells : List CellValue) (few : length cells ≤ 64) wh
   pub mark_within : (mark_bits x cells ≡ 0 → ⊥) → alike x cells < length cells
   mark_within some = omega (arith, some_mark (marks x cells) (some_bits some), marks-alike x cells, length-marks x cells)
 
--- the marks behind one
+-- the marks after one
 pub marks-drop : (x : CellValue) (cells : List CellValue) (j : ℕ) (y : CellValue) → j < length cells → y ≡ get_or cells j y → drop (suc j) (marks x cells) ≡ marks y (drop (suc j) cells)
 marks-drop x [] j y within read = absurd (omega arith)
 marks-drop x (c ∷ cells) zero y within read = ap (λ (z : CellValue). marks z cells) (sym read)
@@ -123,7 +123,7 @@ run_begins x cells =
     let one : suc (alike x cells) ≡ 1 + alike x cells = omega arith in
     runs_in-next x cells ∙ ap (λ (k : ℕ). (x, k) ∷ runs_in (drop (alike x cells) cells)) one
 
--- a run that ends in some cells, and one that goes on behind them
+-- a run that ends in some cells, and one that continues after them
 module _ (x : CellValue) (count : ℕ) (rest more : List CellValue) where
   abbrev after : ℕ → List RunValue
   after k = (x, count + k) ∷ runs_in (drop k (rest ++ more))

@@ -60,7 +60,7 @@ some-one_by_one [] = All-nil (λ (run : RunValue). 0 < run.1)
 some-one_by_one (x ∷ cells) =
     All-cons (λ (run : RunValue). 0 < run.1) (x, 1) (one_by_one cells) (omega arith) (some-one_by_one cells)
 
--- the first run, and those of the cells after it
+-- the first run, and the runs of the cells after it
 pub runs_in-next : (x : CellValue) (cells : List CellValue) → runs_in (x ∷ cells) ≡ (x, suc (alike x cells)) ∷ runs_in (drop (alike x cells) cells)
 runs_in-next x [] = refl
 runs_in-next x (y ∷ cells) = let first = runs_in-next y cells in ap (with_cell x) first ∙ by-test (cell_eq y x) refl first
@@ -102,7 +102,7 @@ module _ (x y : CellValue) (cells : List CellValue) (i : ℕ) (within : i < leng
   next-cell : drop i cells ≡ y ∷ drop (i + 1) cells
   next-cell = rw add-one (drop-cons cells i y within ∙ ap (λ z. z ∷ drop (suc i) cells) (sym read))
 
-  -- a run that goes on, and one that begins
+  -- a run that continues, and one that begins
   pub breaks-none : cell_eq y x ≡ true → breaks x (drop i cells) ≡ breaks y (drop (i + 1) cells)
   breaks-none same = ap (breaks x) next-cell ∙ ap (λ (b : Bool). if b then breaks y (drop (i + 1) cells) else suc (breaks y (drop (i + 1) cells))) same
 

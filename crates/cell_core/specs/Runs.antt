@@ -1,8 +1,8 @@
--- The runs of a row: cells that are alike and stand side by side, and how many they are.
+-- The runs of a row: equal cells side by side, and how many they are.
 use Rattle.std.specs.Prelude.{ℕ, ◌≢◌, ◌<◌, List, [], ◌∷◌, All, flat_map, replicate}
 use Rattle.cell_core.specs.Grid.{CellValue}
 
--- a cell, and how often it stands there
+-- a cell, and how often it is repeated
 abbrev pub RunValue : Type 0
 RunValue = CellValue × ℕ
 

@@ -112,7 +112,7 @@ impl CellMap {
         let _ = &self.rows;
     }
 
-    /// The label that was last set for a category, or None where none was.
+    /// The label that was last set for a category, or None if none was.
     pub fn label(&self, category: i32) -> Option<&[u8]>
         ensures { option_map (λ text. text.now) result ≡ get self.now.labels category }
     {
@@ -126,7 +126,7 @@ impl CellMap {
     ///
     /// # Errors
     ///
-    /// [`Memory`] where memory was refused: nothing is changed.
+    /// [`Memory`] if memory runs out: nothing is changed.
     pub fn set_label(&mut self, category: i32, text: &[u8]) -> Result<(), Memory>
         requires { category ≢ i32.MIN }
         ensures ok { OnOk result
@@ -182,7 +182,7 @@ impl MapBuilder {
     ///
     /// # Errors
     ///
-    /// [`Memory`] where memory for the row was refused: nothing is changed.
+    /// [`Memory`] if memory for the row runs out: nothing is changed.
     pub fn push_row(&mut self, row: &[Cell]) -> Result<(), Memory>
         requires width { length row.now ≡ self.old.region.cols }
         requires room { length self.old.rows < self.old.region.rows }
@@ -198,7 +198,7 @@ impl MapBuilder {
     ///
     /// # Errors
     ///
-    /// [`Memory`] where memory for the row was refused: nothing is changed.
+    /// [`Memory`] if memory for the row runs out: nothing is changed.
     pub fn push_bytes(&mut self, bytes: &[u8]) -> Result<(), Memory>
         requires width { length bytes.now ≡ self.old.region.cols }
         requires room { length self.old.rows < self.old.region.rows }

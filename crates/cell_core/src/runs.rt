@@ -1,4 +1,4 @@
-//! The runs of a row: cells that are alike and stand side by side, with their number.
+//! The runs of a row: equal cells side by side, with their number.
 
 ghost use Rattle.std.specs.Prelude.{◌≡◌, ◌<◌, ◌≤◌, ◌+◌, ◌-◌, ◌++◌, ◌^◌, List, length, take, drop, replicate, All, None, IfOk, OnOk, slice_index_or};
 ghost use Rattle.std.specs.Iterator.{YieldsFirst, item_count};
@@ -36,7 +36,7 @@ pub(crate) fn number_of_runs(row: &[Cell]) -> usize
     if row.is_empty() {
         return 0;
     }
-    // Of 32 bits, so that a vector counts as many as it compares. It counts those that go on, for which it needs one step less.
+    // Of 32 bits, so that a vector counts as many as it compares. It counts those that continue, for which it needs one step less.
     let mut alike: u32 = 0;
     let mut last = row[0];
     for cell in row {
@@ -78,7 +78,7 @@ fn breaks_in(cell: Cell, block: &[Cell]) -> u64
     set_bits(&flags)
 }
 
-// Pushes the runs that end in a block, the first of which may have begun before it, and returns the one that goes on.
+// Pushes the runs that end in a block, the first of which may have begun before it, and returns the one that continues.
 fn push_block(
     runs: &mut Vec<(Cell, u32)>,
     run: (Cell, u32),
@@ -94,7 +94,7 @@ fn push_block(
     push_marked(runs, run, block, breaks_in(run.0, block))
 }
 
-// The same, where it is known which cells of the block differ from the one before.
+// The same, if it is known which cells of the block differ from the one before.
 pub(crate) fn push_marked(
     runs: &mut Vec<(Cell, u32)>,
     run: (Cell, u32),
@@ -223,7 +223,7 @@ fn count_alike(cell: Cell, cells: &[Cell]) -> usize
     count
 }
 
-/// The runs of a row, from left to right: a cell and how often it stands there, at least once. No two neighbours have equal
+/// The runs of a row, from left to right: a cell and its number of repeats, at least 1. No two neighbours have equal
 /// cells. It is seen as the list of the runs still to come.
 #[derive(Drop)]
 pub struct Runs<'a> {

@@ -9,9 +9,9 @@ use cell_core_values::cell::Cell;
 use cell_core_values::small_cells::cell_of_byte;
 use std::marker::Model;
 
-/// The cells of a row in stretches, from left to right: a cell and how often it stands there, at least once. They are the runs of
+/// The cells of a row in stretches, from left to right: a cell and its number of repeats. They are the runs of
 /// a row that is kept as runs, and the cells of another one by one, so that neighbours may have equal cells: where most runs are
-/// short, this is faster than to tell where each ends. It is seen as the list of the stretches still to come.
+/// short, this is faster than finding where each ends. It is seen as the list of the stretches still to come.
 #[derive(Drop)]
 pub struct Stretches<'a> {
     rest: Unread<'a>,

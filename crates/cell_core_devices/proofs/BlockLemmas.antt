@@ -28,7 +28,7 @@ module _ {before now : Option (List ℕ)} {start faults : Faults} {all : List �
   whole_after : (bytes : List ℕ) → p.front ++ (p.rest ++ bytes) ≡ all ++ bytes
   whole_after bytes = sym (append_assoc p.front p.rest bytes) ∙ ap (λ (l : List ℕ). l ++ bytes) p.whole
 
-  -- after a refused put they are lost
+  -- after a failed put they are lost
   lost : (bytes : List ℕ) → block.failed ≡ true → Appended before start (all ++ bytes) now faults block
   lost bytes failed = record {
     front = p.front;
@@ -107,6 +107,6 @@ module _ {S : Type 0} {taken : S → Option (List ℕ)} {faults : S → Faults} 
         settled_put p good put bytes bytes _ _ (ap (λ (l : List ℕ). l ++ bytes) front) ok within err same;
   }
 
-  -- after a refused put nothing follows, whatever the text
+  -- after a failed put nothing follows, whatever the text
   pub appends_cut : {a : List ℕ} (b : List ℕ) {now : S} {new : BlockValue} → Appends taken faults old block a now new → new.failed ≡ true → Appends taken faults old block (a ++ b) now new
   appends_cut {a} b first failed = record { adds = λ before start all p. rw (← append_assoc all a b) (lost (first.adds before start all p) b failed) }

@@ -3,7 +3,7 @@ use Rattle.std.specs.Prelude.{ℕ, ◌==◌, Bool, true, false, Result, Ok, Err,
 use Rattle.cell_core_devices.specs.declared.source.Asked.{Asked}
 use Rattle.cell_core_devices.specs.declared.source.Asked.TheVariants.{Going, Ended, Failed, Again}
 
--- after one more call, with this answer
+-- after one more call, with this result
 abbrev pub after_take : {E : Type 0} → Asked → Result ℕ E → Asked
 after_take Going (Ok n) = if n == 0 then Ended else Going
 after_take Going (Err e) = Failed

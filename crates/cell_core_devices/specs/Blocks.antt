@@ -1,4 +1,4 @@
--- Output that is gathered in a block before a sink takes it. The block remembers that the sink refused a put.
+-- Output that is gathered in a block before a sink takes it. The block remembers that a put failed.
 use Rattle.std.specs.Prelude.{ℕ, ◌≡◌, ◌+◌, ◌-◌, ◌^◌, ◌<◌, Bool, true, false, List, [], ◌++◌, length, min, Option, Result, Ok, Err}
 use Rattle.cell_core_devices.specs.Device.{Faults, after_put, append_known}
 use Rattle.cell_core_devices.specs.declared.sink.WriteFault.{WriteFault}
@@ -7,11 +7,11 @@ use Rattle.cell_core_devices.specs.declared.sink.WriteFault.{WriteFault}
 abbrev pub room : ℕ
 room = 4096
 
--- a number of bytes, or the greatest number of 64 bits where there are more
+-- a number of bytes, or the largest number of 64 bits if there are more
 abbrev pub capped_count : ℕ → ℕ
 capped_count n = min n (2 ^ 64 - 1)
 
--- the bytes that a block holds, how many the sink took, and whether it refused a put
+-- the bytes that a block holds, how many the sink took, and whether a put failed
 pub record BlockValue : Type 0 where
   pub held : List ℕ
   pub written : ℕ
@@ -21,12 +21,12 @@ pub record BlockValue : Type 0 where
 abbrev pub empty_block : BlockValue
 empty_block = record { held = []; written = 0; failed = false }
 
--- the block holds the rest of a text; or the sink refused a put, and some of the text is lost
+-- the block holds the rest of a text; or a put failed, and some of the text is lost
 abbrev pub IsRest : Bool → List ℕ → List ℕ → Type 0
 IsRest false held rest = held ≡ rest
 IsRest true held rest = 0 < length rest
 
--- a text was appended: since it had taken `before`, with the faults `start`, the sink took a prefix of the text, and the
+-- a text was appended: since it had taken `before`, with the errors `start`, the sink took a prefix of the text, and the
 -- block holds the rest or has failed
 pub record Appended (before : Option (List ℕ)) (start : Faults) (text : List ℕ) (now : Option (List ℕ)) (faults : Faults) (block : BlockValue) : Type 0 where
   pub front : List ℕ
@@ -41,12 +41,12 @@ pub record Appended (before : Option (List ℕ)) (start : Faults) (text : List �
 pub record Appends {S : Type 0} (taken : S → Option (List ℕ)) (faults : S → Faults) (old : S) (block : BlockValue) (text : List ℕ) (now : S) (new : BlockValue) : Type 0 where
   pub adds : (before : Option (List ℕ)) (start : Faults) (all : List ℕ) → Appended before start all (taken old) (faults old) block → Appended before start (all ++ text) (taken now) (faults now) new
 
--- a block of whose bytes all were put, or the first of them until a put was refused
+-- a block of whose bytes all were put, or the first of them until a put failed
 abbrev pub settled_block : BlockValue → Result Unit WriteFault → ℕ → BlockValue
 settled_block block (Ok done) all = record { held = []; written = capped_count (block.written + all); failed = false }
 settled_block block (Err fault) all = record { held = []; written = capped_count (block.written + fault.written); failed = true }
 
--- the fault of a block, if it failed
+-- the error of a block, if it failed
 abbrev pub fault_if : Bool → ℕ → Result Unit WriteFault
 fault_if false written = Ok tt
 fault_if true written = Err (record { written = written })

@@ -43,7 +43,7 @@ flushed_again Never = Once
 flushed_again Once = More
 flushed_again More = More
 
--- which calls a sink has answered with an `Err`: whether a put, and whether a flush; and how often it was flushed
+-- which calls of a sink returned an `Err`: whether a put, and whether a flush; and how often it was flushed
 pub record Faults : Type 0 where
   pub refused : Bool
   pub unflushed : Bool

@@ -1,5 +1,5 @@
-//! Output gathered in a block, so that each put carries a few KiB. The block remembers a refused put, so that those who write
-//! through it ask for the fault once.
+//! Output gathered in a block, so that each put carries a few KiB. The block remembers a failed put, so that those who write
+//! through it ask for the error once.
 
 ghost use Rattle.std.specs.Prelude.{◌≡◌, ℕ, ◌+◌, ◌≤◌, List, [], ◌++◌, length, take, Option, false};
 ghost use Rattle.cell_core_devices.specs.Device.{Faults};
@@ -11,9 +11,9 @@ use std::marker::Model;
 // The number of bytes that a block holds at most.
 const ROOM: usize = 4096;
 
-/// Bytes held until they fill a block, the number of bytes that the sink took, and whether it refused a put.
+/// Bytes held until they fill a block, the number of bytes that the sink took, and whether a put failed.
 ///
-/// It takes no memory. After a refused put nothing more is put.
+/// It takes no memory. After a failed put nothing more is put.
 ///
 /// Functions that write through it return nothing. When each returned a failed put, it had four to six more clauses and three
 /// times the lines of proof. A buffered writer of std would count bytes that it merely holds.
@@ -51,14 +51,14 @@ impl OutputBlock {
         }
     }
 
-    /// The number of bytes that the sink took, or the greatest `u64` where it took more.
+    /// The number of bytes that the sink took, or the largest `u64` if it took more.
     pub fn written(&self) -> u64
         ensures { result ≡ self.now.written }
     {
         self.written
     }
 
-    /// Whether the sink refused a put.
+    /// Whether a put failed.
     pub fn has_failed(&self) -> bool
         ensures { result ≡ self.now.failed }
     {
@@ -69,7 +69,7 @@ impl OutputBlock {
     ///
     /// # Errors
     ///
-    /// `WriteFault` with the number of bytes that the sink took in all, where it refused a put.
+    /// `WriteFault` with the number of bytes that the sink took in all, if a put failed.
     pub fn outcome(&self) -> Result<(), WriteFault>
         ensures { result ≡ fault_if self.now.failed self.now.written }
     {
@@ -110,7 +110,7 @@ impl OutputBlock {
         self.len = end;
     }
 
-    // Holds nothing, after so many bytes were put or a put was refused.
+    // Holds nothing, after so many bytes were put or a put failed.
     fn settle(&mut self, put: Result<(), WriteFault>, all: u64)
         requires { self.old.failed ≡ false }
         ensures { self.new ≡ settled_block self.old put all }
@@ -126,7 +126,7 @@ impl OutputBlock {
         self.len = 0;
     }
 
-    /// Puts what is held on the sink, unless it refused a put.
+    /// Puts what is held on the sink, unless a put failed.
     pub fn empty<W: Sink>(&mut self, out: &mut W)
         ensures appends { Appends W.taken W.faults out.old self.old [] out.new self.new }
         ensures held { self.new.failed ≡ false → self.new.held ≡ [] }
@@ -149,7 +149,7 @@ impl OutputBlock {
         self.settle(put, bytes.len() as u64);
     }
 
-    // Puts what is held on the sink, and then gathers the bytes, or puts them too where they are more than a block holds.
+    // Puts what is held on the sink, and then gathers the bytes, or also puts them if they are more than a block holds.
     #[cold]
     fn push_past<W: Sink>(&mut self, out: &mut W, bytes: &[u8])
         ensures { Appends W.taken W.faults out.old self.old bytes.now out.new self.new }
@@ -165,7 +165,7 @@ impl OutputBlock {
         self.hold_bytes(bytes);
     }
 
-    /// Gathers the bytes, of any number, and puts on the sink what does not fit the block, unless it refused a put.
+    /// Gathers the bytes, of any number, and puts on the sink what does not fit the block, unless a put failed.
     #[inline]
     pub fn push<W: Sink>(&mut self, out: &mut W, bytes: &[u8])
         ensures { Appends W.taken W.faults out.old self.old bytes.now out.new self.new }

@@ -32,7 +32,7 @@ impl Flushes {
 
 /// Where bytes go.
 pub trait Sink {
-    /// The bytes taken, where they are known; None where they are not.
+    /// The bytes taken, if they are known; None if they are not.
     ghost taken: { Self → Option (List ℕ) };
 
     /// Which of its calls returned an `Err`, whether a put and whether a flush, and how often it was flushed.
@@ -42,7 +42,7 @@ pub trait Sink {
     ///
     /// # Errors
     ///
-    /// [`DeviceFault`] where it takes none. It has refused a put from then on.
+    /// [`DeviceFault`] if it takes none. From then on, a put has failed.
     fn put(&mut self, bytes: &[u8]) -> Result<usize, DeviceFault>
         requires { 0 < length bytes.now }
         ensures count { IfOk result (λ n. (0 < n) × (n ≤ length bytes.now)) }
@@ -167,7 +167,7 @@ impl<W: Write> Sink for WriteSink<W> {
     }
 }
 
-/// A sink that writes over memory of a fixed size, and fails where it is full.
+/// A sink that writes over memory of a fixed size, and fails when that is full.
 #[derive(Debug, Drop)]
 pub struct MemorySink {
     room: Vec<u8>,

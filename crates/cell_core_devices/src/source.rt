@@ -16,7 +16,7 @@ use std::marker::Model;
 pub enum Asked {
     /// Each call gave bytes, or there was none yet.
     Going,
-    /// The last call told the end, and it was the first that gave no bytes.
+    /// The last call reported the end, and it was the first that gave no bytes.
     Ended,
     /// The last call returned an `Err`, and it was the first that gave no bytes.
     Failed,
@@ -25,7 +25,7 @@ pub enum Asked {
 }
 
 impl Asked {
-    /// How far it was asked after one more call, with this answer.
+    /// How far it was asked after one more call, with this result.
     pub fn after_answer(self, answer: Result<usize, DeviceFault>) -> Asked
         ensures { result ≡ after_take self answer }
     {
@@ -42,10 +42,10 @@ impl Asked {
 pub trait Source {
     ghost use Rattle.cell_core_devices.specs.declared.source.Asked.{Asked};
 
-    /// Where it is known, its bytes to come, and whether it then fails; None where it is unknown.
+    /// If they are known, its bytes to come, and whether it then fails; None if they are unknown.
     ghost coming: { Self → Option Coming };
 
-    /// How far it was asked: whether it has told its end or failed, and whether it was asked after that.
+    /// How far it was asked: whether it has reported its end or failed, and whether it was asked after that.
     ghost asked: { Self → Asked };
 
     /// Puts the next bytes at the start of a slice that is not empty, and returns how many: 0

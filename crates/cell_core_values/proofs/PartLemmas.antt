@@ -7,7 +7,7 @@ use Rattle.std.proofs.lemmas.List.Sums.{position_or_len_is}
 use Rattle.std.proofs.lemmas.Bool.Decides.{nat_tests}
 use Rattle.cell_core_values.specs.Words.{is_equals, pair_of}
 
--- the first such byte stands at place i
+-- the first such byte is at place i
 pub parts-at : (p : ℕ → Bool) (w : List ℕ) (i : ℕ) → i < length w → ((k : ℕ) → k < i → p (get_or w k 0) ≡ false) → p (get_or w i 0) ≡ true
     → (take i w ≡ before_first p w) × (take (length w - (i + 1)) (drop (i + 1) w) ≡ after_first p w)
 parts-at p w i h before here =
@@ -23,7 +23,7 @@ parts-none p w none =
     let no : length w - length w ≡ 0 = omega arith in
     (rw (at, take_all (length w) w (omega arith)) refl, rw (no, at, drop_all (length w + 1) w (omega arith)) refl)
 
--- the first equals sign stands at place i
+-- the first equals sign is at place i
 pub pair_of-at : (w : List ℕ) (i : ℕ) → i < length w → ((k : ℕ) → k < i → is_equals (get_or w k 0) ≡ false) → is_equals (get_or w i 0) ≡ true
     → Some (take i w, take (length w - (i + 1)) (drop (i + 1) w)) ≡ pair_of w
 pair_of-at w i h before here =

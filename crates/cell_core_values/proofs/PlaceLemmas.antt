@@ -28,7 +28,7 @@ place_of-within text names = by (place_of text names) (position_from-within (λ 
     by None inside = tt
     by (Some k) inside = let lt : k < 0 + length names = inside k refl in omega (arith, lt)
 
--- a last element that passes is found where none before it does
+-- a last element that passes is found if none before it does
 position_from-last : (p : List ℕ → Bool) (i : ℕ) (names : List (List ℕ)) (name : List ℕ) → position_from p i names ≡ None → p name ≡ true → position_from p i (names ++ name ∷ []) ≡ Some (i + length names)
 position_from-last p i [] name none here = rw here (ap Some (omega arith))
 position_from-last p i (x ∷ xs) name none here =

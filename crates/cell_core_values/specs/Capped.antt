@@ -4,7 +4,7 @@ use Rattle.std.specs.Option.{option_map}
 use Rattle.cell_core_values.specs.Digits.{digits_of}
 use Rattle.cell_core_values.specs.WholeNumbers.{signed_number}
 
--- a number, or 10^18 where it is greater
+-- a number, or 10^18 if it is larger
 abbrev pub at_most : ℕ → ℕ
 at_most n = min n 1000000000000000000
 

@@ -3,7 +3,7 @@ use Rattle.std.specs.Prelude.{ℕ, Bool, false, ◌&&◌, ◌||◌, ◌==◌, �
 use Rattle.std.specs.List.{list_all, position_from}
 use Rattle.cell_core_values.specs.Letters.{byte}
 
--- the greatest number of bytes of a name (profile)
+-- the largest number of bytes of a name (profile)
 abbrev pub most_bytes : ℕ
 most_bytes = 64
 
@@ -32,6 +32,6 @@ is_name bs = starts_name bs && (list_all is_name_byte bs && nat_le (length bs) m
 abbrev pub place_of : List ℕ → List (List ℕ) → Option ℕ
 place_of name names = position_from (λ n. bytes_eq n name) 0 names
 
--- no name stands twice
+-- no name occurs twice
 abbrev pub AreDistinct : List (List ℕ) → Type 0
 AreDistinct names = AllPairs (λ a b. a ≢ b) names

@@ -12,11 +12,11 @@ pub record RegionValue : Type 0 where
   pub rows : ℕ
   pub cols : ℕ
 
--- the greatest number of rows, and of columns (profile)
+-- the largest number of rows, and of columns (profile)
 abbrev pub most_side : ℕ
 most_side = 65535
 
--- the greatest number of cells: that of the categories above 0 (profile)
+-- the largest number of cells: the largest category (profile)
 abbrev pub most_cells : ℕ
 most_cells = 2147483647
 
@@ -36,7 +36,7 @@ is_countable e = nat_le (e.rows * e.cols) most_cells
 abbrev pub is_rectangle : RegionValue → Bool
 is_rectangle e = is_above e.north e.south && is_above e.east e.west
 
--- the first fault of six numbers, in the order of the checks
+-- the first error of six numbers, in the order of the checks
 abbrev pub region_fault : RegionValue → Result RegionValue RegionFault
 region_fault e = if not (is_rectangle e) then Err BadExtent else (if not (is_side e.rows) then Err BadRows else (if not (is_side e.cols) then Err BadCols else (if not (is_countable e) then Err TooManyCells else Ok e)))
 

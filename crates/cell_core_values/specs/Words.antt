@@ -29,6 +29,6 @@ parts_of text = slice_split (λ b. b == byte (codes ",")) text
 abbrev pub is_equals : ℕ → Bool
 is_equals b = b == byte (codes "=")
 
--- what stands before and after the first equals sign, where there is one
+-- what is before and after the first equals sign, if there is one
 abbrev pub pair_of : List ℕ → Option (List ℕ × List ℕ)
 pair_of text = if nat_lt (position_or_len is_equals text) (length text) then Some (before_first is_equals text, after_first is_equals text) else None

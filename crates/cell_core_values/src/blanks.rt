@@ -43,7 +43,7 @@ pub fn trimmed_text<'a>(text: &'a [u8]) -> &'a [u8]
     before_blanks(after_blanks(text))
 }
 
-/// What stands before the first blank, and what stands after it: the whole text and nothing where it has none.
+/// What is before the first blank, and what is after it: the full text and nothing if it has none.
 /// Takes no memory.
 pub fn around_blank<'a>(text: &'a [u8]) -> (&'a [u8], &'a [u8])
     ensures before { result.0.now ≡ before_first is_blank text.now }

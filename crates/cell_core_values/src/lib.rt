@@ -1,6 +1,6 @@
 //! The values that maps are made of, and the words and numbers of a line of text.
 //!
-//! Cells and regions are those of the GRASS manual (r.in.ascii, g.region). Names, blanks and the
+//! Cells and regions follow the GRASS manual (r.in.ascii, g.region). Names, blanks and the
 //! limits of regions are our own choice (profile).
 //!
 //! - `cell`: `Cell`, a category from -2147483647 to 2147483647, or null

@@ -9,7 +9,7 @@ use std::alloc::Global;
 use std::collections::BTreeMap;
 use std::marker::Model;
 
-// The greatest number of bytes of a name.
+// The largest number of bytes of a name.
 const MOST_BYTES: usize = 64;
 
 /// Why bytes were not read as a name.
@@ -17,7 +17,7 @@ const MOST_BYTES: usize = 64;
 pub enum NameFault {
     /// The bytes are no name.
     BadName,
-    /// Memory was refused.
+    /// Memory ran out.
     Memory,
 }
 
@@ -52,7 +52,7 @@ pub fn is_name_byte(b: u8) -> bool
     is_name_start(b) || (b'0' <= b && b <= b'9') || b == b'.'
 }
 
-/// Whether the first byte is an ASCII letter or `_`, as that of a name is. Takes no memory.
+/// Whether the first byte is an ASCII letter or `_`, as the first byte of a name is. Takes no memory.
 pub fn starts_name(text: &[u8]) -> bool
     ensures { result ≡ starts_name text.now }
 {
@@ -79,8 +79,8 @@ impl Name {
     ///
     /// # Errors
     ///
-    /// [`NameFault::BadName`] exactly where they are no name, else [`NameFault::Memory`] where
-    /// memory for a copy was refused.
+    /// [`NameFault::BadName`] exactly if they are no name, else [`NameFault::Memory`] if
+    /// memory for a copy runs out.
     pub fn read(alloc: Global, text: &[u8]) -> Result<Name, NameFault>
         ensures text { IfOk result (λ name. name ≡ text.now) }
         ensures good { OnOk result (is_name text.now ≡ true) }
@@ -107,7 +107,7 @@ impl Name {
     ///
     /// # Errors
     ///
-    /// [`Memory`] where memory for the copy was refused.
+    /// [`Memory`] if memory for the copy runs out.
     pub fn copy(&self, alloc: Global) -> Result<Name, Memory>
         ensures { IfOk result (λ name. name ≡ self.now) }
     {
@@ -158,7 +158,7 @@ impl Names {
         self.names.len()
     }
 
-    /// The place of a name, from 0, or None where it is not there.
+    /// The place of a name, from 0, or None if it is not among them.
     pub fn find(&self, text: &[u8]) -> Option<usize>
         ensures place { result ≡ place_of text.now self.now }
         ensures within { IfSome result (λ i. i < length self.now) }
@@ -179,7 +179,7 @@ impl Names {
     ///
     /// # Errors
     ///
-    /// [`Memory`] where memory was refused: the names are unchanged, and the one given is dropped.
+    /// [`Memory`] if memory runs out: the names are unchanged, and the one given is dropped.
     pub fn push(&mut self, name: Name) -> Result<(), Memory>
         requires { place_of name self.old ≡ None }
         ensures ok { OnOk result (self.new ≡ self.old ++ name ∷ []) }
@@ -191,7 +191,7 @@ impl Names {
         }
     }
 
-    /// Puts a name last that is not there yet, or gives it back where memory was refused.
+    /// Puts a name last that is not there yet, or gives it back if memory runs out.
     pub fn push_or_return(&mut self, name: Name) -> Result<(), Name>
         requires { place_of name self.old ≡ None }
         ensures ok { OnOk result (self.new ≡ self.old ++ name ∷ []) }

@@ -10,7 +10,7 @@ use std::marker::Model;
 #[derive(Clone, Copy, Debug, PartialEq, Eq)]
 pub enum RegionFault {
     /// The north edge is not above the south edge, the east edge is not above the west edge, or
-    /// an edge lies beyond 9999999999.99999999 either way.
+    /// an edge lies beyond ±9999999999.99999999.
     BadExtent,
     /// The number of rows is not from 1 to 65535.
     BadRows,
@@ -20,13 +20,13 @@ pub enum RegionFault {
     TooManyCells,
 }
 
-// The greatest edge, in units of 10^-8; its opposite is the least.
+// The largest edge, in units of 10^-8; its opposite is the smallest.
 const MOST_EDGE: i64 = 999999999999999999;
 
-// The greatest number of rows, and of columns.
+// The largest number of rows, and of columns.
 const MOST_SIDE: u32 = 65535;
 
-// The greatest number of cells.
+// The largest number of cells.
 const MOST_CELLS: u32 = 2147483647;
 
 /// A rectangle with its numbers of rows and columns (g.region manual).

@@ -10,7 +10,7 @@ use std::alloc::Global;
 // The byte that stands for null. Each other stands for the category of its number.
 const NULL: u8 = 255;
 
-// The greatest category that a byte stands for.
+// The largest category that a byte stands for.
 const GREATEST: i32 = 254;
 
 /// The cell that a byte stands for: null for 255, else the category of its number.
@@ -55,7 +55,7 @@ fn byte_of_cell(cell: Cell) -> u8
 pub fn are_small(cells: &[Cell]) -> bool
     ensures { result ≡ true → All IsSmall cells.now }
 {
-    // Where a row has greater categories, its first cell most often tells.
+    // If a row has larger categories, its first cell is most often one.
     if let Some(first) = cells.first() {
         if !is_small(*first) {
             return false;
@@ -73,7 +73,7 @@ pub fn are_small(cells: &[Cell]) -> bool
 ///
 /// # Errors
 ///
-/// [`Memory`] where memory was refused.
+/// [`Memory`] if memory runs out.
 pub fn bytes_of(alloc: Global, cells: &[Cell]) -> Result<Vec<u8>, Memory>
     requires { All IsSmall cells.now }
     ensures { IfOk result (λ bytes. cells_of_bytes bytes.items ≡ cells.now) }

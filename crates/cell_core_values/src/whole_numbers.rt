@@ -6,13 +6,13 @@ ghost use Rattle.cell_core_values.specs.Digits.{is_digit, value_of_digits};
 ghost use Rattle.cell_core_values.specs.WholeNumbers.{is_in_range, read_whole, whole_in_range};
 ghost use Rattle.cell_core_values.specs.Capped.{at_most, capped_digits, capped_number};
 
-/// The least whole number in range (GRASS: the least category).
+/// The smallest whole number in range (GRASS: the smallest category).
 pub const LEAST: i32 = -2147483647;
 
-/// The greatest whole number in range (GRASS: the greatest category).
+/// The largest whole number in range (GRASS: the largest category).
 pub const GREATEST: i32 = 2147483647;
 
-// What greater numbers count as. It is out of every range.
+// What larger numbers count as. It is out of every range.
 const CAP: u64 = 1000000000000000000;
 
 /// Why a text is no whole number in range.
@@ -38,7 +38,7 @@ pub fn are_digits(text: &[u8]) -> bool
     text.iter().all(|b| is_digit(*b))
 }
 
-/// The value of decimal digits, or 10^18 where it is greater. Takes no memory.
+/// The value of decimal digits, or 10^18 if it is larger. Takes no memory.
 pub fn value_of_digits(text: &[u8]) -> u64
     ensures value { result ≡ at_most (value_of_digits text.now) }
     ensures most { result ≤ 1000000000000000000 }

@@ -50,7 +50,7 @@ fn words_among<'a>(alloc: Global, pieces: &[&'a [u8]]) -> Result<Vec<&'a [u8]>, 
 ///
 /// # Errors
 ///
-/// [`Memory`] where memory was refused.
+/// [`Memory`] if memory runs out.
 pub fn words_of<'a>(alloc: Global, line: &'a [u8]) -> Result<Vec<&'a [u8]>, Memory>
     ensures { IfOk result (λ words. map (λ w. w.now) words.items ≡ words_of line.now) }
 {
@@ -62,7 +62,7 @@ pub fn words_of<'a>(alloc: Global, line: &'a [u8]) -> Result<Vec<&'a [u8]>, Memo
 ///
 /// # Errors
 ///
-/// [`Memory`] where memory was refused.
+/// [`Memory`] if memory runs out.
 pub fn list_words_of<'a>(alloc: Global, line: &'a [u8]) -> Result<Vec<&'a [u8]>, Memory>
     ensures { IfOk result (λ words. map (λ w. w.now) words.items ≡ list_words_of line.now) }
 {
@@ -81,7 +81,7 @@ fn comma_parts_of<'a>(alloc: Global, text: &'a [u8]) -> Result<Vec<&'a [u8]>, Al
 ///
 /// # Errors
 ///
-/// [`Memory`] where memory was refused.
+/// [`Memory`] if memory runs out.
 pub fn parts_of<'a>(alloc: Global, text: &'a [u8]) -> Result<Vec<&'a [u8]>, Memory>
     ensures { IfOk result (λ parts. map (λ w. w.now) parts.items ≡ parts_of text.now) }
 {
@@ -89,7 +89,7 @@ pub fn parts_of<'a>(alloc: Global, text: &'a [u8]) -> Result<Vec<&'a [u8]>, Memo
     Ok(parts)
 }
 
-/// What stands before and after the first equals sign, or None where there is none. Takes no memory.
+/// What is before and after the first equals sign, or None if there is none. Takes no memory.
 pub fn pair_of<'a>(text: &'a [u8]) -> Option<(&'a [u8], &'a [u8])>
     ensures { option_map (λ pair. (pair.0.now, pair.1.now)) result ≡ pair_of text.now }
 {

@@ -1,7 +1,7 @@
 -- The border of a map goes together.
-use Rattle.std.proofs.Common.{◌≡◌, ℕ, zero, suc, pos, negsuc, ◌+◌, ◌-◌, ◌<◌, ◌≤◌, List, [], ◌∷◌, Bool, false, ◌==◌}
+use Rattle.std.proofs.Common.{◌≡◌, ℕ, pos, ◌+◌, ◌-◌, ◌<◌, ◌≤◌, List, Bool, false, ◌==◌}
 use Rattle.std.proofs.Common.{Some, None}
-use Rattle.std.proofs.Common.{Ok, if◌then◌else◌, length, sum, take, get_or, ap, refl, sym, ◌∙◌, arith, subst}
+use Rattle.std.proofs.Common.{Ok, if◌then◌else◌, length, sum, take, get_or, ap, refl, sym, ◌∙◌, arith}
 use Rattle.std.specs.Prelude.{nat_lt}
 use Rattle.std.proofs.lemmas.Bool.{le-ltb}
 use Rattle.std.proofs.lemmas.Bool.Decides.{nat_tests}
@@ -11,9 +11,8 @@ use Rattle.cell_core.specs.Grid.{CellValue, Grid}
 use Rattle.cell_cats_areas.specs.declared.clump.Joining.{Joining}
 use Rattle.cell_cats_areas.specs.Areas.{IsClumping, Position, cell_at_position}
 use Rattle.cell_cats_areas.specs.parts.CellPlaces.{position}
-use Rattle.cell_join_tiles.specs.parts.Greatest.{greater_of, greatest_in, greatest_of}
 use Rattle.cell_join_tiles.proofs.ListedAtLemmas.{listed_at-of}
-use Rattle.cell_join_tiles.proofs.GreatestLemmas.{has-areas}
+use Rattle.cell_join_tiles.proofs.GreatestLemmas.{first-bound, has-areas}
 use Rattle.cell_join_tiles.specs.Borders.{Rises}
 use Rattle.cell_join_tiles.specs.JoinedBorders.{HasBorder}
 use Rattle.cell_join_tiles.specs.SeamLines.{HasSide}
@@ -25,40 +24,6 @@ use Rattle.cell_join_borders.specs.PairFaults.{number_fault, pair_fault}
 use Rattle.cell_join_borders.specs.parts.MadeBorder.{HasEachNumber}
 use Rattle.cell_join_borders.specs.declared.pair_fault.PairKind.TheVariants.{BelowOne, TooLarge}
 use Rattle.cell_join_borders.proofs.SideLemmas.{down-at, down-long}
-
--- ---- no number of the first rows is above the greatest of them
-
-greater-least : (most : ℕ) (cell : CellValue) → most ≤ greater_of most cell
-greater-least most None = omega arith
-greater-least most (Some (pos n)) = omega arith
-greater-least most (Some (negsuc n)) = omega arith
-
-in-least : (most : ℕ) (cells : List CellValue) → most ≤ greatest_in most cells
-in-least most [] = omega arith
-in-least most (cell ∷ cells) = omega (arith, greater-least most cell, in-least (greater_of most cell) cells)
-
-of-least : (most : ℕ) (rows : List (List CellValue)) → most ≤ greatest_of most rows
-of-least most [] = omega arith
-of-least most (row ∷ rows) = omega (arith, in-least most row, of-least (greatest_in most row) rows)
-
-greater-bound : (most n : ℕ) (cell : CellValue) → cell ≡ Some (pos n) → n ≤ greater_of most cell
-greater-bound most n cell is = subst (λ (c : CellValue). n ≤ greater_of most c) (sym is) (omega arith)
-
-in-bound : (most n : ℕ) (cells : List CellValue) (c : ℕ) → get_or cells c None ≡ Some (pos n)
-    → n ≤ greatest_in most cells
-in-bound most n [] c is = cc
-in-bound most n (cell ∷ cells) zero is =
-    omega (arith, greater-bound most n cell is, in-least (greater_of most cell) cells)
-in-bound most n (cell ∷ cells) (suc c) is = in-bound (greater_of most cell) n cells c is
-
-of-bound : (most n i : ℕ) (rows : List (List CellValue)) (r c : ℕ) → r < i
-    → get_or (get_or rows r []) c None ≡ Some (pos n) → n ≤ greatest_of most (take i rows)
-of-bound most n zero rows r c lt is = absurd (omega (arith, lt))
-of-bound most n (suc i) [] r c lt is = cc
-of-bound most n (suc i) (row ∷ rows) zero c lt is =
-    omega (arith, in-bound most n row c is, of-least (greatest_in most row) (take i rows))
-of-bound most n (suc i) (row ∷ rows) (suc r) c lt is =
-    of-bound (greatest_in most row) n i rows r c (omega (arith, lt)) is
 
 -- ---- a cell and its number go together
 
@@ -88,7 +53,7 @@ module _ (j : Joining) (rows : ℕ) (m numbers : Grid) (begun : List ℕ) (clump
       by (Some v) e =
           let areas = has-areas j m numbers clumping in
           let s = listed_at-of j m areas.0 areas.1 numbers clumping p (rw e refl) in
-          let few = of-bound 0 (s.place + 1) (p.row + 1) numbers.rows p.row p.col (omega arith) s.number in
+          let few = first-bound 0 (s.place + 1) (p.row + 1) numbers.rows p.row p.col (omega arith) s.number in
           let same = rises.most (p.row + 1) (omega (arith, inside)) in
           ap (λ (c : CellValue). pair_fault most c (cell_at_position numbers p)) e
           ∙ ap (λ (c : CellValue). pair_fault most (Some v) c) s.number

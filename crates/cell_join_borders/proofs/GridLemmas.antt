@@ -1,4 +1,4 @@
--- A map with a size, counts and sides is that of a border.
+-- A map with a size, counts and sides is the map of a border.
 use Rattle.std.proofs.Common.{◌≡◌, ℕ, zero, suc, pos, ◌-◌, ◌<◌, ◌≤◌, List, [], ◌∷◌, Some, None, length}
 use Rattle.std.proofs.Common.{sum, get_or}
 use Rattle.std.proofs.Common.{ap, refl, sym, ◌∙◌, arith, subst, ⊎_elim}

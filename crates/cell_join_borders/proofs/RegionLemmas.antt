@@ -63,7 +63,7 @@ same-region e r g = by (is_rectangle e) (is_side e.rows) (is_side e.cols) (is_co
     by true true true true g = cc
     by _ _ _ _ g = cc
 
--- six numbers that are those of a region make it, or are refused
+-- six numbers that a region has make it, or are rejected
 pub made-some : (made : Result RegionValue RegionFault) (x e r : RegionValue) → made ≡ region_fault x → x ≡ e
     → made ≡ Ok r → r ≡ e
 made-some made x e r is same good = sym (same-region x r (sym is ∙ good)) ∙ same

@@ -32,7 +32,7 @@ from-places d xs n f long each =
     (λ i lt. let inside : i < n = omega (arith, lt, long) in
     each i inside ∙ sym (get_or-map-range_with_len f 0 n i i d inside (omega arith)))
 
--- a row that is null behind so many cells is these, filled up
+-- a row that is null after so many cells is these, filled up
 pub filled-of : (row : List CellValue) (count width : ℕ) → length row ≡ width → count ≤ width
     → AreNullFrom count row → row ≡ filled_row width (take count row)
 filled-of row count width long few ended =
@@ -78,7 +78,7 @@ side-of m row most side filled inside few right cells numbers =
       };
     }
 
--- ---- the greatest numbers of cells
+-- ---- the largest numbers of cells
 
 pub down-long : (begun : List ℕ) → length (most_down begun) ≡ length begun
 down-long begun = length-map-range_with_len (λ k. sum (take (k + 1) begun)) 0 (length begun)

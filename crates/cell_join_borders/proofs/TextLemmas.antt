@@ -1,4 +1,4 @@
--- The texts of borders, and their faults.
+-- The texts of borders, and their errors.
 use Rattle.std.proofs.Common.{◌≡◌, ◌≢◌, ◌≤◌, ℕ, List, [], ◌∷◌, length, take, Option, Some, None, Result, Ok}
 use Rattle.std.proofs.Common.{Err, ap, subst, ◌∙◌, ⊎_elim}
 use Rattle.std.specs.FinMap as finmap
@@ -32,7 +32,7 @@ ok-weaker (Err fault) P Q so h = tt
 
 -- ---- read
 
--- a text whose map is not that of a border is none
+-- a text whose map is not the map of a border is none
 pub wrong-grid : (m : Grid) (text : Coming) (fault : BorderFault) → Denotes text m → IsNoBorderMap m fault
     → IsBorderFault text fault
 wrong-grid m text (faults.Text fault) denotes wrong = absurd wrong
@@ -52,7 +52,7 @@ spelled-so m j tile border text h denotes =
     ap (λ (l : finmap.FinMap int_cmp (List ℕ)). record m { labels = l }) denotes.labels in
     subst (λ (x : Grid). Denotes text x) (same ∙ h.is) denotes
 
--- no side is wrong by a fault that no side has
+-- no side is wrong by an error that no side has
 of-no-side : (m : Grid) (places : List (ℕ × List ℕ)) (fault : BorderFault)
     → ((row : ℕ) (most : List ℕ) → AreRowsWrong m row most fault → ⊥) → AreSidesWrong m places fault → ⊥
 of-no-side m [] fault none wrong = wrong

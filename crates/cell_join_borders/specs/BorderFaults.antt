@@ -15,11 +15,11 @@ use Rattle.cell_join_borders.specs.PairFaults.{AreLinesFit, IsFirstPair}
 use Rattle.cell_join_borders.specs.declared.border_fault.BorderFault.{BorderFault}
 use Rattle.cell_join_borders.specs.declared.border_fault.BorderFault.TheVariants.{Text, Rows, Size, Counts, Sum, End, Pair, Memory}
 
--- the largest number of clumps: that of a category
+-- the largest number of clumps: the largest category
 abbrev pub most_clumps : ℕ
 most_clumps = 2147483647
 
--- ---- the greatest number that a cell of a side may have: of the clumps that begin in its row or above it
+-- ---- the largest number that a cell of a side may have: of the clumps that begin in its row or above it
 
 -- on a row of the tile
 abbrev pub most_in_row : ℕ → List ℕ → ℕ → List ℕ
@@ -29,13 +29,13 @@ most_in_row cols begun row = replicate cols (begun_before begun (row + 1))
 abbrev pub most_down : List ℕ → List ℕ
 most_down begun = map (λ k. begun_before begun (k + 1)) (range_with_len 0 (length begun))
 
--- where each side begins in the text, and the greatest numbers of its cells
+-- where each side begins in the text, and the largest numbers of its cells
 abbrev pub side_places : RegionValue → List ℕ → List (ℕ × List ℕ)
 side_places tile begun = (0, most_in_row tile.cols begun 0) ∷ (2, most_in_row tile.cols begun (tile.rows - 1)) ∷ (4, most_down begun) ∷ (6, most_down begun) ∷ []
 
 -- ---- a border that goes together
 
--- a side has a cell and a number for each greatest number, and they go together
+-- a side has a cell and a number for each largest number, and they go together
 pub record IsSideFit (most : List ℕ) (side : Side) : Type 0 where
   pub cells : length side.cells.items ≡ length most
   pub numbers : length side.numbers.items ≡ length most
@@ -71,13 +71,13 @@ pub record HasCounts (m : Grid) (rows : ℕ) (begun : List ℕ) : Type 0 where
   pub each : (k : ℕ) → k < rows → cell_at m 9 k ≡ Some (pos (slice_index begun k))
   pub ended : (k : ℕ) → rows ≤ k → cell_at m 9 k ≡ None
 
--- a cell of a row that is not null, behind the end of a side and the first one there
+-- a cell of a row that is not null, after the end of a side and the first one there
 pub record IsFirstBehind (count : ℕ) (cells : List CellValue) (col : ℕ) : Type 0 where
   pub behind : count ≤ col
   pub some : IsSome (slice_index_or cells col None)
   pub before : (k : ℕ) → count ≤ k → k < col → slice_index_or cells k None ≡ None
 
--- all cells of a row behind so many are null
+-- all cells of a row after so many are null
 abbrev pub AreNullFrom : ℕ → List CellValue → Type 0
 AreNullFrom count cells = (k : ℕ) → count ≤ k → slice_index_or cells k None ≡ None
 
@@ -87,7 +87,7 @@ pub record AreRowsRight (m : Grid) (row : ℕ) (most : List ℕ) : Type 0 where
   pub numbers : AreNullFrom (length most) (row_at m (row + 1))
   pub fit : AreLinesFit most (row_at m row) (row_at m (row + 1))
 
--- why they are not: a cell behind the end; or none, and a number there; or none, and a cell and a number that do not go together
+-- why they are not: a cell after the end; or none, and a number there; or none, and a cell and a number that do not go together
 abbrev pub AreRowsWrong : Grid → (row : ℕ) → (most : List ℕ) → BorderFault → Type 0
 AreRowsWrong m row most (End place) = ((place.row ≡ row) × IsFirstBehind (length most) (row_at m row) place.col) ⊎ ((place.row ≡ row + 1) × AreNullFrom (length most) (row_at m row) × IsFirstBehind (length most) (row_at m (row + 1)) place.col)
 AreRowsWrong m row most (Pair fault) = (fault.row ≡ row + 1) × AreNullFrom (length most) (row_at m row) × AreNullFrom (length most) (row_at m (row + 1)) × IsFirstPair most (row_at m row) (row_at m (row + 1)) fault.col fault.kind
@@ -115,7 +115,7 @@ HasNoCounts m = (j : Joining) × (tile : RegionValue) × (clumps : ℕ) × HasSi
 abbrev pub HasOtherSum : Grid → Type 0
 HasOtherSum m = (j : Joining) × (tile : RegionValue) × (clumps : ℕ) × (begun : List ℕ) × HasSize m j tile clumps × HasCounts m tile.rows begun × (sum begun ≢ clumps)
 
--- why a map is not that of a border
+-- why a map is not the map of a border
 abbrev pub IsNoBorderMap : Grid → BorderFault → Type 0
 IsNoBorderMap m (Text fault) = ⊥
 IsNoBorderMap m Rows = length m.rows ≢ 10
@@ -126,7 +126,7 @@ IsNoBorderMap m (End place) = HasWrongSide m (End place)
 IsNoBorderMap m (Pair fault) = HasWrongSide m (Pair fault)
 IsNoBorderMap m Memory = Unit {0}
 
--- the first fault of a text that is no grid, or why the map that it denotes is not that of a border
+-- the first error of a text that is no grid, or why the map that it denotes is not the map of a border
 abbrev pub IsBorderFault : Coming → BorderFault → Type 0
 IsBorderFault text (Text fault) = text_fault text ≡ Some fault
 IsBorderFault text Rows = (m : Grid) × Denotes text m × IsNoBorderMap m Rows

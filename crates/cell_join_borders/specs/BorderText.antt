@@ -60,6 +60,6 @@ border_grid j tile border = record { region = border_region tile; rows = border_
 abbrev pub border_text : Joining → RegionValue → Border → List ℕ
 border_text j tile border = grid_text usual_null (border_grid j tile border)
 
--- a text is that of the border of a tile of this region, by this connectivity
+-- a text is the border of a tile of this region, by this connectivity
 abbrev pub SpellsBorder : Coming → Joining → RegionValue → Border → Type 0
 SpellsBorder text j tile border = Denotes text (border_grid j tile border)

@@ -16,7 +16,7 @@ pair_fault most None (Some n) = Some NoCell
 pair_fault most (Some v) None = Some NoNumber
 pair_fault most (Some v) (Some n) = number_fault most n
 
--- the same of the cells at a column of two rows, where each column has a greatest number of its own
+-- the same of the cells at a column of two rows, where each column has a largest number of its own
 abbrev pub column_fault : List ℕ → (cells numbers : List CellValue) → ℕ → Option PairKind
 column_fault most cells numbers col = pair_fault (slice_index most col) (slice_index_or cells col None) (slice_index_or numbers col None)
 

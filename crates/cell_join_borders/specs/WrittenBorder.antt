@@ -36,7 +36,7 @@ pub record HasBorderPrefix (j : Joining) (text : Coming) (before now : Option (L
   pub taken : now ≡ append_known before (take written (border_text j m.region border))
   pub count : written ≤ length (border_text j m.region border)
 
--- why no border is written: the text's first fault; of being out of memory and of a failed write nothing is said of the text
+-- why no border is written: the text's first error; of being out of memory and of a failed write nothing is said of the text
 abbrev pub IsMapFault : Coming → MapFault → Type 0
 IsMapFault text (Text fault) = text_fault text ≡ Some fault
 IsMapFault text Memory = Unit {0}

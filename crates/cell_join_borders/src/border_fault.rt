@@ -18,11 +18,11 @@ pub enum BorderFault {
     Counts,
     /// The counts do not add up to the number of clumps.
     Sum,
-    /// A cell or a number behind the end of a side.
+    /// A cell or a number after the end of a side.
     End(CellPlace),
     /// A cell and a number of a side do not go together.
     Pair(PairFault),
-    /// Memory was refused.
+    /// Memory ran out.
     Memory,
 }
 

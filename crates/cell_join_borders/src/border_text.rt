@@ -134,7 +134,7 @@ pub fn border_in(alloc: Global, map: &CellMap) -> Result<BorderText, BorderFault
     }
 }
 
-// The fault of a text that is no grid, or memory.
+// The error of a text that is no grid, or memory.
 fn of_border_text(fault: GridFault) -> BorderFault
     ensures { result ≡ of_border_text fault.kind fault }
 {
@@ -148,7 +148,7 @@ fn of_border_text(fault: GridFault) -> BorderFault
 ///
 /// # Errors
 ///
-/// [`BorderFault::Text`] with the first fault of a text that is no grid, and then those of [`border_in`].
+/// [`BorderFault::Text`] with the first error of a text that is no grid, and then the errors of [`border_in`].
 pub fn read_border<R: Source + Drop>(alloc: Global, source: R) -> Result<BorderText, BorderFault>
     ensures spelled { IfOk result (λ reported. IfSome (R.coming source)
         (λ text. SpellsBorder text reported.joining reported.region reported.border)) }

@@ -221,7 +221,7 @@ fn draw_rows(
 ///
 /// # Errors
 ///
-/// [`Memory`] if it was refused.
+/// [`Memory`] if memory runs out.
 pub(crate) fn border_map(
     alloc: Global,
     joining: Joining,

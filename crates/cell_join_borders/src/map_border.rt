@@ -128,7 +128,7 @@ fn border_drawn(alloc: Global, joining: Joining, map: &CellMap) -> Result<CellMa
     border_map(alloc, joining, map.region(), &border)
 }
 
-// The fault of a text that is no grid, or memory.
+// The error of a text that is no grid, or memory.
 fn of_map_text(fault: GridFault) -> MapFault
     ensures { result ≡ of_map_text fault.kind fault }
 {
@@ -160,18 +160,18 @@ fn border_made<R: Source + Drop>(
     }
 }
 
-/// Writes the text of the border of a tile, of the text of its map: its clumps are numbered as r.clump numbers those of the map.
-/// The sink is flushed once at the end, unless it refused a put.
+/// Writes the text of the border of a tile from the text of its map: its clumps are numbered as r.clump numbers them.
+/// The sink is flushed once at the end, unless a put failed.
 pub fn write_border<R: Source + Drop, W: Sink>(
     alloc: Global,
     joining: Joining,
     map: R,
     out: &mut W,
 ) -> BorderOutcome
-    // Without a fault the sink has taken exactly the text of the border of the map that the text denotes.
+    // Without an error the sink has taken exactly the text of the border of the map that the text denotes.
     ensures written { result.fault ≡ None → IfSome (R.coming map) (λ text.
         HasWrittenBorder joining text (W.taken out.old) (W.taken out.new) result.written) }
-    // Any other fault than a failed write is that of the text, and the sink is as it was.
+    // Any other error than a failed write is an error of the text, and the sink is as it was.
     ensures fault { IfSome result.fault (λ fault. IfSome (R.coming map)
         (λ text. IsMapFault text fault)) }
     ensures untouched { IfSome result.fault (λ fault. fault ≢ MapFault.Write
@@ -179,7 +179,7 @@ pub fn write_border<R: Source + Drop, W: Sink>(
     // After a failed write it has taken the first bytes of that text.
     ensures cut { result.fault ≡ Some MapFault.Write → IfSome (R.coming map) (λ text.
         HasBorderPrefix joining text (W.taken out.old) (W.taken out.new) result.written) }
-    // No fault comes only if no call of the sink failed and it was flushed once; and, of a sink that had not failed before, Write
+    // No error comes only if no call of the sink failed and it was flushed once; and, of a sink that had not failed before, Write
     // only if it failed.
     ensures sound { result.fault ≡ None
         → W.faults out.new ≡ after_flush (W.faults out.old) false }

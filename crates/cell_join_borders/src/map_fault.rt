@@ -6,9 +6,9 @@ use cell_core::memory::Memory;
 /// Why no border is written of the text of a map.
 #[derive(Clone, Copy, Debug, PartialEq, Eq)]
 pub enum MapFault {
-    /// The first fault of the text.
+    /// The first error of the text.
     Text(GridFault),
-    /// Memory was refused.
+    /// Memory ran out.
     Memory,
     /// A write failed.
     Write,

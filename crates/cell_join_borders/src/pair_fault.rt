@@ -89,7 +89,7 @@ fn pair_fault(most: u64, cell: Cell, number: Cell) -> Option<PairKind>
     }
 }
 
-/// The first column, of as many as there are greatest numbers, where the cells of two rows do not go together, and why.
+/// The first column, of as many as there are largest numbers, where the cells of two rows do not go together, and why.
 pub fn first_of_lines(most: &[u64], cells: &[Cell], numbers: &[Cell]) -> Option<(usize, PairKind)>
     ensures none { IfNone result (AreLinesFit most.now cells.now numbers.now) }
     ensures some { IfSome result

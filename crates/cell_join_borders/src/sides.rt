@@ -17,7 +17,7 @@ use cell_join_tiles::begun::row_of;
 use cell_join_tiles::border::Side;
 use std::alloc::Global;
 
-/// For each cell of the sides of a tile the greatest number that it may have: of the clumps that begin in its row or above it.
+/// For each cell of the sides of a tile the largest number that it may have: of the clumps that begin in its row or above it.
 #[derive(Debug, Drop)]
 pub(crate) struct SideMosts {
     pub(crate) first: Vec<u64>,
@@ -48,7 +48,7 @@ fn most_of_row(alloc: Global, cols: u32, down: &[u64], row: usize) -> Result<Vec
     Ok(vec![in alloc; down[row]; cols as usize]?)
 }
 
-/// The greatest numbers of a tile whose clumps begin so.
+/// The largest numbers of a tile whose clumps begin so.
 pub(crate) fn side_mosts(alloc: Global, tile: Region, begun: &[u64]) -> Result<SideMosts, Memory>
     requires long { length begun.now ≡ tile.rows }
     requires few { sum begun.now ≤ most_clumps }
@@ -79,7 +79,7 @@ fn cut_side(count: usize, cells: Vec<Cell>, numbers: Vec<Cell>) -> Side
     Side { cells, numbers }
 }
 
-// The fault of a cell behind the end of a side.
+// The error of a cell after the end of a side.
 fn end_fault(row: u32, col: u32) -> BorderFault
     ensures { result ≡ BorderFault.End (record { row = row; col = col }) }
 {
@@ -89,7 +89,7 @@ fn end_fault(row: u32, col: u32) -> BorderFault
     })
 }
 
-/// The side that a row and the one below it are, with a greatest number for each of its cells.
+/// The side that a row and the one below it are, with a largest number for each of its cells.
 pub(crate) fn side_in(
     alloc: Global,
     map: &CellMap,
@@ -134,7 +134,7 @@ pub(crate) struct FourSides {
     pub(crate) right: Side,
 }
 
-/// The sides that the first eight rows are, with a greatest number for each of their cells.
+/// The sides that the first eight rows are, with a largest number for each of their cells.
 pub(crate) fn sides_in(
     alloc: Global,
     map: &CellMap,

@@ -64,7 +64,7 @@ fn joining_of(cell: Cell) -> Option<Joining>
     }
 }
 
-/// The first column behind so many with a cell that is not null.
+/// The first column after so many with a cell that is not null.
 pub(crate) fn first_behind(map: &CellMap, row: u32, count: u32) -> Option<u32>
     requires { row < map.now.region.rows }
     ensures none { IfNone result (AreNullFrom count (row_at map.now row)) }

@@ -1,4 +1,4 @@
--- Where a tile goes, by the tiles that it has to lie beside or below.
+-- Where a tile goes, by the tiles that it has to lie right of or below.
 use Rattle.std.proofs.Common.{◌≡◌, ◌≢◌, ◌==◌, ◌-◌, ◌<◌, ◌≤◌, ℕ, true, false, nat_lt, List, [], ◌∷◌, ◌++◌, length}
 use Rattle.std.proofs.Common.{get_or, Option, Some, None, Result, Ok, Err}
 use Rattle.std.proofs.Common.{refl, sym, ap, ◌∙◌, subst, arith, inl, inr}
@@ -150,7 +150,7 @@ whole-row : (above row : List RegionValue) → (length row == 0) ≡ false → I
 whole-row above [] some whole = cc
 whole-row above (tile ∷ row) some whole = record { first = tile; whole = whole; first_is = refl }
 
--- ---- what does not go on
+-- ---- what does not continue
 
 -- a text by the other connectivity
 pub otherwise : (coming : Option Coming) (j : Joining) (place : ℕ) (tile : BorderText)

@@ -52,7 +52,7 @@ pub record HasClumpsPrefix (j : Joining) (texts : List Coming) (before now : Opt
 
 -- ---- why it is not
 
--- which text a fault names as the one at fault
+-- which text an error names as the one at error
 abbrev pub faulty_text : ClumpsFault → Option ℕ
 faulty_text (Border text fault) = Some text
 faulty_text (Connectivity text found) = Some text
@@ -94,7 +94,7 @@ pub record IsNotNextRow (above row : List RegionValue) (misfit : Misfit) (tile :
   pub first_is : slice_get row 0 ≡ Some first
   pub not_below : IsBelowMisfit first tile misfit
 
--- why a tile that comes after so many others does not go on a row that has begun, nor begins one below it
+-- why a tile that comes after so many others does not continue a row that has begun, nor begins one below it
 abbrev pub GoesNowhere : (place : ℕ) → (above row : List RegionValue) → RegionValue → ClumpsFault → Type 0
 GoesNowhere place above row tile (Apart at beside below) = IsApart above row beside below tile
 GoesNowhere place above row tile (NotBeside at misfit) = IsNotBeside above row misfit tile
@@ -114,7 +114,7 @@ pub record SpellsOtherwise (j : Joining) (text : Coming) (found : Joining) : Typ
   pub found_is : tile.joining ≡ found
   pub other : found ≢ j
 
--- why the text in a place does not go on a row that has begun, nor begins one below it
+-- why the text in a place does not continue a row that has begun, nor begins one below it
 abbrev pub IsFaultOfTile : Joining → (place : ℕ) → (above row : List RegionValue) → Coming → ClumpsFault → Type 0
 IsFaultOfTile j place above row text (Border at fault) = (fault ≢ border_faults.Memory) × IsBorderFault text fault
 IsFaultOfTile j place above row text (Connectivity at found) = SpellsOtherwise j text found
@@ -123,7 +123,7 @@ IsFaultOfTile j place above row text (NotBeside at misfit) = SpellsNowhere j pla
 IsFaultOfTile j place above row text (NotBelow at other misfit) = SpellsNowhere j place above row text (NotBelow at other misfit)
 IsFaultOfTile j place above row text fault = ⊥
 
--- the texts before one are the borders of the tiles of a grid as far as it goes, and why that one does not go on
+-- the texts before one are the borders of the tiles of a grid as far as it goes, and why that one does not continue
 pub record IsFirstTextFault (j : Joining) (texts : List Coming) (fault : ClumpsFault) : Type 0 where
   pub before : List Coming
   pub text : Coming
@@ -135,7 +135,7 @@ pub record IsFirstTextFault (j : Joining) (texts : List Coming) (fault : ClumpsF
   pub good : AreGridSoFar j before rows row
   pub wrong : IsFaultOfTile j (length before) (last_row [] (region_rows rows)) (regions_of row) text fault
 
--- all texts are the borders of the tiles of a grid as far as it goes, and above the place after the last is a tile, that of this text
+-- all texts are the borders of the tiles of a grid as far as it goes, and above the place after the last is the tile of this text
 pub record HaveFewTiles (j : Joining) (texts : List Coming) (other : ℕ) : Type 0 where
   pub rows : List (List BorderText)
   pub row : List BorderText

@@ -8,7 +8,7 @@ ghost use Rattle.cell_join_clumps.specs.parts.Placements.{IsFirstRowPlacement, I
 use crate::clumps_fault::Misfit;
 use cell_core::region::Region;
 
-/// Where a tile goes after those of a row that has begun, or why it goes nowhere.
+/// Where a tile goes after the tiles of a row that has begun, or why it goes nowhere.
 #[derive(Clone, Copy, Debug, PartialEq, Eq)]
 pub(crate) enum TilePlacement {
     /// It is the next in the row.

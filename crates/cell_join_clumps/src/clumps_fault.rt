@@ -4,7 +4,7 @@ use cell_cats_areas::clump::Joining;
 use cell_core::memory::Memory;
 use cell_join_borders::border_fault::BorderFault;
 
-/// Why a tile does not lie right of another, or not below it: its own value, and that of the other.
+/// Why a tile does not lie right of another, or not below it: its own value, and the value of the other.
 #[derive(Clone, Copy, Debug, PartialEq, Eq)]
 pub enum Misfit {
     /// Not right of it: its west edge is not the east edge of the other.
@@ -28,7 +28,7 @@ pub enum Misfit {
 /// Why texts of the borders of tiles are not joined. Texts are named by their places, from 0.
 ///
 /// The texts come row by row of tiles from the top, and in each row from the left. A tile has to begin where the one before it in its
-/// row and the one above it end, so that texts that were exchanged, given twice, left out or taken from another map are an error.
+/// row and the one above it end, so that texts that were swapped, given twice, left out or taken from another map are an error.
 #[derive(Clone, Copy, Debug, PartialEq, Eq)]
 pub enum ClumpsFault {
     /// This text is no border of a tile.
@@ -36,24 +36,24 @@ pub enum ClumpsFault {
         text: usize,
         fault: BorderFault,
     },
-    /// The clumps of the tile of this text are joined so, and not as was asked and as those of the texts before it are.
+    /// The clumps of the tile of this text are joined so, and not as was asked and as in the texts before it.
     Connectivity {
         text: usize,
         found: Joining,
     },
-    /// In the first row of tiles: the tile of this text lies neither right of that of the text before it nor below that of the first.
+    /// In the first row of tiles: the tile of this text lies neither right of the tile of the text before it nor below the first.
     Apart {
         text: usize,
         beside: Misfit,
         below: Misfit,
     },
-    /// In a row of tiles below the first, which has fewer tiles so far: the tile of this text does not lie right of that of the text
-    /// before it.
+    /// In a row of tiles below the first, which has fewer tiles so far: the tile of this text does not lie right of the tile
+    /// of the text before it.
     NotBeside {
         text: usize,
         misfit: Misfit,
     },
-    /// In a row of tiles below the first: the tile of this text does not lie below that of the other text.
+    /// In a row of tiles below the first: the tile of this text does not lie below the tile of the other text.
     NotBelow {
         text: usize,
         other: usize,
@@ -65,7 +65,7 @@ pub enum ClumpsFault {
     },
     /// The tiles have more clumps than a `u64` counts.
     TooManyClumps,
-    /// Memory was refused.
+    /// Memory ran out.
     Memory,
     /// A write failed.
     Write,

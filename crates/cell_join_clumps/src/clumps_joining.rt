@@ -21,7 +21,7 @@ use std::alloc::Global;
 /// What the joining did.
 #[derive(Clone, Copy, Debug, PartialEq, Eq)]
 pub struct ClumpsOutcome {
-    /// The number of bytes that the sink took, or the greatest `u64` where it took more.
+    /// The number of bytes that the sink took, or the largest `u64` where it took more.
     pub written: u64,
     /// Why not all was written.
     pub fault: Option<ClumpsFault>,
@@ -74,7 +74,7 @@ fn number_clumps<R: Source + Drop>(
     Ok(joined.runs)
 }
 
-// Flushes the sink unless it refused a put, and answers.
+// Flushes the sink unless a put failed, and returns the result.
 fn finish<W: Sink>(failed: bool, out: &mut W) -> Option<ClumpsFault>
     ensures taken { W.taken out.new ≡ W.taken out.old }
     ensures flushed { result ≡ None
@@ -92,7 +92,7 @@ fn finish<W: Sink>(failed: bool, out: &mut W) -> Option<ClumpsFault>
     }
 }
 
-// Writes the text of runs, and flushes the sink unless it refused a put.
+// Writes the text of runs, and flushes the sink unless a put failed.
 fn put_runs<W: Sink>(out: &mut W, runs: &[Stretch]) -> ClumpsOutcome
     ensures { HasPut (areas_text runs.now) (W.taken out.old) (W.taken out.new) (W.faults out.old)
         (W.faults out.new) result.written result.fault }
@@ -113,29 +113,29 @@ fn put_runs<W: Sink>(out: &mut W, runs: &[Stretch]) -> ClumpsOutcome
 ///
 /// The texts are read one after the other. A tile is the next in its row where it lies right of the one before it, and begins the
 /// next row where it lies below the first tile of a whole row. One row of tiles is held at a time; besides it, memory grows with the
-/// seams alone. Nothing is written before all texts are read. The sink is flushed once at the end, unless it refused a put.
+/// seams alone. Nothing is written before all texts are read. The sink is flushed once at the end, unless a put failed.
 pub fn join_border_texts<R: Source + Drop, W: Sink>(
     alloc: Global,
     joining: Joining,
     texts: Vec<R>,
     out: &mut W,
 ) -> ClumpsOutcome
-    // Without a fault the texts are the borders of the tiles of a grid, and the sink has taken exactly the text of the numbers that
+    // Without an error the texts are the borders of the tiles of a grid, and the sink has taken exactly the text of the numbers that
     // their clumps have in each map that is cut into such tiles.
     ensures joined { (all : List Coming) → Give R.coming texts.items all → result.fault ≡ None
         → HasWrittenClumps joining all (W.taken out.old) (W.taken out.new) result.written }
-    // A fault of a text is its own, and the texts before it are the borders of the tiles of a grid as far as it goes; or all
+    // An error of a text is its own, and the texts before it are the borders of the tiles of a grid as far as it goes; or all
     // texts are, and the last row has fewer tiles than that above, or there are too many clumps.
     ensures fault { (all : List Coming) → Give R.coming texts.items all
         → IfSome result.fault (IsClumpsFault joining all) }
-    // With any other fault than a failed write the sink is as it was.
+    // With any other error than a failed write the sink is as it was.
     ensures untouched { IfSome result.fault (λ fault. fault ≢ ClumpsFault.Write
         → (out.new ≡ out.old) × (result.written ≡ 0)) }
     // After a failed write it has taken a prefix of the numbering.
     ensures cut { (all : List Coming) → Give R.coming texts.items all
         → result.fault ≡ Some ClumpsFault.Write
         → HasClumpsPrefix joining all (W.taken out.old) (W.taken out.new) result.written }
-    // No fault comes only where no call of the sink failed and it was flushed once, and, of a sink that had not failed before,
+    // No error comes only where no call of the sink failed and it was flushed once, and, of a sink that had not failed before,
     // Write only where it failed.
     ensures sound { result.fault ≡ None
         → W.faults out.new ≡ after_flush (W.faults out.old) false }

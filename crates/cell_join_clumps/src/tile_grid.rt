@@ -82,7 +82,7 @@ fn add_row(alloc: Global, joiner: TileJoiner, row: Vec<Border>) -> Result<TileJo
 /// Rows of tiles from the top: whole rows, which are joined, and one that has begun below them.
 #[derive(Drop)]
 pub(crate) struct TileGrid {
-    // What was joined of the whole rows.
+    // What was joined of the complete rows.
     pub(crate) joiner: TileJoiner,
     // The regions of the last whole row, from the left.
     above: Vec<Region>,
@@ -161,7 +161,7 @@ impl TileGrid {
         Ok(TileGrid::begun_below(alloc, joiner, row, tile)?)
     }
 
-    /// These tiles and that of the text in a place after them.
+    /// These tiles and the tile of the text in a place after them.
     pub(crate) fn with_text<R: Source + Drop>(
         self,
         alloc: Global,

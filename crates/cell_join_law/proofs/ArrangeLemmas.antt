@@ -14,7 +14,7 @@ abbrev pub all_regions : List (List RegionValue) → List RegionValue
 all_regions [] = []
 all_regions (row ∷ rows) = row ++ all_regions rows
 
--- ---- of two lists one may go on
+-- ---- of two lists one may continue
 
 -- one list has the regions of another, and more
 record GoesOn (a b x y : List RegionValue) : Type 0 where
@@ -100,7 +100,7 @@ NextBelow row next =
     (first : RegionValue) (region : RegionValue) (more : List RegionValue) → slice_get row 0 ≡ Some first
     → next ≡ region ∷ more → IsBelow first region
 
--- a row goes on behind no tile that has a tile right below the row's first
+-- a row continues after no tile that has a tile right below the row's first
 not-on : (a front b : List RegionValue) (tile : RegionValue) (back : List RegionValue) (more y : List RegionValue)
     → AreWide a
     → LieBeside None a → 0 < length b → NextBelow b y → a ≡ front ++ tile ∷ back → front ≡ b
@@ -190,7 +190,7 @@ pub record BeginsRow (above row : List RegionValue) (region : RegionValue) : Typ
   pub whole : slice_get above (length row) ≡ None
   pub below : (first : RegionValue) → slice_get row 0 ≡ Some first → IsBelow first region
 
--- the first of more tiles goes there; where there is none, the row is whole
+-- the first of more tiles goes there; if there is none, the row is whole
 abbrev pub MayGoOn : (above row : List RegionValue) → List RegionValue → Type 0
 MayGoOn above row [] = slice_get above (length row) ≡ None
 MayGoOn above row (region ∷ more) = GoesInRow above row region ⊎ BeginsRow above row region
@@ -309,7 +309,7 @@ module _ (u v row g : List RegionValue) (grid : List (List RegionValue)) (above 
   goes-on rest wide lie (inr (inr on)) =
       subst (MayGoOn u row) (sym on.next) (inl (in-row on.front on.tile on.back on.is (sym on.same)))
 
--- what comes behind a whole row of tiles that were told
+-- what comes after a complete row of tiles that were reported
 next-reported : (r : List RegionValue) (rows : List (List RegionValue)) (row : List RegionValue) (rest : List RegionValue)
     → 0 < length row → AreRows r rows → RowFitsUnder (last_row r rows) row
     → NextBelow r (all_regions rows ++ (row ++ rest))
@@ -349,7 +349,7 @@ none-more u [] [] some e = slice_get_past u 0 (let none = some refl in subst (λ
 none-more u [] (region ∷ rest) some e = absurd (cc)
 none-more u (t ∷ row) rest some e = absurd (cc)
 
--- tiles that were told, of whole rows and of one that has begun, are those of a grid as far as they go
+-- tiles that were reported, of complete rows and of one that has begun, are the tiles of a grid as far as they go
 pub goes-there : (u v : List RegionValue) (rows : List (List RegionValue)) (row : List RegionValue)
     (grid : List (List RegionValue)) (rest : List RegionValue) → u ≡ v → AreRows u rows → AreWide row
     → LieBeside None row → RowFitsUnder (last_row u rows) row → (row ≡ [] → rows ≡ []) → (row ≡ [] → u ≡ [])

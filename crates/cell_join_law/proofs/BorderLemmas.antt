@@ -1,4 +1,4 @@
--- A text of a border denotes one map, and has no fault.
+-- A text of a border denotes one map, and has no error.
 use Rattle.std.proofs.Common.{◌≡◌, ◌≢◌, ℕ, pos, ◌+◌, ◌-◌, ◌<◌, ◌≤◌, List, length, get_or, sum}
 use Rattle.std.proofs.Common.{take, map}
 use Rattle.std.proofs.Common.{Some, None, IsSome, ◌⊎◌, inl, inr, refl, ap, sym, ◌∙◌, subst, arith, ⊎_elim}
@@ -59,7 +59,7 @@ filled-past : (width : ℕ) (cells : List CellValue) (k : ℕ) → width ≤ k �
 filled-past width cells k past =
     get_or_past (filled_row width cells) k None (let long = filled-long width cells in omega (arith, long, past))
 
--- behind its cells it is null
+-- after its cells it is null
 pub filled-ends : (width : ℕ) (cells : List CellValue) → AreNullFrom (length cells) (filled_row width cells)
 filled-ends width cells k past =
     ⊎_elim (λ lt. filled-at width cells k lt ∙ get_or_past cells k None past)
@@ -235,7 +235,7 @@ module _ (j : Joining) (tile : RegionValue) (border : Border) (fit : IsBorderFit
   map-right (Pair f) not wrong = wrong-side (Pair f) wrong.0 wrong.1 wrong.2 wrong.3 wrong.4
   map-right Memory not wrong = not refl
 
--- no fault is one of a text of a border that goes together
+-- no error is one of a text of a border that goes together
 pub none-wrong : (text : Coming) (j : Joining) (tile : RegionValue) (border : Border) → IsBorderText text j tile border
     → (fault : BorderFault) → fault ≢ Memory → IsBorderFault text fault → ⊥
 none-wrong text j tile border is fault not wrong = by fault not wrong
@@ -256,7 +256,7 @@ none-wrong text j tile border is fault not wrong = by fault not wrong
     by (Pair f) other reported = right (Pair f) other reported.0 reported.1 reported.2
     by Memory other reported = other refl
 
--- ---- a text is that of one border
+-- ---- a text is the text of one border
 
 -- cells that are filled up alike are alike
 filled-one : (w v : ℕ) (x y : List CellValue) → w ≡ v → length x ≡ length y → length x ≤ w

@@ -1,4 +1,4 @@
--- A numbering and the tables of its tiles have sizes: those of the clumps of the full map.
+-- A numbering and the tables of its tiles have sizes: the sizes of the clumps of the full map.
 use Rattle.std.proofs.Common.{◌≡◌, ℕ, ◌+◌, ◌<◌, ◌≤◌, ◌*◌, List, [], ◌∷◌, length, map, flat_map, get_or, None}
 use Rattle.std.proofs.Common.{pos, suc, Some}
 use Rattle.std.proofs.Common.{refl, ap, sym, ◌∙◌, subst, arith, length-append}
@@ -47,7 +47,7 @@ lists j m numbered is filled areas has skip table own = record {
   is = (numbers-are-listed j m numbered is filled areas has skip table).0 own;
 }
 
--- ---- the sizes of the whole
+-- ---- the sizes of the full map
 
 size-few : (numbered : Grid) (rows cols n : ℕ) → size_of_number numbered rows cols n ≤ rows * cols
 size-few numbered rows cols n =
@@ -97,7 +97,7 @@ module _ (j : Joining) (whole numbered : Grid) (is : IsClumping j whole numbered
   most = All-from_get_or (λ (n : ℕ). n ≤ whole.region.rows * whole.region.cols) sizes 0
       (λ i lt. omega (arith, at i lt, size-few numbered whole.region.rows whole.region.cols (i + 1)))
 
--- where each number has in the whole as many cells as its sizes are together, there are sizes
+-- where each number has in the full map as many cells as its sizes are together, there are sizes
 pub have-sizes : (j : Joining) (whole numbered : Grid) → IsClumping j whole numbered
     → IsFilled whole.region whole.rows → (skip : Skip) (counts numbers : List ℕ) (tables : List Pairs)
     → length numbers ≡ sum counts → AllZip (Lists skip) counts tables

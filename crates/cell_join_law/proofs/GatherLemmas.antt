@@ -92,7 +92,7 @@ grid-good rows lie wide = rows-good [] rows lie.some lie.beside lie.below wide
 -- ---- the borders that texts denote, row by row
 
 module _ (j : Joining) where
-  -- the tiles that texts of a row are the borders of, and the texts behind them
+  -- the tiles that texts of a row are the borders of, and the texts after them
   record IsRowReported (row others : List NumberedTile) (texts : List Coming) : Type 0 where
     reported : List BorderText
     regions : regions_of reported ≡ map_regions row

@@ -1,4 +1,4 @@
--- The cells of tiles, side by side and one row of tiles below the other, are those of the map that is cut into them.
+-- The cells of tiles, side by side and row by row, are the cells of the map that is cut into them.
 use Rattle.std.proofs.Common.{◌≡◌, ℕ, zero, suc, ◌+◌, ◌<◌, List, [], ◌∷◌, length, take, get_or}
 use Rattle.std.proofs.Common.{Some, None}
 use Rattle.std.proofs.Common.{IsSome, refl, ap, sym, ◌∙◌, subst, arith, length-append, ⊎_elim}

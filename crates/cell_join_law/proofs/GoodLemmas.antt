@@ -1,4 +1,4 @@
--- Texts of borders that go together are refused for no fault of theirs.
+-- Texts of borders that go together are rejected for no error of theirs.
 use Rattle.std.proofs.Common.{◌≡◌, ◌+◌, ◌*◌, ◌≤◌, ◌^◌, ℕ, List, [], ◌∷◌, ◌++◌, length, sum, Some}
 use Rattle.std.proofs.Common.{None}
 use Rattle.std.proofs.Common.{inl, inr, ◌⊎◌, refl, ap, sym, ◌∙◌, subst, arith, append_assoc, append-nil, length-append}
@@ -57,7 +57,7 @@ not-below above tile (Cols cols other) is wrong = wrong.0.apart is.cols
 not-below above tile (West west other) is wrong = wrong.0.apart is.west
 not-below above tile (East east other) is wrong = wrong.0.apart is.east
 
--- where a tile goes, it is not refused
+-- where a tile goes, it is not rejected
 goes-somewhere : (place : ℕ) (above row : List RegionValue) (tile : RegionValue) (f : ClumpsFault)
     → GoesInRow above row tile ⊎ BeginsRow above row tile → GoesNowhere place above row tile f → ⊥
 goes-somewhere place above row tile (Apart at beside below) (inl goes) wrong =
@@ -83,10 +83,10 @@ goes-somewhere place above row tile TooManyClumps goes wrong = wrong
 goes-somewhere place above row tile Memory goes wrong = wrong
 goes-somewhere place above row tile Write goes wrong = wrong
 
--- ---- texts behind others
+-- ---- texts after others
 
 module _ (j : Joining) where
-  -- the tiles of texts that come behind others
+  -- the tiles of texts that come after others
   record AreThen (after : List Coming) (reported all : List BorderText) : Type 0 where
     more : List BorderText
     spelled : AllZip (SpellsJoined j) after more
@@ -109,7 +109,7 @@ no-tile [] none = refl
 no-tile (t ∷ row) none = absurd (cc)
 
 module _ (j : Joining) (texts : List Coming) (grid : List (List BorderText)) (are : AreGridOf j texts grid) where
-  -- where more texts go behind those of tiles that were read
+  -- where more texts go after the texts of tiles that were read
   module _ (before after : List Coming) (rows : List (List BorderText)) (row : List BorderText)
       (all : texts ≡ before ++ after) (begun : AreGridSoFar j before rows row) where
     behind : AreThen j after (tiles_in rows ++ row) (tiles_in grid)

@@ -1,4 +1,4 @@
--- The numbering that borders of the tiles of a map are joined to is that of the undivided map.
+-- The numbering that borders of the tiles of a map are joined to is the numbering of the full map.
 use Rattle.std.proofs.Common.{◌≡◌, ℕ, pos, zero, suc, ◌+◌, ◌-◌, ◌<◌, List, [], ◌∷◌, ◌++◌, length, map, take}
 use Rattle.std.proofs.Common.{get_or, Some, None, refl, ap, sym, ◌∙◌, subst, arith}
 use Rattle.std.specs.Prelude.{All, slice_get, slice_index, sum, sum_by}
@@ -47,7 +47,7 @@ use Rattle.cell_join_law.proofs.PlaceLemmas.{got, map-to, zip-long, zip-right}
 use Rattle.cell_join_law.proofs.SizedLemmas.{Each, IsTileOfRegion, grid-sized, numbered-filled}
 use Rattle.cell_join_law.proofs.SizedLemmas.{numbered-regions, some-heights, some-widths}
 
--- ---- a border is that of a map, whichever map has the numbers of its clumps
+-- ---- a border is the border of a map, whichever map has the numbers of its clumps
 
 numbers-alike : (j : Joining) (m a b : Grid) → IsClumping j m a → IsClumping j m b → (p : Position)
     → cell_at_position a p ≡ cell_at_position b p
@@ -86,7 +86,7 @@ border-too j rows cols m a b border own has =
       };
     }
 
--- ---- the tiles that texts are the borders of are those of the map
+-- ---- the tiles that texts are the borders of are the tiles of the map
 
 -- a tile has the border of a text
 record HasReported (j : Joining) (tile : NumberedTile) (reported : BorderText) : Type 0 where

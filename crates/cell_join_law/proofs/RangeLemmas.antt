@@ -14,7 +14,7 @@ use Rattle.cell_core_values.specs.declared.region.RegionFault.TheVariants.{BadEx
 use Rattle.cell_core.specs.Grid.{CellValue, Grid, IsFilled, cell_at}
 use Rattle.cell_core_values.specs.WholeNumbers.{is_in_range, whole_number}
 use Rattle.cell_ascii_meaning.specs.GridText.{Denotes, data_words, line_words}
-use Rattle.cell_ascii_meaning.specs.GridWords.{HeaderValue, cell_of_number, cell_of_word, usual_null}
+use Rattle.cell_ascii_meaning.specs.GridWords.{HeaderValue, cell_of_number, cell_of_word}
 use Rattle.cell_ascii_meaning.specs.declared.grid_fault.GridKind.{GridKind}
 use Rattle.cell_ascii_meaning.specs.declared.grid_fault.GridKind.TheVariants.{CellRange}
 use Rattle.cell_ascii_law.proofs.WritingNumberLemmas.{in_range_low, whole_back}
@@ -50,7 +50,7 @@ word-in h word cell e = by (bytes_eq word h.null_text) (whole_number word) e
     by true o is = let same : None ≡ cell = cc in subst InRange same tt
     by false o is = subst good is (number o)
 
-cells-in : (m : Grid) → IsFilled m.region m.rows
+pub cells-in : (m : Grid) → IsFilled m.region m.rows
     → ((r c : ℕ) → r < m.region.rows → c < m.region.cols → InRange (cell_at m r c)) → AllInRange m.rows
 cells-in m filled each =
     All-from_get_or (λ row. All InRange row) m.rows []
@@ -107,15 +107,17 @@ denoted-filled text m denotes =
 pub number-in : (n : ℕ) → n ≤ 2147483647 → InRange (Some (pos n))
 number-in n few = le-leb n 2147483647 few
 
-abbrev pub IsApart : CellValue → Type 0
-IsApart cell = IfSome cell (λ category. signed_decimal category ≢ usual_null)
+-- no category is spelled as this word, which is no number
+module _ (null_text : List ℕ) (no_number : whole_number null_text ≡ None) where
+  abbrev IsApart : CellValue → Type 0
+  IsApart cell = IfSome cell (λ category. signed_decimal category ≢ null_text)
 
-apart : (cell : CellValue) → InRange cell → IsApart cell
-apart None h = tt
-apart (Some z) h =
-    λ same. let both : Some z ≡ None = sym (whole_back z (in_range_low z h)) ∙ ap whole_number same in cc
+  apart : (cell : CellValue) → InRange cell → IsApart cell
+  apart None h = tt
+  apart (Some z) h =
+      λ same. let both : Some z ≡ None = sym (whole_back z (in_range_low z h)) ∙ ap whole_number same ∙ no_number in cc
 
-pub all-apart : (rows : List (List CellValue)) → AllInRange rows → All (λ row. All IsApart row) rows
-all-apart rows all =
-    All-weaker (λ (row : List CellValue). All InRange row) (λ (row : List CellValue). All IsApart row)
-    (λ row. All-weaker InRange IsApart apart row) rows all
+  pub all-apart : (rows : List (List CellValue)) → AllInRange rows → All (λ row. All IsApart row) rows
+  all-apart rows all =
+      All-weaker (λ (row : List CellValue). All InRange row) (λ (row : List CellValue). All IsApart row)
+      (λ row. All-weaker InRange IsApart apart row) rows all

@@ -54,7 +54,7 @@ forward-behind : (before after : List Stretch) → AreForward (before ++ after) 
 forward-behind [] after is = is
 forward-behind (s ∷ before) after is = forward-behind before after is.1
 
--- ---- the numbers that stretches tell
+-- ---- the numbers that stretches show
 
 -- the number of the last clump of a run is reported
 last-reported : (stretches : List Stretch) (place : ℕ) (s : Stretch) → AreForward stretches → slice_get stretches place ≡ Some s
@@ -146,7 +146,7 @@ all-up-to (suc count) numbers all =
 all-fit : (count : ℕ) (numbers : List ℕ) → ((n : ℕ) → n < count → Contains numbers (n + 1)) → count ≤ length numbers
 all-fit count numbers all = omega (arith, all-up-to count numbers all, few-up-to count numbers)
 
--- ---- entries of areas, one list behind another
+-- ---- entries of areas, one list after another
 
 -- entries of fewer clumps, and then others
 record IsCutAt (a : ℕ) (xs ys : List ℕ) (rest others : Pairs) : Type 0 where
@@ -176,7 +176,7 @@ many-first s stretches =
     length-append (stretch_numbers s) (numbers_read stretches)
     ∙ ap (λ (k : ℕ). k + length (numbers_read stretches)) (length-range_with_len s.number (stretch_areas s))
 
--- those of fewer runs
+-- the numbers of fewer runs
 record AreCutAt (stretches : List Stretch) (xs ys : List ℕ) (more : List Stretch) (rest others : Pairs) : Type 0 where
   sizes : List ℕ
   all : ys ≡ xs ++ sizes
@@ -254,7 +254,7 @@ no-areas (s ∷ more) (size ∷ sizes) nulls others forward many null is = absur
         cc
     by (suc n) some (entry ∷ next ∷ nulls) null e = null
 
--- ---- stretches of a band before those of another
+-- ---- stretches of a band before the stretches of another
 
 record IsPrefix (front whole rest behind : List Stretch) : Type 0 where
   more : List Stretch
@@ -290,9 +290,9 @@ other-band least band (part ∷ parts) (reading ∷ readings) are less =
     by (s ∷ stretches) own others = λ same. let is = All-head (λ (t : Stretch). t.band ≡ band) s stretches own in absurd
         (omega arith)
 
--- ---- tables that are read, beside all of them
+-- ---- tables that are read, next to all of them
 
--- the parts behind those that were read
+-- the parts after those that were read
 record HasWalked (band : ℕ) (before rest : List TableReading) (behind : List Stretch)
     (parts all : List BandSizes) : Type 0 where
   post : List BandSizes
@@ -378,7 +378,7 @@ all-after : (P : ℕ → Type 0) (before after : List ℕ) → All P (before ++ 
 all-after P [] after all = all
 all-after P (n ∷ before) after all = all-after P before after (All-tail P n (before ++ after) all)
 
--- ---- where a reading stands
+-- ---- where a reading is
 
 all-behind : (P : Stretch → Type 0) (before after : List Stretch) → All P (before ++ after) → All P after
 all-behind P [] after all = all
@@ -613,7 +613,7 @@ module _ (areas : AreasReading) (tables : List TableReading) (sizes : List ℕ) 
                 (range_with_len s.number (length place.counted)) (number ∷ (cut.more ++ numbers_read stretches)));
           }
 
-  -- each number up to the greatest is reported, so that none is above the count
+  -- each number up to the largest is reported, so that none is above the count
   no-line-beyond : (line : ℕ) → IsLineBeyond areas.stretches line → ⊥
   no-line-beyond line is =
       let numbers = numbers_read areas.stretches in

@@ -1,4 +1,4 @@
--- The cells of a clump of the whole are those of the clumps of tiles that have its number.
+-- The cells of a clump of the full map are the cells of the clumps of tiles that have its number.
 use Rattle.std.proofs.Common.{◌≡◌, ℕ, zero, suc, pos, negsuc, ◌+◌, ◌-◌, ◌<◌, ◌≤◌, map, [], ◌∷◌, List}
 use Rattle.std.proofs.Common.{get_or, Some, None, Bool, true, false, ◌&&◌, ◌||◌, ◌==◌, cond, refl, ap, sym}
 use Rattle.std.proofs.Common.{◌∙◌, arith, zero-add, eqb-true, eq-eqb}
@@ -69,9 +69,9 @@ count-either t u (x ∷ cells) apart =
       count-either t u cells apart,
     )
 
--- ---- cells of a band, by their numbers in the whole
+-- ---- cells of a band, by their numbers in the full map
 
--- a cell has a number of the tile, from one on, that stands for this one in the whole
+-- a cell has a number of the tile, from one on, that stands for this one in the full map
 abbrev stands_for : ℕ → List ℕ → (from count : ℕ) → Combination → Bool
 stands_for n [] from count x = false
 stands_for n (number ∷ numbers) from zero x = false
@@ -173,7 +173,7 @@ stands-apart n number numbers from count x here = by (stands_for n numbers (from
         number-of : {a b : ℕ} → Some (pos a) ∷ [] ≡ Some (pos b) ∷ [] → a ≡ b
         number-of e = ap (λ (k : Combination). number-in (first-cell k)) e
 
--- the cells that stand for a number are as many as those of its clumps
+-- the cells that stand for a number are as many as the cells of its clumps
 count-first : (n number from : ℕ) (cells : List Combination) →
     count_by (λ x. n == number && eq_by_cmp combination_cmp (Some (pos from) ∷ []) x) cells
     ≡ size_for n number (count_of (Some (pos from) ∷ []) cells)
@@ -207,7 +207,7 @@ count-stands n (number ∷ numbers) from (suc count) cells =
 
 module _ (j : Joining) (m numbers_map : Grid) (is : IsClumping j m numbers_map) (areas : ℕ)
     (has : HasAreas j m areas) (numbers : List ℕ) (n : ℕ) (some : 1 ≤ n) where
-  -- a cell has the number in the whole exactly where its own stands for it
+  -- a cell has the number in the full map exactly where its own stands for it
   stands-there : (c : CellValue) (p : Position) → cell_at_position numbers_map p ≡ c →
       number_there numbers c ≡ Some (pos n) → StandsFor n numbers 1 areas (c ∷ [])
   stands-there None p here e = cc

@@ -1,4 +1,4 @@
--- The sizes that the tables of tiles list, added up, are those of the whole.
+-- The sizes that the tables of tiles list, added up, are the sizes of the full map.
 use Rattle.std.proofs.Common.{◌≡◌, ℕ, zero, suc, pos, ◌+◌, ◌<◌, ◌≤◌, map, [], ◌∷◌, ◌++◌, List, length, Some, None}
 use Rattle.std.proofs.Common.{false}
 use Rattle.std.proofs.Common.{flat_map, refl, ap, sym, ◌∙◌, subst, arith, zero-add}
@@ -33,7 +33,7 @@ use Rattle.cell_join_law.proofs.SizeLemmas.{tile-count}
 use Rattle.cell_join_law.proofs.NumberTableLemmas.{one-number-table, numbers-are-listed}
 use Rattle.cell_join_law.proofs.TableLemmas.{table-lists, table-counts, same-null, tile-nulls}
 
--- ---- the numbers of tiles, with those of the whole in their place, are parts of the numbers of the whole
+-- ---- the numbers of tiles, replaced by the numbers of the full map, are parts of the numbers of the full map
 
 abbrev part_of : JoinedTile → Part
 part_of t = record { place = place_of_tile t; maps = renumbered t.there t.numbered.numbers ∷ [] }

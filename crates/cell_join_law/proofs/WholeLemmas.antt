@@ -1,4 +1,4 @@
--- Sizes added up with a numbering are those of the clumps of the full map.
+-- Sizes added up with a numbering are the sizes of the clumps of the full map.
 use Rattle.std.proofs.Common.{◌≡◌, ℕ, zero, suc, pos, ◌+◌, ◌-◌, ◌<◌, ◌≤◌, List, [], ◌∷◌, ◌++◌, length, map, flat_map, filter, get_or, sum, take, drop, Bool, true, false, cond, not, Some, None, refl, ap, sym, ◌∙◌, subst, arith, append-nil, append_assoc, length-append, length-drop, ⊎_elim}
 use Rattle.std.specs.Prelude.{All}
 use Rattle.std.specs.List.{Contains}
@@ -140,7 +140,7 @@ tally-of areas numbers many tables sizes have =
     (subst (λ (l : List ℕ). HasTally l (flat_map (λ (part : BandSizes). part.sizes) have.parts) sizes)
     (numbers-are-read areas numbers many) have.tally)
 
--- where each number has in the whole as many cells as its sizes are together, they are listed as the table of the whole
+-- if each number has in the full map as many cells as its sizes add up to, they are listed as its table
 module _ (j : Joining) (whole numbered : Grid) (is : IsClumping j whole numbered)
     (filled : IsFilled whole.region whole.rows) (numbers listed sizes : List ℕ) (tally : HasTally numbers listed sizes)
     (some : All (λ (n : ℕ). 0 < n) listed)
@@ -193,7 +193,7 @@ module _ (j : Joining) (whole numbered : Grid) (is : IsClumping j whole numbered
 
 -- ---- no number is left out
 
--- each number from 1 to the count of clumps has a cell in the whole, and so a size
+-- each number from 1 to the count of clumps has a cell in the full map, and so a size
 pub has-size : (j : Joining) (whole numbered : Grid) → IsClumping j whole numbered → IsFilled whole.region whole.rows
     → (areas : ℕ) → HasAreas j whole areas → (numbers sizes : List ℕ)
     → ((n : ℕ) → 0 < n

@@ -218,7 +218,7 @@ module _ (j : Joining) (source : Coming) (m : Grid) (border : Border) (of : IsBo
     };
     filled = record { count = refl; width = widths };
     range = range;
-    apart = all-apart (border_rows (border_width m.region) j m.region border) range;
+    apart = all-apart usual_null refl (border_rows (border_width m.region) j m.region border) range;
   }
 
   border-written : IsBorderText (written_text (border_text j m.region border)) j m.region border

@@ -27,7 +27,7 @@ BordersMakeGrids = (j : Joining) (tiles : List (List NumberedTile)) (texts : Lis
 abbrev pub HaveClumps : Joining → List (List NumberedTile) → List (List ℕ) → Type 0
 HaveClumps j tiles counts = AllZip (AllZip (λ (tile : NumberedTile) n. HasAreas j tile.map n)) tiles counts
 
--- all of some counts, and those of the tiles before one, added up
+-- all of some counts, and the counts of the tiles before one, added up
 abbrev pub all_counts : List (List ℕ) → List ℕ
 all_counts counts = flat_map (λ (row : List ℕ). row) counts
 
@@ -47,6 +47,6 @@ pub record IsNumberingOfGrid (j : Joining) (whole : Grid) (tiles : List (List Nu
   pub is : text ≡ areas_text (stretches_of (all_counts counts) numbers)
   pub are : AreNumbersOfTiles j whole tiles counts numbers
 
--- such texts are joined to the numbering of each map, of whatever size, whose rows are those of the tiles
+-- such texts are joined to the numbering of each map, of whatever size, whose rows are the rows of the tiles
 abbrev pub JoinedBordersNumber : Type 0
 JoinedBordersNumber = (j : Joining) (whole : Grid) (tiles : List (List NumberedTile)) (texts : List Coming) → DenoteBorders j (all_tiles tiles) texts → All (IsNumberedTile j) (all_tiles tiles) → AreTileRows (tile_regions tiles) → whole.rows ≡ rows_of_tiles tiles → (text : List ℕ) → IsNumberingOf j texts text → IsNumberingOfGrid j whole tiles text

@@ -18,16 +18,16 @@ abbrev pub entries_from : ℕ → List ℕ → Pairs
 entries_from n [] = []
 entries_from n (size ∷ sizes) = (Some (pos n) ∷ [], size) ∷ entries_from (n + 1) sizes
 
--- the entry of so many cells that are null, where there are any and the rule leaves them in
+-- the entry of so many cells that are null, if there are any and the rule leaves them in
 abbrev pub entry_of_null : Skip → ℕ → Pairs
 entry_of_null skip zero = []
 entry_of_null skip (suc n) = if is_left_out skip (None ∷ []) then [] else (None ∷ [], suc n) ∷ []
 
--- the entries of clumps of these sizes, numbered from 1 on, and after them that of null
+-- the entries of clumps of these sizes, numbered from 1 on, and after them the entry of null
 abbrev pub number_table : Skip → List ℕ → ℕ → Pairs
 number_table skip sizes nulls = entries_from 1 sizes ++ entry_of_null skip nulls
 
--- the table of a clump map is that of the sizes of its clumps
+-- the table of a clump map lists the sizes of its clumps
 abbrev pub NumbersAreListed : Type 0
 NumbersAreListed = (j : Joining) (m numbers : Grid) → IsClumping j m numbers → IsFilled m.region m.rows
     → (areas : ℕ) → HasAreas j m areas → (skip : Skip) (table : Pairs)
@@ -35,6 +35,6 @@ NumbersAreListed = (j : Joining) (m numbers : Grid) → IsClumping j m numbers �
     ↔ (table ≡ number_table skip (sizes_of_areas areas numbers m.region.rows m.region.cols)
     (count_of (None ∷ []) (cells_of numbers m.region.rows m.region.cols)))
 
--- the sizes that a table of numbers lists: its counts in their order, without that of null
+-- the sizes that a table of numbers lists: its counts in their order, without the count of null
 abbrev pub listed_sizes : Pairs → List ℕ
 listed_sizes table = map (λ pair. pair.1) (filter (λ pair. not (is_left_out AnyNull pair.0)) table)

@@ -10,12 +10,12 @@ use Rattle.cell_join_borders.specs.BorderText.{SpellsBorder}
 use Rattle.cell_join_borders.specs.declared.border_fault.BorderFault.{BorderFault}
 use Rattle.cell_join_borders.specs.declared.border_fault.BorderFault.TheVariants.{Memory}
 
--- a text is that of a border whose cells and numbers go together
+-- a text is a border whose cells and numbers go together
 pub record IsBorderText (text : Coming) (j : Joining) (tile : RegionValue) (border : Border) : Type 0 where
   pub spelled : SpellsBorder text j tile border
   pub fit : IsBorderFit tile border
 
--- no other fault than being out of memory is one of such a text
+-- no other error than being out of memory is one of such a text
 abbrev pub SpelledBordersAreRead : Type 0
 SpelledBordersAreRead = (text : Coming) (j : Joining) (tile : RegionValue) (border : Border) → IsBorderText text j tile border → (fault : BorderFault) → fault ≢ Memory → ¬ IsBorderFault text fault
 

@@ -9,6 +9,6 @@ use Rattle.cell_cats_law.specs.AreaLaw.{cells_of}
 abbrev pub size_of_number : Grid → (rows cols : ℕ) → ℕ → ℕ
 size_of_number numbers rows cols n = count_of (Some (pos n) ∷ []) (cells_of numbers rows cols)
 
--- the same of each number from 1 to that of the last clump
+-- the same of each number from 1 to the number of the last clump
 abbrev pub sizes_of_areas : ℕ → Grid → (rows cols : ℕ) → List ℕ
 sizes_of_areas areas numbers rows cols = map (size_of_number numbers rows cols) (range_with_len 1 areas)

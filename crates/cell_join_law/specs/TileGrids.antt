@@ -6,7 +6,7 @@ use Rattle.cell_core.specs.Grid.{CellValue, Grid, IsFilled, row_at}
 use Rattle.cell_cats_areas.specs.declared.clump.Joining.{Joining}
 use Rattle.cell_cats_areas.specs.Areas.{IsClumping}
 
--- the map of a tile, and that of the numbers of its clumps
+-- the map of a tile, and the map of the numbers of its clumps
 pub record NumberedTile : Type 0 where
   pub map : Grid
   pub numbers : Grid
@@ -28,7 +28,7 @@ map_regions row = map (λ (tile : NumberedTile). tile.map.region) row
 abbrev pub tile_regions : List (List NumberedTile) → List (List RegionValue)
 tile_regions tiles = map map_regions tiles
 
--- the rows that the tiles of each row of tiles have, and the columns that those of each column have
+-- the rows that the tiles of each row of tiles have, and the columns that the tiles of each column have
 abbrev pub row_height : List NumberedTile → ℕ
 row_height [] = 0
 row_height (tile ∷ row) = tile.map.region.rows
@@ -44,6 +44,6 @@ tile_widths (row ∷ rows) = map (λ (tile : NumberedTile). tile.map.region.cols
 abbrev pub rows_beside : List NumberedTile → List (List CellValue)
 rows_beside row = map (λ r. flat_map (λ (tile : NumberedTile). row_at tile.map r) row) (range_with_len 0 (row_height row))
 
--- and those of all rows of tiles
+-- and the rows of all rows of tiles
 abbrev pub rows_of_tiles : List (List NumberedTile) → List (List CellValue)
 rows_of_tiles tiles = flat_map rows_beside tiles

@@ -16,7 +16,7 @@ use Rattle.cell_join_sizes.specs.Sizes.{AddUp}
 use Rattle.cell_join_law.specs.SizeLaw.{sizes_of_areas}
 use Rattle.cell_join_law.specs.NumberTables.{number_table, listed_sizes}
 
--- a tile with the numbers of its clumps, and the number in the whole of each of them
+-- a tile with the numbers of its clumps, and the number in the full map of each of them
 pub record JoinedTile : Type 0 where
   pub numbered : Numbered
   pub there : List ℕ
@@ -24,7 +24,7 @@ pub record JoinedTile : Type 0 where
 abbrev pub place_of_tile : JoinedTile → Rectangle
 place_of_tile t = t.numbered.tile.place
 
--- so many clumps, and each cell has in the whole the number that stands there for its own
+-- so many clumps, and each cell has in the full map the number that is there for its own
 pub record IsJoinedTile (j : Joining) (whole : Grid) (t : JoinedTile) : Type 0 where
   pub cells : IsTile whole t.numbered.tile
   pub clumping : IsClumping j t.numbered.tile.map t.numbered.numbers
@@ -46,7 +46,7 @@ abbrev pub sizes_of_tile : JoinedTile → List ℕ
 sizes_of_tile t =
     sizes_of_areas (length t.there) t.numbered.numbers (place_of_tile t).rows (place_of_tile t).cols
 
--- added up, they are the sizes of the clumps of the whole
+-- added up, they are the sizes of the clumps of the full map
 abbrev pub TileSizesCountCells : Type 0
 TileSizesCountCells = (j : Joining) (whole : Grid) (rows cols : ℕ) (tiles : List JoinedTile)
     → AreTilesOfWhole j whole rows cols tiles → (numbered : Grid) → IsClumping j whole numbered
@@ -58,7 +58,7 @@ abbrev pub IsTileTable : Skip → JoinedTile → Pairs → Type 0
 IsTileTable skip t table =
     IsTable skip (cells_of t.numbered.numbers (place_of_tile t).rows (place_of_tile t).cols) table
 
--- the sizes that the tables of tiles list, joined, are the table of the numbers of the undivided map
+-- the sizes that the tables of tiles list, joined, are the table of the numbers of the full map
 abbrev pub TileTablesGiveTheWhole : Type 0
 TileTablesGiveTheWhole = (j : Joining) (whole : Grid) (tiles : List JoinedTile)
     → AreTilesOfWhole j whole whole.region.rows whole.region.cols tiles → IsFilled whole.region whole.rows

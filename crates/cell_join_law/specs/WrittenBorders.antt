@@ -14,7 +14,7 @@ use Rattle.cell_join_borders.specs.declared.border_fault.BorderFault.{BorderFaul
 use Rattle.cell_join_borders.specs.declared.border_fault.BorderFault.TheVariants.{Memory}
 use Rattle.cell_join_law.specs.ReadBorders.{IsBorderText}
 
--- a text that was written, as one to be read: whole, and with no failure behind it
+-- a text that was written, as one to be read: complete, and with no failure after it
 abbrev pub written_text : List ℕ → Coming
 written_text text = record { bytes = text; fails = false }
 

@@ -10,7 +10,7 @@ pub fn spelled_borders_are_read()
     ensures { SpelledBordersAreRead }
 {}
 
-/// A text is that of one border: of one region, connectivity and count by row, and of the same sides.
+/// A text is the text of one border: of one region, connectivity and count by row, and of the same sides.
 pub fn one_border_is_spelled()
     ensures { OneBorderIsSpelled }
 {}
@@ -25,8 +25,8 @@ pub fn borders_make_grids()
     ensures { BordersMakeGrids }
 {}
 
-/// If the tiles are those of a map, of whatever size, the texts are joined to the numbering of its clumps: each cell of each tile has
-/// in the full map the number that stands there for its own.
+/// If the tiles cut up a map, of whatever size, the texts are joined to the numbering of its clumps: each cell of a tile
+/// has in the full map the number that is there for its own.
 pub fn joined_borders_number()
     ensures { JoinedBordersNumber }
 {}

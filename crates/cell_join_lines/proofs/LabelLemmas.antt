@@ -1,4 +1,4 @@
--- What stands on lines before their counts, line by line.
+-- What is on lines before their counts, line by line.
 use Rattle.std.proofs.Common.{◌≡◌, ℕ, zero, suc, ◌+◌, ◌<◌, List, [], ◌∷◌, length, take, get_or}
 use Rattle.std.proofs.Common.{Bool, true, false, Option, Some, None, Result, Ok, Err, refl, ap, ◌∙◌, arith}
 use Rattle.std.proofs.Common.{cond, ◌==◌, nat_lt, MatchOption}
@@ -65,7 +65,7 @@ module _ (separator : ℕ) where
 -- ---- what lines have
 
 module _ (format : FormatValue) where
-  -- a line with others behind it
+  -- a line with others after it
   pub more-labelled : (line bytes : List ℕ) → labelled_in_lines format (line ∷ slice_split is_newline bytes)
       ≡ labelled_then format line (spelled_entry format line) (labelled_in format bytes)
   more-labelled line [] = refl

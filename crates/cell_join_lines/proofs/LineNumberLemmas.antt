@@ -1,4 +1,4 @@
--- The numbers of the lines that a text goes on with.
+-- The number of the line with which a text continues.
 use Rattle.std.proofs.Common.{◌≡◌, ◌≢◌, ℕ, ◌+◌, ◌-◌, ◌^◌, List, [], ◌∷◌, ◌++◌, length, min, Option, Some, None}
 use Rattle.std.proofs.Common.{refl, ap, sym, ◌∙◌, arith, option_map, append_assoc}
 use Rattle.cell_core_devices.specs.Device.{Coming}
@@ -25,7 +25,7 @@ module _ (format : FormatValue) where
   abbrev labelled_by : List ℕ → Combination × ℕ → Labelled
   labelled_by line entry = (entry.0, before_count format.separator line)
 
-  -- the line of a head, and those behind it
+  -- the line of a head, and those after it
   record HasHeadLine (head : Option (Combination × ℕ)) (line : List ℕ) (coming : Option Coming)
       (left : List Labelled) : Type 0 where
     own : Labelled

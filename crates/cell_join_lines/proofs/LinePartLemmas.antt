@@ -16,7 +16,7 @@ use Rattle.cell_join_lines.specs.declared.table_fault.TableKind.{TableKind}
 use Rattle.cell_join_lines.specs.declared.table_fault.TableKind.TheVariants.{LongLine, CutOff, Read}
 use Rattle.cell_join_lines.specs.declared.table_fault.TheConstants.{MOST_BYTES}
 
--- what is held behind a place
+-- what is held after a place
 pub passed-rest : (p : ℕ → Bool) (text : List ℕ) (at place : ℕ) → position_or_len p (drop at text) ≡ place → drop (at + (place + 1)) text ≡ after_first p (drop at text)
 passed-rest p text at place e = sym (drop-drop (place + 1) at text) ∙ ap (λ k. drop (k + 1) (drop at text)) (sym e)
 

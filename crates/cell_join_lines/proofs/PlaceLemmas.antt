@@ -1,4 +1,4 @@
--- Where a byte stands in a text, and how it cuts the text.
+-- Where a byte is in a text, and how it cuts the text.
 use Rattle.std.proofs.Common.{◌≡◌, ℕ, ◌<◌, List, [], ◌∷◌, length, Bool, true, false, Option, Some, None, refl, arith, ◌==◌, MatchOption}
 use Rattle.std.proofs.lemmas.List.Splits.{slice_split_none}
 use Rattle.std.proofs.lemmas.List.Sums.{position_or_len_is, fails_before_first}

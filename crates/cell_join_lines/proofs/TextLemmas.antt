@@ -35,7 +35,7 @@ module _ (format : FormatValue) (width number : ℕ) (last : Option Combination)
   abbrev pub one_line : Bool → List ℕ → List (List ℕ) → TableReading
   one_line fails line lines = cond (nat_lt MOST_BYTES (length line)) (stopped number LongLine) (then_reads number (next_entry format width last line) (λ entry. reading_of_lines format width fails (line_after number) (Some entry.0) lines))
 
-  -- a line with others behind it
+  -- a line with others after it
   pub more-lines : (fails : Bool) (line bytes : List ℕ) → by_lines fails (line ∷ slice_split is_newline bytes) ≡ one_line fails line (slice_split is_newline bytes)
   more-lines fails line [] = refl
   more-lines fails line (b ∷ bs) = by (is_newline b) (slice_split is_newline bs)
@@ -201,7 +201,7 @@ cut-end coming is = by (nat_lt MOST_BYTES (length (before_first is_newline comin
     by false false false true zero e = empty coming.bytes zero
     by false false false false zero e = cc
 
--- the bytes of a line that was read, and of those behind it
+-- the bytes of a line that was read, and of those after it
 pub line-bytes : (old : Option Coming) (new : LinesValue) → IsFirstLine old (Ok true) new
     → option_map (λ (c : Coming). c.bytes) old ≡ option_map (λ (rest : Coming). (new.line ++ 10 ∷ []) ++ rest.bytes)
     (lines_coming new)

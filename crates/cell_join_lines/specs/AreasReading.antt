@@ -1,4 +1,4 @@
--- How a numbering is read: the runs of its lines up to the first fault. A line is that of an entry of a table of three
+-- How a numbering is read: the runs of its lines up to the first error. A line is an entry of a table of three
 -- columns, tile, first and last, whose count is the number.
 use Rattle.std.specs.Prelude.{ℕ, ◌+◌, ◌==◌, nat_lt, Bool, pos, negsuc, slice_index_or, List, [], ◌∷◌, Option, Some, None, Result, Ok, Err, true, false, if◌then◌else◌, codes}
 use Rattle.std.specs.Option.{option_map}
@@ -22,7 +22,7 @@ use Rattle.cell_join_lines.specs.declared.areas_fault.AreasKind.TheVariants as a
 abbrev pub areas_format : FormatValue
 areas_format = record { separator = byte (codes " "); null_text = codes "*"; labels = false; counts = true }
 
--- what a fault of a table of three columns is of a numbering
+-- what an error of a table of three columns is of a numbering
 abbrev pub areas_kind : TableKind → AreasKind
 areas_kind table_kind.BadCell = areas_kinds.NotNumbers
 areas_kind table_kind.BadCount = areas_kinds.NotNumbers
@@ -67,19 +67,19 @@ stretch_if (Some band) (Some first) (Some last) number = Ok (record { band = ban
 abbrev pub stretch_of_entry : Combination × ℕ → Result Stretch AreasKind
 stretch_of_entry entry = stretch_if (number_in_column entry.0 0) (number_in_column entry.0 1) (number_in_column entry.0 2) entry.1
 
--- the first clump of a tile comes next, or the clump behind those of another run of it; a run that could continue the one before is accepted, since it says the same
+-- the first clump of a tile comes next, or the clump after the clumps of another run of it; a run that could continue the one before is accepted, since it says the same
 abbrev pub comes_next : Option Stretch → Stretch → Bool
 comes_next None s = s.first == 1
 comes_next (Some before) s = if before.band == s.band then s.first == before.last + 1 else s.first == 1
 
--- a run behind another one, if there is one
+-- a run after another one, if there is one
 abbrev pub in_sequence : Option Stretch → Stretch → Result Stretch AreasKind
 in_sequence before s = if nat_lt s.last s.first then Err areas_kinds.Reversed else (if comes_next before s then Ok s else Err areas_kinds.NotNext)
 
 abbrev pub next_stretch : Option Stretch → Combination × ℕ → Result Stretch AreasKind
 next_stretch before entry = stretch_of_entry entry >>= in_sequence before
 
--- what a numbering is read as: the runs before its first fault, and that fault; no count of tiles, since a tile without clumps has no line
+-- what a numbering is read as: the runs before its first error, and that error; no count of tiles, since a tile without clumps has no line
 pub record AreasReading : Type 0 where
   pub stretches : List Stretch
   pub fault : Option AreasFault
@@ -88,7 +88,7 @@ pub record AreasReading : Type 0 where
 abbrev pub areas_ended : AreasReading
 areas_ended = record { stretches = []; fault = None }
 
--- a fault of this line
+-- an error of this line
 abbrev pub areas_stopped : ℕ → AreasKind → AreasReading
 areas_stopped line kind = record { stretches = []; fault = Some (record { line = line; kind = kind }) }
 
@@ -96,12 +96,12 @@ areas_stopped line kind = record { stretches = []; fault = Some (record { line =
 abbrev pub with_stretch : Stretch → AreasReading → AreasReading
 with_stretch s others = record { stretches = s ∷ others.stretches; fault = others.fault }
 
--- a run or a fault, and what is read after the run
+-- a run or an error, and what is read after the run
 abbrev pub then_stretches : ℕ → Result Stretch AreasKind → (Stretch → AreasReading) → AreasReading
 then_stretches line (Err kind) more = areas_stopped line kind
 then_stretches line (Ok s) more = with_stretch s (more s)
 
--- entries, from this line on, behind a run, if there is one, and the fault behind them
+-- entries, from this line on, after a run, if there is one, and the error after them
 abbrev pub stretches_read : ℕ → Option Stretch → Pairs → Option TableFault → AreasReading
 stretches_read line before [] fault = record { stretches = []; fault = option_map areas_fault fault }
 stretches_read line before (entry ∷ entries) fault = then_stretches line (next_stretch before entry) (λ s. stretches_read (line_after line) (Some s) entries fault)

@@ -1,4 +1,4 @@
--- The numbers that the clumps of tiles have in the whole, as lines (profile).
+-- The numbers that the clumps of tiles have in the full map, as lines (profile).
 use Rattle.std.specs.Prelude.{ℕ, ◌≡◌, ◌+◌, ◌-◌, ◌==◌, length, sum, List, [], ◌∷◌, ◌++◌, flat_map, take, drop, codes, decimal, if◌then◌else◌}
 use Rattle.std.specs.List.{join_with_byte, range_with_len}
 use Rattle.cell_core_values.specs.Letters.{byte}
@@ -16,34 +16,34 @@ stretch_line s = join_with_byte (byte (codes " ")) (stretch_fields s) ++ codes "
 abbrev pub areas_text : List Stretch → List ℕ
 areas_text stretches = flat_map stretch_line stretches
 
--- the runs of a tile behind one that goes on: it takes the next clump in where the number is the next one
+-- the runs of a tile after one that continues: it takes the next clump in if its number is the next one
 abbrev pub stretches_behind : (band first last number previous : ℕ) → List ℕ → List Stretch
 stretches_behind band first last number previous [] = record { band = band; first = first; last = last; number = number } ∷ []
 stretches_behind band first last number previous (n ∷ ns) =
     if n == previous + 1 then stretches_behind band first (last + 1) number n ns
     else record { band = band; first = first; last = last; number = number } ∷ stretches_behind band (last + 1) (last + 1) n n ns
 
--- those of a tile whose clumps have these numbers
+-- the runs of a tile whose clumps have these numbers
 abbrev pub stretches_in : ℕ → List ℕ → List Stretch
 stretches_in band [] = []
 stretches_in band (n ∷ ns) = stretches_behind band 1 1 n n ns
 
--- those of tiles from one on, which have so many clumps
+-- the runs of tiles from one on, which have so many clumps
 abbrev pub stretches_from : ℕ → (areas numbers : List ℕ) → List Stretch
 stretches_from band [] numbers = []
 stretches_from band (count ∷ areas) numbers = stretches_in band (take count numbers) ++ stretches_from (band + 1) areas (drop count numbers)
 
--- those of all tiles
+-- the runs of all tiles
 abbrev pub stretches_of : (areas numbers : List ℕ) → List Stretch
 stretches_of areas numbers = stretches_from 1 areas numbers
 
--- the numbers that a run tells of, in order
+-- the numbers that a run shows, in order
 abbrev pub stretch_numbers : Stretch → List ℕ
 stretch_numbers s = range_with_len s.number (s.last + 1 - s.first)
 
 abbrev pub numbers_read : List Stretch → List ℕ
 numbers_read stretches = flat_map stretch_numbers stretches
 
--- the runs of tiles tell their numbers, where there is one for each clump
+-- the runs of tiles show their numbers, if there is one for each clump
 abbrev pub NumbersAreRead : Type 0
 NumbersAreRead = (areas numbers : List ℕ) → length numbers ≡ sum areas → numbers_read (stretches_of areas numbers) ≡ numbers

@@ -1,4 +1,4 @@
--- Formats whose lines can be read back: their fields can be told apart.
+-- Formats whose lines can be read back: their fields can be distinguished.
 use Rattle.std.specs.Prelude.{ℕ, Bool, ◌==◌, ◌&&◌, ◌||◌, not, codes, is_none}
 use Rattle.std.specs.List.{list_all}
 use Rattle.cell_core_values.specs.Digits.{is_digit}
@@ -11,7 +11,7 @@ use Rattle.cell_join_lines.specs.LineReading.{is_newline}
 abbrev pub is_clear_byte : ℕ → Bool
 is_clear_byte b = not (is_digit b || (b == byte (codes "-") || is_newline b))
 
--- a separator that stands in no field, nor in the label of null where labels are printed, and a null text that is no category
+-- a separator that is in no field, nor in the label of null where labels are printed, and a null text that is no category
 abbrev pub is_clear : FormatValue → Bool
 is_clear format =
     is_clear_byte format.separator

@@ -19,7 +19,7 @@ category_of_field field = option_and_then (λ n. if bytes_eq (signed_decimal n) 
 abbrev pub cell_of_field : List ℕ → List ℕ → Option CellValue
 cell_of_field null_text field = if bytes_eq field null_text then Some None else option_map Some (category_of_field field)
 
--- the value of digits, or the greatest number of 64 bits where it is greater
+-- the value of digits, or the largest number of 64 bits if it is larger
 abbrev pub capped_value : List ℕ → ℕ
 capped_value field = min (value_of_digits field) (2 ^ 64 - 1)
 
@@ -48,11 +48,11 @@ entry_of_fields null_text (field ∷ next ∷ fields) = cell_before (cell_of_fie
 abbrev pub entry_of_line : ℕ → List ℕ → List ℕ → Result (Combination × ℕ) TableKind
 entry_of_line separator null_text line = entry_of_fields null_text (slice_split (λ b. b == separator) line)
 
--- the cell of a field with a label behind it: null has no data (profile), and a category any label
+-- the cell of a field with a label after it: null has no data (profile), and a category any label
 abbrev pub labelled_cell : List ℕ → List ℕ → List ℕ → Option CellValue
 labelled_cell null_text field label = if bytes_eq field null_text then (if bytes_eq label (codes "no data") then Some None else None) else option_map Some (category_of_field field)
 
--- the entry of fields with labels: each cell has its label behind it, and the last field is a count
+-- the entry of fields with labels: each cell has its label after it, and the last field is a count
 abbrev pub entry_of_labelled : List ℕ → List (List ℕ) → Result (Combination × ℕ) TableKind
 entry_of_labelled null_text [] = Err BadCount
 entry_of_labelled null_text (field ∷ []) = with_count (count_of_field field)

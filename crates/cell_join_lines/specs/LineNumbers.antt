@@ -4,7 +4,7 @@ use Rattle.cell_stats.specs.TableText.{FormatValue}
 use Rattle.cell_join_lines.specs.LineLabels.{Labelled, labelled_from}
 use Rattle.cell_join_lines.specs.TextReading.{TextValue}
 
--- the line of this number among those of a text; from 2^64 - 2 on lines are not told apart
+-- the line of this number in a text; from 2^64 - 2 on lines are not distinguished
 pub record IsNumberedLine (lines : List Labelled) (number : ℕ) (line : Labelled) : Type 0 where
   pub before : List Labelled
   pub behind : List Labelled

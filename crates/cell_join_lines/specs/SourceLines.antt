@@ -17,11 +17,11 @@ pub record LinesValue : Type 0 where
   pub line : List ℕ
   pub heard : Heard
 
--- bytes, and then those of a source
+-- bytes, and then the bytes of a source
 abbrev pub held_before : List ℕ → Coming → Coming
 held_before bytes coming = record { bytes = bytes ++ coming.bytes; fails = coming.fails }
 
--- all that is to come behind the line, where it is known
+-- all that is to come after the line, if it is known
 abbrev pub lines_coming : LinesValue → Option Coming
 lines_coming lines = option_map (held_before lines.held) lines.rest
 
@@ -29,7 +29,7 @@ lines_coming lines = option_map (held_before lines.held) lines.rest
 abbrev pub HasEnded : Bool → Option Coming → Type 0
 HasEnded fails known = IfSome known (λ coming. (coming.bytes ≡ []) × (coming.fails ≡ fails))
 
--- the first line, without its line feed, and what comes behind it; or the end, or why there is neither
+-- the first line, without its line feed, and what comes after it; or the end, or why there is neither
 abbrev pub first_line : Coming → Result (Option (List ℕ × Coming)) TableKind
 first_line coming =
     if nat_lt MOST_BYTES (length (before_first is_newline coming.bytes)) then Err LongLine
@@ -37,7 +37,7 @@ first_line coming =
     else (if coming.fails then Err Read
     else (if length coming.bytes == 0 then Ok None else Err CutOff)))
 
--- what is reported of the first line: it was read, there is none, or a fault
+-- what is reported of the first line: it was read, there is none, or an error
 abbrev pub IsFirstLine : Option Coming → Result Bool TableKind → LinesValue → Type 0
 IsFirstLine old (Ok true) new = option_map first_line old ≡ option_map (λ rest. Ok (Some (new.line, rest))) (lines_coming new)
 IsFirstLine old (Ok false) new = option_map first_line old ≡ option_map (λ rest. Ok None) (lines_coming new)
@@ -48,7 +48,7 @@ abbrev pub IsPassed : LinesValue → Bool → LinesValue → Type 0
 IsPassed old true new = (position_or_len is_newline old.held ≢ length old.held) × (new.line ≡ old.line ++ before_first is_newline old.held) × (new.held ≡ after_first is_newline old.held)
 IsPassed old false new = (position_or_len is_newline old.held ≡ length old.held) × (new.line ≡ old.line ++ old.held) × (new.held ≡ [])
 
--- whether a fault says that the text cannot be read on
+-- whether an error says that the text cannot be read on
 abbrev pub is_read_fault : TableKind → Bool
 is_read_fault BadCell = false
 is_read_fault BadCount = false
@@ -60,7 +60,7 @@ is_read_fault CutOff = false
 is_read_fault Read = true
 is_read_fault Memory = false
 
--- whether an answer says so
+-- whether a result says so
 abbrev pub says_read : {X : Type 0} → Result X TableKind → Bool
 says_read (Ok x) = false
 says_read (Err kind) = is_read_fault kind

@@ -27,7 +27,7 @@ abbrev pub label_in : Labelling → ℕ → CellValue → List ℕ
 label_in labels column None = codes "no data"
 label_in labels column (Some category) = labels column category
 
--- cells from a column on, each with its label behind it
+-- cells from a column on, each with its label after it
 abbrev pub labelled_fields : List ℕ → Labelling → ℕ → Combination → List (List ℕ)
 labelled_fields null_text labels column [] = []
 labelled_fields null_text labels column (cell ∷ cells) = cell_text null_text cell ∷ label_in labels column cell ∷ labelled_fields null_text labels (column + 1) cells

@@ -7,7 +7,7 @@ use Rattle.cell_join_lines.specs.declared.stretch.Stretch.{Stretch}
 use Rattle.cell_join_lines.specs.declared.areas_fault.AreasFault.{AreasFault}
 use Rattle.cell_join_lines.specs.AreasReading.{AreasReading, areas_ended, areas_read, is_read_areas, with_stretch}
 
--- the run that was read last, the number of the line behind it, what is read behind it as a table, where that is known, and
+-- the run that was read last, the number of the line after it, what is read after it as a table, where that is known, and
 -- what was heard of the source
 pub record AreasTextValue : Type 0 where
   pub head : Option Stretch
@@ -15,7 +15,7 @@ pub record AreasTextValue : Type 0 where
   pub rest : Option TableReading
   pub heard : Heard
 
--- what is read behind the head
+-- what is read after the head
 abbrev pub areas_behind : AreasTextValue → Option AreasReading
 areas_behind text = option_map (areas_read text.line text.head) text.rest
 
@@ -27,7 +27,7 @@ areas_from_head text (Some s) = option_map (λ rest. with_stretch s (areas_read 
 abbrev pub areas_from : AreasTextValue → Option AreasReading
 areas_from text = areas_from_head text text.head
 
--- whether an answer says that the text cannot be read on
+-- whether a result says that the text cannot be read on
 abbrev pub says_read_areas : {X : Type 0} → Result X AreasFault → Bool
 says_read_areas (Ok x) = false
 says_read_areas (Err fault) = is_read_areas fault.kind

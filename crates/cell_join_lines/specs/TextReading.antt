@@ -10,8 +10,8 @@ use Rattle.cell_join_lines.specs.SourceLines.{is_read_fault}
 use Rattle.cell_join_lines.specs.declared.table_fault.TableFault.{TableFault}
 use Rattle.cell_join_lines.specs.LineReading.{TableReading, ended, reading_of_rest, with_entry}
 
--- how many cells each line has, or 0, the entry that was read last, its line, the number of the line behind it, what is to come
--- behind it, where that is known, and what was heard of the source
+-- how many cells each line has, or 0, the entry that was read last, its line, the number of the line after it, what is to come
+-- after it, where that is known, and what was heard of the source
 pub record TextValue : Type 0 where
   pub width : ℕ
   pub head : Option (Combination × ℕ)
@@ -24,7 +24,7 @@ pub record TextValue : Type 0 where
 abbrev pub combination_of : Option (Combination × ℕ) → Option Combination
 combination_of head = option_map (λ entry. entry.0) head
 
--- what is read behind the head, where the text is known
+-- what is read after the head, where the text is known
 abbrev pub reading_behind : FormatValue → TextValue → Option TableReading
 reading_behind format text = option_map (reading_of_rest format text.width text.number (combination_of text.head)) text.coming
 
@@ -36,12 +36,12 @@ reading_from_head format text (Some entry) = option_map (λ coming. with_entry e
 abbrev pub reading_from : FormatValue → TextValue → Option TableReading
 reading_from format text = reading_from_head format text text.head
 
--- bytes from a head's line on, and none where there is no head
+-- bytes from a head's line on, and none if there is no head
 abbrev pub bytes_from_head : Option (Combination × ℕ) → List ℕ → Coming → List ℕ
 bytes_from_head None line coming = []
 bytes_from_head (Some entry) line coming = (line ++ codes "\n") ++ coming.bytes
 
--- the bytes from the head's line on, and those behind it, where the text is known
+-- the bytes from the head's line on, and those after it, where the text is known
 abbrev pub bytes_from : TextValue → Option (List ℕ)
 bytes_from text = option_map (bytes_from_head text.head text.line) text.coming
 
@@ -52,7 +52,7 @@ bytes_behind text = option_map (λ coming. coming.bytes) text.coming
 abbrev pub IsSpelled : FormatValue → TextValue → Type 0
 IsSpelled format text = IfSome text.head (λ entry. spelled_entry format text.line ≡ Ok entry)
 
--- whether an answer says that the text cannot be read on
+-- whether a result says that the text cannot be read on
 abbrev pub says_read_fault : {X : Type 0} → Result X TableFault → Bool
 says_read_fault (Ok x) = false
 says_read_fault (Err fault) = is_read_fault fault.kind

@@ -29,12 +29,12 @@ pub enum AreasKind {
     /// The text cannot be read on.
     #[error("read failed")]
     Read,
-    /// Memory was refused.
+    /// Memory ran out.
     #[error("no memory")]
     Memory,
 }
 
-/// What is wrong, and the line, counted from 1; from 2^64 - 1 on lines are not told apart.
+/// What is wrong, and the line, counted from 1; from 2^64 - 1 on lines are not distinguished.
 #[derive(Clone, Copy, Debug, PartialEq, Eq, Error)]
 #[error("{line}: {kind}")]
 pub struct AreasFault {
@@ -42,7 +42,7 @@ pub struct AreasFault {
     pub kind: AreasKind,
 }
 
-// What a fault of a table of three columns is of a numbering.
+// What an error of a table of three columns is of a numbering.
 pub(crate) fn areas_kind(kind: TableKind) -> AreasKind
     ensures value { result ≡ areas_kind kind }
     ensures read { is_read_areas result ≡ is_read_fault kind }

@@ -14,14 +14,14 @@ fn is_clear_byte(byte: u8) -> bool
     !((b'0' <= byte && byte <= b'9') || (byte == b'-' || byte == b'\n'))
 }
 
-// Whether a byte stands nowhere in a text.
+// Whether a byte is nowhere in a text.
 fn is_without(text: &[u8], byte: u8) -> bool
     ensures { result ≡ list_all (λ b. not (b == byte)) text.now }
 {
     text.iter().all(|b| *b != byte)
 }
 
-/// Whether what is printed so can be read back: the separator stands in no field, nor in the label of null where labels are
+/// Whether what is printed so can be read back: the separator is in no field, nor in the label of null where labels are
 /// printed, and the null text is no category. With labels a blank is no separator that can be read back, since the label of null
 /// is `no data`.
 pub fn is_clear(format: &Format) -> bool

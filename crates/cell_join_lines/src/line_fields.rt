@@ -34,7 +34,7 @@ fn cell_of(null_text: &[u8], field: &[u8]) -> Option<Cell>
     }
 }
 
-// The value of digits, or the greatest number of 64 bits where it is greater.
+// The value of digits, or the largest number of 64 bits if it is larger.
 fn capped_value(field: &[u8]) -> u64
     ensures { result ≡ capped_value field.now }
 {
@@ -58,7 +58,7 @@ fn count_of(field: &[u8]) -> Option<u64>
     None
 }
 
-// The cell that is printed so with a label behind it.
+// The cell that is printed so with a label after it.
 fn labelled_cell_of(null_text: &[u8], field: &[u8], label: &[u8]) -> Option<Cell>
     ensures { result ≡ labelled_cell null_text.now field.now label.now }
 {
@@ -139,11 +139,11 @@ fn read_labelled_line(
 }
 
 /// The entry that a line spells, without its line feed: its cells are put in the place of those that are given, and its
-/// count is returned. Where labels are printed, each cell has one behind it.
+/// count is returned. Where labels are printed, each cell has one after it.
 ///
 /// # Errors
 ///
-/// The first field that is no cell or, at the end, no count; [`TableKind::Memory`] where memory is refused.
+/// The first field that is no cell or, at the end, no count; [`TableKind::Memory`] if memory runs out.
 pub fn read_line(format: &Format, line: &[u8], cells: &mut Vec<Cell>) -> Result<u64, TableKind>
     ensures ok { IfOk result
         (λ count. spelled_entry format.now line.now ≡ Ok (cells.new.items, count)) }

@@ -79,7 +79,7 @@ fn comes_next(before: Option<Stretch>, stretch: Stretch) -> bool
     }
 }
 
-// A run behind another one, if there is one.
+// A run after another one, if there is one.
 fn in_sequence(before: Option<Stretch>, stretch: Stretch) -> Result<Stretch, AreasKind>
     ensures { result ≡ in_sequence before stretch }
 {
@@ -92,7 +92,7 @@ fn in_sequence(before: Option<Stretch>, stretch: Stretch) -> Result<Stretch, Are
     Err(AreasKind::NotNext)
 }
 
-// The run that an entry spells behind another one; None where there is no entry.
+// The run that an entry spells after another one; None if there is no entry.
 fn stretch_of_head(
     before: Option<Stretch>,
     head: &Option<(Combo, u64)>,
@@ -111,7 +111,7 @@ fn stretch_of_head(
     }
 }
 
-// What a fault of a table is of a numbering.
+// What an error of a table is of a numbering.
 fn of_table(fault: TableFault) -> AreasFault
     ensures value { result ≡ areas_fault fault }
     ensures read { is_read_areas result.kind ≡ is_read_fault fault.kind }
@@ -122,7 +122,7 @@ fn of_table(fault: TableFault) -> AreasFault
     }
 }
 
-/// A numbering that is read as it goes: the run that was read last, and what is to come behind it.
+/// A numbering that is read as it goes: the run that was read last, and what is to come after it.
 #[derive(Drop)]
 pub struct AreasText<R: Source> {
     text: TableText<R>,
@@ -150,7 +150,7 @@ impl<R: Source> AreasText<R> {
     ///
     /// # Errors
     ///
-    /// The fault of the first line.
+    /// The error of the first line.
     pub fn begin(alloc: Global, source: R) -> Result<AreasText<R>, AreasFault>
     where
         R: Drop,
@@ -161,7 +161,7 @@ impl<R: Source> AreasText<R> {
         ensures line { IfOk result (λ areas. areas.line ≡ 2) }
         ensures sequence { IfOk result (λ areas. IfSome areas.head
             (λ stretch. in_sequence None stretch ≡ Ok stretch)) }
-        // The source is asked only while it goes on, and an `Err` of it is reported as Read: so far none was.
+        // The source is asked only while it continues, and an `Err` of it is reported as Read: so far none was.
         ensures heard { IfOk result (λ areas. areas.heard ≡ heard_first (R.asked source)) }
     {
         let text = match TableText::from_source(alloc, &areas_format(), 3, source) {
@@ -196,7 +196,7 @@ impl<R: Source> AreasText<R> {
     ///
     /// # Errors
     ///
-    /// The first fault of the text, after which it is not to be read on.
+    /// The first error of the text, after which it is not to be read on.
     pub fn next(&mut self, alloc: Global) -> Result<(), AreasFault>
         ensures read { OnOk result (areas_behind self.old ≡ areas_from self.new) }
         ensures fault { IfErr result (λ fault. fault.kind ≢ AreasKind.Memory → IfSome
@@ -204,7 +204,7 @@ impl<R: Source> AreasText<R> {
         ensures line { OnOk result (self.new.line ≡ line_after self.old.line) }
         ensures sequence { OnOk result (IfSome self.new.head
             (λ stretch. in_sequence self.old.head stretch ≡ Ok stretch)) }
-        // The source is asked only while it goes on, and an `Err` of it is reported as Read.
+        // The source is asked only while it continues, and an `Err` of it is reported as Read.
         ensures heard { self.new.heard ≡ hears (says_read_areas result) self.old.heard }
     {
         let line = self.line;

@@ -51,7 +51,7 @@ impl<R: Source> Lines<R> {
     ///
     /// # Errors
     ///
-    /// `Memory`, where memory is refused.
+    /// `Memory`, if memory runs out.
     pub fn new(alloc: Global, source: R) -> Result<Lines<R>, Memory>
     where
         R: Drop,
@@ -113,7 +113,7 @@ impl<R: Source> Lines<R> {
         Ok(0 < filled)
     }
 
-    // Adds the bytes held to the line, up to the first line feed, and tells whether there is one.
+    // Adds the bytes held to the line, up to the first line feed, and returns whether there is one.
     fn pass(&mut self) -> Result<bool, Memory>
         ensures passed { IfOk result (λ whole. IsPassed self.old whole self.new) }
         ensures rest { self.new.rest ≡ self.old.rest }
@@ -134,7 +134,7 @@ impl<R: Source> Lines<R> {
         }
     }
 
-    // Whether a text that has no more bytes ends behind a line feed.
+    // Whether a text that has no more bytes ends after a line feed.
     fn end(&self) -> Result<bool, TableKind>
         ensures { result ≡ (if length self.now.line == 0 then Ok false else Err TableKind.CutOff) }
     {
@@ -162,7 +162,7 @@ impl<R: Source> Lines<R> {
         Ok(true)
     }
 
-    /// Reads the next line, and tells whether there is one.
+    /// Reads the next line, and returns whether there is one.
     ///
     /// # Errors
     ///
@@ -170,7 +170,7 @@ impl<R: Source> Lines<R> {
     /// to be asked again.
     pub fn next_line(&mut self) -> Result<bool, TableKind>
         ensures first { IsFirstLine (lines_coming self.old) result self.new }
-        // The source is asked only while it goes on, and an `Err` of it is reported as Read.
+        // The source is asked only while it continues, and an `Err` of it is reported as Read.
         ensures heard { self.new.heard ≡ hears (says_read result) self.old.heard }
     {
         self.line.clear();

@@ -1,8 +1,8 @@
-//! Clumps of a tile whose numbers in the whole follow one another.
+//! Clumps of a tile whose numbers in the full map follow one another.
 
 ghost use Rattle.std.specs.Prelude.{◌≡◌, ◌==◌, ◌+◌};
 
-/// The clumps from one to another of a tile, which in the whole have a number, the one after it, and so on.
+/// The clumps from one to another of a tile, which in the full map have a number, the one after it, and so on.
 #[derive(Clone, Copy, Debug, PartialEq, Eq)]
 pub struct Stretch {
     /// The place of the tile, counted from 1.
@@ -11,7 +11,7 @@ pub struct Stretch {
     pub first: u64,
     /// The number of the last clump in its tile.
     pub last: u64,
-    /// The number of the first clump in the whole.
+    /// The number of the first clump in the full map.
     pub number: u64,
 }
 

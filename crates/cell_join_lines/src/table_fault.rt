@@ -2,7 +2,7 @@
 
 use thiserror::Error;
 
-/// The greatest number of bytes of a line, without its line feed.
+/// The largest number of bytes of a line, without its line feed.
 pub const MOST_BYTES: usize = 4096;
 
 /// What is wrong with the text of a table.
@@ -20,7 +20,7 @@ pub enum TableKind {
     /// The combination of the line before it.
     #[error("combination listed twice")]
     ListedTwice,
-    /// A combination that comes before that of the line before it.
+    /// A combination that comes before the combination of the line before it.
     #[error("combination out of order")]
     OutOfOrder,
     /// More than [`MOST_BYTES`] bytes.
@@ -32,12 +32,12 @@ pub enum TableKind {
     /// The text cannot be read on.
     #[error("read failed")]
     Read,
-    /// Memory was refused.
+    /// Memory ran out.
     #[error("no memory")]
     Memory,
 }
 
-/// What is wrong, and the line, counted from 1; from 2^64 - 1 on lines are not told apart.
+/// What is wrong, and the line, counted from 1; from 2^64 - 1 on lines are not distinguished.
 #[derive(Clone, Copy, Debug, PartialEq, Eq, Error)]
 #[error("{line}: {kind}")]
 pub struct TableFault {

@@ -189,14 +189,14 @@ module _ (j : Joining) (m : Grid) (starts : List Position) (label_of : Position 
         (λ no'. subst (AllPairs IsEarlierCell) (sym (firsts-same start table n no')) (in-order-below n (omega (arith, le))))
         (cases_Bool (is_open table n))
 
-    -- a first cell is that of its own open label
+    -- a first cell is the first cell of its own open label
     first-own : (p : Position) → IsFirst j m p → label_of p ≡ f (label_of p)
     first-own p first =
         let below = low p first.category in
         let in_table = inside p first.category in
         ap label_of (sym (first-is p first)) ∙ label-own (f (label_of p)) (omega (arith, below, in_table))
 
-    -- the number of a cell is that of its label
+    -- the number of a cell is the number of its label
     pub has-number : (p : Position) → IsSome (cell_at_position m p)
         → HasNumber j m p (label_number table (f (label_of p)))
     has-number p some =

@@ -81,7 +81,7 @@ rises found order i j le within =
     omega (arith, same))
     (cases_lt i j)
 
--- it was found, or the place is the one where it would stand
+-- it was found, or the place is the one where it would be
 pub place-found : (found : List ℕ) (label : ℕ) → AllPairs ◌<◌ found → (i : ℕ)
     → IsBinarySearchResult (λ y. nat_cmp y label) found (Ok i)
     → i ≡ labels_before found label

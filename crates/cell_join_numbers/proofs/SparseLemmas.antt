@@ -1,4 +1,4 @@
--- A table of the labels that touch a cut tells the numbers of all labels.
+-- A table of the labels that touch a cut shows the numbers of all labels.
 use Rattle.std.proofs.Common.{◌≡◌, ℕ, zero, suc, ◌+◌, ◌-◌, ◌<◌, ◌≤◌, List, [], ◌∷◌, map, length, get_or, set, Bool}
 use Rattle.std.proofs.Common.{true}
 use Rattle.std.proofs.Common.{false, eqb, max, min, refl, ap, sym, ◌∙◌, arith, subst, ⊎_elim, eq-eqb, eqb-true}
@@ -139,7 +139,7 @@ first-table n = record {
     own : (k : ℕ) → k < n → get_or (range_with_len 0 n) k 0 ≡ k
     own k lt = let is = get_or-range_with_len 0 n k 0 lt in omega (arith, is)
 
--- some table tells where labels lead to once those of each pair were joined
+-- some table shows where labels lead to once the labels of each pair were joined
 record HasTable (n : ℕ) (f : ℕ → ℕ) : Type 0 where
   table : List ℕ
   long : length table ≡ n
@@ -303,7 +303,7 @@ module _ (n : ℕ) (pairs : List (ℕ × ℕ)) (ts sparse : List ℕ) (touching 
             ap (λ (k : ℕ). length (open_below sparse k)) next in
             omega (arith, open-step full l, one, there, next, before, few-before ts touching.in_order l)
 
-    -- the number of a label is that of the open one that it leads to
+    -- the number of a label is the number of the open label that it leads to
     number-of-label : (l : ℕ) → l < n → label_number full (full_leads l) ≡ sparse_number pairs ts sparse l
     number-of-label l within =
         let in_full : l < length full = omega (arith, within, long) in

@@ -1,4 +1,4 @@
--- Labels of those areas of tiles alone that touch a cut: the others need none, and all numbers in the whole follow.
+-- Labels of those areas of tiles alone that touch a cut: the others need none, and all numbers in the full map follow.
 use Rattle.std.specs.Prelude.{ℕ, Bool, ◌+◌, ◌-◌, ◌<◌, ◌≡◌, List, length, map, All, Contains, count_by}
 use Rattle.std.specs.Prelude.{nat_eq, nat_lt, slice_index, IsSome, if◌then◌else◌}
 use Rattle.std.specs.List.{AllPairs, list_any}
@@ -24,7 +24,7 @@ labels_before touching label = count_by (λ l. nat_lt l label) touching
 abbrev pub pair_places : List ℕ → ℕ × ℕ → ℕ × ℕ
 pair_places touching pair = (labels_before touching pair.0, labels_before touching pair.1)
 
--- where places lead to, once those of each pair were joined
+-- where places lead to, once the places of each pair were joined
 abbrev pub joined_places : List ℕ → List (ℕ × ℕ) → ℕ → ℕ
 joined_places touching pairs = after_all (λ k. k) (map (pair_places touching) pairs)
 
@@ -58,7 +58,7 @@ sparse_number pairs touching table label = number_among touching table (label_le
 abbrev pub sparse_areas : ℕ → (touching table : List ℕ) → ℕ
 sparse_areas labels touching table = (labels - length touching) + length (open_below table (length table))
 
--- the number of the label at a place, by that of the place among the places: as many more as come before the label
+-- the number of the label at a place, by the number of the place among the places: as many more as come before the label
 -- that it leads to and are none of them
 abbrev pub SparsePlacesNumber : Type 0
 SparsePlacesNumber = (labels : ℕ) (pairs : List (ℕ × ℕ)) (touching table : List ℕ)

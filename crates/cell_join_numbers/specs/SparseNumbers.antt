@@ -29,7 +29,7 @@ pub record AreInPlaces (paired numbers roots : List ℕ) : Type 0 where
   pub low : (place : ℕ) → place < length paired → slice_index numbers place ≤ slice_index paired place
   pub few : (place : ℕ) → place ≤ length paired → slice_index roots place ≤ place
 
--- a number for each label, from 1: that of a label that is not paired is how many others like it come before it, and how many
+-- a number for each label, from 1: for a label that is not paired it is how many others like it come before it, and how many
 -- roots, and one
 pub record AreNumbersOf (number : ℕ → ℕ) (paired numbers roots : List ℕ) : Type 0 where
   pub at : (place : ℕ) → place < length paired → slice_index numbers place + 1 ≡ number (slice_index paired place)

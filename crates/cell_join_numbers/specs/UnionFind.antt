@@ -2,16 +2,16 @@
 use Rattle.std.specs.Prelude.{ℕ, ◌≤◌, ◌≡◌, List, [], ◌∷◌, length}
 use Rattle.cell_cats_areas.specs.parts.Labels.{LeadsToOpen, after_join}
 
--- a function tells which open label each label leads to, and a label that the table does not have leads to itself
+-- a function shows which open label each label leads to, and a label that the table does not have leads to itself
 pub record LeadTo (table : List ℕ) (open_of : ℕ → ℕ) : Type 0 where
   pub reports : LeadsToOpen table open_of
   pub beyond : (k : ℕ) → length table ≤ k → open_of k ≡ k
 
--- whatever tells where labels led tells it still
+-- whatever shows where labels led shows it still
 abbrev pub Keeps : (old new : List ℕ) → Type 0
 Keeps old new = (open_of : ℕ → ℕ) → LeadTo old open_of → LeadTo new open_of
 
--- what labels lead to once those of each pair were joined, one pair after another
+-- what labels lead to once the labels of each pair were joined, one pair after another
 abbrev pub after_all : (ℕ → ℕ) → List (ℕ × ℕ) → ℕ → ℕ
 after_all open_of [] = open_of
 after_all open_of (pair ∷ pairs) = after_all (after_join open_of pair.0 pair.1) pairs

@@ -8,7 +8,7 @@
 //! - `sparse`: the labels of pairs, each once and in order; `place_of`, how many come before a
 //!   label
 //! - `union_find`: the nodes of these labels, and uniting two of them
-//! - `law`: `sparse_labels_number`, the numbers are those of the clumps of the full map
+//! - `law`: `sparse_labels_number`, the numbers are the numbers of the clumps of the full map
 //!
 //! It is tested through `cell_join_tiles`.
 #![tactic(auto)]

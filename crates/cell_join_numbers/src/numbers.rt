@@ -22,7 +22,7 @@ pub struct SparseNumbers {
     pub roots: Vec<u64>,
 }
 
-// Numbers the label at a place: a root has the number after those before it, another that of the node that it points to.
+// Numbers the label at a place: a root has the number after those before it, another the number of the node it points to.
 // Returns how many roots there are up to it.
 fn number_place(table: &mut [u64], paired: &[u64], place: usize, count: u64) -> u64
     requires in_order { AllPairs ◌<◌ paired.now }
@@ -72,8 +72,8 @@ fn number_places(alloc: Global, table: &mut [u64], paired: &[u64]) -> Result<Vec
     Ok(roots)
 }
 
-/// The numbers in the full map of labels that are paired so. The labels are those of the clumps of tiles that cover the map,
-/// from 0 on in the order of their first cells; the pairs are those of the cells of one category that meet at the seams.
+/// The numbers in the full map of labels that are paired so. The labels stand for the clumps of tiles that cover it,
+/// from 0 on in the order of their first cells; the pairs for the cells of one category that meet at the seams.
 ///
 /// It takes 16 bytes for each label of a pair while it works, and 24 for each that is paired.
 ///

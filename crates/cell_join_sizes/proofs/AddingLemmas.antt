@@ -128,7 +128,7 @@ module _ {R : Type 0} (coming : R → Option Coming) (format : FormatValue) (tex
             same ∙ ap (λ (l : List Stretch). record { stretches = l; fault = None })
             (append-nil (stretches_of_parts so.parts))
 
-    -- as the text tells them
+    -- as the text shows them
     abbrev pub numbers : List ℕ
     numbers = numbers_read (areas_reading_of text).stretches
 

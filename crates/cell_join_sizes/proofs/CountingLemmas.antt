@@ -1,4 +1,4 @@
--- A table read entry by entry beside the runs of its tile.
+-- A table read entry by entry along with the runs of its tile.
 use Rattle.std.proofs.Common.{◌≡◌, ℕ, ◌+◌, ◌^◌, ◌<◌, ◌≤◌, List, [], ◌∷◌, ◌++◌, length, take, drop, Option, Some, None, false, refl, ap, sym, ◌∙◌, subst, zero, suc, arith, add-one, append-nil, append_assoc, length-append, length-drop, option_map}
 use Rattle.std.specs.Prelude.{IfSome, is_some}
 use Rattle.std.specs.List.{range_with_len}
@@ -21,9 +21,9 @@ use Rattle.cell_join_sizes.specs.parts.Tally.{Tallies}
 use Rattle.cell_join_sizes.specs.parts.Counting.{HasCountedAreas, HasCountedBand, HasReadBand, IsHeadOfNull, IsLeftOver, area_entry, with_entries, with_stretches}
 use Rattle.cell_join_sizes.proofs.TallyLemmas.{tallies-none, tallies-then}
 
--- ---- what is read behind a head
+-- ---- what is read after a head
 
--- a table with a head is read as its entry, and then what is behind it
+-- a table with a head is read as its entry, and then what is after it
 pub head-first : (format : FormatValue) (text : TextValue) (entry : Combination × ℕ) → text.head ≡ Some entry
     → reading_from format text ≡ option_map (with_entries (entry ∷ [])) (reading_behind format text)
 head-first format text entry is =
@@ -53,7 +53,7 @@ pub stretch-first : (text : HeldValue) (s : Stretch) → text.head ≡ Some s
     → held_from text ≡ option_map (with_stretches (s ∷ [])) (held_behind text)
 stretch-first text s is = ap (held_from_head text) is
 
--- ---- one list behind another
+-- ---- one list after another
 
 with-both : (a b : Pairs) (o : Option TableReading) → option_map (with_entries a)
     (option_map (with_entries b) o) ≡ option_map (with_entries (a ++ b)) o

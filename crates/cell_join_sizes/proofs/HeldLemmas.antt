@@ -65,7 +65,7 @@ pub last-push : (before : Option Stretch) (stretches : List Stretch) (s : Stretc
 last-push before [] s = refl
 last-push before (x ∷ xs) s = last-push (Some x) xs s
 
--- the first of them, and the one behind that at a place
+-- the first of them, and the one after that at a place
 pub sequence-first : (stretches : List Stretch) → AreInSequence None stretches
     → IfSome (slice_get stretches 0) (λ s. in_sequence None s ≡ Ok s)
 sequence-first [] all = tt
@@ -112,7 +112,7 @@ within-at stretches place some = by (slice_get stretches place) refl some
 
 -- ---- numbers beyond the count
 
--- of the runs before a place none tells a number above the count
+-- of the runs before a place none shows a number above the count
 abbrev pub NoneBeyond : List Stretch → (count place : ℕ) → Type 0
 NoneBeyond stretches count place = (i : ℕ) (other : Stretch) → i < place → slice_get stretches i ≡ Some other
     → last_number other ≤ count

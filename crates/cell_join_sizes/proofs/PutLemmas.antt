@@ -108,14 +108,14 @@ put-none format areas tables before TooLong not = (refl, refl)
 put-none format areas tables before Memory not = (refl, refl)
 put-none format areas tables before Write not = absurd (not refl)
 
--- a fault of putting says nothing of the texts
+-- an error of putting says nothing of the texts
 pub put-fault : (areas : AreasReading) (tables : List TableReading) (P : SizesFault → Type 0)
     (fault : Option SizesFault) → IfSome fault (λ f. (f ≡ Write) × P f)
     → IfSome fault (IsSizesFault areas tables)
 put-fault areas tables P None is = tt
 put-fault areas tables P (Some f) is = subst (IsSizesFault areas tables) (sym is.0) tt
 
--- no other fault comes after the first write
+-- no other error comes after the first write
 pub only-write : (X : Type 0) (P : SizesFault → Type 0) (fault : Option SizesFault) → IfSome fault (λ f. (f ≡ Write) × P f)
     → IfSome fault (λ f. f ≢ Write → X)
 only-write X P None is = tt

@@ -144,7 +144,7 @@ module _ (place line : ℕ) (s : Stretch) (sizes : List ℕ) (own : s.band ≡ p
   tally-fault area size number tally_faults.Memory fault more is own_number entry why reported = subst (IsFaultAt here)
       (sym reported) tt
 
--- the next line of a table has a fault
+-- the next line of a table has an error
 pub table-fault : (place : ReadingPlace) (fault : TableFault) (reported : SizesFault)
     → ReportsTableFault place.table fault reported → IsReadOn place.areas.stretches place.areas.fault
     → (fault.kind ≢ table_kinds.Memory → place.left ≡ stopped fault.line fault.kind) → IsFaultAt place reported
@@ -262,9 +262,9 @@ pub too-long : (stretches : List Stretch) (line : ℕ) → line ≡ 2 ^ 64 - 2 �
 too-long [] line is = is
 too-long (s ∷ stretches) line is = inr is
 
--- ---- behind all areas of a band
+-- ---- after all areas of a band
 
--- what is read behind a head
+-- what is read after a head
 record IsBehindHead (format : FormatValue) (text : TextValue) (entry : Combination × ℕ)
     (r : TableReading) : Type 0 where
   behind : TableReading
@@ -288,7 +288,7 @@ known-reading : (o : Option TableReading) (P : TableReading → Type 0) → ((r 
 known-reading None P all = tt
 known-reading (Some r) P all = all r refl
 
--- an entry that is not that of null
+-- an entry that is not the entry of null
 pub stopped-other : (format : FormatValue) (text : TextValue) (place line : ℕ) (entry : Combination × ℕ)
     → text.head ≡ Some entry → entry.0 ≢ None ∷ []
     → IfSome (reading_from format text) (λ reading. HasStoppedAtEnd place line reading (OtherArea place line))
@@ -310,7 +310,7 @@ stopped-other format text place line entry head not =
       }),
     ))
 
--- an entry behind that of null
+-- an entry after the entry of null
 pub stopped-more : (format : FormatValue) (text next : TextValue) (place line : ℕ) (null entry : Combination × ℕ)
     → text.head ≡ Some null → null.0 ≡ None ∷ []
     → reading_behind format text ≡ reading_from format next → next.head ≡ Some entry

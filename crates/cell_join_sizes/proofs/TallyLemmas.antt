@@ -10,7 +10,7 @@ use Rattle.cell_join_sizes.specs.Sizes.{size_for, size_of_area}
 use Rattle.cell_join_sizes.specs.SizeTexts.{HasSums}
 use Rattle.cell_join_sizes.specs.parts.Tally.{Tallies}
 
--- ---- the sizes of a number, one list behind another
+-- ---- the sizes of a number, one list after another
 
 pub size-behind : (n : ℕ) (numbers sizes more more_sizes : List ℕ) → length sizes ≡ length numbers
     → size_of_area n (numbers ++ more) (sizes ++ more_sizes) ≡ size_of_area n numbers sizes + size_of_area n more
@@ -65,7 +65,7 @@ reported-with-size n (number ∷ numbers) (size ∷ sizes) some =
         let rest = others (omega (arith, some, ap (λ (b : Bool). cond b size 0) no)) in
         (suc rest.0, omega (arith, rest.1), rest.2)
 
--- ---- zeros behind sizes
+-- ---- zeros after sizes
 
 abbrev pub zeros : ℕ → List ℕ
 zeros count = replicate count 0
@@ -87,7 +87,7 @@ read-padded sizes count n =
     (λ beyond. get_or-append_right sizes (zeros count) (length sizes) n 0 refl beyond
     ∙ read-zeros count (n - length sizes) ∙ sym (read-beyond sizes n beyond)) (cases_lt n (length sizes))
 
--- ---- nothing added, and one behind another
+-- ---- nothing added, and one after another
 
 pub sums-none : HasSums [] [] []
 sums-none = record {
@@ -143,7 +143,7 @@ module _ (numbers sizes old : List ℕ) (has : HasSums numbers sizes old) (numbe
       (All-weaker (IsIn (length old)) (λ (k : ℕ). k < n + 1) (λ k is. omega arith) numbers has.within)))
       (cases_lt n (length old))
 
-  -- of a number beyond them, behind zeros
+  -- of a number beyond them, after zeros
   module _ (more : ℕ) (beyond : number ≡ length old + more + 1) where
     abbrev padded : List ℕ
     padded = old ++ zeros more

@@ -16,7 +16,7 @@ use Rattle.cell_join_sizes.specs.declared.size_fault.SizesFault.TheVariants.{Are
 -- ---- how far they are read
 
 -- what of the numbering is not counted yet, from this line on; what of the table in a place is not counted yet, from this line on;
--- the sizes of the clumps that are counted of the next run; and the sizes in the whole of all that are counted
+-- the sizes of the clumps that are counted of the next run; and the sizes in the full map of all that are counted
 pub record ReadingPlace : Type 0 where
   pub areas : AreasReading
   pub areas_line : ℕ
@@ -26,7 +26,7 @@ pub record ReadingPlace : Type 0 where
   pub counted : List ℕ
   pub sizes : List ℕ
 
--- the line of a numbering behind so many; from 2^64 - 2 on they are not told apart
+-- the line of a numbering after so many; from 2^64 - 2 on they are not distinguished
 abbrev pub areas_line_behind : ℕ → ℕ
 areas_line_behind count = min (count + 1) (2 ^ 64 - 2)
 
@@ -45,8 +45,8 @@ AreOfNextStretch band [] stretches = Unit {0}
 AreOfNextStretch band (size ∷ counted) [] = ⊥
 AreOfNextStretch band (size ∷ counted) (s ∷ stretches) = (s.band ≡ band) × (length (size ∷ counted) ≤ stretch_areas s)
 
--- up to here nothing is wrong: the tables before are those of their tiles, this one begins with the entries of the clumps of runs
--- of its tile, and of the first clumps of the next; and the sizes of all of these are added up by the numbers that the text tells
+-- up to here nothing is wrong: the tables before belong to their tiles, this one begins with the entries of the clumps of runs
+-- of its tile, and of the first clumps of the next; and the sizes of all of these are added up by the numbers that the text shows
 pub record AreReadTo (areas : AreasReading) (tables : List TableReading) (place : ReadingPlace) : Type 0 where
   pub before : List TableReading
   pub table : TableReading
@@ -70,17 +70,17 @@ pub record AreReadTo (areas : AreasReading) (tables : List TableReading) (place 
 
 -- ---- what comes next
 
--- no fault comes next: lines without one, or the end
+-- no error comes next: lines without one, or the end
 abbrev pub IsReadOn : {X F : Type 0} → List X → Option F → Type 0
 IsReadOn [] fault = fault ≡ None
 IsReadOn (x ∷ xs) fault = Unit {0}
 
--- the next clump of the tile, and its number in the whole
+-- the next clump of the tile, and its number in the full map
 abbrev pub IsNextArea : (band count : ℕ) → List Stretch → (area number : ℕ) → Type 0
 IsNextArea band count [] area number = ⊥
 IsNextArea band count (s ∷ stretches) area number = (s.band ≡ band) × (count < stretch_areas s) × (area ≡ s.first + count) × (number ≡ s.number + count)
 
--- no clump of the tile comes next: the text ends here, or goes on with another tile
+-- no clump of the tile comes next: the text ends here, or continues with another tile
 abbrev pub IsBandOver : ℕ → List Stretch → Option AreasFault → Type 0
 IsBandOver band [] fault = fault ≡ None
 IsBandOver band (s ∷ stretches) fault = s.band ≢ band
@@ -97,7 +97,7 @@ IsOtherEntry area (entry ∷ entries) fault = entry.0 ≢ Some (pos area) ∷ []
 
 -- ---- what is wrong there
 
--- the table does not go on with the entry of the next clump
+-- the table does not continue with the entry of the next clump
 pub record HasOtherArea (place : ReadingPlace) (line : ℕ) : Type 0 where
   pub area : ℕ
   pub number : ℕ
@@ -105,7 +105,7 @@ pub record HasOtherArea (place : ReadingPlace) (line : ℕ) : Type 0 where
   pub other : IsOtherEntry area place.left.entries place.left.fault
   pub at : line ≡ place.table_line
 
--- all clumps of the tile are counted, and the table has an entry more, which is not the one of null behind them
+-- all clumps of the tile are counted, and the table has an entry more, which is not the entry of null after them
 pub record HasEntryMore (place : ReadingPlace) (line : ℕ) : Type 0 where
   pub over : IsBandOver (place.table + 1) place.areas.stretches place.areas.fault
   pub none : place.counted ≡ []
@@ -117,13 +117,13 @@ pub record HasEntryMore (place : ReadingPlace) (line : ℕ) : Type 0 where
   pub most : nulls ≡ [] → entry.0 ≢ None ∷ []
   pub at : line ≡ place.table_line + length nulls
 
--- the next line of the table has a fault, or that behind the entry of null where all clumps of the tile are counted
+-- the next line of the table has an error, or that after the entry of null where all clumps of the tile are counted
 pub record HasTableFault (place : ReadingPlace) (fault : TableFault) : Type 0 where
   pub on : IsReadOn place.areas.stretches place.areas.fault
   pub fault_is : place.left.fault ≡ Some fault
   pub behind : (place.left.entries ≡ []) ⊎ (IsNullEntry place.left.entries × IsBandOver (place.table + 1) place.areas.stretches place.areas.fault × place.counted ≡ [])
 
--- the next clump has its entry, but with its size that of its number comes to 2^64 or more
+-- the next clump has its entry, but with its size the size of its number comes to 2^64 or more
 pub record HasSumTooGreat (place : ReadingPlace) (number : ℕ) : Type 0 where
   pub area : ℕ
   pub next : IsNextArea (place.table + 1) (length place.counted) place.areas.stretches area number
@@ -149,7 +149,7 @@ IsFaultAt place TooLong = IsTooLong place.areas.stretches place.areas_line
 IsFaultAt place Memory = Unit {0}
 IsFaultAt place Write = ⊥
 
--- ---- the first fault
+-- ---- the first error
 
 -- nothing is wrong up to a place, and that is wrong there
 pub record IsFirstSizesFault (areas : AreasReading) (tables : List TableReading) (fault : SizesFault) : Type 0 where
@@ -157,8 +157,8 @@ pub record IsFirstSizesFault (areas : AreasReading) (tables : List TableReading)
   pub read : AreReadTo areas tables place
   pub wrong : IsFaultAt place fault
 
--- all tables are those of their tiles, behind which these runs of the numbering are left; and the sizes of all clumps of
--- these tiles are added up by the numbers that the text tells
+-- all tables belong to their tiles, after which these runs of the numbering are left; and the sizes of all clumps of
+-- these tiles are added up by the numbers that the text shows
 pub record AreAllRead (areas : AreasReading) (tables : List TableReading) (left : List Stretch) : Type 0 where
   pub parts : List BandSizes
   pub good : AreTablesOfBands 1 parts tables
@@ -166,7 +166,7 @@ pub record AreAllRead (areas : AreasReading) (tables : List TableReading) (left 
   pub sizes : List ℕ
   pub sums : HasSums (numbers_read (stretches_of_parts parts)) (sizes_of_parts parts) sizes
 
--- all tables are read, and the numbering goes on with a run of another tile than the last of them
+-- all tables are read, and the numbering continues with a run of another tile than the last of them
 pub record HasNoTable (areas : AreasReading) (tables : List TableReading) (line : ℕ) : Type 0 where
   pub stretch : Stretch
   pub others : List Stretch
@@ -174,7 +174,7 @@ pub record HasNoTable (areas : AreasReading) (tables : List TableReading) (line 
   pub other : 0 < length tables → stretch.band ≢ length tables
   pub at : line ≡ areas_line_behind (length (stretches_of_parts read.parts))
 
--- all tables are read, and the numbering ends there; this number, below the greatest, is that of no clump, and each before it of one
+-- all tables are read, and the numbering ends there; this number, below the largest, belongs to no clump, and each before it to one
 pub record HasNumberLeftOut (areas : AreasReading) (tables : List TableReading) (number : ℕ) : Type 0 where
   pub read : AreAllRead areas tables []
   pub ended : areas.fault ≡ None
@@ -190,7 +190,7 @@ listed_count stretches = sum_by stretch_areas stretches
 abbrev pub last_number : Stretch → ℕ
 last_number s = s.number + (s.last - s.first)
 
--- the run of this line tells a number above the count of all clumps that are listed, and none before it does
+-- the run of this line shows a number above the count of all clumps that are listed, and none before it does
 pub record IsLineBeyond (stretches : List Stretch) (line : ℕ) : Type 0 where
   pub place : ℕ
   pub stretch : Stretch

@@ -62,20 +62,20 @@ AreTablesOfBands band [] [] = Unit {0}
 AreTablesOfBands band (part ∷ parts) (reading ∷ readings) = IsTableOfBand band part reading × AreTablesOfBands (band + 1) parts readings
 AreTablesOfBands band parts readings = ⊥
 
--- as many sizes as numbers were added up, for each number up to the greatest of these
+-- as many sizes as numbers were added up, for each number up to the largest of these
 pub record HasSums (numbers sizes whole : List ℕ) : Type 0 where
   pub same : length sizes ≡ length numbers
   pub adds : AddUp numbers sizes (length whole) whole
   pub within : All (λ n. (0 < n) × (n ≤ length whole)) numbers
   pub greatest : 0 < length whole → Contains numbers (length whole)
 
--- as many sizes as numbers were added up, and each number up to the greatest is one of these
+-- as many sizes as numbers were added up, and each number up to the largest is one of these
 pub record HasTally (numbers sizes whole : List ℕ) : Type 0 where
   pub sums : HasSums numbers sizes whole
   pub each : (n : ℕ) → n < length whole → Contains numbers (n + 1)
 
 -- a numbering to its end, and a table for each of its tiles: the sizes of the clumps of all tiles, added up by the numbers that the text
--- tells, each up to the greatest
+-- shows, each up to the largest
 pub record HaveSizes (areas : AreasReading) (tables : List TableReading) (sizes : List ℕ) : Type 0 where
   pub whole : areas.fault ≡ None
   pub parts : List BandSizes

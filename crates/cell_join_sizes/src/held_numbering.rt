@@ -1,4 +1,4 @@
-//! A numbering that is held in memory: its runs, which are read one after the other beside the tables.
+//! A numbering that is held in memory: its runs, which are read one after the other along with the tables.
 
 ghost use Rattle.std.specs.Prelude.{◌≡◌, ◌≢◌, ◌≤◌, ◌^◌, ◌-◌, nat_lt, None, Ok, Some, IfErr, IfOk, IfSome, IsSome, MatchOption};
 ghost use Rattle.cell_join_lines.specs.AreasReading.{areas_reading_of, in_sequence};
@@ -14,7 +14,7 @@ use cell_join_lines::stretch::Stretch;
 use std::alloc::Global;
 use std::marker::Model;
 
-// How many clumps a run has; None where there are 2^64 or more.
+// How many clumps a run has; None if there are 2^64 or more.
 fn areas_of(stretch: Stretch) -> Option<u64>
     ensures { MatchOption result (2 ^ 64 ≤ stretch_areas stretch)
         (λ count. count ≡ stretch_areas stretch) }
@@ -25,7 +25,7 @@ fn areas_of(stretch: Stretch) -> Option<u64>
     (stretch.last - stretch.first).checked_add(1)
 }
 
-// How many clumps all runs have; None where there are 2^64 or more.
+// How many clumps all runs have; None if there are 2^64 or more.
 fn count_areas(stretches: &[Stretch]) -> Option<u64>
     ensures { MatchOption result (2 ^ 64 ≤ listed_count stretches.now)
         (λ count. count ≡ listed_count stretches.now) }
@@ -68,12 +68,12 @@ fn first_beyond(stretches: &[Stretch], count: u64) -> Option<usize>
     None
 }
 
-/// The runs of a numbering, of which one is read now, and those behind it.
+/// The runs of a numbering, of which one is read now, and those after it.
 #[derive(Drop)]
 pub(crate) struct HeldNumbering {
     stretches: Vec<Stretch>,
     at: usize,
-    // The number of the line behind the run that is read now.
+    // The number of the line after the run that is read now.
     line: u64,
 }
 
@@ -98,7 +98,7 @@ impl HeldNumbering {
     ///
     /// # Errors
     ///
-    /// The first fault of the text.
+    /// The first error of the text.
     pub(crate) fn read<R: Source + Drop>(
         alloc: Global,
         source: R,

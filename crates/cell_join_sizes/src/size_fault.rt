@@ -6,23 +6,23 @@ use cell_join_lines::table_fault::TableFault;
 /// Why sizes are not added up. Tables are reported by their places, from 0, and lines are counted from 1.
 #[derive(Clone, Copy, Debug, PartialEq, Eq)]
 pub enum SizesFault {
-    /// The first fault of the numbering.
+    /// The first error of the numbering.
     Areas(AreasFault),
-    /// This line of the numbering tells a number above the count of all clumps that the text lists.
+    /// This line of the numbering shows a number above the count of all clumps that the text lists.
     NumberBeyond { line: u64 },
-    /// No clump has this number, but some clump a greater one.
+    /// No clump has this number, but some clump a larger one.
     NumberLeftOut { number: u64 },
     /// From this line on the numbering is of a tile without a table.
     NoTable { line: u64 },
-    /// The first fault of this table.
+    /// The first error of this table.
     Table { table: usize, fault: TableFault },
     /// From this line on the table has other clumps than its tile, or something else, or it ends before it.
     OtherArea { table: usize, line: u64 },
-    /// The clump of this number in the whole has more than 2^64 - 1 cells.
+    /// The clump of this number in the full map has more than 2^64 - 1 cells.
     TooGreat { number: u64 },
     /// A tile has 2^64 - 1 clumps or runs, or more.
     TooLong,
-    /// Memory was refused.
+    /// Memory ran out.
     Memory,
     /// A write failed.
     Write,

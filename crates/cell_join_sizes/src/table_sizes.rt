@@ -1,4 +1,4 @@
-//! Sizes of the clumps of the whole map, of a numbering and the tables of the numbers of tiles.
+//! Sizes of the clumps of the full map, of a numbering and the tables of the numbers of tiles.
 
 ghost use Rattle.std.specs.Prelude.{◌≡◌, ◌≢◌, ◌+◌, ◌-◌, ◌<◌, ◌≤◌, ◌^◌, ◌∷◌, [], ℕ, List, None, Some, IfErr, IfOk, IfSome, MatchOption, OnOk, map, pos, option_map, false, true};
 ghost use Rattle.cell_core_devices.specs.Blocks.{Appends};
@@ -31,13 +31,13 @@ use std::alloc::Global;
 /// What adding sizes did.
 #[derive(Clone, Copy, Debug, PartialEq, Eq)]
 pub struct SizesOutcome {
-    /// The number of bytes that the sink took, or the greatest `u64` where it took more.
+    /// The number of bytes that the sink took, or the largest `u64` where it took more.
     pub written: u64,
     /// Why not all sizes are written.
     pub fault: Option<SizesFault>,
 }
 
-// The fault of a numbering.
+// The error of a numbering.
 fn of_areas(fault: AreasFault) -> SizesFault
     ensures { ReportsAreasFault fault result }
 {
@@ -47,7 +47,7 @@ fn of_areas(fault: AreasFault) -> SizesFault
     }
 }
 
-// The fault of a table.
+// The error of a table.
 fn of_table(table: usize, fault: TableFault) -> SizesFault
     ensures { ReportsTableFault table fault result }
 {
@@ -57,7 +57,7 @@ fn of_table(table: usize, fault: TableFault) -> SizesFault
     }
 }
 
-// The fault of a sum.
+// The error of a sum.
 fn of_tally(number: u64, fault: TallyFault) -> SizesFault
     ensures { ReportsTallyFault number fault result }
 {
@@ -150,7 +150,7 @@ fn add_stretch<R: Source>(
     Err(SizesFault::TooLong)
 }
 
-// Reads the runs of a tile, and their clumps from its table. Returns the number of the line behind the clumps.
+// Reads the runs of a tile, and their clumps from its table. Returns the number of the line after the clumps.
 fn add_stretches<R: Source>(
     alloc: Global,
     format: &Format,
@@ -251,7 +251,7 @@ fn add_band<R: Source + Drop>(
     Ok(())
 }
 
-// The sizes of all clumps of the whole.
+// The sizes of all clumps of the full map.
 fn add_tables<R: Source + Drop>(
     alloc: Global,
     format: &Format,
@@ -292,7 +292,7 @@ fn add_tables<R: Source + Drop>(
     }
 }
 
-// Flushes the sink unless it refused a put, and answers.
+// Flushes the sink unless a put failed, and returns the result.
 fn finish<W: Sink>(failed: bool, out: &mut W) -> Option<SizesFault>
     ensures taken { W.taken out.new ≡ W.taken out.old }
     ensures flushed { result ≡ None
@@ -310,7 +310,7 @@ fn finish<W: Sink>(failed: bool, out: &mut W) -> Option<SizesFault>
     }
 }
 
-// Writes the lines of sizes, and flushes the sink unless it refused a put.
+// Writes the lines of sizes, and flushes the sink unless a put failed.
 fn put_sizes<W: Sink>(out: &mut W, format: &Format, sizes: &[u64]) -> SizesOutcome
     ensures { HasPutSizes format.now sizes.now (W.taken out.old) (W.taken out.new)
         (W.faults out.old) (W.faults out.new) result.written result.fault }
@@ -325,14 +325,14 @@ fn put_sizes<W: Sink>(out: &mut W, format: &Format, sizes: &[u64]) -> SizesOutco
     }
 }
 
-/// Adds up the sizes of the clumps of tiles by the numbers that a numbering tells, and writes a line for each number, from
-/// 1 on, with the size of its clump in the whole: the table of the numbers of the undivided map, without null.
+/// Adds up the sizes of the clumps of tiles by the numbers that a numbering shows, and writes a line for each number, from
+/// 1 on, with the size of its clump in the full map: the table of the numbers of the full map, without null.
 ///
 /// The tables are of the numbers of the tiles, in order, each with its counts; an entry of null is passed over. The numbers may
 /// come in any order. The numbering is read first, 32 bytes of memory for each of its lines, and a number above the count of clumps
-/// that it lists is refused then; eight bytes are taken for each number up to the greatest, and a block for the table that is read.
+/// that it lists is rejected then; eight bytes are taken for each number up to the largest, and a block for the table that is read.
 /// Nothing is written before all is read, and whether a number is left out is seen then. The sink is flushed once at the end, unless
-/// it refused a put.
+/// a put failed.
 pub fn join_table_sizes<R: Source + Drop, W: Sink>(
     alloc: Global,
     format: &Format,
@@ -340,25 +340,25 @@ pub fn join_table_sizes<R: Source + Drop, W: Sink>(
     tables: Vec<R>,
     out: &mut W,
 ) -> SizesOutcome
-    // Without a fault the numbering is one to its end, each table is that of the clumps of its tile, and the sink has taken
+    // Without an error the numbering is one to its end, each table lists the clumps of its tile, and the sink has taken
     // exactly the lines of the sums.
     ensures joined { (text : Coming) (texts : List Coming) → R.coming areas ≡ Some text
         → Give R.coming tables.items texts → result.fault ≡ None
         → HasWrittenSizes format.now (areas_reading_of text) (map (reading_of format.now 1) texts)
         (W.taken out.old) (W.taken out.new) result.written }
-    // Where a write failed, the sink has taken a prefix of them; with any other fault nothing.
+    // Where a write failed, the sink has taken a prefix of them; with any other error nothing.
     ensures written { (text : Coming) (texts : List Coming) → R.coming areas ≡ Some text
         → Give R.coming tables.items texts → IfSome result.fault
         (HasStopped format.now (areas_reading_of text) (map (reading_of format.now 1) texts)
         (W.taken out.old) (W.taken out.new) result.written) }
-    // A fault is that of the numbering, or the first that is met where it and the tables are read side by side.
+    // An error is an error of the numbering, or the first that is met where it and the tables are read side by side.
     ensures fault { (text : Coming) (texts : List Coming) → R.coming areas ≡ Some text
         → Give R.coming tables.items texts → IfSome result.fault
         (IsSizesFault (areas_reading_of text) (map (reading_of format.now 1) texts)) }
-    // With any fault but that of a write the sink is not called, whatever the sources are.
+    // With any error but a failed write the sink is not called, whatever the sources are.
     ensures untouched { IfSome result.fault (λ fault. fault ≢ SizesFault.Write
         → (out.new ≡ out.old) × (result.written ≡ 0)) }
-    // No fault comes only where no call of the sink failed and it was flushed once.
+    // No error comes only where no call of the sink failed and it was flushed once.
     ensures sound { result.fault ≡ None
         → W.faults out.new ≡ after_flush (W.faults out.old) false }
     // A failed write is reported only where the sink failed.

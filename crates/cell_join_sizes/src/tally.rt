@@ -8,12 +8,12 @@ ghost use Rattle.cell_join_sizes.specs.parts.Tally.{IsFirstWithoutSize, IsTallyF
 pub(crate) enum TallyFault {
     // The sum is beyond 64 bits.
     TooGreat,
-    // Memory was refused, or no memory has a place for the number.
+    // Memory ran out, or no memory has a place for the number.
     Memory,
 }
 
-// Puts the size of a number behind those of others, the number by its place, counted from 0. Places between have 0: no clump
-// has had their numbers so far.
+// Puts the size of a number after the sizes of others, the number by its place, counted from 0. Places between have 0: no
+// clump has had their numbers so far.
 fn put_size(sizes: &mut Vec<u64>, place: usize, size: u64) -> Result<(), TallyFault>
     requires { length sizes.old.items ≤ place }
     ensures ok { OnOk result (Tallies sizes.old.items ((place + 1) ∷ []) (size ∷ [])
@@ -29,7 +29,7 @@ fn put_size(sizes: &mut Vec<u64>, place: usize, size: u64) -> Result<(), TallyFa
     }
 }
 
-// Adds a size to that of the clump of a number. For 0 there is no place: a numbering tells numbers from 1 on.
+// Adds a size to the size of the clump of a number. For 0 there is no place: a numbering shows numbers from 1 on.
 pub(crate) fn add_size(sizes: &mut Vec<u64>, number: u64, size: u64) -> Result<(), TallyFault>
     ensures ok { OnOk result (Tallies sizes.old.items (number ∷ []) (size ∷ []) sizes.new.items) }
     ensures err { IfErr result (IsTallyFault sizes.old.items number size) }

@@ -1,4 +1,4 @@
--- Faults of texts at their places, and counts beyond 64 bits.
+-- Errors of texts at their places, and counts beyond 64 bits.
 use Rattle.std.proofs.Common.{◌≡◌, ◌≢◌, ℕ, zero, suc, ◌+◌, ◌<◌, ◌≤◌, ◌^◌, List, [], ◌∷◌, ◌++◌, length, map, fold, take, drop, get_or, slice_get, Option, Some, None, unwrap_or, option_map, ◌⊎◌, inl, inr, ⊎_elim, refl, ap, sym, ◌∙◌, arith, subst}
 use Rattle.std.proofs.lemmas.List.{map-append, take_more, take-append-drop, get_or-drop, length-drop}
 use Rattle.std.proofs.lemmas.List.Sums.{fold-append}
@@ -27,7 +27,7 @@ module _ (fault : TableFault) (reported : JoinFault) (memory : fault.kind ≡ ki
       (λ not. subst (IsOpeningFault readings) (sym (so not)) (has not))
       (memory-or fault.kind)
 
--- what a text that stops behind a combination is read as
+-- what a text that stops after a combination is read as
 abbrev pub StopsSo : Combination → TableFault → TableReading → Type 0
 StopsSo k fault reading = (reading.fault ≡ Some fault) × (last_combination reading.entries ≡ Some k)
 

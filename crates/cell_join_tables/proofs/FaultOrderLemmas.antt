@@ -1,4 +1,4 @@
--- Which fault of several texts is met first.
+-- Which error of several texts is met first.
 use Rattle.std.proofs.Common.{◌≡◌, ◌≢◌, ℕ, zero, suc, ◌<◌, ◌≤◌, List, [], ◌∷◌, ◌++◌, length, map, take}
 use Rattle.std.proofs.Common.{slice_get, Bool, true, false, Option, Some, None, ◌⊎◌, inl, inr, ⊎_elim, refl, ap}
 use Rattle.std.proofs.Common.{sym, ◌∙◌, arith, cond, subst, option_map}
@@ -15,7 +15,7 @@ use Rattle.cell_stats.specs.CategoryTables.{Pairs}
 use Rattle.cell_join_lines.specs.LineReading.{TableReading}
 use Rattle.cell_join_lines.specs.declared.table_fault.TableFault.{TableFault}
 use Rattle.cell_parts.specs.Merging.{IsListing}
-use Rattle.cell_parts.proofs.ListingLemmas.{keys_of}
+use Rattle.cell_stats.proofs.TableLemmas.{keys_of}
 use Rattle.cell_join_tables.specs.JoinedTexts.{AreNoneBefore, IsFirstFault, IsFirstPlace, IsMetFirst}
 use Rattle.cell_join_tables.specs.JoinedTexts.{fault_place, last_combination, tables_of}
 use Rattle.cell_join_tables.specs.MergedTables.{BeginsAt}
@@ -26,7 +26,7 @@ use Rattle.cell_join_tables.specs.JoinAnswers.{StopsBehind}
 abbrev pub GoesOn : TableReading → Type 0
 GoesOn r = r.entries ≡ [] → r.fault ≡ None
 
--- ---- a fault stays behind its combination
+-- ---- an error stays after its combination
 
 pub kept : (k : Combination) (es : Pairs) (f : Option TableFault) → (past_first k es ≡ [] → f ≡ None)
     → option_map (λ (x : TableFault). last_combination (past_first k es)) f
@@ -103,7 +103,7 @@ module _ (k : Combination) where
       (λ more. combination_cmp_total.trans e.0 x.0 k less (subst (λ c. combination_cmp x.0 c ≡ Less) same more))
       last.1.1))
 
-  -- no fault stands behind a lesser combination
+  -- no error comes after a lesser combination
   pub none-before : (readings : List TableReading) → AllByRecursion GoesOn readings
       → AllByRecursion (BeginsAt k) (tables_of readings) → AllByRecursion IsListing (tables_of readings)
       → AreNoneBefore k (map fault_place readings)
@@ -138,7 +138,7 @@ module _ (k : Combination) where
   module _ (readings : List TableReading) (on : AllByRecursion GoesOn readings)
       (begin : AllByRecursion (BeginsAt k) (tables_of readings)) (all : AllByRecursion IsListing (tables_of readings))
       (text : ℕ) (fault : TableFault) (stops : StopsBehind k readings text fault) where
-    -- a fault behind the combination, of a text before, would have been met
+    -- an error after the combination, of a text before, would have been met
     not-earlier : (other : ℕ) → slice_get (map fault_place readings) other ≡ Some (Some (Some k)) → text ≤ other
     not-earlier other at = ⊎_elim
         (λ before.

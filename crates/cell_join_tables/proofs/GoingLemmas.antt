@@ -1,4 +1,4 @@
--- Entries of the least combination, taken one after the other.
+-- Entries of the smallest combination, taken one after the other.
 use Rattle.std.proofs.Common.{◌≡◌, ◌≢◌, ℕ, zero, suc, ◌+◌, ◌<◌, ◌≤◌, ◌^◌, nat_lt, List, [], ◌∷◌, length, map, get_or, slice_get, Bool, true, false, Option, Some, None, unwrap_or, option_map, ⊎_elim, refl, ap, sym, ◌∙◌, arith, cond, subst}
 use Rattle.std.proofs.Math.ListN.{set, length-set}
 use Rattle.std.proofs.lemmas.Bool.{ltb-true}
@@ -172,7 +172,7 @@ got (y ∷ ys) (suc i) d x is = got ys i d x is
 abbrev pub nothing : TextValue
 nothing = record { width = 0; head = None; line = []; number = 0; coming = None; heard = record { sure = false; failed = false } }
 
--- what the lines of a text have behind the head, where that is of the combination, and else from it on
+-- what the lines of a text have after the head, where that is of the combination, and else from it on
 abbrev pub lines_past : FormatValue → Combination → TextValue → Option (List Labelled)
 lines_past format k text = option_map (past_labelled k) (labelled_from format text)
 
@@ -180,7 +180,7 @@ module _ (format : FormatValue) (k : Combination) where
   abbrev read : TextValue → Option TableReading
   read text = reading_from format text
 
-  -- ---- what texts are read as, and what they go on with
+  -- ---- what texts are read as, and what they continue with
 
   same-length : (texts : List TextValue) (rs : List TableReading) → map read texts ≡ map Some rs
       → length texts ≡ length rs
@@ -212,7 +212,7 @@ module _ (format : FormatValue) (k : Combination) where
       (sym (count-there x r one) ∙ All-head P x xs none) in
       omega (arith, no, none-count xs rs rest (All-tail P x xs none))
 
-  -- none of them begins with it: no text goes on with it
+  -- none of them begins with it: no text continues with it
   none-heads : (texts : List TextValue) (rs : List TableReading) → map read texts ≡ map Some rs
       → begin_count k (tables_of rs) ≡ 0 → All (λ (text : TextValue). head_count k text.head ≡ None) texts
   none-heads [] [] known none = All-nil (λ (text : TextValue). head_count k text.head ≡ None)
@@ -252,7 +252,7 @@ module _ (format : FormatValue) (k : Combination) where
       by true is = absurd (other (ap Some (same-of k entry is)))
       by false is = ap (λ t. let o : Option ℕ = cond t (Some entry.1) None in o) is
 
-  -- a text before the first one does not go on with the same
+  -- a text before the first one does not continue with the same
   earlier-other : (heads : List (Option Combination)) (first other : ℕ) → GoesFirst heads first
       → get_or heads first None ≡ Some k → other < first → get_or heads other None ≢ Some k
   earlier-other heads first other goes own less same =
@@ -263,7 +263,7 @@ module _ (format : FormatValue) (k : Combination) where
       (λ here. (let more : first < other = ltb-true first other here.1 in absurd (omega (arith, less, more))))
       (lesser-or-same k k (nat_lt first other) is)
 
-  -- where the first one does not go on with the least combination, none does
+  -- where the first one does not continue with the smallest combination, none does
   none-goes-on : (heads : List (Option Combination)) (first other : ℕ) → GoesFirst heads first
       → get_or heads first None ≢ Some k
       → IfSome (get_or heads first None) (λ c. combination_cmp c k ≢ Less) → other < length heads
@@ -286,7 +286,7 @@ module _ (format : FormatValue) (k : Combination) where
       let same : x ≡ e = cc in
       subst (λ (y : Combination × ℕ). combination_cmp y.0 k ≢ Less) same at.0
 
-  -- what the first text goes on with is the least of all
+  -- what the first text continues with is the smallest of all
   pub starts-least : (texts : List TextValue) (n : ℕ) → BeginsWith texts (k, n)
       → All (λ (text : TextValue). IfSome text.head (λ entry. combination_cmp entry.0 k ≢ Less)) texts
   starts-least texts n starts i d within = of-head (get_or texts i d).head
@@ -416,7 +416,7 @@ module _ (format : FormatValue) (k : Combination) where
     on-after : AllByRecursion GoesOn gone.after
     on-after = all-on read (no-entry format) now gone.after gone.known
 
-    -- the next one could not be taken, since its text stops behind it
+    -- the next one could not be taken, since its text stops after that
     pub gone-fault : (first n : ℕ) (fault : TableFault) → GoesFirst (heads_of now) first
         → ((text : TextValue) → head_count k (get_or now first text).head ≡ Some n)
         → ((text : TextValue) → IfSome (reading_behind format (get_or now first text)) (λ reading. reading ≡ stopped fault.line fault.kind))
@@ -508,7 +508,7 @@ module _ (format : FormatValue) (k : Combination) where
     abbrev NoneGoesOn : Type 0
     NoneGoesOn = All (λ (text : TextValue). head_count k text.head ≡ None) now
 
-    -- no text goes on with it: the entry was taken, and the lines that are left are those behind
+    -- no text continues with it: the entry was taken, and the lines that are left are those after
     gone-none-left : (sum : ℕ) → total ≡ Some sum → NoneGoesOn
         → HasTaken read readings now ((k, sum) ∷ []) × (map (labelled_from format) now ≡ map (lines_past format k) now)
     gone-none-left sum is none = (gone-all sum is (none-count now gone.after gone.known none), none-lines now none)
@@ -525,7 +525,7 @@ module _ (format : FormatValue) (k : Combination) where
     gone-ended : All (λ (text : TextValue). text.head ≡ None) now → NoneGoesOn
     gone-ended done i d within = ap (head_count k) (done i d within)
 
-    -- the first text goes on with another combination
+    -- the first text continues with another combination
     gone-other : (entry : Combination × ℕ) → BeginsWith now entry → is_of k entry ≡ false → NoneGoesOn
     gone-other entry starts other = (λ i d within. no-count (get_or now i d).head
         (λ e. none-goes-on (heads_of now) starts.first i starts.goes not least (inside-heads i within)
@@ -552,7 +552,7 @@ module _ (format : FormatValue) (k : Combination) where
         inside-heads : (i : ℕ) → i < length now → i < length (heads_of now)
         inside-heads i less = omega (arith, less, length-map now (λ (text : TextValue). combination_of text.head))
 
-    -- the first text goes on with no entry of the combination, by whatever is seen as an entry
+    -- the first text continues with no entry of the combination, by whatever is seen as an entry
     pub gone-last : {B : Type 0} (see : B → Combination × ℕ) (entry : Option B) (sum : ℕ) → total ≡ Some sum
         → MatchOption entry (All (λ (text : TextValue). text.head ≡ None) now) (λ b. BeginsWith now (see b))
         → head_count k (option_map see entry) ≡ None
@@ -571,7 +571,7 @@ module _ (format : FormatValue) (k : Combination) where
   first-has texts n starts text = ap (head_count k) (starts.is text)
       ∙ ap (λ t. let o : Option ℕ = cond t (Some n) None in o) (is-own k (k, n) refl)
 
-  -- the first entry of the least combination was taken
+  -- the first entry of the smallest combination was taken
   pub gone-first : (texts new : List TextValue) (n : ℕ) (starts : BeginsWith texts (k, n))
       → HeadReadsOn format texts starts.first new → (readings : List TableReading) → map read texts ≡ map Some readings
       → AllByRecursion IsListing (tables_of readings) → HasGone read k readings new (Some n) 1
@@ -589,7 +589,7 @@ module _ (format : FormatValue) (k : Combination) where
       (begins format k texts readings known (starts-least texts n starts) all)) new starts.first n starts.goes
       (first-has texts n starts) reads
 
-  -- or its text stops behind it
+  -- or its text stops after it
   pub fault-first : (texts : List TextValue) (n : ℕ) (starts : BeginsWith texts (k, n)) (fault : JoinFault)
       → IsFaultBehind format texts starts.first fault → StepFails read texts fault
   fault-first texts n starts fault is readings known all =
@@ -597,7 +597,7 @@ module _ (format : FormatValue) (k : Combination) where
       (begins format k texts readings known (starts-least texts n starts) all)) starts.first n fault starts.goes
       (first-has texts n starts) is
 
--- the text that goes on with an entry of the combination, where so many of it are counted
+-- the text that continues with an entry of the combination, where so many of it are counted
 pub record Counted (k : Combination) (texts : List TextValue) (n : ℕ) : Type 0 where
   pub first : ℕ
   pub goes : GoesFirst (heads_of texts) first

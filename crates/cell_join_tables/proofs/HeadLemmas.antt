@@ -54,7 +54,7 @@ module _ (format : FormatValue) (text : TextValue) (k : Combination) where
       → option_map (past k) (reading_from format text) ≡ reading_behind format text
   taken-some n e = some-head text.head n text.coming e
 
-  -- there is a fault behind it
+  -- there is an error after it
   pub taken-fault : (n : ℕ) (fault : TableFault) → head_count k text.head ≡ Some n
       → IfSome (reading_behind format text) (λ reading. reading ≡ stopped fault.line fault.kind)
       → IfSome (reading_from format text) (λ reading. (reading.fault ≡ Some fault)

@@ -1,4 +1,4 @@
--- What was written, and the answer, at the end of a join.
+-- What was written, and the result, at the end of a join.
 use Rattle.std.proofs.Common.{◌≡◌, ◌≢◌, ℕ, zero, suc, ◌<◌, ◌^◌, ◌||◌, List, [], ◌∷◌, ◌++◌, length, Bool, true, false, Option, Some, None, Result, Ok, Err, refl, ap, sym, ◌∙◌, arith, subst, append_assoc, append-nil}
 use Rattle.std.specs.List.{AllByRecursion, Contains}
 use Rattle.std.specs.Prelude.{All, IfSome, sum_by}
@@ -61,7 +61,7 @@ module _ (readings : List TableReading) (all : AllByRecursion IsListing (tables_
   wholly format before now written failed (Some fault) is joined write memory good =
       absurd (refuted fault is (λ e. memory (ap Some e)) (λ e. let bad : failed ≡ true = write (ap Some e) in cc))
 
--- ---- what the sink refused
+-- ---- puts that failed
 
 module _ (answer : Result Unit JoinFault) (failed : Bool) (start faults last : Faults)
     (puts : faults ≡ after_put start failed) where

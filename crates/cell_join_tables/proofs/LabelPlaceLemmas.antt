@@ -1,4 +1,4 @@
--- Which texts go on with a combination, and with which labels.
+-- Which texts continue with a combination, and with which labels.
 use Rattle.std.proofs.Common.{◌≡◌, ◌≢◌, ℕ, zero, suc, ◌+◌, ◌<◌, ◌≤◌, List, [], ◌∷◌, length, map, get_or, slice_get}
 use Rattle.std.proofs.Common.{Bool, true, false}
 use Rattle.std.proofs.Common.{Option, Some, None, ⊎_elim, refl, ap, sym, ◌∙◌, arith, subst, option_map, ◌&&◌, not}
@@ -82,7 +82,7 @@ module _ (format : FormatValue) (k : Combination) where
       let at = head-in xs i d y (omega (arith, within)) is in
       (suc at.0, omega (arith, at.1), at.2)
 
--- ---- other labels, told
+-- ---- other labels, reported
 
 -- the labels at a place are those that its head has
 pub labels-there : (format : FormatValue) (texts : List TextValue) (i : ℕ) (y : Labelled) (labelled : List ℕ)
@@ -102,7 +102,7 @@ labels-there format (x ∷ xs) zero y labelled is so = by x.head is
         sym (ap (λ (l : Labelled). l.1) one) ∙ two
 labels-there format (x ∷ xs) (suc i) y labelled is so = labels-there format xs i y labelled is so
 
--- texts that go on with other labels stop the merge, where the combination is the least
+-- texts that continue with other labels stop the merge, where the combination is the smallest
 pub stops-at : (format : FormatValue) (k : Combination) (labelled : List ℕ) (texts : List TextValue) (first text : ℕ)
     → DifferAt format k labelled texts first text → (reported : OtherLabel) → reported.first ≡ first → reported.text ≡ text
     → reported.combo ≡ k → reported.labelled.items ≡ labelled

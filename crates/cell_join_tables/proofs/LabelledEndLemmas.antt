@@ -32,7 +32,7 @@ text-more [] e = sym (append-nil (counted_line e))
 text-more (x ∷ done) e = append_assoc (counted_line x) (counted_text done) (counted_line e)
     ∙ ap (λ text. counted_line x ++ text) (text-more done e)
 
--- a text's other label is one of the whole
+-- a text's other label is a label of all its lines
 other-whole : (readings after : List TableReading) (done : List Labelled) (wholes lefts : List (List Labelled))
     (reported : OtherLabel) → ArePassed done wholes lefts
     → map fault_place after ≡ map fault_place readings
@@ -120,7 +120,7 @@ module _ (format : FormatValue) where
             );
       }
 
-      -- two go on with other labels
+      -- two continue with other labels
       pub labelled-other : (reported : OtherLabel) → StopsAtLabels format mid reported
           → IsLabelledEnd format texts taken faults out block now after (Ok (Some reported))
       labelled-other reported stops = record {

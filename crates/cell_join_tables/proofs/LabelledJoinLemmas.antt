@@ -1,4 +1,4 @@
--- What was written, and the answer, at the end of a join of texts with labels.
+-- What was written, and the result, at the end of a join of texts with labels.
 use Rattle.std.proofs.Common.{◌≡◌, ◌≢◌, ℕ, zero, suc, ◌<◌, List, [], ◌∷◌, ◌++◌, length, map, get_or, Bool, true, false}
 use Rattle.std.proofs.Common.{Option, Some, None, Result, Ok, Err, ◌⊎◌, inl, inr, ⊎_elim, refl, ap, sym, ◌∙◌, arith}
 use Rattle.std.proofs.Common.{subst, append-nil}
@@ -85,7 +85,7 @@ same-labels whole up (x ∷ xs) (y ∷ ys) same first second =
     let count : x.1 ≡ y.1 = ap (λ (e : Combination × ℕ). e.1) here in
     λ i. (labelled i, count i) ∷ same-labels whole up xs ys rest first.1 second.1 i
 
--- each entry stands among all
+-- each entry is among all
 stand-behind : (first : LabelledEntry) (entries others : List LabelledEntry)
     → AllByRecursion (λ (e : LabelledEntry). Contains (labelled_of entries) e.0) others
     → AllByRecursion (λ (e : LabelledEntry). Contains (labelled_of (first ∷ entries)) e.0) others
@@ -99,7 +99,7 @@ own-stand : (entries : List LabelledEntry)
 own-stand [] = tt
 own-stand (x ∷ entries) = ((0, omega arith, refl), stand-behind x entries entries (own-stand entries))
 
--- ---- lines of texts stand among entries
+-- ---- lines of texts are among entries
 
 all-at : {X : Type 0} (P : X → Type 0) (xs : List X) (x : X) → AllByRecursion P xs → Contains xs x → P x
 all-at P [] x all at = absurd (omega (arith, at.1))
@@ -128,7 +128,7 @@ module _ (entries : List LabelledEntry) where
   all-stand texts [] all own = tt
   all-stand texts (e ∷ others) all own = (of-text texts e.0 all own.0, all-stand texts others all own.1)
 
--- ---- what holds by the fault that is reported
+-- ---- what holds by the error that is reported
 
 module _ (format : FormatValue) (texts : List Coming) (before now : Option (List ℕ)) (written : ℕ) where
   pub fault-reported : (fault : Option LabelFault) → IsReported format texts before now written fault → IfSome fault (IsLabelFault format texts)
@@ -155,7 +155,7 @@ pub some-each : {X Y : Type 0} (f : X → Y) (xs : List X) → map (λ x. Some (
 some-each f [] = refl
 some-each f (x ∷ xs) = ap (λ os. Some (f x) ∷ os) (some-each f xs)
 
--- ---- what was written, by the answer
+-- ---- what was written, by the result
 
 module _ (format : FormatValue) (texts : List Coming)
     (all : AllByRecursion IsListing (tables_of (readings_of format texts))) (done : List LabelledEntry)

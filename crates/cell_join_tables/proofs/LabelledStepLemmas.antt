@@ -74,7 +74,7 @@ module _ (format : FormatValue) where
       let rest : map lines_of xs ≡ map Some ls = cc in
       (none-by x.head x.line x.coming l one (All-head P x xs done), none-left xs ls rest (All-tail P x xs done))
 
-  -- what a text goes on with is one of its lines
+  -- what a text continues with is one of its lines
   pub head-at : (texts : List TextValue) (lefts : List (List Labelled)) (y : Labelled)
       → map lines_of texts ≡ map Some lefts → (i : ℕ) → slice_get (labelled_heads format texts) i ≡ Some (Some y)
       → HasLine lefts i y
@@ -159,13 +159,13 @@ module _ (format : FormatValue) where
       → map lines_of texts ≡ map Some lefts → Contains (labelled_heads format texts) (Some y) → IsOfTexts lefts y
   own-step texts lefts y known own = own-head texts lefts y known own.0 own.1 own.2
 
--- ---- of the whole
+-- ---- all lines
 
 pub none-passed : (wholes : List (List Labelled)) → ArePassed [] wholes wholes
 none-passed [] = tt
 none-passed (w ∷ ws) = (([], (refl, tt)), none-passed ws)
 
--- a line that is left is one of the whole
+-- a line that is left is one of all lines
 line-left : (done whole left : List Labelled) (y : Labelled) → IsReadPast done whole left → Contains left y
     → Contains whole y
 line-left done whole left y so at = subst (λ lines. Contains lines y) (sym so.1.0)
@@ -200,7 +200,7 @@ line-whole done (w ∷ ws) (l ∷ ls) y so zero has =
     (w, (refl, line-left done w l y so.0 (subst (λ lines. Contains lines y) (sym same) has.1.1)))
 line-whole done (w ∷ ws) (l ∷ ls) y so (suc i) has = line-whole done ws ls y so.1 i has
 
--- all lines stand where none is left
+-- all lines were passed if none is left
 pub all-passed : (entries : List LabelledEntry) (wholes lefts : List (List Labelled))
     → ArePassed (labelled_of entries) wholes lefts → AllByRecursion (λ left. left ≡ []) lefts
     → AreLabelledSo wholes entries

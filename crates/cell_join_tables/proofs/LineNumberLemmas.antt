@@ -1,4 +1,4 @@
--- The numbers of the lines that texts go on with.
+-- The numbers of the lines that texts continue with.
 use Rattle.std.proofs.Common.{◌≡◌, ◌≢◌, ℕ, zero, suc, ◌-◌, List, [], ◌∷◌, map, get_or, slice_get, Option, Some, None}
 use Rattle.std.proofs.Common.{Result, Ok, Err, refl, sym, subst}
 use Rattle.std.proofs.Math.ListN.{set}
@@ -52,7 +52,7 @@ module _ (format : FormatValue) where
         behind-first xs cs others (All-tail (λ (t : TextValue). t.number ≡ 2) x xs second),
       )
 
-  -- what a text goes on with is on the line before its number
+  -- what a text continues with is on the line before its number
   pub numbered-line : (wholes : List (List Labelled)) (texts : List TextValue) (i : ℕ) (y : Labelled) (n : ℕ)
       → AreBehind format wholes texts → slice_get (labelled_heads format texts) i ≡ Some (Some y)
       → slice_get (map (λ (text : TextValue). text.number - 1) texts) i ≡ Some n → HasNumberedLine wholes i n y

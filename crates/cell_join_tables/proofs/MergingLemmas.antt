@@ -59,7 +59,7 @@ all-tables : (rs : List TableReading) → AreTables (map (λ r. ended) rs)
 all-tables [] = tt
 all-tables (r ∷ rs) = (refl, all-tables rs)
 
--- what is listed behind others is listed
+-- what is listed after others is listed
 contains-behind : (xs ys : Pairs) (e : Combination × ℕ) → Contains ys e → Contains (xs ++ ys) e
 contains-behind xs ys e at =
     (length xs + at.0, omega (arith, at.1, length-append xs ys), get_or-append-add xs ys at.0 e ∙ at.2)
@@ -81,7 +81,7 @@ sum-more k readings after done all left merged high =
 module _ {X : Type 0} (read : X → Option TableReading) (readings : List TableReading)
     (all : AllByRecursion IsListing (tables_of readings)) (texts : List X) (done : Pairs)
     (taken : HasTaken read readings texts done) where
-  -- a fault of what is left is one of all
+  -- an error of what is left is one of all
   pub fault-of-all : (fault : JoinFault) → IsStepFault taken.after fault → IsJoinFault readings fault
   fault-of-all (Text text fault) is = record {
     has = ap (λ faults. slice_get faults text) (sym taken.faults) ∙ is.has;

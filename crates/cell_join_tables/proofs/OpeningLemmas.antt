@@ -98,7 +98,7 @@ module _ {R X : Type 0} (coming : R → Option Coming) (read : X → Option Tabl
               (ap fault_place stop)));
         }
 
-    -- one that is refused
+    -- one that is rejected
     pub opened-refused : ((x : X) (r : TableReading) → read x ≡ Some r → GoesOn r) → (fault : TableFault)
         → IfSome (coming source) (λ c. reading_of format width c ≡ stopped fault.line fault.kind)
         → IsFirstFault (readings_of format comings) (length texts) fault

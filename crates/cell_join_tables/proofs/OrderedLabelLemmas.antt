@@ -1,4 +1,4 @@
--- Labels of texts in order: those that go on with the least combination are in front.
+-- Labels of texts in order: the texts that continue with the smallest combination come first.
 use Rattle.std.proofs.Common.{◌≡◌, ◌≢◌, ℕ, zero, suc, ◌+◌, ◌-◌, ◌<◌, ◌≤◌, List, [], ◌∷◌, length, map, get_or, slice_get, Bool, true, false, Option, Some, None, ⊎_elim, refl, ap, sym, ◌∙◌, arith, subst, option_map, ◌&&◌, not, nat_lt}
 use Rattle.std.proofs.lemmas.Bool.{cases_lt, ltb-true}
 use Rattle.std.proofs.lemmas.List.{get_or-map, length-map}
@@ -56,7 +56,7 @@ agree-more format k labelled texts places i x before within at same j text below
     ∙ one-agrees (goes_on_with k x) (not (bytes_eq (before_count format.separator x.line) labelled)) same))
     (cases_lt j i)
 
--- a place of those in order goes before each behind it
+-- a place of those in order goes before each after it
 ascends-at : (heads : List (Option Combination)) (places : List ℕ) (i j : ℕ) → Ascends heads places → i < j
     → j < length places → before heads (get_or places i 0) (get_or places j 0) ≡ true
 ascends-at heads [] i j up less within = absurd (omega (arith, within))
@@ -98,7 +98,7 @@ module _ (format : FormatValue) (texts : List TextValue) where
       let both : Some entry ≡ None = sym (begins.is x) ∙ done in
       cc
 
-  -- a text that goes on with a combination has it as its head
+  -- a text that continues with a combination has it as its head
   head-of : (k : Combination) (text : TextValue) → goes_on_with k text ≡ true → combination_of text.head ≡ Some k
   head-of k text is = by text.head (head-there format k text.head text.line is)
     where
@@ -140,7 +140,7 @@ module _ (format : FormatValue) (texts : List TextValue) where
     first-labels e begins = head-in format e.0 texts place x (Some (e.0, labelled)) within
         (ap (labelled_head format) (sym at) ∙ own-head ∙ ap (λ (y : Combination × ℕ). Some (y.0, labelled)) (one-begin entry e starts begins))
 
-    -- behind a text that does not go on with the combination none does
+    -- after a text that does not continue with the combination no text does
     none-behind : (p q : ℕ) → p < length texts → q < length texts → goes_on_with k (get_or texts p x) ≡ false
         → before (heads_of texts) p q ≡ true → goes_on_with k (get_or texts q x) ≡ false
     none-behind p q inside inside_too not is_before = by (goes_on_with k (get_or texts q x)) refl
@@ -162,7 +162,7 @@ module _ (format : FormatValue) (texts : List TextValue) where
         by true e = absurd (head-not (get_or texts p x).head (least p x inside) not
             ((λ j. goes_before (sym (head-at p x inside) j) p ((sym (head-of k (get_or texts q x) e) ∙ sym (head-at q x inside_too)) j) q) ∙ is_before))
 
-    -- where those in front agree, all do
+    -- if the first texts agree, all do
     pub all-agree : AgreeInFront format k labelled texts order → (e : Combination × ℕ) → BeginsWith texts e
         → AllAgree format e.0 labelled texts
     all-agree front e begins = subst (λ (y : Combination × ℕ). AllAgree format y.0 labelled texts)

@@ -18,7 +18,8 @@ use Rattle.cell_stats_counts.proofs.GatheredLemmas.{entry-le}
 use Rattle.cell_stats.specs.CategoryTables.{Pairs}
 use Rattle.cell_parts.specs.TableParts.{count_in, IsMerge}
 use Rattle.cell_parts.specs.Merging.{IsListing}
-use Rattle.cell_parts.proofs.ListingLemmas.{keys_of, listed-beside, beside-merge, IsMerge-from}
+use Rattle.cell_stats.proofs.TableLemmas.{keys_of}
+use Rattle.cell_parts.proofs.ListingLemmas.{listed-beside, beside-merge, IsMerge-from}
 use Rattle.cell_join_tables.specs.parts.Pairwise.{by_order, merge_entry, merged_of}
 
 -- ---- the counts of both
@@ -124,7 +125,7 @@ listing-merged one other first second = record {
   no_zero = zeros-merged one other first.no_zero second.no_zero;
 }
 
--- the merges of the first tables and of the others make that of all
+-- the merges of the first tables and of the others make the merge of all
 pub merge-split : (tables : List Pairs) (n : ℕ) (one other : Pairs) → IsListing one → IsListing other → IsMerge (take n tables) one → IsMerge (drop n tables) other → IsMerge tables (merged_of one other)
 merge-split tables n one other first second left right =
     IsMerge-from tables (merged_of one other) (listing-merged one other first second) (λ k.

@@ -195,7 +195,7 @@ module _ (heads : List (Option Combination)) where
       (cases_lt first other))
       (cases_lt other first)
 
-  -- where it is at its end, all are
+  -- if the first is at its end, all are
   pub all-at-end : (first other : ℕ) → GoesFirst heads first → get_or heads first None ≡ None
       → other < length heads → get_or heads other None ≡ None
   all-at-end first other goes none within = ⊎_elim
@@ -226,7 +226,7 @@ order-again heads place places head count i order so =
 
 -- ---- lists of places
 
--- the first place was put behind others
+-- the first place was put after others
 pub first-put : (xs ys : List ℕ) (n : ℕ) → n < length xs
     → ys ≡ drop 1 (take (n + 1) xs) ++ take 1 (take (n + 1) xs)
     → ys ++ drop (n + 1) xs ≡ insert (drop 1 xs) n (get_or xs 0 0)
@@ -278,7 +278,7 @@ module _ (texts : List TextValue) where
   none-head (Some entry) e = cc
 
   module _ (order : List ℕ) (ordered : IsOrder (heads_of texts) (length texts) order) where
-    -- no text goes first where there is none
+    -- no text goes first if there is none
     pub no-first : None ≡ slice_get order 0 → (first : ℕ) → GoesFirst (heads_of texts) first → ⊥
     no-first none first goes = by order none (ordered.each first (omega (arith, long, goes.within)))
       where

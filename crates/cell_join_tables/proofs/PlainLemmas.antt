@@ -1,4 +1,4 @@
--- Texts without labels: what stands before a count is the cells alone, so that no two texts differ there.
+-- Texts without labels: what is before a count is the cells alone, so that no two texts differ there.
 use Rattle.std.proofs.Common.{◌≡◌, ◌≢◌, ◌<◌, ℕ, ℤ, zero, suc, List, [], ◌∷◌, ◌++◌, map, flat_map, length, Bool, true, false, ◌==◌, Option, Some, None, Result, Ok, Err, refl, ap, sym, ◌∙◌, arith, cond, codes, decimal, append_assoc, append-nil, subst, option_map, get_or}
 use Rattle.std.proofs.lemmas.Bool.Decides.{Decides-eqb}
 use Rattle.std.proofs.lemmas.List.{map-append}
@@ -39,7 +39,7 @@ module _ (separator : ℕ) where
   abbrev with_separator : List ℕ → List ℕ
   with_separator field = field ++ separator ∷ []
 
-  -- fields, each with a separator behind it
+  -- fields, each with a separator after it
   abbrev pub front_of : List (List ℕ) → List ℕ
   front_of fields = flat_map with_separator fields
 
@@ -122,7 +122,7 @@ module _ (null_text : List ℕ) where
       by true same e = (let own : None ≡ cell = cc in same refl ∙ ap (cell_text null_text) own)
       by false same e = in-range (whole_in_range field) e
 
-  -- the cells as they are printed, and what stands behind them
+  -- the cells as they are printed, and what comes after them
   record AreCells (fields : List (List ℕ)) (cells : Combination) : Type 0 where
     last : List ℕ
     are : fields ≡ map (cell_text null_text) cells ++ last ∷ []
@@ -163,7 +163,7 @@ last-free P [] last all = all.0
 last-free P (field ∷ fields) last all = last-free P fields last all.1
 
 module _ (format : FormatValue) (plain : format.labels ≡ false) where
-  -- the cells of a combination, with a separator behind each
+  -- the cells of a combination, with a separator after each
   abbrev cells_front : Combination → List ℕ
   cells_front k = front_of format.separator (map (cell_text format.null_text) k)
 

@@ -19,7 +19,8 @@ use Rattle.cell_join_lines.specs.declared.table_fault.TableKind.{TableKind}
 use Rattle.cell_join_lines.specs.declared.table_fault.TableKind.TheVariants.{BadWidth, LongLine}
 use Rattle.cell_join_lines.specs.declared.table_fault.TheConstants.{MOST_BYTES}
 use Rattle.cell_parts.specs.Merging.{IsListing}
-use Rattle.cell_parts.proofs.ListingLemmas.{listing-none, keys_of}
+use Rattle.cell_stats.proofs.TableLemmas.{keys_of}
+use Rattle.cell_parts.proofs.ListingLemmas.{listing-none}
 use Rattle.cell_join_tables.specs.JoinedTexts.{first_entry, readings_from, tables_of, width_behind}
 
 -- ---- a count is above 0
@@ -107,7 +108,7 @@ next-so : (format : FormatValue) (width : ℕ) (last : Option Combination) (line
 next-so format width last line e is =
     read-so width last (spelled_entry format line) (spelled-positive format line) e is
 
--- ---- entries behind a combination, if there is one
+-- ---- entries after a combination, if there is one
 
 abbrev IsAbove : Option Combination → Pairs → Type 0
 IsAbove None es = Unit {0}

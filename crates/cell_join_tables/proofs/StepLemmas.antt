@@ -1,4 +1,4 @@
--- One step of a merge of tables: the least combination of all.
+-- One step of a merge of tables: the smallest combination of all.
 use Rattle.std.proofs.Common.{◌≡◌, ◌≢◌, ℕ, ◌+◌, List, [], ◌∷◌, map, Bool, true, false, Option, Some, None, refl, ap, ◌∙◌, cond, subst}
 use Rattle.std.specs.List.{AllByRecursion}
 use Rattle.std.specs.Ordering.{is_eq, ordering_reverse}
@@ -54,7 +54,7 @@ module _ (k : Combination) where
       ((k, n) ∷ merge_entry e (merged_of es) m)) equal
       ∙ (λ i. (same i, e.1 + n) ∷ merged_of es m)
 
-  -- one that is greater
+  -- one that is larger
   left-of : (e : Combination × ℕ) (es m : Pairs) (o : Option ℕ) → combination_cmp e.0 k ≡ Greater
       → merged_of (e ∷ es) (put_first k o m) ≡ put_first k o (merged_of (e ∷ es) m)
   left-of e es m None greater = refl

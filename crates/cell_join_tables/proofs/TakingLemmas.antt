@@ -101,7 +101,7 @@ end-by format text None None r none is = cc
 end-by format text None (Some coming) r none is = cc
 end-by format text (Some entry) o r none is = cc
 
--- a text of which the first entry was read has no fault before it
+-- a text of which the first entry was read has no error before it
 pub no-entry : (format : FormatValue) (text : TextValue) (r : TableReading) → reading_from format text ≡ Some r
     → r.entries ≡ [] → r.fault ≡ None
 no-entry format text r is none =

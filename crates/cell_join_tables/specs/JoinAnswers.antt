@@ -1,4 +1,4 @@
--- Which fault is met where a text is opened or goes on, and how a merge is answered.
+-- Which error is met when a text is opened or continues, and how a merge ends.
 use Rattle.std.specs.Prelude.{ℕ, ◌≡◌, ◌<◌, Bool, false, List, [], map, slice_get, Option, Some, None, Result, Ok, Err, if◌then◌else◌}
 use Rattle.cell_core_devices.specs.Device.{Faults, after_flush}
 use Rattle.cell_stats_counts.specs.Combinations.{Combination}
@@ -9,13 +9,13 @@ use Rattle.cell_join_tables.specs.TextHeads.{past_first}
 use Rattle.cell_join_tables.specs.declared.join_fault.JoinFault.{JoinFault}
 use Rattle.cell_join_tables.specs.declared.join_fault.JoinFault.TheVariants.{Text, TooMany, TooLong, Memory, Write}
 
--- the text at this place has a fault right behind the combination, and those before it went on behind theirs
+-- the text at this place has an error right after the combination, and the texts before it continued after theirs
 pub record StopsBehind (k : Combination) (readings : List TableReading) (text : ℕ) (fault : TableFault) : Type 0 where
   pub has : HasFault readings text fault
   pub place : slice_get (map fault_place readings) text ≡ Some (Some (Some k))
   pub others : (other : ℕ) (reading : TableReading) → other < text → slice_get readings other ≡ Some reading → past_first k reading.entries ≡ [] → reading.fault ≡ None
 
--- of a fault of a text, that it stops there; of any other nothing
+-- of an error of a text, that it stops there; of any other nothing
 abbrev pub IsFaultOfText : Combination → List TableReading → JoinFault → Type 0
 IsFaultOfText k readings (Text text fault) = StopsBehind k readings text fault
 IsFaultOfText k readings (TooMany j) = Unit {0}
@@ -31,16 +31,16 @@ IsOpeningFault readings TooLong = ⊥
 IsOpeningFault readings Memory = Unit {0}
 IsOpeningFault readings Write = ⊥
 
--- an answer, where the block has failed or not
+-- a result, where the block has failed or not
 abbrev pub settled : Bool → Result Unit JoinFault → Result Unit JoinFault
 settled failed answer = if failed then Err Write else answer
 
--- the fault of an answer, where the flush failed or not: one that fails turns what is done into a failed write
+-- the error of a result, where the flush failed or not: one that fails turns what is done into a failed write
 abbrev pub answered : Result Unit JoinFault → Bool → Option JoinFault
 answered (Ok unit) fails = if fails then Some Write else None
 answered (Err fault) fails = Some fault
 
--- the sink is flushed, but not after a refused put
+-- the sink is flushed, but not after a failed put
 abbrev pub after_fault : Faults → JoinFault → Bool → Faults
 after_fault old Write fails = old
 after_fault old fault fails = after_flush old fails
@@ -49,7 +49,7 @@ abbrev pub after_answer : Faults → Result Unit JoinFault → Bool → Faults
 after_answer old (Ok unit) fails = after_flush old fails
 after_answer old (Err fault) fails = after_fault old fault fails
 
--- an answer is given, and the sink flushed
+-- a result is returned, and the sink flushed
 pub record IsAnswered (answer : Result Unit JoinFault) (old new : Faults) (fault : Option JoinFault) : Type 0 where
   pub fails : Bool
   pub reported : fault ≡ answered answer fails

@@ -44,7 +44,7 @@ counted_text entries = flat_map counted_line entries
 abbrev pub labels_of_texts : FormatValue → List Coming → List (List Labelled)
 labels_of_texts format texts = map (λ text. labelled_in format text.bytes) texts
 
--- each line of each text stands among these entries with its labels, so that no two texts label one combination differently
+-- each line of each text is among these entries with its labels, so that no two texts label one combination differently
 abbrev pub AreLabelledSo : List (List Labelled) → List LabelledEntry → Type 0
 AreLabelledSo texts entries = AllByRecursion (λ lines. AllByRecursion (λ line. Contains (labelled_of entries) line) lines) texts
 
@@ -75,7 +75,7 @@ pub record IsLabelledMerge (format : FormatValue) (texts : List Coming) (merged 
 abbrev pub HasLine : List (List Labelled) → ℕ → Labelled → Type 0
 HasLine texts text line = (lines : List Labelled) × ((slice_get texts text ≡ Some lines) × Contains lines line)
 
--- two texts have the combination with other labels, the first of them before the second, and no fault stands behind a lesser
+-- two texts have the combination with other labels, the first of them before the second, and no error comes after a lesser
 -- combination
 pub record HasOtherLabel (readings : List TableReading) (texts : List (List Labelled)) (reported : OtherLabel) : Type 0 where
   pub before : reported.first < reported.text
@@ -138,7 +138,7 @@ abbrev pub IsReported : FormatValue → List Coming → (before now : Option (Li
 IsReported format texts before now written None = AreJoinedLabels format texts before now written
 IsReported format texts before now written (Some fault) = IsLabelFault format texts fault × HasLabelledWritten format texts before now written fault
 
--- the same of texts without labels, which are never told to have others
+-- the same of texts without labels, which are never reported to have other ones
 abbrev pub IsPlainly : FormatValue → List Coming → (before now : Option (List ℕ)) → (written : ℕ) → Option LabelFault → Type 0
 IsPlainly format texts before now written None = AreJoinedTexts format (readings_of format texts) before now written
 IsPlainly format texts before now written (Some (faults.Join fault)) = IsJoinFault (readings_of format texts) fault × HasWritten format (readings_of format texts) before now written fault

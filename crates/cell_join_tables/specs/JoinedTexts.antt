@@ -20,16 +20,16 @@ abbrev pub first_entry : Pairs → Option (Combination × ℕ)
 first_entry [] = None
 first_entry (entry ∷ entries) = Some entry
 
--- how many cells an entry has, 0 where there is none
+-- how many cells an entry has, 0 if there is none
 abbrev pub entry_width : Option (Combination × ℕ) → ℕ
 entry_width None = 0
 entry_width (Some entry) = length entry.0
 
--- how many cells are wanted behind a text with this first entry: as many as it has, where none were wanted before
+-- how many cells are wanted after a text with this first entry: as many as it has, if none were wanted before
 abbrev pub width_behind : ℕ → Option (Combination × ℕ) → ℕ
 width_behind width first = if width == 0 then entry_width first else width
 
--- what texts are read as, one after the other, where so many cells are wanted, or any number where it is 0
+-- what texts are read as, one after the other, if so many cells are wanted, or any number if that is 0
 abbrev pub readings_from : FormatValue → ℕ → List Coming → List TableReading
 readings_from format width [] = []
 readings_from format width (text ∷ texts) = reading_of format width text ∷ readings_from format (width_behind width (first_entry (reading_of format width text).entries)) texts
@@ -38,11 +38,11 @@ readings_from format width (text ∷ texts) = reading_of format width text ∷ r
 abbrev pub readings_of : FormatValue → List Coming → List TableReading
 readings_of format texts = readings_from format 0 texts
 
--- the entries before the first faults
+-- the entries before the first errors
 abbrev pub tables_of : List TableReading → List Pairs
 tables_of readings = map (λ reading. reading.entries) readings
 
--- the text at this place has this first fault
+-- the text at this place has this first error
 abbrev pub HasFault : List TableReading → ℕ → TableFault → Type 0
 HasFault readings text fault = slice_get (map (λ reading. reading.fault) readings) text ≡ Some (Some fault)
 
@@ -52,32 +52,32 @@ last_combination [] = None
 last_combination (entry ∷ []) = Some entry.0
 last_combination (entry ∷ next ∷ entries) = last_combination (next ∷ entries)
 
--- behind which combination a fault stands, if there is a fault, and a combination before it
+-- after which combination an error is, if there is an error, and a combination before it
 abbrev pub fault_place : TableReading → Option (Option Combination)
 fault_place reading = option_map (λ fault. last_combination reading.entries) reading.fault
 
--- a fault behind a combination, of a text, is met no later than one behind another, of another text: before all is one that
--- has no combination before it, then that behind the least, and of two behind the same that of the first text
+-- an error after a combination, of a text, is met no later than one after another, of another text: before all is one that
+-- has no combination before it, then the one after the smallest, and of two after the same the one in the first text
 abbrev pub IsMetFirst : Option Combination → Option Combination → (text other : ℕ) → Type 0
 IsMetFirst None None text other = text ≤ other
 IsMetFirst None (Some another) text other = Unit {0}
 IsMetFirst (Some k) None text other = ⊥
 IsMetFirst (Some k) (Some another) text other = (combination_cmp k another ≡ Less) ⊎ ((k ≡ another) × (text ≤ other))
 
--- by these places of faults, that of a text is met first
+-- by these places of errors, the error of a text is met first
 abbrev pub IsFirstPlace : List (Option (Option Combination)) → ℕ → Type 0
 IsFirstPlace places text = (other : ℕ) (own another : Option Combination) → slice_get places text ≡ Some (Some own) → slice_get places other ≡ Some (Some another) → IsMetFirst own another text other
 
--- no fault stands behind a lesser combination than this
+-- no error comes after a lesser combination than this
 abbrev pub AreNoneBefore : Combination → List (Option (Option Combination)) → Type 0
 AreNoneBefore k places = (other : ℕ) (another : Option Combination) → slice_get places other ≡ Some (Some another) → (j : Combination) × ((another ≡ Some j) × (combination_cmp j k ≢ Less))
 
--- the text at this place has this first fault, and of all texts' faults it is met first
+-- the text at this place has this first error, and of all texts' errors it is met first
 pub record IsFirstFault (readings : List TableReading) (text : ℕ) (fault : TableFault) : Type 0 where
   pub has : HasFault readings text fault
   pub first : IsFirstPlace (map fault_place readings) text
 
--- a text with a fault before its first entry
+-- a text with an error before its first entry
 abbrev pub IsFaultyAtOnce : TableReading → Type 0
 IsFaultyAtOnce reading = (reading.entries ≡ []) × (reading.fault ≢ None)
 
@@ -85,7 +85,7 @@ IsFaultyAtOnce reading = (reading.entries ≡ []) × (reading.fault ≢ None)
 abbrev pub AreTables : List TableReading → Type 0
 AreTables readings = AllByRecursion (λ fault. fault ≡ None) (map (λ reading. reading.fault) readings)
 
--- each source tells what it gives
+-- each source shows what it gives
 abbrev pub Give : {R : Type 0} → (R → Option Coming) → List R → List Coming → Type 0
 Give coming sources texts = map coming sources ≡ map Some texts
 

@@ -1,4 +1,4 @@
--- Many tables merged at once: the least combination of all goes first.
+-- Many tables merged at once: the smallest combination of all goes first.
 use Rattle.std.specs.Prelude.{ℕ, ◌≡◌, ◌≢◌, List, [], ◌∷◌, map, Option, Some, None, if◌then◌else◌}
 use Rattle.std.specs.List.{AllByRecursion}
 use Rattle.std.specs.declared.cmp.Ordering.TheVariants.{Less}
@@ -9,7 +9,7 @@ use Rattle.cell_parts.specs.Merging.{IsListing}
 use Rattle.cell_join_tables.specs.parts.Pairwise.{merged_of}
 use Rattle.cell_join_tables.specs.TextHeads.{sum_if_any, is_of, past_first}
 
--- tables merged, each with all behind it
+-- tables merged, each with all after it
 abbrev pub merge_of : List Pairs → Pairs
 merge_of [] = []
 merge_of (table ∷ tables) = merged_of table (merge_of tables)
@@ -18,12 +18,12 @@ merge_of (table ∷ tables) = merged_of table (merge_of tables)
 abbrev pub MergesAll : Type 0
 MergesAll = (tables : List Pairs) → AllByRecursion IsListing tables → IsMerge tables (merge_of tables)
 
--- the first combination, if there is one, is greater
+-- the first combination, if there is one, is larger
 abbrev pub BeginsAbove : Combination → Pairs → Type 0
 BeginsAbove k [] = Unit {0}
 BeginsAbove k (e ∷ es) = combination_cmp k e.0 ≡ Less
 
--- it is not less, and the next one is greater
+-- it is not less, and the next one is larger
 abbrev pub BeginsAt : Combination → Pairs → Type 0
 BeginsAt k [] = Unit {0}
 BeginsAt k (e ∷ es) = (combination_cmp e.0 k ≢ Less) × BeginsAbove e.0 es
@@ -37,12 +37,12 @@ abbrev pub total_in : Combination → List Pairs → Option ℕ
 total_in k [] = None
 total_in k (table ∷ tables) = sum_if_any (first_count k table) (total_in k tables)
 
--- an entry before others, where there is a count
+-- an entry before others, if there is a count
 abbrev pub put_first : Combination → Option ℕ → Pairs → Pairs
 put_first k None es = es
 put_first k (Some n) es = (k, n) ∷ es
 
--- where no table begins before a combination, the merge begins with it and with the sum of its counts, if it has any, and goes on
+-- where no table begins before a combination, the merge begins with it and with the sum of its counts, if it has any, and continues
 -- as the merge of what is left
 abbrev pub LeastGoesFirst : Type 0
 LeastGoesFirst = (k : Combination) (tables : List Pairs) → AllByRecursion (BeginsAt k) tables → merge_of tables ≡ put_first k (total_in k tables) (merge_of (map (past_first k) tables))

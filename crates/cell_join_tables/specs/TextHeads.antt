@@ -30,7 +30,7 @@ sum_if_any None count = count
 sum_if_any (Some total) None = Some total
 sum_if_any (Some total) (Some count) = Some (total + count)
 
--- what lines have, without that of the first where it is of the combination
+-- what lines have, without the first if that is of the combination
 abbrev pub past_labelled : Combination → List Labelled → List Labelled
 past_labelled k [] = []
 past_labelled k (one ∷ others) = if eq_by_cmp combination_cmp one.0 k then others else one ∷ others

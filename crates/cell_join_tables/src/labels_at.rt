@@ -1,4 +1,4 @@
-//! The labels that texts have for the combination that they go on with.
+//! The labels that texts have for the combination that they continue with.
 
 ghost use Rattle.std.specs.Prelude.{◌≡◌, ◌<◌, ◌-◌, not, bytes_eq, length, map, slice_get, slice_index_or, All, None, Some, IfOk, IfErr, IfSome, true};
 ghost use Rattle.cell_join_lines.specs.LineLabels.{before_count};
@@ -13,7 +13,7 @@ use cell_stats::format::Format;
 use cell_stats_counts::combination::Combo;
 use std::alloc::Global;
 
-// Whether a text goes on with the combination.
+// Whether a text continues with the combination.
 fn goes_on_with<R: Source>(text: &TableText<R>, combo: &Combo) -> bool
     ensures { result ≡ goes_on_with combo.now text.now }
 {
@@ -31,7 +31,7 @@ fn has_other<R: Source>(format: &Format, text: &TableText<R>, labelled: &[u8]) -
     text.before_count(format.separator()) != labelled
 }
 
-/// The first of texts at places in order that has other labels for the combination, of those that go on with it.
+/// The first of texts at places in order that has other labels for the combination, of those that continue with it.
 pub(crate) fn other_at<R: Source>(
     format: &Format,
     texts: &[TableText<R>],
@@ -59,7 +59,7 @@ pub(crate) fn other_at<R: Source>(
     None
 }
 
-/// What tells that two texts have other labels for the combination.
+/// What shows that two texts have other labels for the combination.
 ///
 /// # Errors
 ///

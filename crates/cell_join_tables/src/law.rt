@@ -2,12 +2,12 @@
 
 ghost use Rattle.cell_join_tables.specs.MergedTables.{LeastGoesFirst, MergesAll};
 
-/// Tables merged, each with all behind it, are the merge of all.
+/// Tables merged, each with all after it, are the merge of all.
 pub fn merges_all()
     ensures { MergesAll }
 {}
 
-/// The merge of tables begins with the least combination that any begins with, and with the sum of its counts, and goes on as the
+/// The merge of tables begins with the smallest combination that any begins with, and with the sum of its counts, and continues as the
 /// merge of what is left.
 pub fn least_goes_first()
     ensures { LeastGoesFirst }

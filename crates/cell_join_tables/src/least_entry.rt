@@ -1,4 +1,4 @@
-//! The least entry that texts go on with.
+//! The smallest entry that texts continue with.
 
 ghost use Rattle.std.specs.Prelude.{◌≡◌, ◌≢◌, ℕ, List, [], ◌∷◌, All, IfErr, IfOk, IfSome, None, Ok, OnOk, Some, map, option_map};
 ghost use Rattle.cell_join_lines.specs.LineLabels.{Labelled, labelled_from};
@@ -19,7 +19,7 @@ use cell_stats::format::Format;
 use cell_stats_counts::combination::Combo;
 use std::alloc::Global;
 
-// The count of an entry, where there is one and it is of the combination.
+// The count of an entry, if there is one and it is of the combination.
 fn count_of(entry: Option<&(Combo, u64)>, combo: &Combo) -> Option<u64>
     ensures { result ≡ head_count combo.now (option_map (λ e. e.now) entry.entry) }
 {
@@ -29,7 +29,7 @@ fn count_of(entry: Option<&(Combo, u64)>, combo: &Combo) -> Option<u64>
     }
 }
 
-// Takes the other entries of a combination, of which the first was taken, and tells the counts of all together.
+// Takes the other entries of a combination, of which the first was taken, and returns the counts of all together.
 fn take_others<R: Source>(
     alloc: Global,
     format: &Format,
@@ -69,12 +69,12 @@ fn take_others<R: Source>(
     Ok(total)
 }
 
-/// Takes the least entry of all, with the counts of all texts that go on with its combination together; None where each text
+/// Takes the smallest entry of all, with the counts of all texts that continue with its combination together; None where each text
 /// is at its end.
 ///
 /// # Errors
 ///
-/// [`JoinFault::Text`] of the first text that has a fault behind it, [`JoinFault::TooMany`] where the counts are beyond 64
+/// [`JoinFault::Text`] of the first text that has an error after it, [`JoinFault::TooMany`] where the counts are beyond 64
 /// bits, [`JoinFault::Memory`].
 pub(crate) fn take_least<R: Source>(
     alloc: Global,

@@ -1,4 +1,4 @@
-//! Texts in the order in which a merge goes on with them.
+//! Texts in the order in which a merge continues with them.
 
 ghost use Rattle.std.specs.Prelude.{◌≡◌, ◌≢◌, ◌<◌, ◌≤◌, ℕ, List, All, drop, length, slice_index, IfErr, IfOk, IfSome, MatchOption, None, Ok, OnOk, Some};
 ghost use Rattle.std.specs.List.{Contains, insert};
@@ -71,7 +71,7 @@ fn count_before<R: Source>(
     low
 }
 
-// Puts the first place behind so many others. Places move by one, 8 bytes a text, as in GNU `sort -m`. A heap moves fewer and
+// Puts the first place after so many others. Places move by one, 8 bytes a text, as in GNU `sort -m`. A heap moves fewer and
 // looks at twice as many heads.
 fn put_first(places: &mut [usize], others: usize)
     requires { others < length places.old }
@@ -80,14 +80,14 @@ fn put_first(places: &mut [usize], others: usize)
     places[..others + 1].rotate_left(1);
 }
 
-/// Texts, and the order in which a merge goes on with them: by what they go on with, and of two that go on with the same
+/// Texts, and the order in which a merge continues with them: by what they continue with, and of two that continue with the same
 /// combination the earlier one first. Those at their ends are last.
 #[derive(Drop)]
 pub(crate) struct OrderedTexts<R: Source> {
     texts: Vec<TableText<R>>,
     // The places of the texts, in order.
     order: Vec<usize>,
-    // Behind how many others the last text was put: the next one often goes there too.
+    // After how many others the last text was put: the next one often goes there too.
     last_put: usize,
 }
 
@@ -109,7 +109,7 @@ impl<R: Source> OrderedTexts<R> {
     ///
     /// # Errors
     ///
-    /// `Memory`, where memory is refused.
+    /// `Memory`, if memory runs out.
     pub(crate) fn from_texts(
         alloc: Global,
         texts: Vec<TableText<R>>,
@@ -137,7 +137,7 @@ impl<R: Source> OrderedTexts<R> {
         self.texts.len()
     }
 
-    /// The entry that the first text goes on with, which is of the least combination; None where each text is at its end.
+    /// The entry that the first text continues with, which is of the smallest combination; None where each text is at its end.
     pub(crate) fn first(&self) -> Option<&(Combo, u64)>
         ensures { MatchOption result
             (All (λ text. text.head ≡ None) self.now)
@@ -152,8 +152,8 @@ impl<R: Source> OrderedTexts<R> {
         }
     }
 
-    /// Puts what the line of the first text has before its count in the place of what is given, and tells the first text that goes on
-    /// with the same combination and has something else there, if there is one.
+    /// Puts what the line of the first text has before its count in the place of what is given, and returns the first text
+    /// that continues with the same combination and has something else there, if there is one.
     ///
     /// # Errors
     ///
@@ -200,7 +200,7 @@ impl<R: Source> OrderedTexts<R> {
     ///
     /// # Errors
     ///
-    /// [`JoinFault::Text`], where the text has a fault there, and [`JoinFault::Memory`].
+    /// [`JoinFault::Text`], where the text has an error there, and [`JoinFault::Memory`].
     pub(crate) fn advance(&mut self, alloc: Global, format: &Format) -> Result<(), JoinFault>
         ensures reads { OnOk result ((first : ℕ) → GoesFirst (heads_of self.old) first
             → HeadReadsOn format.now self.old first self.new) }

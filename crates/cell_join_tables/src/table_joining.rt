@@ -33,7 +33,7 @@ use std::alloc::Global;
 /// What joining texts did.
 #[derive(Debug, Drop)]
 pub struct JoinOutcome {
-    /// The number of bytes that the sink took, or the greatest `u64` where it took more.
+    /// The number of bytes that the sink took, or the largest `u64` where it took more.
     pub written: u64,
     /// Why the texts are not joined.
     pub fault: Option<LabelFault>,
@@ -47,7 +47,7 @@ enum JoinStep {
     Other(OtherLabel),
 }
 
-// Writes a line: what stands before its count, and the count.
+// Writes a line: what is before its count, and the count.
 fn write_counted<W: Sink>(out: &mut W, block: &mut OutputBlock, labelled: &[u8], count: u64)
     ensures { (k : Combination) → Appends W.taken W.faults out.old block.old
         (counted_line ((k, labelled.now), count)) out.new block.new }
@@ -57,7 +57,7 @@ fn write_counted<W: Sink>(out: &mut W, block: &mut OutputBlock, labelled: &[u8],
     block.push(out, b"\n");
 }
 
-// Takes the least entry of all, writes its line with the labels that all texts have, and tells whether there was one.
+// Takes the smallest entry of all, writes its line with the labels that all texts have. Returns whether there was one.
 fn write_least<R: Source, W: Sink>(
     alloc: Global,
     format: &Format,
@@ -96,7 +96,7 @@ fn write_least<R: Source, W: Sink>(
     }
 }
 
-// Writes the lines of the merge, from the least entry on, up to the first whose labels differ between texts, and tells these.
+// Writes the lines of the merge, from the smallest entry on, up to the first whose labels differ, and returns these.
 fn merge_texts<R: Source, W: Sink>(
     alloc: Global,
     format: &Format,
@@ -143,7 +143,7 @@ fn merge_opened<R: Source + Drop, W: Sink>(
     }
 }
 
-// The answer of a merge, and the other labels that it met.
+// The result of a merge, and the other labels that it met.
 fn parted(
     merged: Result<Option<OtherLabel>, JoinFault>,
 ) -> (Result<(), JoinFault>, Option<OtherLabel>)
@@ -156,7 +156,7 @@ fn parted(
     }
 }
 
-// The fault that is reported: other labels where there is no fault else.
+// The error that is reported: other labels if there is no error else.
 fn label_fault(fault: Option<JoinFault>, other: Option<OtherLabel>) -> Option<LabelFault>
     ensures { result ≡ label_fault_of fault other }
 {
@@ -201,34 +201,34 @@ fn join_opened<R: Source + Drop, W: Sink>(
 
 /// Joins the texts of tables to the text of their merge: each combination that some text lists, once, in order, with the sum of
 /// its counts and, where labels are printed, with the labels that it has in all texts that list it. It holds a block of each
-/// source, the line and the entry that each text goes on with, and no table.
+/// source, the line and the entry that each text continues with, and no table.
 ///
-/// The first entry of each text is read before the first byte is written. The sink is flushed once at the end, unless it
-/// refused a put. Texts that have one combination with other labels are reported where no fault stands behind a lesser one.
+/// The first entry of each text is read before the first byte is written. The sink is flushed once at the end, unless a
+/// put failed. Texts that have one combination with other labels are reported where no error comes after a lesser one.
 pub fn join_texts<R: Source + Drop, W: Sink>(
     alloc: Global,
     format: &Format,
     sources: Vec<R>,
     out: &mut W,
 ) -> JoinOutcome
-    // Without a fault each text is a table to its end, and the sink has taken exactly the lines of their merge, each with what
+    // Without an error each text is a table to its end, and the sink has taken exactly the lines of their merge, each with what
     // every text that lists its combination has before the count.
     ensures joined { (texts : List Coming) → Give R.coming sources.items texts
         → result.fault ≡ None
         → AreJoinedLabels format.now texts (W.taken out.old) (W.taken out.new) result.written }
-    // A fault of a text is its first one, and of all texts' faults it stands behind the least combination, or behind none, and
-    // of those in the first text; counts or entries that are too many are those of the merge, and no fault stands behind a
+    // An error of a text is its first one, and of all texts' errors it comes after the smallest combination, or after none, and
+    // of these in the first text; counts or entries that are too many are in the merge, and no error comes after a
     // lesser combination than one whose counts are; or two texts have other labels for a combination.
     ensures fault { (texts : List Coming) → Give R.coming sources.items texts
         → IfSome result.fault (IsLabelFault format.now texts) }
     // Other labels are reported with the line that has them in its text.
     ensures line { (texts : List Coming) → Give R.coming sources.items texts
         → IfSome result.fault (IsOnLine (labels_of_texts format.now texts)) }
-    // With a fault the sink has taken the lines of the first entries, or a prefix of them where a write failed.
+    // With an error the sink has taken the lines of the first entries, or a prefix of them where a write failed.
     ensures written { (texts : List Coming) → Give R.coming sources.items texts
         → IfSome result.fault (HasLabelledWritten format.now texts (W.taken out.old)
         (W.taken out.new) result.written) }
-    // Without labels the same in plain words: exactly the text of the merge, or a fault of tables and what it says.
+    // Without labels the same in plain words: exactly the text of the merge, or an error of tables and what it says.
     ensures plain { (texts : List Coming) → Give R.coming sources.items texts
         → format.now.labels ≡ false
         → IsPlainly format.now texts (W.taken out.old) (W.taken out.new) result.written
@@ -238,7 +238,7 @@ pub fn join_texts<R: Source + Drop, W: Sink>(
         → Give R.coming sources.items texts
         → Contains (readings_of format.now texts) reading → IsFaultyAtOnce reading
         → out.new ≡ out.old }
-    // No fault comes only where no call of the sink failed and it was flushed once, and, of a sink that had not failed before,
+    // No error comes only where no call of the sink failed and it was flushed once, and, of a sink that had not failed before,
     // Write only where it failed.
     ensures sound { result.fault ≡ None
         → W.faults out.new ≡ after_flush (W.faults out.old) false }

@@ -21,7 +21,7 @@ use cell_stats::format::Format;
 use cell_stats_counts::combination::Combo;
 use std::alloc::Global;
 
-// How many cells are wanted behind a text that begins so.
+// How many cells are wanted after a text that begins so.
 fn width_behind(width: usize, head: &Option<(Combo, u64)>) -> usize
     ensures { result ≡ width_behind width head.now }
 {
@@ -73,11 +73,11 @@ pub fn open_texts<R: Source + Drop>(
     Ok(texts)
 }
 
-/// Puts what the block holds, unless a put was refused, and changes the answer where one is.
+/// Puts what the block holds, unless a put failed, and changes the result if one fails.
 ///
 /// # Errors
 ///
-/// [`JoinFault::Write`] where a put was refused, and otherwise the fault that is given.
+/// [`JoinFault::Write`] if a put failed, and otherwise the error that is given.
 pub fn settle<W: Sink>(
     merged: Result<(), JoinFault>,
     block: &mut OutputBlock,
@@ -98,8 +98,8 @@ pub fn settle<W: Sink>(
     merged
 }
 
-/// Flushes the sink unless it refused a put, and answers. A flush that fails turns what is done into a failed write, and
-/// changes no other answer.
+/// Flushes the sink unless a put failed, and returns the result. A flush that fails turns what is done into a failed write, and
+/// changes no other result.
 pub fn finish<W: Sink>(merged: Result<(), JoinFault>, out: &mut W) -> Option<JoinFault>
     ensures taken { W.taken out.new ≡ W.taken out.old }
     ensures answered { IsAnswered merged (W.faults out.old) (W.faults out.new) result }

@@ -1,4 +1,4 @@
--- Texts that are printed of parts are read as the tables of the parts, whose merge is the table of the whole.
+-- Texts that are printed of parts are read as the tables of the parts, whose merge is the table of the full map.
 use Rattle.std.proofs.Common.{◌≡◌, ℕ, ◌+◌, ◌-◌, ◌*◌, ◌<◌, ◌≤◌, ◌^◌, ◌==◌, ◌⊎◌, inl, inr, List, [], ◌∷◌, length, map}
 use Rattle.std.proofs.Common.{Bool, true, false, cond, None, refl, ap, sym, subst, ◌∙◌, arith, mul-le-mul}
 use Rattle.std.proofs.lemmas.List.Elements.{All-nil, All-cons, All-head, All-tail}
@@ -54,7 +54,7 @@ module _ (format : FormatValue) (picks : List ℕ) (can : CanBeReadBack format p
   abbrev FitsIn : Rectangle → Type 0
   FitsIn r = (r.top + r.rows ≤ rows) × (r.left + r.cols ≤ cols)
 
-  -- a part lies in the whole, and has its cells
+  -- a part lies in the full map, and has its cells
   record LiesIn (part : Part) : Type 0 where
     fits : FitsIn part.place
     is : IsPart part.place whole part.maps

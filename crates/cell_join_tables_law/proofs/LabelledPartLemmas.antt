@@ -1,5 +1,5 @@
 -- Texts that are printed with labels of parts are read as the tables of the parts, whose merge is the table of
--- the whole, and each of their lines has the labels of the whole.
+-- the whole, and each of their lines has the labels of the full map.
 use Rattle.std.proofs.Common.{◌≡◌, ℕ, zero, suc, ◌+◌, ◌-◌, ◌*◌, ◌<◌, ◌≤◌, ◌^◌, inl, List, [], ◌∷◌, length}
 use Rattle.std.proofs.Common.{map, get_or, max}
 use Rattle.std.proofs.Common.{false, refl, ap, sym, subst, ◌∙◌, arith, mul-le-mul, unwrap_or}
@@ -14,7 +14,7 @@ use Rattle.cell_stats_counts.specs.declared.skip.Skip.{Skip}
 use Rattle.cell_stats_counts.specs.Combinations.{Combination, all_combinations}
 use Rattle.cell_stats.specs.CategoryTables.{Pairs, table_of}
 use Rattle.cell_stats.specs.TableText.{FormatValue}
-use Rattle.cell_stats.proofs.TableLemmas.{table_of-IsTable}
+use Rattle.cell_stats.proofs.TableLemmas.{found-listed, table_of-IsTable}
 use Rattle.cell_parts.specs.Parts.{Rectangle, IsPart}
 use Rattle.cell_parts.specs.TableParts.{Part, AreParts, IsMerge, combinations_of_part, count_in}
 use Rattle.cell_parts.proofs.MergeLemmas.{tables-merge}
@@ -25,7 +25,6 @@ use Rattle.cell_join_tables_law.specs.PrintedTables.{IsLabelledEntry, labels_of_
 use Rattle.cell_join_tables_law.proofs.LabelledTableLemmas.{labelled-reads, prints-as-labelled-tables}
 use Rattle.cell_join_tables.specs.JoinedTexts.{AreTables, IsMergeOf, first_entry, readings_from, readings_of}
 use Rattle.cell_join_tables.specs.JoinedTexts.{tables_of, width_behind}
-use Rattle.cell_join_tables.proofs.MergeLemmas.{found}
 use Rattle.cell_join_tables.proofs.ReadingLemmas.{readings-listing}
 use Rattle.cell_join_tables_law.specs.PrintedParts.{text_of_part}
 use Rattle.cell_join_tables_law.proofs.JoinedPartLemmas.{MayWant, table_read, want-behind}
@@ -49,7 +48,7 @@ module _ (format : FormatValue) (picks : List ℕ) (rows cols : ℕ) (whole : Li
   abbrev FitsIn : Rectangle → Type 0
   FitsIn r = (r.top + r.rows ≤ rows) × (r.left + r.cols ≤ cols)
 
-  -- a part lies in the whole, and has its cells and labels
+  -- a part lies in the full map, and has its cells and labels
   record LiesIn (part : Part) : Type 0 where
     fits : FitsIn part.place
     is : IsPart part.place whole part.maps
@@ -151,7 +150,7 @@ module _ (format : FormatValue) (picks : List ℕ) (rows cols : ℕ) (whole : Li
   abbrev front_of_entry : Combination × ℕ → Labelled
   front_of_entry entry = (entry.0, front format labels entry.0)
 
-  -- an entry stands with its labels
+  -- an entry is listed with its labels
   abbrev StandsIn : Pairs → Combination → Type 0
   StandsIn table k = Contains (map front_of_entry table) (k, front format labels k)
 
@@ -184,7 +183,7 @@ module _ (format : FormatValue) (picks : List ℕ) (rows cols : ℕ) (whole : Li
       let e = get_or entries i d in
       let ascending = (table_of-IsTable skip (combinations_of_part picks part)).ascending in
       let at : Contains entries e = (i, within, same entries i d within) in
-      let count : count_in e.0 entries ≡ e.1 = ap (λ o. unwrap_or o 0) (found e.0 e.1 entries ascending at) in
+      let count : count_in e.0 entries ≡ e.1 = ap (λ o. unwrap_or o 0) (found-listed e.0 e.1 entries ascending at) in
       have e.0 (omega (arith, count, (stands part.maps picks part.place.rows part.place.cols skip i d within).some)))
     where
       same : (es : Pairs) (i : ℕ) (d : Combination × ℕ) → i < length es → get_or es i (get_or es i d) ≡ get_or es i d

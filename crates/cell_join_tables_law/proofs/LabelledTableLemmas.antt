@@ -28,7 +28,7 @@ use Rattle.cell_join_tables_law.proofs.PrintedFieldLemmas.{joined-free, null-fre
 use Rattle.cell_join_tables_law.proofs.PrintedTableLemmas.{digit-apart, digit-feed, feed-apart, minus-apart}
 use Rattle.cell_join_tables_law.proofs.PrintedTableLemmas.{read-all, width-wanted}
 
--- ---- bytes that stand in no field
+-- ---- bytes that are in no field
 
 module _ (p : ℕ → Bool) (digits : (b : ℕ) → is_digit b ≡ true → p b ≡ false) (minus : p 45 ≡ false)
     (format : FormatValue) (labels : Labelling) (null : All (λ b. p b ≡ false) format.null_text)

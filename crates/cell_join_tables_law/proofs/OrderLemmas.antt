@@ -17,7 +17,7 @@ abbrev IsBefore : ℕ → Option Stretch → Type 0
 IsBefore band None = Unit {0}
 IsBefore band (Some s) = s.band < band
 
--- what comes behind a band begins with whichever later one
+-- what comes after a band begins with whichever later one
 abbrev BeginsLater : ℕ → List Stretch → Type 0
 BeginsLater band rest = (before : Option Stretch) → IsBefore band before → AreReadable before rest
 

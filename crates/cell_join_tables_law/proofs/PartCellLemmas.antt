@@ -68,7 +68,7 @@ module _ (maps : List Grid) (rows cols : ℕ)
         cells = picked row col (omega (arith, high)) (omega (arith, wide)) picks;
       }))
 
--- those of the whole, and those of a part
+-- the cells of the full map, and the cells of a part
 pub whole-of-cells : (whole : List Grid) → All (λ m. AreCells m.rows) whole → (rows cols : ℕ) (picks : List ℕ)
     → All (IsOfCells picks) (all_combinations whole picks rows cols)
 whole-of-cells whole are rows cols picks =

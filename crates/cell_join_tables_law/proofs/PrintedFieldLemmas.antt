@@ -54,7 +54,7 @@ cell-back null_text (Some z) clear is = by (bytes_eq (signed_decimal z) null_tex
         cc
     by false e = rw (e, category-back z is) refl
 
--- ---- bytes that stand in no field
+-- ---- bytes that are in no field
 
 module _ (p : ℕ → Bool) (digits : (b : ℕ) → is_digit b ≡ true → p b ≡ false) (minus : p 45 ≡ false) where
   abbrev IsOut : ℕ → Type 0

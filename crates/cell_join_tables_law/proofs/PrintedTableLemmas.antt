@@ -91,7 +91,7 @@ module _ (format : FormatValue) (width : ℕ) (line_bytes : Combination × ℕ �
       ap (slice_split is_newline) (append_assoc (line_bytes entry) (10 ∷ []) (text_of entries))
       ∙ slice_split_at is_newline (line_bytes entry) 10 (text_of entries) (free entry is) refl
 
-  -- entries that may stand behind a combination, if there is one
+  -- entries that may come after a combination, if there is one
   abbrev MayFollow : ℕ → Option Combination → Pairs → Type 0
   MayFollow wanted None entries = is_as_wide wanted width ≡ true
   MayFollow wanted (Some last) entries = (length last ≡ width) × AllByRecursion (λ k. combination_cmp last k ≡ Less)

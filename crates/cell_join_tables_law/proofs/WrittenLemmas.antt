@@ -31,7 +31,7 @@ stretch_cells s = Some (pos s.band) ∷ Some (pos s.first) ∷ Some (pos s.last)
 abbrev entry_of : Stretch → Combination × ℕ
 entry_of s = (stretch_cells s, s.number)
 
--- ---- the text is that of these entries
+-- ---- the text spells these entries
 
 same-text : (stretches : List Stretch) → areas_text stretches ≡ entries_text areas_format (map entry_of stretches)
 same-text [] = refl

@@ -1,4 +1,4 @@
--- Texts printed with labels of the tables of parts of maps, joined, are the text printed of the table of the whole.
+-- Texts printed with labels of the tables of parts of maps, joined, are the text printed of the table of the full map.
 use Rattle.std.specs.Prelude.{ℕ, ℤ, ◌≡◌, ◌<◌, ◌≤◌, ◌+◌, ◌-◌, ◌*◌, ◌^◌, max, true, List, All, length, map, Option}
 use Rattle.cell_core_devices.specs.Blocks.{capped_count}
 use Rattle.cell_core_devices.specs.Device.{Coming, append_known}
@@ -11,7 +11,7 @@ use Rattle.cell_join_tables_law.specs.PrintedTables.{AreClearLabels, IsClear, la
 use Rattle.cell_join_tables_law.specs.PrintedParts.{text_of_maps, text_of_part}
 use Rattle.cell_join_tables.specs.JoinedLabels.{AreJoinedLabels, IsLabelledMerge, LabelledEntry, counted_text}
 
--- lines with labels that can be read back: counts and labels (r.stats manual, flags -c and -l), fields that can be told apart, a
+-- lines with labels that can be read back: counts and labels (r.stats manual, flags -c and -l), fields that can be distinguished, a
 -- cell at least, labels of no more bytes than this, and no line that is too long where a cell takes 11 bytes, or as many as the
 -- null text, its label so many, or 7 as null's, and a count 20
 pub record CanBeReadLabelled (format : FormatValue) (picks : List ℕ) (maps : List Grid) (most : ℕ) : Type 0 where
@@ -24,7 +24,7 @@ pub record CanBeReadLabelled (format : FormatValue) (picks : List ℕ) (maps : L
   pub fit : (column : ℕ) (category : ℤ) → length (labels_of_maps maps picks column category) ≤ most
   pub short : length picks * (max 11 (length format.null_text) + max 7 most + 2) + 20 ≤ MOST_BYTES
 
--- the picked maps of a part have the labels of those of the whole
+-- the picked maps of a part have the labels of the full maps
 pub record HasLabels (whole : List Grid) (picks : List ℕ) (part : Part) : Type 0 where
   pub within : All (λ pick. pick < length part.maps) picks
   pub same : (column : ℕ) (category : ℤ) → labels_of_maps part.maps picks column category ≡ labels_of_maps whole picks column category
@@ -45,7 +45,7 @@ LabelledPartsJoin = (format : FormatValue) (picks : List ℕ) (rows cols : ℕ) 
     → (skip : Skip) → JoinLabelledTo format (map (text_of_part format skip picks) parts)
     (text_of_maps format skip picks rows cols whole)
 
--- where texts join to a text, a sink that took what they were joined to without a fault took exactly this text
+-- if texts join to a text, a sink that took what they were joined to without an error took exactly this text
 abbrev pub LabelledAsOne : Type 0
 LabelledAsOne = (format : FormatValue) (texts : List Coming) (text : List ℕ) → JoinLabelledTo format texts text
     → (before now : Option (List ℕ)) (written : ℕ) → AreJoinedLabels format texts before now written

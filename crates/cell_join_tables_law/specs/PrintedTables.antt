@@ -13,7 +13,7 @@ use Rattle.cell_join_lines.specs.LineReading.{is_newline, reading_of}
 use Rattle.cell_join_lines.specs.TableLines.{Labelling, entries_text, entry_fields, labelled_entry_fields, labelled_text}
 use Rattle.cell_join_lines.specs.declared.table_fault.TheConstants.{MOST_BYTES}
 
--- fields can be told apart: by a separator that stands in none of them, nor, where labels are printed, in that of null, and a
+-- fields can be distinguished: by a separator that is in none of them, nor, if labels are printed, in the label of null, and a
 -- null text that is no category
 pub record IsClear (format : FormatValue) : Type 0 where
   pub separator : is_clear_byte format.separator ≡ true
@@ -22,7 +22,7 @@ pub record IsClear (format : FormatValue) : Type 0 where
   pub null : category_of_field format.null_text ≡ None
   pub no_data : format.labels ≡ true → list_all (λ b. not (b == format.separator)) (codes "no data") ≡ true
 
--- the test of a format tells that they can
+-- the test of a format shows that they can
 abbrev pub ClearIsTested : Type 0
 ClearIsTested = (format : FormatValue) → is_clear format ≡ true → IsClear format
 
@@ -34,7 +34,7 @@ pub record IsPrintedEntry (format : FormatValue) (width : ℕ) (entry : Combinat
   pub fits : entry.1 < 2 ^ 64
   pub short : length (join_with_byte format.separator (entry_fields format entry)) ≤ MOST_BYTES
 
--- the text of such entries in order, without labels, is read as these entries, with no fault, whether or not their width is
+-- the text of such entries in order, without labels, is read as these entries, with no error, whether or not their width is
 -- known before
 abbrev pub PrintedReadsAsItself : Type 0
 PrintedReadsAsItself = (format : FormatValue) (wanted width : ℕ) (entries : Pairs) → IsClear format → format.labels ≡ false → 0 < width → (wanted ≡ 0) ⊎ (wanted ≡ width) → All (IsPrintedEntry format width) entries → IsStrictlySortedBy combination_cmp (map (λ entry. entry.0) entries) → reading_of format wanted (record { bytes = entries_text format entries; fails = false }) ≡ record { entries = entries; fault = None }
@@ -55,7 +55,7 @@ pub record IsLabelledEntry (format : FormatValue) (labels : Labelling) (width : 
   pub fits : entry.1 < 2 ^ 64
   pub short : length (join_with_byte format.separator (labelled_entry_fields format labels entry)) ≤ MOST_BYTES
 
--- the text of such entries in order, with labels that can be told apart, is read as these entries, with no fault
+-- the text of such entries in order, with labels that can be distinguished, is read as these entries, with no error
 abbrev pub LabelledReadsAsItself : Type 0
 LabelledReadsAsItself = (format : FormatValue) (labels : Labelling) (wanted width : ℕ) (entries : Pairs) → IsClear format → format.labels ≡ true → AreClearLabels format labels → 0 < width → (wanted ≡ 0) ⊎ (wanted ≡ width) → All (IsLabelledEntry format labels width) entries → IsStrictlySortedBy combination_cmp (map (λ entry. entry.0) entries) → reading_of format wanted (record { bytes = labelled_text format labels entries; fails = false }) ≡ record { entries = entries; fault = None }
 

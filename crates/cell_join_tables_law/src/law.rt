@@ -25,7 +25,7 @@ pub fn printed_as_labelled_tables()
     ensures { PrintsAsLabelledTables }
 {}
 
-/// A format of which the test says so has fields that can be told apart.
+/// A format of which the test says so has fields that can be distinguished.
 pub fn clear_is_tested()
     ensures { ClearIsTested }
 {}
@@ -41,23 +41,23 @@ pub fn stretches_are_readable()
 {}
 
 /// However maps are cut into parts that cover each cell once: the texts printed of the tables of the parts join to the text
-/// printed of the table of the whole.
+/// printed of the table of the full map.
 pub fn printed_parts_join()
     ensures { PrintedPartsJoin }
 {}
 
-/// Where texts join to a text, exactly this text is written of them, if there is no fault.
+/// If texts join to a text, exactly this text is written of them, if there is no error.
 pub fn joined_as_one()
     ensures { JoinedAsOne }
 {}
 
-/// However maps are cut into parts that cover each cell once and have the labels of the whole: the texts printed with labels of
-/// the tables of the parts join to the text printed with labels of the table of the whole.
+/// However maps are cut into parts that cover each cell once and have the labels of the full map: the texts printed with labels of
+/// the tables of the parts join to the text printed with labels of the table of the full map.
 pub fn labelled_parts_join()
     ensures { LabelledPartsJoin }
 {}
 
-/// Where texts with labels join to a text, exactly this text is written of them, if there is no fault.
+/// If texts with labels join to a text, exactly this text is written of them, if there is no error.
 pub fn labelled_as_one()
     ensures { LabelledAsOne }
 {}

@@ -1,4 +1,4 @@
-//! Texts of borders with one fault each.
+//! Texts of borders with one error each.
 
 use crate::border_texts::{SMALL, read};
 use cell_core::memory::Memory;
@@ -8,12 +8,12 @@ use cell_join_borders::pair_fault::{PairFault, PairKind};
 use std::alloc::Global;
 use std::test::Fail;
 
-// The bytes in front of the rows of the small border, and those of each row.
+// The bytes before the rows of the small border, and the bytes of each row.
 const HEADER: usize = 51;
 
 const ROW: usize = 8;
 
-// The small border with another row in place of one, counted from 1, and its fault.
+// The small border with another row in place of one, counted from 1, and its error.
 fn fault_with(alloc: Global, row: usize, line: &[u8]) -> Result<Option<BorderFault>, Memory> {
     let at = HEADER.saturating_add(ROW.saturating_mul(row.saturating_sub(1)));
     let mut text = Vec::new(alloc);

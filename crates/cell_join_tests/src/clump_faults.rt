@@ -13,7 +13,7 @@ use std::test::Fail;
 // An edge at a whole map unit.
 const UNIT: i64 = 100000000;
 
-// The fault of texts that are not joined, where nothing was written.
+// The error of texts that are not joined, where nothing was written.
 fn fault_of(
     alloc: Global,
     texts: Vec<Vec<u8>>,
@@ -102,7 +102,7 @@ fn tiles_not_beside(rt: HostRuntime) -> Result<(), Fail> {
     Ok(())
 }
 
-// How a tile after the first does not fit beside it, where it has as many rows.
+// How a tile after the first does not fit next to it, if it has as many rows.
 const EDGES: [(&[u8], Misfit); 2] = [
     (
         TALL,

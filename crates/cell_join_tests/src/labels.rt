@@ -50,7 +50,7 @@ fn join_plain(
     Ok(join_texts(alloc, &format, sources, out))
 }
 
-// What other labels were told.
+// What other labels were reported.
 fn other_labels(outcome: &JoinOutcome) -> Option<(usize, usize, u64, &[u8], &[u8])> {
     match &outcome.fault {
         Some(LabelFault::OtherLabel(reported)) => Some((

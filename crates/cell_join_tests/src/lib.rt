@@ -1,6 +1,6 @@
-//! Tests of maps in grids of tiles: the clumps of the full map beside those that are joined.
-//! Tests of what joins tables, clumps and sizes: worked texts, each fault with its place, texts that come in small pieces, texts that are
-//! cut short, sinks that fail, and random sizes beside a plain count.
+//! Tests of maps in grids of tiles: the clumps of the full map compared with the joined ones.
+//! Tests of what joins tables, clumps and sizes: worked texts, each error with its place, texts that come in small pieces, texts that are
+//! cut short, sinks that fail, and random sizes compared with a plain count.
 #![tactic(auto)]
 
 #[cfg(test)]

@@ -11,7 +11,7 @@ use std::alloc::Global;
 use std::cell;
 use std::test::Fail;
 
-// A text, and the sum of its counts, or its first fault.
+// A text, and the sum of its counts, or its first error.
 const TEXTS: [(&[u8], Result<u64, (u64, TableKind)>); 21] = [
     (b"", Ok(0)),
     (b"1 5\n2 4\n3 2\n* 1\n", Ok(12)),
@@ -93,7 +93,7 @@ fn a_line_has_a_greatest_length(rt: HostRuntime) -> Result<(), Fail> {
     Ok(())
 }
 
-// A source of one byte a call, of which one call fails, or tells the end, before it goes on. It counts its calls.
+// A source of one byte a call, of which one call fails, or reports the end, before it continues. It counts its calls.
 #[derive(Drop)]
 struct OddSource<'a> {
     text: &'a [u8],
@@ -134,7 +134,7 @@ impl<'a> Source for OddSource<'a> {
     }
 }
 
-// What the second line is read as where a call for it fails or tells the end, how often the source was asked until then, and how
+// What the second line is read as if a call for it fails or reports the end, how often the source was asked till then, and how
 // often when the text was asked twice more.
 fn asked_oddly(
     alloc: Global,

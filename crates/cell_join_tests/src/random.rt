@@ -1,4 +1,4 @@
-//! The clumps of random maps in every grid of tiles beside those of the full maps.
+//! The clumps of random maps in every grid of tiles, compared with the clumps of the full maps.
 
 use crate::chance::categories_by;
 use crate::cuts::{pieces, ways};

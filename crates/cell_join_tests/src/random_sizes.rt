@@ -1,4 +1,4 @@
-//! Random tiles: the sizes of their clumps beside a plain count.
+//! Random tiles: the sizes of their clumps compared with a plain count.
 
 use crate::sizes::{ROOM, join_to};
 use cell_core::memory::Memory;
@@ -13,10 +13,10 @@ const BANDS: u64 = 6;
 // How many runs a tile has at most.
 const STRETCHES: u64 = 3;
 
-// The greatest number that a run begins with.
+// The largest number that a run begins with.
 const NUMBERS: u64 = 5;
 
-// The texts of tiles, how many clumps they have, the greatest number of each line of the numbering, and the sizes of the clumps of the
+// The texts of tiles, how many clumps they have, the largest number of each line of the numbering, and the sizes of the clumps of the
 // whole, by their numbers: 0 where a number is left out.
 #[derive(Drop)]
 struct Bands {

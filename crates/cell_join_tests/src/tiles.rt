@@ -100,7 +100,7 @@ fn tile_of(
     Ok((border, categories_of(alloc, &clumps)?))
 }
 
-// The borders of the tiles of a row of tiles, whose numbers go after those of the others.
+// The borders of the tiles of a row of tiles, whose numbers go after the numbers of the others.
 fn row_of_tiles(
     alloc: Global,
     whole: Whole<'_>,
@@ -160,7 +160,7 @@ fn put_numbers(found: &mut [u64], cols: u32, tile: &Numbered, runs: &[Stretch]) 
     }
 }
 
-// What a joiner refuses, as a test does.
+// What a joiner rejects, as a test does.
 fn joined(answer: Result<TileJoiner, JoinerFault>) -> Result<TileJoiner, Fail> {
     match answer {
         Ok(joiner) => Ok(joiner),

@@ -1,4 +1,4 @@
-//! Two tiles, of two clumps and of three: in the whole the second of the first is one clump with the first of the other, and the first
+//! Two tiles, of two clumps and of three: in the full map the second of the first is one clump with the first of the other, and the first
 //! with its last.
 
 use crate::sizes::{ROOM, join_to};
@@ -16,7 +16,7 @@ pub(crate) const SECOND: &[u8] = b"1 20\n2 30\n3 40\n";
 
 const SIZES: &[u8] = b"1 45\n2 27\n3 30\n";
 
-// With a null where there was none and the other way round, with tiles behind these that have no clumps, with numbers downwards, and
+// With a null where there was none and the other way round, with tiles after these that have no clumps, with numbers downwards, and
 // without tiles.
 #[test]
 fn sizes_are_added_up(rt: HostRuntime) -> Result<(), Fail> {

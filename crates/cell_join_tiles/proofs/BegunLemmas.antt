@@ -1,4 +1,4 @@
--- How many first cells lie in each row of a tile tells in which row each of them lies.
+-- How many first cells lie in each row of a tile shows in which row each of them lies.
 use Rattle.std.proofs.Common.{◌≡◌, ℕ, zero, suc, ◌+◌, ◌<◌, ◌≤◌, List, [], ◌∷◌, length, get_or, refl, ap, ◌∙◌, arith, inl, inr, ⊎_elim, ◌⊎◌, ltb, eqb, cond, Bool}
 use Rattle.std.specs.Prelude.{sum, count_by, ◌==◌}
 use Rattle.std.specs.List.{AllPairs}
@@ -93,7 +93,7 @@ parts (p ∷ firsts) order (suc k) i d lt =
 
 -- ---- the row of a clump
 
--- it is that of its first cell
+-- it is the row of its first cell
 pub begun-at : (firsts : List Position) → AllPairs IsEarlierCell firsts → (begun : Begun) (rows : ℕ) → length begun ≡ rows → ((i : ℕ) → i < rows → get_or begun i 0 ≡ among firsts i) → (k : ℕ) (d : Position) → k < length firsts → (get_or firsts k d).row < rows → Lies begun k (get_or firsts k d).row
 begun-at firsts order begun rows long counts k d lt inside =
     let p : Position = get_or firsts k d in

@@ -1,4 +1,4 @@
--- The labels of clumps go by their first cells in the whole.
+-- The labels of clumps go by their first cells in the full map.
 use Rattle.std.proofs.Common.{◌≡◌, ℕ, suc, pos, ◌+◌, ◌-◌, ◌<◌, ◌≤◌, List, [], Some, IsSome, map, take, length, get_or, ap, sym, ◌∙◌, arith, subst, inl, inr}
 use Rattle.std.specs.Prelude.{sum}
 use Rattle.std.specs.List.{AllPairs}
@@ -193,7 +193,7 @@ module _ (j : Joining) (whole : Grid) (heights widths : List ℕ) (map_of number
       (subst (λ (v : CellValue). IsSome v) (tile.cells (first_in x.r x.c x.k) a.row a.col) a.some)
 
   module _ (label_of : Position → ℕ) (bear : BearLabels heights widths numbers_of grid label_of) where
-    -- where a cell of the whole lies, and the clump of its tile that it is of
+    -- where a cell of the full map lies, and the clump of its tile that it is of
     pub record InTile (p : Position) : Type 0 where
       pub r : ℕ
       pub c : ℕ

@@ -1,8 +1,8 @@
--- The greatest number of a clumping is the number of its areas.
-use Rattle.std.proofs.Common.{◌≡◌, ℕ, zero, suc, pos, negsuc, ◌≤◌, [], ◌∷◌, ◌++◌, List, Some, None, IsSome, length, get_or, refl, ap, sym, ◌∙◌, arith, subst, inl, inr, ⊎_elim, ◌⊎◌, max}
+-- The largest number of a clumping is the number of its areas.
+use Rattle.std.proofs.Common.{◌≡◌, ℕ, zero, suc, pos, negsuc, ◌<◌, ◌≤◌, [], ◌∷◌, ◌++◌, List, Some, None, IsSome, length, take, get_or, refl, ap, sym, ◌∙◌, arith, subst, inl, inr, ⊎_elim, ◌⊎◌, max}
 use Rattle.std.proofs.lemmas.Bool.{cases_lt}
 use Rattle.std.specs.List.{AllPairs}
-use Rattle.std.proofs.lemmas.List.{length_push}
+use Rattle.std.proofs.lemmas.List.{get_or-take, length_push}
 use Rattle.std.proofs.lemmas.List.Elements.{Contains-push_cases}
 use Rattle.std.proofs.lemmas.List.Quantifiers.{all_pairs_push}
 use Rattle.std.proofs.lemmas.List.Elements.{Contains-get_or}
@@ -16,14 +16,14 @@ use Rattle.cell_join_numbers.specs.Labelled.{HasAreas}
 use Rattle.cell_join_tiles.specs.parts.Greatest.{greater_of, greatest_in, greatest_of}
 use Rattle.cell_join_numbers.proofs.NumberLemmas.{before-then}
 
--- ---- no number is greater, and it is one
+-- ---- no number is larger, and it is one
 
 greater-least : (most : ℕ) (cell : CellValue) → most ≤ greater_of most cell
 greater-least most None = omega arith
 greater-least most (Some (pos n)) = omega arith
 greater-least most (Some (negsuc n)) = omega arith
 
-in-least : (most : ℕ) (cells : List CellValue) → most ≤ greatest_in most cells
+pub in-least : (most : ℕ) (cells : List CellValue) → most ≤ greatest_in most cells
 in-least most [] = omega arith
 in-least most (cell ∷ cells) = omega (arith, greater-least most cell, in-least (greater_of most cell) cells)
 
@@ -44,7 +44,13 @@ of-bound most n [] r c is = cc
 of-bound most n (row ∷ rows) zero c is = omega (arith, in-bound most n row c is, of-least (greatest_in most row) rows)
 of-bound most n (row ∷ rows) (suc r) c is = of-bound (greatest_in most row) n rows r c is
 
--- the greatest number is the one to begin with, or stands somewhere
+-- the same of the first rows
+pub first-bound : (most n i : ℕ) (rows : List (List CellValue)) (r c : ℕ) → r < i
+    → get_or (get_or rows r []) c None ≡ Some (pos n) → n ≤ greatest_of most (take i rows)
+first-bound most n i rows r c lt is =
+    of-bound most n (take i rows) r c (ap (λ (row : List CellValue). get_or row c None) (get_or-take i rows r [] lt) ∙ is)
+
+-- the largest number is the one to begin with, or is somewhere in the list
 greater-reached : (most : ℕ) (cell : CellValue) → (greater_of most cell ≡ most) ⊎ (cell ≡ Some (pos (greater_of most cell)))
 greater-reached most None = inl refl
 greater-reached most (Some (pos n)) = ⊎_elim (λ lt. inr (let e : n ≡ max most n = omega (arith, lt) in ap (λ (k : ℕ). Some (pos k)) e)) (λ le. inl (omega (arith, le))) (cases_lt most n)
@@ -60,7 +66,8 @@ in-reached most (cell ∷ cells) =
     (λ same. ⊎_elim (λ stays. inl (same ∙ stays)) (λ here. inr (0, here ∙ ap (λ (k : ℕ). Some (pos k)) (sym same))) (greater-reached most cell))
     (λ later. inr (suc later.0, later.1)) (in-reached (greater_of most cell) cells)
 
-of-reached : (most : ℕ) (rows : List (List CellValue)) → (greatest_of most rows ≡ most) ⊎ ((r : ℕ) × (c : ℕ) × (get_or (get_or rows r []) c None ≡ Some (pos (greatest_of most rows))))
+pub of-reached : (most : ℕ) (rows : List (List CellValue)) → (greatest_of most rows ≡ most)
+    ⊎ ((r : ℕ) × (c : ℕ) × (get_or (get_or rows r []) c None ≡ Some (pos (greatest_of most rows))))
 of-reached most [] = inl refl
 of-reached most (row ∷ rows) =
     ⊎_elim
@@ -69,7 +76,7 @@ of-reached most (row ∷ rows) =
 
 -- ---- the areas of a clumping
 
-some-numbered : (x y : CellValue) → (x ≡ None → y ≡ None) → IsSome y → IsSome x
+pub some-numbered : (x y : CellValue) → (x ≡ None → y ≡ None) → IsSome y → IsSome x
 some-numbered None y nulls some = subst IsSome (nulls refl) some
 some-numbered (Some v) y nulls some = refl
 
@@ -77,7 +84,7 @@ module _ (j : Joining) (m numbers : Grid) (clumping : IsClumping j m numbers) (m
   before-itself : (p : Position) → ¬ IsEarlierCell p p
   before-itself p before = IsBefore-asym p p before before
 
-  -- a first cell stands in its own list
+  -- a first cell is in its own list
   one-least : (p : Position) (n : ℕ) → HasNumber j m p n → 1 ≤ n
   one-least p n h =
       let t = (h.up_to.exactly h.first).1 (h.is_first, before-itself h.first) in
@@ -98,7 +105,7 @@ module _ (j : Joining) (m numbers : Grid) (clumping : IsClumping j m numbers) (m
     sym none,
   )
 
-  -- no first cell comes after that of the greatest number
+  -- no first cell comes after the first cell of the largest number
   last-first : (p q : Position) → IsFirst j m q → (h : HasNumber j m p most) → ¬ IsEarlierCell h.first q
   last-first p q first h before =
       let t = clumping.numbered q first.category in

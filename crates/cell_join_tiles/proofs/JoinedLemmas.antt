@@ -1,4 +1,4 @@
--- The borders of the tiles of a grid label the cells of the whole.
+-- The borders of the tiles of a grid label the cells of the full map.
 use Rattle.std.proofs.Common.{◌≡◌, ℕ, suc, ◌+◌, ◌-◌, ◌<◌, [], List, take, map, length, get_or, refl, ap, sym, ◌∙◌, arith, subst, inl, inr, ⊎_elim, ◌⊎◌}
 use Rattle.std.specs.Prelude.{sum, flat_map}
 use Rattle.std.specs.List.{Contains, range_with_len}

@@ -10,7 +10,7 @@ use Rattle.cell_join_tiles.proofs.LabelSums.{more-le, next-one, all-of, between,
 
 -- ---- orders
 
--- row order in the whole: by rows of tiles, by rows in them, by columns of tiles, by numbers
+-- row order in the full map: by rows of tiles, by rows in them, by columns of tiles, by numbers
 abbrev pub IsBefore : (r i c k s h d l : ℕ) → Type 0
 IsBefore r i c k s h d l = (r < s) ⊎ ((r ≡ s) × ((i < h) ⊎ ((i ≡ h) × ((c < d) ⊎ ((c ≡ d) × (k < l))))))
 

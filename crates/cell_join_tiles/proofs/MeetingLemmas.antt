@@ -61,7 +61,7 @@ places-only f x a (suc n) h =
     ⊎_elim (λ here. (a, here, omega arith)) (λ later. let t = places-only f x (a + 1) n later in (t.0, t.1, omega (arith, t.2)))
     (Contains-append_cases (f a) (flat_map f (range_with_len (a + 1) n)) x (subst (λ ps. Contains ps x) split h))
 
--- what is marked stands in the line
+-- what is marked is in the line
 pub mark-inside : (line : Line) (k : ℕ) (x : Mark) → get_or line k None ≡ Some x → k < length line
 mark-inside line k x e =
     ⊎_elim (λ lt. lt)

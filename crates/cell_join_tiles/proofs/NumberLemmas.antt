@@ -1,4 +1,4 @@
--- The whole is numbered by what the tiles tell and the pairs at the cuts.
+-- The full map is numbered by what the tiles show and the pairs at the seams.
 use Rattle.std.proofs.Common.{◌≡◌, ℕ, ℤ, ◌+◌, ◌-◌, ◌<◌, ◌≤◌, List, [], Some, IsSome, take, length, get_or, refl, ap, sym, ◌∙◌, arith, subst, inl, inr, ⊎_elim, ◌⊎◌}
 use Rattle.std.specs.Prelude.{sum}
 use Rattle.std.proofs.lemmas.Bool.{cases_eq, cases_lt}
@@ -8,15 +8,14 @@ use Rattle.cell_cats_areas.specs.Areas.{Position, cell_at_position, AreAdjacent,
 use Rattle.cell_cats_areas.specs.parts.CellPlaces.{position}
 use Rattle.cell_cats_areas.proofs.PathLemmas.{AreJoined-adjacent}
 use Rattle.cell_parts.specs.AreaParts.{moved_position}
-use Rattle.cell_parts.proofs.AreaLemmas.{is-some}
-use Rattle.cell_join_tiles.proofs.GreatestLemmas.{has-areas}
+use Rattle.cell_parts.proofs.AreaLemmas.{adjacent-back, is-some}
+use Rattle.cell_join_tiles.proofs.GreatestLemmas.{has-areas, some-numbered}
 use Rattle.cell_join_numbers.specs.Labelled.{HasAreas}
 use Rattle.cell_join_tiles.specs.parts.Greatest.{greatest_of}
-use Rattle.cell_join_tiles.proofs.MovedLemmas.{adjacent-back}
 use Rattle.cell_join_tiles.specs.Beginnings.{Begun, stretch_of, clump_label, IsCutIntoTiles, HasBegun, HaveBegun, ArePaired, tile_place}
 use Rattle.cell_join_tiles.specs.Borders.{AreBorders, number_of, cell_label, CellsBearLabels, AreInOneTile, ArePairedAtSeams, BordersAreLabelled, BordersNumberTheWhole, BordersCountTheWhole}
 use Rattle.cell_join_tiles.proofs.StretchLemmas.{Lies, lies, stretch-is}
-use Rattle.cell_join_tiles.proofs.RiseLemmas.{rises-report-begun, some-numbered}
+use Rattle.cell_join_tiles.proofs.RiseLemmas.{rises-report-begun}
 use Rattle.cell_join_tiles.proofs.BorderLemmas.{starts, many-starts, are-labelled}
 
 -- ---- the label of a cell
@@ -91,7 +90,7 @@ module _ (j : Joining) (whole : Grid) (heights widths : List ℕ) (map_of number
   firsts_of : (r c : ℕ) → r < length heights → c < length widths → HasAreas j (map_of r c) (greatest_of 0 (numbers_of r c).rows)
   firsts_of r c r_in c_in = has-areas j (map_of r c) (numbers_of r c) (borders.clumpings r c r_in c_in)
 
-  -- those of the tile in a row and a column of tiles, none past the grid
+  -- the numbers of the tile in a row and a column of tiles, none past the grid
   pub pick : (r c : ℕ) → (r < length heights) ⊎ (length heights ≤ r) → (c < length widths) ⊎ (length widths ≤ c) → List Position
   pick r c (inl r_in) (inl c_in) = (firsts_of r c r_in c_in).0
   pick r c (inl r_in) (inr c_out) = []

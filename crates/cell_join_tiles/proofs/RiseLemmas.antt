@@ -1,14 +1,15 @@
--- The greatest of the numbers of the first rows of a clumping is how many first cells lie in them.
-use Rattle.std.proofs.Common.{◌≡◌, ℕ, zero, suc, pos, negsuc, ◌+◌, ◌-◌, ◌<◌, ◌≤◌, [], ◌∷◌, ◌++◌, List, Some, None, IsSome, length, take, get_or, refl, ap, sym, ◌∙◌, arith, subst, inl, inr, ⊎_elim, ◌⊎◌, max, ltb}
+-- The largest of the numbers of the first rows of a clumping is how many first cells lie in them.
+use Rattle.std.proofs.Common.{◌≡◌, ℕ, zero, suc, pos, ◌+◌, ◌-◌, ◌<◌, ◌≤◌, [], ◌∷◌, ◌++◌, List, Some, None, length, length-take, take, get_or, refl, ap, sym, ◌∙◌, arith, subst, inl, ⊎_elim, ◌⊎◌, ltb}
 use Rattle.std.proofs.lemmas.Bool.{cases_lt}
-use Rattle.std.proofs.lemmas.List.{length_push}
+use Rattle.std.proofs.lemmas.List.{get_or-take, get_or_past, length_push}
 use Rattle.std.proofs.lemmas.List.Sums.{count_by-le-length}
 use Rattle.cell_core.specs.Grid.{Grid, CellValue}
 use Rattle.cell_cats_areas.specs.declared.clump.Joining.{Joining}
 use Rattle.cell_cats_areas.specs.Areas.{Position, cell_at_position, IsClumping}
 use Rattle.cell_cats_areas.specs.ClumpLaw.{AreFirsts}
 use Rattle.cell_cats_areas.specs.parts.CellPlaces.{position}
-use Rattle.cell_join_tiles.specs.parts.Greatest.{greater_of, greatest_in, greatest_of}
+use Rattle.cell_join_tiles.specs.parts.Greatest.{greatest_in, greatest_of}
+use Rattle.cell_join_tiles.proofs.GreatestLemmas.{first-bound, in-least, of-reached, some-numbered}
 use Rattle.cell_join_tiles.proofs.ListedAtLemmas.{listed_at-of, listed_at-own, first-some}
 use Rattle.cell_join_tiles.specs.Beginnings.{begun_before}
 use Rattle.cell_join_tiles.specs.Borders.{Rises, RisesCountBegun}
@@ -16,70 +17,28 @@ use Rattle.cell_join_tiles.proofs.StretchLemmas.{sum-cons}
 use Rattle.cell_join_tiles.proofs.LabelSums.{begun-next}
 use Rattle.cell_join_tiles.proofs.BegunLemmas.{above, above-next, parts}
 
--- ---- no number is greater, and it is one
-
-greater-least : (most : ℕ) (cell : CellValue) → most ≤ greater_of most cell
-greater-least most None = omega arith
-greater-least most (Some (pos n)) = omega arith
-greater-least most (Some (negsuc n)) = omega arith
-
-in-least : (most : ℕ) (cells : List CellValue) → most ≤ greatest_in most cells
-in-least most [] = omega arith
-in-least most (cell ∷ cells) = omega (arith, greater-least most cell, in-least (greater_of most cell) cells)
-
-of-least : (most : ℕ) (rows : List (List CellValue)) → most ≤ greatest_of most rows
-of-least most [] = omega arith
-of-least most (row ∷ rows) = omega (arith, in-least most row, of-least (greatest_in most row) rows)
-
-greater-bound : (most n : ℕ) (cell : CellValue) → cell ≡ Some (pos n) → n ≤ greater_of most cell
-greater-bound most n cell is = subst (λ (c : CellValue). n ≤ greater_of most c) (sym is) (omega arith)
-
-in-bound : (most n : ℕ) (cells : List CellValue) (c : ℕ) → get_or cells c None ≡ Some (pos n) → n ≤ greatest_in most cells
-in-bound most n [] c is = cc
-in-bound most n (cell ∷ cells) zero is = omega (arith, greater-bound most n cell is, in-least (greater_of most cell) cells)
-in-bound most n (cell ∷ cells) (suc c) is = in-bound (greater_of most cell) n cells c is
-
-of-bound : (most n i : ℕ) (rows : List (List CellValue)) (r c : ℕ) → r < i → get_or (get_or rows r []) c None ≡ Some (pos n) → n ≤ greatest_of most (take i rows)
-of-bound most n zero rows r c lt is = absurd (omega (arith, lt))
-of-bound most n (suc i) [] r c lt is = cc
-of-bound most n (suc i) (row ∷ rows) zero c lt is = omega (arith, in-bound most n row c is, of-least (greatest_in most row) (take i rows))
-of-bound most n (suc i) (row ∷ rows) (suc r) c lt is = of-bound (greatest_in most row) n i rows r c (omega (arith, lt)) is
-
-greater-reached : (most : ℕ) (cell : CellValue) → (greater_of most cell ≡ most) ⊎ (cell ≡ Some (pos (greater_of most cell)))
-greater-reached most None = inl refl
-greater-reached most (Some (pos n)) = ⊎_elim (λ lt. inr (let e : n ≡ max most n = omega (arith, lt) in ap (λ (k : ℕ). Some (pos k)) e)) (λ le. inl (omega (arith, le))) (cases_lt most n)
-greater-reached most (Some (negsuc n)) = inl refl
-
-abbrev ReachedIn : ℕ → List CellValue → Type 0
-ReachedIn most cells = (greatest_in most cells ≡ most) ⊎ ((c : ℕ) × (get_or cells c None ≡ Some (pos (greatest_in most cells))))
-
-in-reached : (most : ℕ) (cells : List CellValue) → ReachedIn most cells
-in-reached most [] = inl refl
-in-reached most (cell ∷ cells) =
-    ⊎_elim
-    (λ same. ⊎_elim (λ stays. inl (same ∙ stays)) (λ here. inr (0, here ∙ ap (λ (k : ℕ). Some (pos k)) (sym same))) (greater-reached most cell))
-    (λ later. inr (suc later.0, later.1)) (in-reached (greater_of most cell) cells)
-
--- where the greatest of the first rows stands
+-- where the largest of the first rows is
 record Stands (i : ℕ) (rows : List (List CellValue)) (n : ℕ) : Type 0 where
   pub r : ℕ
   pub c : ℕ
   pub early : r < i
   pub is : get_or (get_or rows r []) c None ≡ Some (pos n)
 
-of-reached : (most i : ℕ) (rows : List (List CellValue)) → (greatest_of most (take i rows) ≡ most) ⊎ Stands i rows (greatest_of most (take i rows))
-of-reached most zero rows = inl refl
-of-reached most (suc i) [] = inl refl
-of-reached most (suc i) (row ∷ rows) =
+of-first : (i : ℕ) (rows : List (List CellValue)) (n : ℕ) → (r c : ℕ)
+    → get_or (get_or (take i rows) r []) c None ≡ Some (pos n) → Stands i rows n
+of-first i rows n r c is =
     ⊎_elim
-    (λ same. ⊎_elim (λ stays. inl (same ∙ stays)) (λ here. inr (record { r = 0; c = here.0; early = omega arith; is = here.1 ∙ ap (λ (k : ℕ). Some (pos k)) (sym same) })) (in-reached most row))
-    (λ later. inr (record { r = suc later.r; c = later.c; early = omega (arith, later.early); is = later.is })) (of-reached (greatest_in most row) i rows)
+    (λ early. record {
+      r = r;
+      c = c;
+      early = early;
+      is = ap (λ (row : List CellValue). get_or row c None) (sym (get_or-take i rows r [] early)) ∙ is;
+    })
+    (λ past. let none = get_or_past (take i rows) r [] (omega (arith, length-take i rows, past)) in
+    let out : None ≡ Some (pos n) = ap (λ (row : List CellValue). get_or row c None) (sym none) ∙ is in cc)
+    (cases_lt r i)
 
 -- ---- the clumps of the first rows
-
-pub some-numbered : (x y : CellValue) → (x ≡ None → y ≡ None) → IsSome y → IsSome x
-some-numbered None y nulls some = subst IsSome (nulls refl) some
-some-numbered (Some v) y nulls some = refl
 
 module _ (j : Joining) (m numbers : Grid) (firsts : List Position) (clumping : IsClumping j m numbers) (all : AreFirsts j m firsts) where
   -- a clump that has a cell above a row begins above it
@@ -113,12 +72,15 @@ module _ (j : Joining) (m numbers : Grid) (firsts : List Position) (clumping : I
           let high : p.row < i = ⊎_elim (λ less. less) (λ past. absurd (omega (arith, e, part.not_above past))) (cases_lt p.row i) in
           let s = listed_at-of j m firsts all numbers clumping p (first-some j m firsts all numbers clumping k o k_in) in
           let place = listed_at-own j m firsts all numbers clumping k o k_in s in
-          omega (arith, place, of-bound 0 (s.place + 1) i numbers.rows p.row p.col high s.number)
+          omega (arith, place, first-bound 0 (s.place + 1) i numbers.rows p.row p.col high s.number)
 
   pub rises : (i : ℕ) → greatest_of 0 (take i numbers.rows) ≡ above firsts i
   rises i =
       let most : greatest_of 0 (take i numbers.rows) ≤ above firsts i =
-      ⊎_elim (λ none. omega (arith, none)) (λ at. number-above (position at.r at.c) i (greatest_of 0 (take i numbers.rows)) at.early at.is) (of-reached 0 i numbers.rows) in
+      ⊎_elim (λ none. omega (arith, none))
+      (λ stands. let at = of-first i numbers.rows (greatest_of 0 (take i numbers.rows)) stands.0 stands.1 stands.2 in
+      number-above (position at.r at.c) i (greatest_of 0 (take i numbers.rows)) at.early at.is)
+      (of-reached 0 (take i numbers.rows)) in
       omega (arith, most, above-number i)
 
 pub rises-report-begun : RisesCountBegun
@@ -140,14 +102,11 @@ rises-report-begun j m numbers firsts rows begun clumping all within ids = recor
 
 -- ---- row by row
 
--- what the rows so far tell
+-- what the rows so far show
 pub record RisesSoFar (numbers : Grid) (row most : ℕ) (begun : List ℕ) : Type 0 where
   pub long : length begun ≡ row
   pub greatest : most ≡ greatest_of 0 (take row numbers.rows)
   pub each : (i : ℕ) → i ≤ row → begun_before begun i ≡ greatest_of 0 (take i numbers.rows)
-
-pub greatest-least : (most : ℕ) (cells : List CellValue) → most ≤ greatest_in most cells
-greatest-least most cells = in-least most cells
 
 greatest-next : (most : ℕ) (rows : List (List CellValue)) (r : ℕ) → r < length rows → greatest_of most (take (suc r) rows) ≡ greatest_in (greatest_of most (take r rows)) (get_or rows r [])
 greatest-next most [] r lt = absurd (omega (arith, lt))

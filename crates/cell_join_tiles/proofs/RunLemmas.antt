@@ -40,7 +40,7 @@ lone-run number paired numbers roots order are first count place before after =
 pub paired-run : (number : ℕ → ℕ) (paired numbers roots : List ℕ) → AreNumbersOf number paired numbers roots → (place : ℕ) → place < length paired → range_with_len (get_or numbers place 0 + 1) 1 ≡ map number (range_with_len (get_or paired place 0) 1)
 paired-run number paired numbers roots are place lt = ap (λ (n : ℕ). n ∷ []) (are.at place lt)
 
--- labels behind labels
+-- labels after labels
 pub goes-then : (sparse : SparseNumbers) (part : ℕ) (line mid after : Option Line) (old between new : List Stretch) (one other : List ℕ) → RunsGoOn sparse part line old between one mid → RunsGoOn sparse part mid between new other after → RunsGoOn sparse part line old new (one ++ other) after
 goes-then sparse part line mid after old between new one other first second number before numbers are h =
     let done = second number before (numbers ++ map number one) are (first number before numbers are h) in
@@ -53,7 +53,7 @@ goes-nowhere sparse part line old labels none number before numbers are h =
     let same : numbers ≡ numbers ++ map number labels = sym (ap (λ (l : List ℕ). numbers ++ map number l) none ∙ append-nil numbers) in
     subst (λ (l : List ℕ). AreInLines part before l old line) same h
 
--- a run of numbers is put behind a line
+-- a run of numbers is put after a line
 pub goes-run : (sparse : SparseNumbers) (part : ℕ) (line after : Option Line) (old new : List Stretch) (labels : List ℕ) (first count : ℕ)
     → ((number : ℕ → ℕ) → AreNumbersOf number sparse.paired.items sparse.numbers.items sparse.roots.items → range_with_len first count ≡ map number labels)
     → ((before : List Stretch) (numbers : List ℕ) → AreInLines part before numbers old line → AreInLines part before (numbers ++ range_with_len first count) new after)

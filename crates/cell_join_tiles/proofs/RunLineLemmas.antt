@@ -1,4 +1,4 @@
--- A line that goes on, or ends where another begins.
+-- A line that continues, or ends where another begins.
 use Rattle.std.proofs.Common.{◌≡◌, ℕ, zero, suc, ◌+◌, ◌<◌, ◌==◌, List, [], ◌∷◌, ◌++◌, Some, None, true, false}
 use Rattle.std.proofs.Common.{Option, refl, ap, sym, ◌∙◌, arith, append_assoc, append-nil, eq-eqb, eqb-true}
 use Rattle.std.specs.List.{range_with_len}
@@ -62,7 +62,7 @@ in_lines-more : (band : ℕ) (before : List Stretch) (numbers run : List ℕ) (o
 in_lines-more band before numbers run old new line after h step = λ rest.
     ap (λ (l : List ℕ). before ++ stretches_in band l) (append_assoc numbers run rest) ∙ h (run ++ rest) ∙ step rest
 
--- a new line, a line that goes on, and one behind another
+-- a new line, a line that continues, and one after another
 abbrev pub line_of : (band first last number previous : ℕ) → Option Line
 line_of band first last number previous =
     Some (record { stretch = record { band = band; first = first; last = last; number = number }; previous = previous })

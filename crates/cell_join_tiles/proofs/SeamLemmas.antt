@@ -65,7 +65,7 @@ cols-near EdgesAndCorners p q (inl (inl e)) = inr e.1
 cols-near EdgesAndCorners p q (inl (inr e)) = inl e.1
 cols-near EdgesAndCorners p q (inr h) = inr h.1
 
--- ---- one stretch, or two beside one another
+-- ---- one stretch, or two side by side
 
 one-index : (ns : List ℕ) (x : ℕ) → index_in ns x ≡ stretch_of ns x
 one-index [] x = refl

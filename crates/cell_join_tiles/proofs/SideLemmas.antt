@@ -1,4 +1,4 @@
--- The lines of a row of tiles are those of the borders of the tiles of a map.
+-- The lines of a row of tiles are the lines of the borders of the tiles of a map.
 use Rattle.std.proofs.Common.{◌≡◌, ℕ, ℤ, zero, suc, pos, ◌+◌, ◌-◌, ◌<◌, [], ◌∷◌, ◌++◌, List, Some, None, IsSome, map, length, get_or, refl, ap, sym, ◌∙◌, arith, subst, inl, inr, ⊎_elim, ◌⊎◌, eqb, ltb}
 use Rattle.std.specs.Prelude.{sum, flat_map, Contains}
 use Rattle.std.specs.List.{range_with_len}
@@ -21,7 +21,7 @@ use Rattle.cell_join_tiles.specs.parts.RowMarks.{clump_of_mark, mark_at, mark_in
 use Rattle.cell_join_tiles.proofs.BorderLemmas.{at-of}
 use Rattle.cell_join_tiles.proofs.MeetingLemmas.{places-have, places-only}
 use Rattle.cell_join_tiles.proofs.NumberLemmas.{report, firsts_at}
-use Rattle.cell_join_tiles.proofs.RiseLemmas.{some-numbered}
+use Rattle.cell_join_tiles.proofs.GreatestLemmas.{some-numbered}
 use Rattle.cell_join_tiles.proofs.JoinedLemmas.{borders, begun-row}
 use Rattle.cell_join_tiles.proofs.RowsLemmas.{lists-same}
 
@@ -76,7 +76,7 @@ module _ (j : Joining) (whole : Grid) (heights widths : List ℕ) (map_of number
       let clump = at.clump in
       record { clump = listed_at.place; inside = clump.k_in; is = listed_at.number }
 
-  -- a number of a tile is that of one of its clumps
+  -- a number of a tile is the number of one of its clumps
   pub number-inside : (r c : ℕ) → r < length heights → c < length widths → (p : Position) (k : ℕ) → cell_at_position (numbers_of r c) p ≡ Some (pos k) → k - 1 < count_of r c
   number-inside r c r_in c_in p k is =
       let clumping = are.clumpings r c r_in c_in in

@@ -40,11 +40,11 @@ begun_above tiles i = sum_by (λ begun. begun_before begun i) tiles
 abbrev pub begun_on_left : List Begun → (i c : ℕ) → ℕ
 begun_on_left tiles i c = sum_by (λ begun. slice_index begun i) (take c tiles)
 
--- the row of its tile in which the clump of number k + 1 begins: numbers go by first cells, so those of one row follow one another
+-- the row of its tile in which the clump of number k + 1 begins: numbers go by first cells, so the numbers of one row follow one another
 abbrev pub row_begun : Begun → (k : ℕ) → ℕ
 row_begun begun k = stretch_of begun k
 
--- the label of the clump of number k + 1 of a tile of a row of tiles, from those of that row of tiles on
+-- the label of the clump of number k + 1 of a tile of a row of tiles, counted from the labels of that row of tiles
 abbrev pub label_in_line : List Begun → (i c k : ℕ) → ℕ
 label_in_line tiles i c k = begun_above tiles i + begun_on_left tiles i c + (k - begun_before (slice_index_or tiles c []) i)
 
@@ -88,7 +88,7 @@ pub record ArePaired (j : Joining) (m : Grid) (label_of : Position → ℕ) (pai
   pub meet : (p q : Position) (v : ℤ) → AreAdjacent j p q → cell_at_position m p ≡ Some v → cell_at_position m q ≡ Some v → (label_of p ≡ label_of q) ⊎ (Contains pairs (label_of p, label_of q) ⊎ Contains pairs (label_of q, label_of p))
   pub only : (a b : ℕ) → Contains pairs (a, b) → IsMeeting j m label_of a b
 
--- the labels go by the first cells of the clumps in the whole
+-- the labels go by the first cells of the clumps in the full map
 abbrev pub LabelsFollowFirstCells : Type 0
 LabelsFollowFirstCells = (j : Joining) (whole : Grid) (heights widths : List ℕ) (map_of numbers_of : ℕ → ℕ → Grid) (firsts_of : ℕ → ℕ → List Position) (grid : List (List Begun)) → IsCutIntoTiles whole heights widths map_of → HaveBegun j heights widths map_of numbers_of firsts_of grid → (r c k s d l : ℕ) (one other : Position) → r < length heights → c < length widths → k < length (firsts_of r c) → s < length heights → d < length widths → l < length (firsts_of s d) → one ≡ moved_position (tile_place heights widths r c) (slice_index_or (firsts_of r c) k (position 0 0)) → other ≡ moved_position (tile_place heights widths s d) (slice_index_or (firsts_of s d) l (position 0 0)) → clump_label grid r c k < clump_label grid s d l → IsEarlierCell one other
 

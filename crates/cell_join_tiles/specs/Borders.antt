@@ -10,7 +10,7 @@ use Rattle.cell_join_numbers.specs.Labelled.{HasAreas, IsMeeting, AreLabelled, N
 use Rattle.cell_join_tiles.specs.parts.Greatest.{greatest_of}
 use Rattle.cell_join_tiles.specs.Beginnings.{Begun, begun_before, stretch_of, clumps_in_grid, clump_label, IsCutIntoTiles, HasBegun, BearLabels, tile_place}
 
--- in each row as many clumps begin as the greatest of the numbers so far rises in it
+-- in each row as many clumps begin as the largest of the numbers so far rises in it
 pub record Rises (rows : ℕ) (numbers : Grid) (begun : Begun) : Type 0 where
   pub long : length begun ≡ rows
   pub most : (i : ℕ) → i ≤ rows → begun_before begun i ≡ greatest_of 0 (take i numbers.rows)
@@ -32,7 +32,7 @@ number_of None = 0
 number_of (Some (pos n)) = n
 number_of (Some (negsuc n)) = 0
 
--- the label of a cell of the whole: that of its clump in its tile
+-- the label of a cell of the full map: the label of its clump in its tile
 abbrev pub cell_label : (heights widths : List ℕ) → (numbers_of : ℕ → ℕ → Grid) → List (List Begun) → Position → ℕ
 cell_label heights widths numbers_of grid p = clump_label grid (stretch_of heights p.row) (stretch_of widths p.col) (number_of (cell_at_position (numbers_of (stretch_of heights p.row) (stretch_of widths p.col)) (position (p.row - sum (take (stretch_of heights p.row) heights)) (p.col - sum (take (stretch_of widths p.col) widths)))) - 1)
 
@@ -43,12 +43,12 @@ CellsBearLabels = (heights widths : List ℕ) (numbers_of : ℕ → ℕ → Grid
 abbrev pub AreInOneTile : (heights widths : List ℕ) → Position → Position → Type 0
 AreInOneTile heights widths p q = (stretch_of heights p.row ≡ stretch_of heights q.row) × (stretch_of widths p.col ≡ stretch_of widths q.col)
 
--- pairs of labels: those of adjacent cells of one category in two tiles, and perhaps others of adjacent cells of one category
+-- pairs of labels: of adjacent cells of one category in two tiles, and perhaps of other adjacent cells of one category
 pub record ArePairedAtSeams (j : Joining) (whole : Grid) (heights widths : List ℕ) (label_of : Position → ℕ) (pairs : List (ℕ × ℕ)) : Type 0 where
   pub meet : (p q : Position) (v : ℤ) → AreAdjacent j p q → cell_at_position whole p ≡ Some v → cell_at_position whole q ≡ Some v → (AreInOneTile heights widths p q → ⊥) → Contains pairs (label_of p, label_of q) ⊎ Contains pairs (label_of q, label_of p)
   pub only : (a b : ℕ) → Contains pairs (a, b) → IsMeeting j whole label_of a b
 
--- the cells of the whole are labelled as a joining by pairs of labels asks, with as many labels as the tiles have clumps
+-- the cells of the full map are labelled as a joining by pairs of labels asks, with as many labels as the tiles have clumps
 abbrev pub BordersAreLabelled : Type 0
 BordersAreLabelled = (j : Joining) (whole : Grid) (heights widths : List ℕ) (map_of numbers_of : ℕ → ℕ → Grid) (grid : List (List Begun)) → IsCutIntoTiles whole heights widths map_of → AreBorders j heights widths map_of numbers_of grid → (pairs : List (ℕ × ℕ)) → ArePairedAtSeams j whole heights widths (cell_label heights widths numbers_of grid) pairs → (starts : List Position) × (length starts ≡ clumps_in_grid grid) × AreLabelled j whole starts (cell_label heights widths numbers_of grid) pairs
 

@@ -23,7 +23,7 @@ line_meeting None other = []
 line_meeting (Some one) None = []
 line_meeting (Some one) (Some other) = if int_eq one.category other.category then (one.label, other.label) ∷ [] else []
 
--- those of the cell at a place of one line and the cells that touch it in the next, and of the cell behind it and the one beside
+-- the pairs of the cell at a place of one line with the cells that touch it in the next, and of the cell after it with the one at the place
 abbrev pub line_meetings_at : Joining → (one other : Line) → ℕ → List (ℕ × ℕ)
 line_meetings_at Edges one other k = line_meeting (slice_index_or one k None) (slice_index_or other k None)
 line_meetings_at EdgesAndCorners one other k = (line_meeting (slice_index_or one k None) (slice_index_or other k None) ++ line_meeting (slice_index_or one k None) (slice_index_or other (k + 1) None)) ++ line_meeting (slice_index_or one (k + 1) None) (slice_index_or other k None)
@@ -32,11 +32,11 @@ line_meetings_at EdgesAndCorners one other k = (line_meeting (slice_index_or one
 abbrev pub line_meetings : Joining → (one other : Line) → List (ℕ × ℕ)
 line_meetings j one other = flat_map (line_meetings_at j one other) (range_with_len 0 (length one))
 
--- what stands at a cell of the whole: its category, and the label that it bears
+-- what is at a cell of the full map: its category, and the label that it bears
 abbrev pub seam_mark_of : Grid → (Position → ℕ) → Position → Option Mark
 seam_mark_of whole label_of p = option_map (λ v. record { category = v; label = label_of p }) (cell_at_position whole p)
 
--- what stands at so many cells
+-- what is at so many cells
 pub record IsLineOf (whole : Grid) (label_of : Position → ℕ) (count : ℕ) (at : ℕ → Position) (line : Line) : Type 0 where
   pub long : length line ≡ count
   pub each : (k : ℕ) → k < count → slice_index_or line k None ≡ seam_mark_of whole label_of (at k)
@@ -67,23 +67,23 @@ pub record HasSide (m numbers : Grid) (count : ℕ) (at : ℕ → Position) (cel
   pub each_cell : (k : ℕ) → k < count → slice_index_or cells k None ≡ cell_at_position m (at k)
   pub each_number : (k : ℕ) → k < count → slice_index_or ids k None ≡ cell_at_position numbers (at k)
 
--- what stands at a cell of the tile in a row and a column of tiles, by its number in the tile
+-- what is at a cell of the tile in a row and a column of tiles, by its number in the tile
 abbrev pub side_mark : List (List Begun) → (r c : ℕ) → (cell number : CellValue) → Option Mark
 side_mark grid r c cell number = option_map (λ v. record { category = v; label = clump_label grid r c (number_of number - 1) }) cell
 
--- at those of a side
+-- what is at the cells of a side
 abbrev pub side_marks : List (List Begun) → (r c : ℕ) → (cells ids : List CellValue) → Line
 side_marks grid r c cells ids = map (λ k. side_mark grid r c (slice_index_or cells k None) (slice_index_or ids k None)) (range_with_len 0 (length cells))
 
--- a side of a tile is a line of cells of the whole
+-- a side of a tile is a line of cells of the full map
 abbrev pub SidesAreLines : Type 0
 SidesAreLines = (whole : Grid) (heights widths : List ℕ) (map_of numbers_of : ℕ → ℕ → Grid) (grid : List (List Begun)) → IsCutIntoTiles whole heights widths map_of → (r c : ℕ) → r < length heights → c < length widths → (count : ℕ) (at : ℕ → Position) (cells ids : List CellValue) → ((k : ℕ) → k < count → ((at k).row < slice_index heights r) × ((at k).col < slice_index widths c)) → HasSide (map_of r c) (numbers_of r c) count at cells ids → IsLineOf whole (cell_label heights widths numbers_of grid) count (λ k. moved_position (tile_place heights widths r c) (at k)) (side_marks grid r c cells ids)
 
--- the lines of a row of tiles, one behind the other
+-- the lines of a row of tiles, one after the other
 abbrev pub row_line : List Line → Line
 row_line [] = []
 row_line (line ∷ lines) = line ++ row_line lines
 
--- lines of one row of cells of each tile of a row of tiles are a line of a row of the whole
+-- lines of one row of cells of each tile of a row of tiles are a line of a row of the full map
 abbrev pub RowsAreLines : Type 0
 RowsAreLines = (whole : Grid) (label_of : Position → ℕ) (heights widths : List ℕ) (r inner row : ℕ) (lines : List Line) → row ≡ sum (take r heights) + inner → length lines ≡ length widths → ((c : ℕ) → c < length widths → IsLineOf whole label_of (slice_index widths c) (λ k. moved_position (tile_place heights widths r c) (position inner k)) (slice_index_or lines c [])) → IsLineOf whole label_of (sum widths) (position row) (row_line lines)

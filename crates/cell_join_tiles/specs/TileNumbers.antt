@@ -3,7 +3,7 @@ use Rattle.std.specs.Prelude.{ℕ, ◌≡◌, ◌<◌, ◌+◌, List, [], length
 use Rattle.std.specs.List.{range_with_len}
 use Rattle.cell_join_tiles.specs.Beginnings.{Begun, clumps_in_tile, clumps_in_row, clump_label}
 
--- those of the clumps of a tile, of a row of tiles, and of all tiles row by row
+-- the numbers of the clumps of a tile, of a row of tiles, and of all tiles row by row
 abbrev pub numbers_of_tile : (ℕ → ℕ) → List (List Begun) → (r c : ℕ) → List ℕ
 numbers_of_tile number grid r c = map (λ k. number (clump_label grid r c k)) (range_with_len 0 (clumps_in_tile (slice_index_or (slice_index_or grid r []) c [])))
 

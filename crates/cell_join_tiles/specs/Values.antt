@@ -23,7 +23,7 @@ side_value side = record { cells = side.cells.items; numbers = side.numbers.item
 abbrev pub border_value : Border → BorderValue
 border_value border = record { first = side_value border.first; last = side_value border.last; left = side_value border.left; right = side_value border.right; begun = border.begun.items }
 
--- those of a row of tiles
+-- the values of a row of tiles
 abbrev pub border_values : List Border → List BorderValue
 border_values row = map border_value row
 

@@ -24,7 +24,7 @@ pub fn row_of(alloc: Global, map: &CellMap, row: u32) -> Result<Vec<Cell>, Memor
     Ok(cells)
 }
 
-// The greater of a number and that of a cell.
+// The larger of a number and a cell.
 fn greater_of(most: u64, cell: Cell) -> u64
     ensures { result ≡ greater_of most cell }
 {
@@ -37,7 +37,7 @@ fn greater_of(most: u64, cell: Cell) -> u64
     }
 }
 
-// The greatest of a number and those of cells.
+// The largest of a number and cells.
 fn greatest_in(most: u64, cells: &[Cell]) -> u64
     ensures { result ≡ greatest_in most cells.now }
 {

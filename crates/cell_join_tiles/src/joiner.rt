@@ -26,7 +26,7 @@ pub enum JoinerFault {
     OtherRows,
     /// With its clumps there are more than a `u64` counts.
     TooManyClumps,
-    /// Memory was refused.
+    /// Memory ran out.
     Memory,
 }
 
@@ -103,7 +103,7 @@ impl TileJoiner {
         ensures joined { IfOk result (λ more. (grid : List (List BorderValue))
             → AreJoinedTiles grid self
             → AreJoinedTiles (grid ++ border_values row.items ∷ []) more) }
-        // A row is refused for a fault of its own.
+        // A row is rejected for an error of its own.
         ensures other_rows { IfErr result (λ fault. fault ≡ JoinerFault.OtherRows
             → (rows : ℕ) → AreEven rows (border_values row.items) → ⊥) }
         ensures many { IfErr result (λ fault. fault ≡ JoinerFault.TooManyClumps

@@ -8,7 +8,7 @@ ghost use Rattle.cell_join_tiles.specs.JoinedLaw.{JoinedTilesCount, JoinedTilesN
 ghost use Rattle.cell_join_tiles.specs.LabelLines.{LabelLinesLabel, LabelLinesPass};
 ghost use Rattle.cell_join_tiles.specs.TileNumbers.{TileNumbersAreListed};
 
-/// Of two clumps of tiles the one of the smaller label has the earlier first cell in the whole.
+/// Of two clumps of tiles the one with the smaller label has the earlier first cell in the full map.
 pub fn labels_follow_first_cells()
     ensures { LabelsFollowFirstCells }
 {}
@@ -18,7 +18,7 @@ pub fn clump_labels_are_labels()
     ensures { ClumpLabelsAreLabels }
 {}
 
-/// As many clumps begin in a row as the greatest of the numbers so far rises in it.
+/// As many clumps begin in a row as the largest of the numbers so far rises in it.
 pub fn rises_count_begun()
     ensures { RisesCountBegun }
 {}
@@ -28,12 +28,12 @@ pub fn cells_bear_labels()
     ensures { CellsBearLabels }
 {}
 
-/// Numbers of the labels, by the pairs at the seams alone, are the numbers of the whole.
+/// Numbers of the labels, by the pairs at the seams alone, are the numbers of the full map.
 pub fn borders_number_the_whole()
     ensures { BordersNumberTheWhole }
 {}
 
-/// And their count is that of the areas of the whole.
+/// And their count is the number of the areas of the full map.
 pub fn borders_count_the_whole()
     ensures { BordersCountTheWhole }
 {}
@@ -43,17 +43,17 @@ pub fn seam_lines_pair()
     ensures { SeamLinesPair }
 {}
 
-/// Borders of tiles label the cells of the whole as a joining by pairs of labels asks.
+/// Borders of tiles label the cells of the full map as a joining by pairs of labels asks.
 pub fn borders_are_labelled()
     ensures { BordersAreLabelled }
 {}
 
-/// A side of a tile is a line of cells of the whole.
+/// A side of a tile is a line of cells of the full map.
 pub fn sides_are_lines()
     ensures { SidesAreLines }
 {}
 
-/// And the sides of a row of tiles, one behind the other, are a line of a row of the whole.
+/// And the sides of a row of tiles, one after the other, are a line of a row of the full map.
 pub fn rows_are_lines()
     ensures { RowsAreLines }
 {}
@@ -68,12 +68,12 @@ pub fn label_lines_pass()
     ensures { LabelLinesPass }
 {}
 
-/// From the borders of tiles alone: the cells of the whole are labelled as a joining by pairs of labels asks.
+/// From the borders of tiles alone: the cells of the full map are labelled as a joining by pairs of labels asks.
 pub fn grids_are_labelled()
     ensures { GridsAreLabelled }
 {}
 
-/// Numbers that are listed tile by tile: where that of each clump is.
+/// Numbers that are listed tile by tile: where the number of each clump is.
 pub fn tile_numbers_are_listed()
     ensures { TileNumbersAreListed }
 {}

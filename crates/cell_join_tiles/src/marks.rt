@@ -42,7 +42,7 @@ fn clump_of_mark(number: Cell) -> Option<u64>
     Some(number - 1)
 }
 
-// What stands at a cell of a tile, if it is not null.
+// What is at a cell of a tile, if it is not null.
 fn mark_in(firsts: &[u64], begun: &[u64], ends: &[u64], cell: Cell, number: Cell) -> Option<Mark>
     requires long { length firsts.now ≡ length begun.now }
     requires ends { AreEnds begun.now ends.now }
@@ -56,7 +56,7 @@ fn mark_in(firsts: &[u64], begun: &[u64], ends: &[u64], cell: Cell, number: Cell
     Some(Mark { category, label })
 }
 
-// Puts what stands at the cells of a side of a tile after a line.
+// Puts what is at the cells of a side of a tile after a line.
 pub(crate) fn add_marks(
     line: &mut Vec<Option<Mark>>,
     firsts: &[u64],

@@ -16,7 +16,7 @@ fn are_alike(one: Mark, other: Mark) -> bool
     one.category == other.category
 }
 
-// What stands at a place of a line.
+// What is at a place of a line.
 fn mark_on(line: &[Option<Mark>], place: usize) -> Option<Mark>
     ensures { result ≡ slice_index_or line.now place None }
 {

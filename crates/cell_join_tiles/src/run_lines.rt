@@ -8,7 +8,7 @@ ghost use Rattle.cell_join_tiles.specs.parts.RunLines.{AreInLines, areas_of_line
 use cell_core::memory::Memory;
 use cell_join_lines::stretch::{Stretch, is_next};
 
-// The last stretch of a tile so far, which may go on, and the number of its last area.
+// The last stretch of a tile so far, which may continue, and the number of its last area.
 #[derive(Clone, Copy)]
 pub(crate) struct Line {
     pub(crate) stretch: Stretch,
@@ -23,7 +23,7 @@ pub(crate) struct Run {
     pub(crate) count: u64,
 }
 
-// Takes areas behind those of a line in: the line goes on, or its stretch is put behind others and a new one begins.
+// Takes areas after the areas of a line in: the line continues, or its stretch is put after others and another begins.
 pub(crate) fn add_run(
     stretches: &mut Vec<Stretch>,
     part: u64,

@@ -15,7 +15,7 @@ pub(crate) struct Span {
     pub(crate) count: u64,
 }
 
-// Takes the next labels in: the last span goes on, or is put after others and a new one begins.
+// Takes the next labels in: the last span continues, or is put after others and a new one begins.
 fn add_labels(spans: &mut Vec<Span>, from: Span, next: Span) -> Result<Span, Memory>
     requires from { SpanFits from }
     requires next { SpanFits next }

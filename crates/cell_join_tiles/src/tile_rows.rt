@@ -35,7 +35,7 @@ pub(crate) fn rows_of(row: &[Border]) -> Option<usize>
     Some(rows)
 }
 
-// How many clumps there are with those of a tile.
+// How many clumps there are, the clumps of a tile included.
 fn clumps_with(clumps: u64, begun: &[u64]) -> Option<u64>
     ensures some { IfSome result (λ all. all ≡ clumps + sum begun.now) }
     ensures none { IfNone result (2 ^ 64 ≤ clumps + sum begun.now) }
@@ -47,7 +47,7 @@ fn clumps_with(clumps: u64, begun: &[u64]) -> Option<u64>
     Some(all)
 }
 
-// How many clumps there are with those of a row of tiles.
+// How many clumps there are, the clumps of a row of tiles included.
 pub(crate) fn clumps_with_row(clumps: u64, row: &[Border]) -> Option<u64>
     ensures some { IfSome result (λ all.
         all ≡ clumps + clumps_in_row (begun_of (border_values row.now))) }
@@ -103,9 +103,9 @@ fn first_labels(alloc: Global, base: u64, rows: usize, tiles: &[Border]) -> Resu
 // A row of tiles, as far as it is joined.
 #[derive(Drop)]
 pub(crate) struct RowJoin {
-    // The pairs of labels at the seams, with those of the rows above.
+    // The pairs of labels at the seams, with the pairs of the rows above.
     pub(crate) pairs: Vec<(u64, u64)>,
-    // The labels of each tile, with those of the rows above.
+    // The labels of each tile, with the labels of the rows above.
     pub(crate) tiles: Vec<Vec<Span>>,
     // The first and the last rows of its tiles.
     pub(crate) first: Vec<Option<Mark>>,

@@ -44,12 +44,12 @@ module _ (r : Rectangle) (p q : Position) where
   edge-back (inl e) = inl (same-back r.top _ _ e.0, neighbours-back r.left _ _ e.1)
   edge-back (inr e) = inr (neighbours-back r.top _ _ e.0, same-back r.left _ _ e.1)
 
-adjacent-moved : (r : Rectangle) (j : Joining) (p q : Position) → AreAdjacent j p q → AreAdjacent j (moved_position r p) (moved_position r q)
+pub adjacent-moved : (r : Rectangle) (j : Joining) (p q : Position) → AreAdjacent j p q → AreAdjacent j (moved_position r p) (moved_position r q)
 adjacent-moved r Edges p q h = edge-moved r p q h
 adjacent-moved r EdgesAndCorners p q (inl h) = inl (edge-moved r p q h)
 adjacent-moved r EdgesAndCorners p q (inr h) = inr (neighbours-moved r.top _ _ h.0, neighbours-moved r.left _ _ h.1)
 
-adjacent-back : (r : Rectangle) (j : Joining) (p q : Position) → AreAdjacent j (moved_position r p) (moved_position r q) → AreAdjacent j p q
+pub adjacent-back : (r : Rectangle) (j : Joining) (p q : Position) → AreAdjacent j (moved_position r p) (moved_position r q) → AreAdjacent j p q
 adjacent-back r Edges p q h = edge-back r p q h
 adjacent-back r EdgesAndCorners p q (inl h) = inl (edge-back r p q h)
 adjacent-back r EdgesAndCorners p q (inr h) = inr (neighbours-back r.top _ _ h.0, neighbours-back r.left _ _ h.1)

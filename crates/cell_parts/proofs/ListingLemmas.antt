@@ -1,24 +1,20 @@
 -- Lists of entries, and merges of tables.
-use Rattle.std.proofs.Common.{◌≡◌, ℕ, zero, suc, ◌+◌, ◌<◌, List, [], ◌∷◌, ◌++◌, map, get_or, Option, Some, None, true, false, cond, unwrap_or, refl, ap, sym, ◌∙◌, arith, zero-add, add-zero, subst}
+use Rattle.std.proofs.Common.{◌≡◌, ℕ, zero, suc, ◌+◌, ◌<◌, List, [], ◌∷◌, ◌++◌, map, Option, Some, None, true, false, cond, unwrap_or, refl, ap, sym, ◌∙◌, arith, zero-add, add-zero, subst}
 use Rattle.std.proofs.lemmas.List.Elements.{All-nil, All-head, All-tail}
 use Rattle.std.proofs.lemmas.List.Sums.{sum_by-cons, sum_by-append}
 use Rattle.std.specs.Prelude.{sum_by, flat_map, All}
-use Rattle.std.specs.List.{Contains, AllByRecursion}
+use Rattle.std.specs.List.{AllByRecursion}
 use Rattle.std.specs.List.Sorted.{IsStrictlySortedBy}
 use Rattle.std.specs.Ordering.{eq_by_cmp, is_eq}
 use Rattle.std.specs.FinMap.Entries.{find}
 use Rattle.std.specs.declared.cmp.Ordering.TheVariants.{Less}
 use Rattle.cell_stats_counts.specs.Combinations.{Combination, combination_cmp}
-use Rattle.cell_stats_counts.proofs.OrderLemmas.{combination_cmp-total, combination_cmp-exact, is_equal}
+use Rattle.cell_stats_counts.proofs.OrderLemmas.{combination_cmp-exact, is_equal}
 use Rattle.cell_stats_counts.specs.Listed.{entry_of, listed_of}
 use Rattle.cell_stats.specs.CategoryTables.{Pairs}
-use Rattle.cell_stats.proofs.TableLemmas.{ascending_to}
-use Rattle.cell_stats.proofs.SortedLemmas.{each_found}
+use Rattle.cell_stats.proofs.TableLemmas.{found-listed, keys_of, stands}
 use Rattle.cell_parts.specs.TableParts.{count_in, IsMerge}
 use Rattle.cell_parts.specs.Merging.{IsListing, PartGroup, MergesMerge}
-
-abbrev pub keys_of : Pairs → List Combination
-keys_of es = map (λ e. e.0) es
 
 -- ---- what is listed of a combination stands beside it
 
@@ -38,23 +34,6 @@ listed-beside k (e ∷ es) up =
           omega (arith, none)
       | false ↦ λ t. listed-beside k es up.1 ∙ sym (zero-add (listed_of k es))
     ] refl ∙ sym (sum_by-cons (entry_of k) e es)
-
--- what stands beside a combination is listed with it
-stands : (k : Combination) (n : ℕ) (es : Pairs) → find combination_cmp k es ≡ Some n → Contains es (k, n)
-stands k n [] e = cc
-stands k n (x ∷ es) e =
-    elim (eq_by_cmp combination_cmp k x.0) as (λ b. eq_by_cmp combination_cmp k x.0 ≡ b → cond b (Some x.1) (find combination_cmp k es) ≡ Some n → Contains (x ∷ es) (k, n)) [
-      | true ↦ λ t is.
-          let same : k ≡ x.0 = combination_cmp-exact k x.0 (is_equal _ t) in
-          let count : x.1 ≡ n = cc in
-          (0, omega arith, λ i. (sym same i, count i))
-      | false ↦ λ t is. let rest = stands k n es is in (suc rest.0, omega (arith, rest.1), rest.2)
-    ] refl e
-
--- and what is listed stands beside its combination
-found-listed : (k : Combination) (n : ℕ) (es : Pairs) → IsStrictlySortedBy combination_cmp (keys_of es) → Contains es (k, n) → find combination_cmp k es ≡ Some n
-found-listed k n es up c = let at : find combination_cmp (get_or es c.0 (k, n)).0 es ≡ Some (get_or es c.0 (k, n)).1 = each_found combination_cmp combination_cmp-total es (ascending_to es up) c.0 (k, n) c.1 in
-    rw c.2 at at
 
 none-or-some : (o : Option ℕ) (n : ℕ) → 0 < n → n ≡ unwrap_or o 0 → o ≡ Some n
 none-or-some None n some is = absurd (omega (arith, some, is))

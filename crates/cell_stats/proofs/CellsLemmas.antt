@@ -1,14 +1,20 @@
--- The lines of cells: stretch after stretch, row after row.
-use Rattle.std.proofs.Common.{◌≡◌, ℕ, zero, suc, ◌+◌, ◌-◌, ◌<◌, List, [], ◌∷◌, ◌++◌, map, replicate, true, false, not, ap, sym, ◌∙◌, arith, append_assoc, append-nil, zero-add, add-zero}
+-- What is written of cells, one after another: stretch after stretch, row after row.
+use Rattle.std.proofs.Common.{◌≡◌, ℕ, zero, suc, ◌+◌, ◌-◌, ◌<◌, ◌≤◌, List, [], ◌∷◌, ◌++◌, length, map, drop, replicate}
+use Rattle.std.proofs.Common.{All, Fits, w32, true, false, not, ap, sym, ◌∙◌, arith}
+use Rattle.std.proofs.Common.{append_assoc, append-nil, zero-add, add-zero}
 use Rattle.std.proofs.lemmas.Grind.{flat_map-append}
+use Rattle.std.proofs.lemmas.List.{length-map}
 use Rattle.std.proofs.lemmas.List.Elements.{filter-append}
 use Rattle.std.specs.List.{flat_map, range_with_len}
+use Rattle.cell_core_values.specs.Region.{RegionValue}
 use Rattle.cell_core.specs.Grid.{Grid}
+use Rattle.cell_core.specs.Shelf.{ShelfValue}
 use Rattle.cell_stats_counts.specs.declared.skip.Skip.{Skip}
 use Rattle.cell_stats_counts.specs.Combinations.{Combination, combination_at, row_combinations, all_combinations}
+use Rattle.cell_stats_counts.specs.Cursors.{AreCursorsReady, AreWideRows, CursorValue, row_in, to_come}
 use Rattle.cell_stats_counts.specs.LeftOut.{kept_cells, is_left_out}
-use Rattle.cell_stats.specs.TableText.{FormatValue, cell_line}
-use Rattle.cell_stats_counts.proofs.WalkLemmas.{stretch, kept-replicate, all_combinations_more}
+use Rattle.cell_stats.specs.parts.OfPicks.{IsOfPicks}
+use Rattle.cell_stats_counts.proofs.WalkLemmas.{alike, alive, passed-on, stretch, kept-replicate, all_combinations_more}
 
 range-append : (a n m : ℕ) → range_with_len a (n + m) ≡ range_with_len a n ++ range_with_len (a + n) m
 range-append a zero m = ap (λ (k : ℕ). range_with_len a k) (zero-add m) ∙ ap (λ (k : ℕ). range_with_len k m) (sym (add-zero a))
@@ -17,45 +23,52 @@ range-append a (suc n) m =
     let next : a + 1 + n ≡ a + suc n = omega arith in
     ap (λ (k : ℕ). range_with_len a k) sum ∙ ap (λ (l : List ℕ). a ∷ l) (range-append (a + 1) n m) ∙ ap (λ (k : ℕ). a ∷ (range_with_len (a + 1) n ++ range_with_len k m)) next
 
-module _ (format : FormatValue) (maps : List Grid) (picks : List ℕ) (skip : Skip) where
-  -- the lines of the cells that are kept
-  abbrev pub lines : List Combination → List ℕ
-  lines cells = flat_map (cell_line format maps picks) (kept_cells skip cells)
+-- the texts of the cells that are kept
+abbrev pub kept_text : (Combination → List ℕ) → Skip → List Combination → List ℕ
+kept_text f skip cells = flat_map f (kept_cells skip cells)
 
-  pub lines-append : (xs ys : List Combination) → lines (xs ++ ys) ≡ lines xs ++ lines ys
-  lines-append xs ys = ap (flat_map (cell_line format maps picks)) (filter-append (λ k. not (is_left_out skip k)) xs ys) ∙ flat_map-append (cell_line format maps picks) (kept_cells skip xs) (kept_cells skip ys)
+module _ (f : Combination → List ℕ) (skip : Skip) where
+  abbrev text : List Combination → List ℕ
+  text cells = kept_text f skip cells
 
-  -- cells that are alike and left out have no line
-  pub lines-left : (k : Combination) (n : ℕ) → is_left_out skip k ≡ true → lines (replicate n k) ≡ []
-  lines-left k n left = ap (flat_map (cell_line format maps picks)) (kept-replicate skip k n true left)
+  text-append : (xs ys : List Combination) → text (xs ++ ys) ≡ text xs ++ text ys
+  text-append xs ys = ap (flat_map f) (filter-append (λ k. not (is_left_out skip k)) xs ys)
+      ∙ flat_map-append f (kept_cells skip xs) (kept_cells skip ys)
 
-  pub lines-kept : (k : Combination) (n : ℕ) → is_left_out skip k ≡ false → lines (replicate n k) ≡ flat_map (cell_line format maps picks) (replicate n k)
-  lines-kept k n kept_cells = ap (flat_map (cell_line format maps picks)) (kept-replicate skip k n false kept_cells)
+  -- cells that are alike and left out have no text
+  pub alike-left : (k : Combination) (n : ℕ) → is_left_out skip k ≡ true → text (replicate n k) ≡ []
+  alike-left k n left = ap (flat_map f) (kept-replicate skip k n true left)
 
-  -- a stretch more of a row
-  pub lines-stretch : (row col n : ℕ) (k : Combination) → ((j : ℕ) → j < n → combination_at maps picks row (col + j) ≡ k) → lines (map (combination_at maps picks row) (range_with_len 0 (col + n))) ≡ lines (map (combination_at maps picks row) (range_with_len 0 col)) ++ lines (replicate n k)
-  lines-stretch row col n k same = ap lines (stretch (combination_at maps picks row) k col n same) ∙ lines-append (map (combination_at maps picks row) (range_with_len 0 col)) (replicate n k)
+  pub alike-kept : (k : Combination) (n : ℕ) → is_left_out skip k ≡ false
+      → text (replicate n k) ≡ flat_map f (replicate n k)
+  alike-kept k n kept = ap (flat_map f) (kept-replicate skip k n false kept)
 
-  -- a row more
-  pub lines-more : (cols row : ℕ) → lines (all_combinations maps picks (row + 1) cols) ≡ lines (all_combinations maps picks row cols) ++ lines (row_combinations maps picks cols row)
-  lines-more cols row =
-      let next : row + 1 ≡ suc row = omega arith in
-      ap (λ (r : ℕ). lines (all_combinations maps picks r cols)) next ∙ ap lines (all_combinations_more maps picks cols row)
-      ∙ lines-append (all_combinations maps picks row cols) (row_combinations maps picks cols row)
+  module _ (maps : List Grid) (picks : List ℕ) where
+    -- a row more
+    pub row-more : (cols row : ℕ) → text (all_combinations maps picks (row + 1) cols)
+        ≡ text (all_combinations maps picks row cols) ++ text (row_combinations maps picks cols row)
+    row-more cols row =
+        let next : row + 1 ≡ suc row = omega arith in
+        ap (λ (r : ℕ). text (all_combinations maps picks r cols)) next
+        ∙ ap text (all_combinations_more maps picks cols row)
+        ∙ text-append (all_combinations maps picks row cols) (row_combinations maps picks cols row)
 
-  -- and the rows behind it
-  pub lines-all : (cols row rows : ℕ) → row < rows → (lines (all_combinations maps picks row cols) ++ lines (row_combinations maps picks cols row)) ++ lines (flat_map (row_combinations maps picks cols) (range_with_len (row + 1) (rows - (row + 1)))) ≡ lines (all_combinations maps picks rows cols)
-  lines-all cols row rows within =
-      let f = row_combinations maps picks cols in
-      let behind = rows - (row + 1) in
-      let whole : row + 1 + behind ≡ rows = omega (arith, within) in
-      let start : 0 + (row + 1) ≡ row + 1 = zero-add (row + 1) in
-      ap (λ (l : List ℕ). l ++ lines (flat_map f (range_with_len (row + 1) behind))) (sym (lines-more cols row))
-      ∙ sym (lines-append (all_combinations maps picks (row + 1) cols) (flat_map f (range_with_len (row + 1) behind)))
-      ∙ ap lines (sym (flat_map-append f (range_with_len 0 (row + 1)) (range_with_len (row + 1) behind))
-      ∙ ap (λ (s : ℕ). flat_map f (range_with_len 0 (row + 1) ++ range_with_len s behind)) (sym start)
-      ∙ ap (flat_map f) (sym (range-append 0 (row + 1) behind))
-      ∙ ap (λ (m : ℕ). flat_map f (range_with_len 0 m)) whole)
+    -- and the rows behind it
+    pub rows-all : (cols row rows : ℕ) → row < rows
+        → (text (all_combinations maps picks row cols) ++ text (row_combinations maps picks cols row))
+        ++ text (flat_map (row_combinations maps picks cols) (range_with_len (row + 1) (rows - (row + 1))))
+        ≡ text (all_combinations maps picks rows cols)
+    rows-all cols row rows within =
+        let g = row_combinations maps picks cols in
+        let behind = rows - (row + 1) in
+        let whole : row + 1 + behind ≡ rows = omega (arith, within) in
+        let start : 0 + (row + 1) ≡ row + 1 = zero-add (row + 1) in
+        ap (λ (l : List ℕ). l ++ text (flat_map g (range_with_len (row + 1) behind))) (sym (row-more cols row))
+        ∙ sym (text-append (all_combinations maps picks (row + 1) cols) (flat_map g (range_with_len (row + 1) behind)))
+        ∙ ap text (sym (flat_map-append g (range_with_len 0 (row + 1)) (range_with_len (row + 1) behind))
+        ∙ ap (λ (s : ℕ). flat_map g (range_with_len 0 (row + 1) ++ range_with_len s behind)) (sym start)
+        ∙ ap (flat_map g) (sym (range-append 0 (row + 1) behind))
+        ∙ ap (λ (m : ℕ). flat_map g (range_with_len 0 m)) whole)
 
 -- one more of texts that are alike
 pub flat_map-replicate-more : {X : Type 0} (f : X → List ℕ) (n : ℕ) (x : X) → flat_map f (replicate (n + 1) x) ≡ flat_map f (replicate n x) ++ f x
@@ -66,3 +79,103 @@ flat_map-replicate-more f n x =
     by : (n : ℕ) → flat_map f (replicate (suc n) x) ≡ flat_map f (replicate n x) ++ f x
     by zero = append-nil (f x)
     by (suc n) = ap (λ (l : List ℕ). f x ++ l) (by n) ∙ sym (append_assoc (f x) (flat_map f (replicate n x)) (f x))
+
+-- ---- a walk over a row, stretch after stretch
+
+-- it stands at a column, from which on so many columns have these cells
+pub record StandsAt (shelf : ShelfValue) (picks : List ℕ) (row cols col count : ℕ) (cursors : List CursorValue)
+    (cells : Combination) : Type 0 where
+  pub wide : AreWideRows shelf row picks
+  pub region : cols ≡ shelf.region.cols
+  pub ahead : map to_come cursors ≡ map (λ p. drop col (row_in shelf.maps row p)) picks
+  pub ready : All AreCursorsReady cursors
+  pub same : cells ≡ map (λ c. c.cell) cursors
+  pub least : All (λ c. count ≤ c.left) cursors
+  pub some : col < cols → 0 < count
+  pub most : col + count ≤ cols
+
+-- before the first column no run was passed
+pub stands-none : (cursors : List CursorValue) → All (λ c. 0 ≤ c.left) cursors
+stands-none cursors i d within = omega arith
+
+module _ {shelf : ShelfValue} {picks : List ℕ} {row cols next : ℕ} {new : List CursorValue} {cells : Combination} where
+  passed-to : (col count left : ℕ) (old : List CursorValue)
+      → AreWideRows shelf row picks → cols ≡ shelf.region.cols → col + count + left ≡ cols
+      → map to_come old ≡ map (λ p. drop col (row_in shelf.maps row p)) picks
+      → map to_come new ≡ map (λ c. drop count (to_come c)) old
+      → All AreCursorsReady new → cells ≡ map (λ c. c.cell) new → All (λ c. next ≤ c.left) new
+      → next ≤ left → (All (λ c. 0 < c.left) new → 0 < left → 0 < next)
+      → StandsAt shelf picks row cols (col + count) next new cells
+  passed-to col count left old wide region rest before passed ready same least most some =
+      let here = passed-on shelf.maps row col count old new picks passed before in
+      record {
+        wide = wide;
+        region = region;
+        ahead = here;
+        ready = ready;
+        same = same;
+        least = least;
+        some = λ inside.
+            let within : col + count < shelf.region.cols = omega (arith, inside, region) in
+            some (alive shelf.maps row (col + count) new picks shelf.region.cols here wide within ready)
+            (omega (arith, rest, inside));
+        most = omega (arith, most, rest);
+      }
+
+  -- it starts at the first column
+  pub stands-start : (old : List CursorValue) {stored : RegionValue} → stored ≡ shelf.region → cols ≡ stored.cols
+      → AreWideRows shelf row picks → map to_come old ≡ map (λ p. row_in shelf.maps row p) picks
+      → map to_come new ≡ map to_come old
+      → All AreCursorsReady new → cells ≡ map (λ c. c.cell) new → All (λ c. next ≤ c.left) new
+      → next ≤ cols → (All (λ c. 0 < c.left) new → 0 < cols → 0 < next)
+      → StandsAt shelf picks row cols 0 next new cells
+  stands-start old region value wide before passed ready same least most some =
+      passed-to 0 0 cols old wide (value ∙ ap (λ (r : RegionValue). r.cols) region) (zero-add cols) before passed ready
+      same least most some
+
+  -- and goes on behind a stretch
+  pub stands-next : {col count : ℕ} {old : List CursorValue} {cells-before : Combination}
+      → StandsAt shelf picks row cols col count old cells-before
+      → map to_come new ≡ map (λ c. drop count (to_come c)) old
+      → All AreCursorsReady new → cells ≡ map (λ c. c.cell) new → All (λ c. next ≤ c.left) new
+      → next ≤ cols - (col + count) → (All (λ c. 0 < c.left) new → 0 < cols - (col + count) → 0 < next)
+      → StandsAt shelf picks row cols (col + count) next new cells
+  stands-next {col = col} {count = count} {old = old} walk passed ready same least most some =
+      passed-to col count (cols - (col + count)) old walk.wide walk.region (omega (arith, walk.most)) walk.ahead passed
+      ready same least most some
+
+module _ {shelf : ShelfValue} {picks : List ℕ} {row cols col count : ℕ} {cursors : List CursorValue}
+    {cells : Combination} (walk : StandsAt shelf picks row cols col count cursors cells) where
+  -- there is a cell for each cursor, and for each map
+  pub stands-cells : length cells ≡ length cursors
+  stands-cells = ap length walk.same ∙ length-map cursors (λ (c : CursorValue). c.cell)
+
+  stands-width : length cells ≡ length picks
+  stands-width =
+      let all = length-map cursors to_come in
+      let ahead = ap length walk.ahead ∙ length-map picks (λ p. drop col (row_in shelf.maps row p)) in
+      omega (arith, stands-cells, all, ahead)
+
+  pub stands-picks : {before : Combination} → IsOfPicks shelf picks before → IsOfPicks shelf picks cells
+  stands-picks is = record { picked = is.picked; some = is.some; width = stands-width }
+
+  -- what is written of the row goes on by the cells of the stretch
+  pub stands-more : (f : Combination → List ℕ) (skip : Skip)
+      → kept_text f skip (map (combination_at shelf.maps picks row) (range_with_len 0 (col + count)))
+      ≡ kept_text f skip (map (combination_at shelf.maps picks row) (range_with_len 0 col))
+      ++ kept_text f skip (replicate count cells)
+  stands-more f skip =
+      let k = combination_at shelf.maps picks row in
+      ap (kept_text f skip) (stretch k cells col count (λ j within.
+      alike shelf.maps row col cursors picks count j walk.ahead walk.least within ∙ sym walk.same))
+      ∙ text-append f skip (map k (range_with_len 0 col)) (replicate count cells)
+
+  -- and the row ends where no column is left
+  pub stands-end : cols ≤ col → col ≡ shelf.region.cols
+  stands-end ended = omega (arith, ended, walk.most, walk.region)
+
+  pub stands-fits : {most : ℕ} → cols ≡ most → most ≤ 65535 → Fits w32 (col + count)
+  stands-fits same high = omega (arith, same, high, walk.most)
+
+  pub stands-smaller : col < cols → cols - (col + count) < cols - col
+  stands-smaller inside = omega (arith, walk.some inside, walk.most)

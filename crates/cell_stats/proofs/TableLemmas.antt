@@ -1,5 +1,5 @@
 -- What is found in a table, and that there is one table.
-use Rattle.std.proofs.Common.{◌≡◌, ℕ, zero, suc, ◌+◌, ◌<◌, map, [], ◌∷◌, List, Option, Some, None, Bool, true, false, ◌↔◌, cond, IsTrue, ap, sym, ◌∙◌, refl, arith, zero-add}
+use Rattle.std.proofs.Common.{◌≡◌, ℕ, zero, suc, ◌+◌, ◌<◌, map, get_or, [], ◌∷◌, List, Option, Some, None, Bool, true, false, ◌↔◌, cond, IsTrue, ap, sym, ◌∙◌, refl, arith, zero-add}
 use Rattle.std.specs.Prelude.{T}
 use Rattle.std.specs.Ordering.{eq_by_cmp, is_eq}
 use Rattle.std.specs.declared.cmp.Ordering.TheVariants.{Less}
@@ -27,7 +27,7 @@ pub from_T : (b : Bool) → T b → IsTrue b
 from_T true t = refl
 from_T false t = absurd t
 
-abbrev keys_of : Pairs → List Combination
+abbrev pub keys_of : Pairs → List Combination
 keys_of es = map (λ e. e.0) es
 
 -- the table of cells of which none is left out
@@ -64,7 +64,7 @@ pub record IsFound (cells : List Combination) (es : Pairs) : Type 0 where
   pub finds : (k : Combination) → find combination_cmp k es ≡ found (count_of k cells)
 
 -- what is found stands in the list
-stands : (k : Combination) (n : ℕ) (es : Pairs) → find combination_cmp k es ≡ Some n → Contains es (k, n)
+pub stands : (k : Combination) (n : ℕ) (es : Pairs) → find combination_cmp k es ≡ Some n → Contains es (k, n)
 stands k n [] e = cc
 stands k n (x ∷ es) e =
     elim (eq_by_cmp combination_cmp k x.0) as (λ b. eq_by_cmp combination_cmp k x.0 ≡ b → cond b (Some x.1) (find combination_cmp k es) ≡ Some n → Contains (x ∷ es) (k, n)) [
@@ -74,6 +74,14 @@ stands k n (x ∷ es) e =
           (0, omega arith, λ i. (sym same i, count i))
       | false ↦ λ t is. let rest = stands k n es is in (suc rest.0, omega (arith, rest.1), rest.2)
     ] refl e
+
+-- and what is listed is found
+pub found-listed : (k : Combination) (n : ℕ) (es : Pairs) → IsStrictlySortedBy combination_cmp (keys_of es)
+    → Contains es (k, n) → find combination_cmp k es ≡ Some n
+found-listed k n es up c =
+    let at : find combination_cmp (get_or es c.0 (k, n)).0 es ≡ Some (get_or es c.0 (k, n)).1 =
+    each_found combination_cmp combination_cmp-total es (ascending_to es up) c.0 (k, n) c.1 in
+    rw c.2 at at
 
 found_some : (n v : ℕ) → Some v ≡ found n → (0 < v) × (v ≡ n)
 found_some zero v e = cc

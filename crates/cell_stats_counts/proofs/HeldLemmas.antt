@@ -4,8 +4,10 @@ use Rattle.cell_stats_counts.specs.declared.gathered.Gathered.{Gathered}
 use Rattle.std.specs.Cmp.{eq_by_cmp_equiv}
 use Rattle.std.proofs.lemmas.List.Sums.{sum_by-append, sum_by-set}
 use Rattle.cell_stats_counts.specs.declared.counting.CountPlace.{CountPlace}
+use Rattle.cell_stats_counts.specs.declared.counting.CountPlaces.{CountPlaces}
 use Rattle.cell_stats_counts.specs.Combinations.{Combination, combination_cmp_total}
-use Rattle.cell_stats_counts.specs.parts.HeldPlaces.{is_same, held_by, held_of, total_of, gathered_of, IsCounting}
+use Rattle.cell_stats_counts.specs.parts.HeldPlaces.{is_same, held_by, held_of, wide_total, gathered_of}
+use Rattle.cell_stats_counts.specs.parts.HeldPlaces.{IsWideCounting, IsCounting}
 use Rattle.cell_stats_counts.proofs.OrderLemmas.{combination_cmp-exact, is_equal}
 
 pub same-itself : (a : Combination) → is_same a a ≡ true
@@ -28,7 +30,7 @@ cond-add false m n = refl
 
 module _ (w : ℕ) (k cells : Combination) (n : ℕ) (places : List CountPlace) (at : ℕ) (d : CountPlace) (m : Gathered) (within : at < length places) where
   -- a place holds more of its own combination
-  pub total-held : (h : CountPlace) → take w (get_or places at d).cells ≡ cells → take w h.cells ≡ cells → h.count ≡ (get_or places at d).count + n → total_of w k (set places at h) m ≡ total_of w k places m + cond (is_same k cells) n 0
+  pub total-held : (h : CountPlace) → take w (get_or places at d).cells ≡ cells → take w h.cells ≡ cells → h.count ≡ (get_or places at d).count + n → wide_total w k (set places at h) m ≡ wide_total w k places m + cond (is_same k cells) n 0
   total-held h same still count =
       let turned : held_of w k (set places at h) + held_by w k (get_or places at d) ≡ held_of w k places + held_by w k h = sum_by-set (held_by w k) places at h d within in
       let before : held_by w k (get_or places at d) ≡ cond (is_same k cells) (get_or places at d).count 0 = held_by-of w k cells (get_or places at d) (get_or places at d).count same refl in
@@ -37,7 +39,7 @@ module _ (w : ℕ) (k cells : Combination) (n : ℕ) (places : List CountPlace) 
       omega (arith, turned, before, after, split)
 
   -- a place holds another combination, and what it held went to the map
-  pub total-turned : (h : CountPlace) (m' : Gathered) → take w h.cells ≡ cells → h.count ≡ n → gathered_of k m' ≡ gathered_of k m + held_by w k (get_or places at d) → total_of w k (set places at h) m' ≡ total_of w k places m + cond (is_same k cells) n 0
+  pub total-turned : (h : CountPlace) (m' : Gathered) → take w h.cells ≡ cells → h.count ≡ n → gathered_of k m' ≡ gathered_of k m + held_by w k (get_or places at d) → wide_total w k (set places at h) m' ≡ wide_total w k places m + cond (is_same k cells) n 0
   total-turned h m' same count gone =
       let turned : held_of w k (set places at h) + held_by w k (get_or places at d) ≡ held_of w k places + held_by w k h = sum_by-set (held_by w k) places at h d within in
       let after = held_by-of w k cells h n same count in
@@ -55,7 +57,7 @@ held-nothing w k h (suc n) none =
 
 -- a place that holds something else
 pub going_at : {width : ℕ} {spare : Combination} {places : List CountPlace} {m : Gathered} (at : ℕ) (held : CountPlace)
-    → IsCounting width spare places m → IsCounting width spare (set places at held) m
+    → IsWideCounting width spare places m → IsWideCounting width spare (set places at held) m
 going_at {places = places} at held going = record {
   few = going.few;
   wide = going.wide;
@@ -63,6 +65,6 @@ going_at {places = places} at held going = record {
   no_zero = going.no_zero;
 }
 
-pub going_of : {w width : ℕ} {spare : Combination} {places : List CountPlace} {m : Gathered} → w ≡ width
+pub going_of : {w width : ℕ} {spare : Combination} {places : CountPlaces} {m : Gathered} → w ≡ width
     → IsCounting w spare places m → IsCounting width spare places m
 going_of {spare = spare} {places = places} {m = m} same going = subst (λ n. IsCounting n spare places m) same going

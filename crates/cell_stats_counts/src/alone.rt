@@ -12,7 +12,7 @@ ghost use Rattle.cell_stats_counts.specs.parts.ByteCounts.{sum_counted};
 ghost use Rattle.cell_stats_counts.specs.parts.HeldPlaces.{total_of, HasRoom, IsCounting};
 
 use crate::combination::Combo;
-use crate::counting::{CountPlace, add_count};
+use crate::counting::{CountPlaces, add_count};
 use crate::gathered::Gathered;
 use crate::skip::{Skip, is_left_out};
 use cell_core::map::CellMap;
@@ -30,7 +30,7 @@ fn count_stretches(
     stretches: Stretches<'_>,
     skip: Skip,
     spare: &mut Combo,
-    places: &mut [CountPlace],
+    places: &mut CountPlaces,
     counted: &mut Gathered,
 ) -> Result<(), Memory>
     requires going { IsCounting 1 spare.old places.old counted.old }
@@ -69,7 +69,7 @@ fn count_bytes(
     bytes: &[u8],
     skip: Skip,
     spare: &mut Combo,
-    places: &mut [CountPlace],
+    places: &mut CountPlaces,
     counted: &mut Gathered,
 ) -> Result<(), Memory>
     requires going { IsCounting 1 spare.old places.old counted.old }
@@ -100,7 +100,7 @@ pub(crate) fn count_alone(
     row: u32,
     skip: Skip,
     spare: &mut Combo,
-    places: &mut [CountPlace],
+    places: &mut CountPlaces,
     counted: &mut Gathered,
 ) -> Result<(), Memory>
     requires row_in_range { row < grid.now.region.rows }

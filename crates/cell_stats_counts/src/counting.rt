@@ -2,10 +2,11 @@
 
 ghost use Rattle.std.specs.Prelude.{◌≡◌, ◌+◌, ◌-◌, ◌<◌, ◌≤◌, ◌^◌, ◌↔◌, length, take, OnOk, IfOk, IsTrue};
 ghost use Rattle.cell_stats_counts.specs.Combinations.{Combination};
-ghost use Rattle.cell_stats_counts.specs.parts.HeldPlaces.{held_by, total_of, gathered_of, AreEmpty, GathersNoZero, HasRoom, IsCounting, HasCounted, AreFlushed};
+ghost use Rattle.cell_stats_counts.specs.parts.HeldPlaces.{held_by, wide_total, gathered_of, AreEmpty, AreFree, GathersNoZero, HasWideRoom, IsWideCounting, HasWideCounted, AreFlushed, IsCounting, HasRoom, HasCounted};
 
 use crate::combination::Combo;
 use crate::gathered::{Gathered, code_of, merge, settle};
+use crate::paired::{PAIR, PairTable, add_pair};
 use cell_core::cell::Cell;
 use cell_core::memory::Memory;
 use cell_core::shelf::Shelf;
@@ -38,6 +39,13 @@ const WIDEST: usize = 16;
 pub(crate) struct CountPlace {
     count: u64,
     cells: [Cell; WIDEST],
+}
+
+// Combinations of two maps are counted in the table, those of one map or more than two in the places.
+#[derive(Drop)]
+pub(crate) struct CountPlaces {
+    pub(crate) wide: Vec<CountPlace>,
+    pub(crate) pairs: PairTable,
 }
 
 // A number of a combination. Those of neighbouring categories are close to each other.
@@ -139,10 +147,10 @@ fn add_near(
     places: &mut [CountPlace],
     counted: &mut Gathered,
 ) -> Result<(), Memory>
-    requires going { IsCounting (length cells.now) spare.old places.old counted.old }
+    requires going { IsWideCounting (length cells.now) spare.old places.old counted.old }
     requires own { own < length places.old }
-    requires fits { HasRoom (length cells.now) places.old counted.old count }
-    ensures { OnOk result (HasCounted cells.now count places.old counted.old
+    requires fits { HasWideRoom (length cells.now) places.old counted.old count }
+    ensures { OnOk result (HasWideCounted cells.now count places.old counted.old
         spare.new places.new counted.new) }
 {
     let near = near_of(places.len(), counted.len());
@@ -157,9 +165,9 @@ fn add_near(
     Ok(())
 }
 
-// Counts cells of a combination at a place for it.
+// Counts cells of a combination of one map, or of more than two.
 #[inline(always)]
-pub(crate) fn add_count(
+fn add_wide(
     alloc: Global,
     cells: &[Cell],
     count: u64,
@@ -167,9 +175,9 @@ pub(crate) fn add_count(
     places: &mut [CountPlace],
     counted: &mut Gathered,
 ) -> Result<(), Memory>
-    requires going { IsCounting (length cells.now) spare.old places.old counted.old }
-    requires fits { HasRoom (length cells.now) places.old counted.old count }
-    ensures { OnOk result (HasCounted cells.now count places.old counted.old
+    requires going { IsWideCounting (length cells.now) spare.old places.old counted.old }
+    requires fits { HasWideRoom (length cells.now) places.old counted.old count }
+    ensures { OnOk result (HasWideCounted cells.now count places.old counted.old
         spare.new places.new counted.new) }
 {
     let own = own_place(cells, places.len());
@@ -179,6 +187,36 @@ pub(crate) fn add_count(
         return Ok(());
     }
     add_near(alloc, cells, count, own, spare, places, counted)
+}
+
+// Counts cells of a combination.
+#[inline(always)]
+pub(crate) fn add_count(
+    alloc: Global,
+    cells: &[Cell],
+    count: u64,
+    spare: &mut Combo,
+    places: &mut CountPlaces,
+    counted: &mut Gathered,
+) -> Result<(), Memory>
+    requires going { IsCounting (length cells.now) spare.old places.old counted.old }
+    requires fits { HasRoom (length cells.now) places.old counted.old count }
+    ensures { OnOk result (HasCounted cells.now count places.old counted.old
+        spare.new places.new counted.new) }
+{
+    if cells.len() == PAIR {
+        add_pair(alloc, cells, count, &mut places.pairs, &mut counted.entries)?;
+        return Ok(());
+    }
+    add_wide(
+        alloc,
+        cells,
+        count,
+        spare,
+        places.wide.as_mut_slice(),
+        counted,
+    )?;
+    Ok(())
 }
 
 // How many combinations are held at first: fewer where there are few cells.
@@ -204,12 +242,21 @@ fn empty_places(alloc: Global, many: usize) -> Result<Vec<CountPlace>, Memory>
     Ok(places)
 }
 
-// The places to begin with. They hold nothing.
-pub(crate) fn first_places(alloc: Global, shelf: &Shelf) -> Result<Vec<CountPlace>, Memory>
-    ensures some { IfOk result (λ places. 0 < length places.items) }
-    ensures nothing { IfOk result (λ places. AreEmpty places.items) }
+// The places to begin with, for combinations of so many maps. They hold nothing.
+pub(crate) fn first_places(
+    alloc: Global,
+    shelf: &Shelf,
+    width: usize,
+) -> Result<CountPlaces, Memory>
+    ensures some { IfOk result (λ places. 0 < length places.wide.items) }
+    ensures nothing { IfOk result (λ places. AreEmpty places.wide.items) }
+    ensures some_pairs { IfOk result (λ places. 0 < length places.pairs.places.items) }
+    ensures no_pairs { IfOk result (λ places. AreFree places.pairs.places.items) }
 {
-    empty_places(alloc, places_for(shelf))
+    let many = places_for(shelf);
+    let wide = empty_places(alloc, if width == PAIR { 1 } else { many })?;
+    let pairs = PairTable::new(alloc, if width == PAIR { many } else { 1 })?;
+    Ok(CountPlaces { wide, pairs })
 }
 
 // Brings all that the places hold to the map.
@@ -220,8 +267,8 @@ pub(crate) fn flush_all(
     places: &[CountPlace],
     counted: &mut Gathered,
 ) -> Result<(), Memory>
-    requires going { IsCounting width spare.old places.now counted.old }
-    requires fits { (k : Combination) → total_of width k places.now counted.old < 2 ^ 64 }
+    requires going { IsWideCounting width spare.old places.now counted.old }
+    requires fits { (k : Combination) → wide_total width k places.now counted.old < 2 ^ 64 }
     ensures { OnOk result (AreFlushed width places.now counted.old spare.new counted.new) }
 {
     for held in places {
@@ -231,9 +278,9 @@ pub(crate) fn flush_all(
     Ok(())
 }
 
-// Whether the places are too few for the combinations, by how many of these are new in the map.
-fn are_crowded(places: usize, new: usize) -> bool {
-    places < MOST && new > places / CROWD
+// Whether the places are too few for the combinations of so many maps, by how many of these are new in the map.
+fn are_crowded(width: usize, places: usize, new: usize) -> bool {
+    width != PAIR && places < MOST && new > places / CROWD
 }
 
 // Makes more places where there are too few. `before` is how many combinations the map had when the places were made;
@@ -246,14 +293,14 @@ pub(crate) fn make_room(
     places: &mut Vec<CountPlace>,
     counted: &mut Gathered,
 ) -> Result<usize, Memory>
-    requires going { IsCounting width spare.old places.old.items counted.old }
-    requires fits { (k : Combination) → total_of width k places.old.items counted.old < 2 ^ 64 }
+    requires going { IsWideCounting width spare.old places.old.items counted.old }
+    requires fits { (k : Combination) → wide_total width k places.old.items counted.old < 2 ^ 64 }
     ensures ok { OnOk result ((k : Combination)
-        → total_of width k places.new.items counted.new
-        ≡ total_of width k places.old.items counted.old) }
-    ensures going { OnOk result (IsCounting width spare.new places.new.items counted.new) }
+        → wide_total width k places.new.items counted.new
+        ≡ wide_total width k places.old.items counted.old) }
+    ensures going { OnOk result (IsWideCounting width spare.new places.new.items counted.new) }
 {
-    if !are_crowded(places.len(), counted.len().saturating_sub(before)) {
+    if !are_crowded(width, places.len(), counted.len().saturating_sub(before)) {
         return Ok(before);
     }
     flush_all(alloc, width, spare, places.as_slice(), counted)?;

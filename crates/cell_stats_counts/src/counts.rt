@@ -11,9 +11,10 @@ ghost use Rattle.cell_stats_counts.specs.LeftOut.{kept_cells};
 
 use crate::alone::count_alone;
 use crate::combination::Combo;
-use crate::counting::{CountPlace, add_count, first_places, flush_all, make_room};
+use crate::counting::{CountPlaces, add_count, first_places, flush_all, make_room};
 use crate::cursor::{Cursor, cursors_of, pass_all, restart_all, start};
 use crate::gathered::{Gathered, ordered_entries};
+use crate::paired::list_pairs;
 use crate::selection::Selection;
 use crate::skip::{Skip, is_left_out};
 use cell_core::cell::Cell;
@@ -30,7 +31,7 @@ fn count_columns<'a>(
     cursors: &mut [Cursor<'a>],
     cells: &mut [Cell],
     spare: &mut Combo,
-    places: &mut [CountPlace],
+    places: &mut CountPlaces,
     counted: &mut Gathered,
 ) -> Result<(), Memory>
     requires row_in_range { row < selection.shelf.now.region.rows }
@@ -69,7 +70,7 @@ fn count_row<'a>(
     cursors: &mut [Cursor<'a>],
     cells: &mut [Cell],
     spare: &mut Combo,
-    places: &mut [CountPlace],
+    places: &mut CountPlaces,
     counted: &mut Gathered,
 ) -> Result<(), Memory>
     requires picked { ArePicks selection.shelf.now selection.picks.now }
@@ -127,14 +128,21 @@ pub fn count_cells(
     let width = picks.len();
     let mut cells = vec![in alloc; Cell::null(); width]?;
     let mut spare = Combo::from_cells(alloc, &cells)?;
-    let mut places = first_places(alloc, shelf)?;
+    let mut places = first_places(alloc, shelf, width)?;
     let mut counted = Gathered::new(alloc);
     let mut started = cursors_of(alloc, shelf, picks)?;
     let cursors = started.as_mut_slice();
     let selection = Selection { shelf, picks, skip };
     let mut before = 0;
     for row in 0..shelf.region().rows() {
-        before = make_room(alloc, width, before, &mut spare, &mut places, &mut counted)?;
+        before = make_room(
+            alloc,
+            width,
+            before,
+            &mut spare,
+            &mut places.wide,
+            &mut counted,
+        )?;
         count_row(
             alloc,
             selection,
@@ -142,10 +150,11 @@ pub fn count_cells(
             cursors,
             cells.as_mut_slice(),
             &mut spare,
-            places.as_mut_slice(),
+            &mut places,
             &mut counted,
         )?;
     }
-    flush_all(alloc, width, &mut spare, &places, &mut counted)?;
+    flush_all(alloc, width, &mut spare, &places.wide, &mut counted)?;
+    list_pairs(alloc, width, places.pairs, &mut counted.entries)?;
     Ok(ordered_entries(counted))
 }

@@ -34,7 +34,7 @@ const LOW: u64 = u32::MAX as u64;
 // entries are added up in place at the end.
 #[derive(Drop)]
 pub(crate) struct Gathered {
-    entries: Vec<(Combo, u64)>,
+    pub(crate) entries: Vec<(Combo, u64)>,
     index: Vec<u64>,
     pending: Vec<(Combo, u64)>,
 }

@@ -8,8 +8,8 @@
 //! - `counts`: `count_cells`, the counts of a selection
 //! - `cursor`: `Cursor`, a walk along a row by runs; `pass_all`, over several maps at once
 //! - `law`: a text is read as a combination exactly if it spells one
-//! - private, three ways to count: `counting`, in an ordered map; `gathered`, in a list with an
-//!   index of hashes; `alone`, one map by itself
+//! - private: `counting`, which counts combinations of two maps in a table (`paired`, sorted by
+//!   `scattered`), others in places and a list with an index (`gathered`); `alone`, one map by itself
 //!
 //! Two categories, or null, from `text`:
 //!
@@ -30,5 +30,7 @@ pub mod counts;
 pub mod cursor;
 mod gathered;
 pub mod law;
+mod paired;
+mod scattered;
 pub mod selection;
 pub mod skip;

@@ -1,5 +1,7 @@
 //! What is counted: many maps, and very many combinations.
 
+ghost use Rattle.std.specs.Prelude.{◌<◌};
+
 use crate::assertions::assert_same;
 use crate::maps::{G, X, are_picks, shelf_of};
 use cell_core::shelf::Shelf;
@@ -132,5 +134,86 @@ fn each_cell_another_combination(rt: HostRuntime) -> Result<(), Fail> {
             assert_same!(rt; entry.combo.get(0).get(), Some(category));
         }
     }
+    Ok(())
+}
+
+// The categories of the first two maps of a combination.
+fn first_two(combo: &Combo) -> [i32; 2] {
+    match combo.cells() {
+        [first, second, ..] => [first.get().unwrap_or(NULL), second.get().unwrap_or(NULL)],
+        _ => [NULL, NULL],
+    }
+}
+
+// How many combinations there are where the places of few cells become more, and about there.
+const AT_GROWTH: [u32; 8] = [1, 47, 48, 49, 64, 193, 3072, 3073];
+
+// The table of so many combinations, each of which is in two rows.
+fn table_of_twice(alloc: Global, many: u32) -> Result<Table, Fail>
+    requires { 0 < many }
+{
+    let mut first = Vec::new(alloc);
+    let mut second = Vec::new(alloc);
+    for i in (0..many).chain(0..many) {
+        first.push((i / 50) as i32)?;
+        second.push((i % 50) as i32)?;
+    }
+    let shelf = shelf_of(alloc, &[&first, &second], many)?;
+    table_of(alloc, &shelf, &[0, 1])
+}
+
+#[test]
+fn combinations_where_places_become_more(rt: HostRuntime) -> Result<(), Fail> {
+    for many in AT_GROWTH {
+        let table = table_of_twice(rt.alloc(), many.max(1))?;
+        assert_same!(rt; table.len(), many as usize);
+        for (entry, i) in table.all().zip(0..many) {
+            let found = (entry.count, first_two(entry.combo));
+            let wanted = (2, [(i / 50) as i32, (i % 50) as i32]);
+            assert_same!(rt; found, wanted, "{i} of {many}");
+        }
+    }
+    Ok(())
+}
+
+// The categories of two maps at random are below this.
+const SIDE: u64 = 300;
+
+// So many categories at random.
+fn random_categories(alloc: Global, seed: u64, many: usize) -> Result<Vec<i32>, Fail> {
+    let mut number = seed;
+    let mut categories = Vec::new(alloc);
+    for _ in 0..many {
+        number = number
+            .wrapping_mul(6364136223846793005)
+            .wrapping_add(1442695040888963407);
+        categories.push(((number >> 33) % SIDE) as i32)?;
+    }
+    Ok(categories)
+}
+
+// Counts a combination at its place.
+fn add_at(counts: &mut [u64], [first, second]: [i32; 2], more: u64) {
+    let place = first.wrapping_mul(SIDE as i32).wrapping_add(second);
+    if let Some(count) = counts.get_mut(place.unsigned_abs() as usize) {
+        *count = count.wrapping_add(more);
+    }
+}
+
+#[test]
+fn combinations_at_random(rt: HostRuntime) -> Result<(), Fail> {
+    let first = random_categories(rt.alloc(), 1, 40000)?;
+    let second = random_categories(rt.alloc(), 2, 40000)?;
+    let shelf = shelf_of(rt.alloc(), &[&first, &second], 200)?;
+    let table = table_of(rt.alloc(), &shelf, &[0, 1])?;
+    let mut wanted = vec![in rt.alloc(); 0u64; 90000]?;
+    for (a, b) in first.iter().zip(&second) {
+        add_at(wanted.as_mut_slice(), [*a, *b], 1);
+    }
+    let mut found = vec![in rt.alloc(); 0u64; 90000]?;
+    for entry in table.all() {
+        add_at(found.as_mut_slice(), first_two(entry.combo), entry.count);
+    }
+    assert_same!(rt; found.as_slice(), wanted.as_slice());
     Ok(())
 }

@@ -7,8 +7,7 @@ ghost use Rattle.rcell_script_commands.specs.FittingCommands.{FitsCommand};
 ghost use Rattle.rcell_script.specs.FittingScripts.{Fits};
 ghost use Rattle.rcell.specs.After.{IsShelfAfter};
 ghost use Rattle.rcell.specs.Output.{command_text};
-ghost use Rattle.rcell.specs.parts.OutputSteps.{stops_write};
-ghost use Rattle.rcell.specs.runs.Execution.{Stops};
+ghost use Rattle.rcell.specs.runs.Execution.{stops_write, Stops};
 ghost use Rattle.rcell.specs.runs.Outcomes.{IsDone};
 
 use crate::making::{make_classes, make_numbers, make_values};

@@ -8,7 +8,8 @@
 //! - `report`: `fault_line`, the error line `rcell: SOURCE:LINE: TEXT`
 //! - `loading`, `script_bytes`: the shelf of the grids, and the bytes of the script
 //! - `making`, `map_of_values`: the maps that statements make; `evaluate`, the map of an expression
-//! - private: `execution`, the statements in order; `tables`, r.stats
+//! - `execution`: `execute`, the statements in order
+//! - private: `tables`, r.stats
 //! - `law`: there is one output; the outputs of two parts of a script, joined, are its output
 //!
 //! ```
@@ -25,7 +26,7 @@
 //! ```
 #![tactic(auto)]
 
-pub(crate) mod execution;
+pub mod execution;
 pub mod law;
 pub mod loading;
 pub mod making;

@@ -1,14 +1,18 @@
 -- What words ask for, by what is found among them.
-use Rattle.std.proofs.Common.{Bor, Bool, ◌≡◌, ◌≤◌, ◌∷◌, ◌==◌, [], List, Ok, Err, true, false, length, refl, arith}
+use Rattle.std.proofs.Common.{Bor, Bool, Global, String, ◌≡◌, ◌≤◌, ◌∷◌, ◌==◌, [], List, Ok, Err, true, false, not}
+use Rattle.std.proofs.Common.{drop, length, map, refl, arith}
 use Rattle.std.proofs.lemmas.Bool.{eqb-true}
 use Rattle.std.specs.List.{remove, slice_index_or}
+use Rattle.std.specs.String.{string_bytes}
 use Rattle.clap.specs.Walk.{Text, texts}
 use Rattle.cell_core_values.specs.Answers.{◌>>=◌}
+use Rattle.rcell_command.specs.CommandWords.{begins_with_hyphen, has_hyphen_word, is_command}
 use Rattle.rcell_join.specs.JoinCommandLine.{Sizes, Tables}
-use Rattle.rcell_join.specs.JoinCommandLine.{asked_labelled, asked_sizes, joined_tiles, tile_paths}
-use Rattle.rcell_join.specs.JoinCommandLine.{format_in, has_hyphen_word, joining_in, paths_in}
+use Rattle.rcell_join.specs.JoinCommandLine.{asked_labelled, asked_of, asked_sizes, command_of, joined_tiles, tile_paths}
+use Rattle.rcell_join.specs.JoinCommandLine.{format_in, joining_in, paths_in}
 use Rattle.rcell_join.specs.declared.join_refusal.JoinRefusal.TheVariants as refusals
 use Rattle.rcell_join.specs.declared.join_refusal.Usage.{Usage}
+use Rattle.rcell_join.specs.declared.join_refusal.Usage.TheVariants as usages
 
 apart : {X : Type 0} → true ≡ false → X
 apart bad = cc
@@ -47,6 +51,27 @@ tiles_lack usage words [] are none = rw (← are) refl
 tiles_lack usage words (tile ∷ tiles) are none =
     let bad : length (tile ∷ tiles) ≡ 0 = eqb-true _ _ none in
     absurd (omega (arith, bad))
+
+hyphen_of : (b : Bool) → not b ≡ false → b ≡ true
+hyphen_of true is = refl
+hyphen_of false is = apart is
+
+hyphen_command : (first : Text) (words : List Text) → not (begins_with_hyphen first) ≡ false
+    → command_of first words ≡ Err (refusals.Usage usages.AnyCommand)
+hyphen_command [] words hyphen = cc
+hyphen_command (b ∷ rest) words hyphen =
+    let is : b ≡ 45 = eqb-true b 45 (hyphen_of _ hyphen) in
+    rw is refl
+
+-- no word behind the program's own name, or two words or more of which the first has a hyphen in front
+pub no_command : (words : List (String Global)) → is_command (drop 1 (map string_bytes words)) ≡ false
+    → (length words ≡ 2 → ⊥)
+    → asked_of (drop 1 (map string_bytes words)) ≡ Err (refusals.Usage usages.AnyCommand)
+no_command [] few not_two = refl
+no_command (own ∷ []) few not_two = refl
+no_command (own ∷ word ∷ []) few not_two = elim (not_two refl) [ ]
+no_command (own ∷ first ∷ word ∷ words) few not_two =
+    hyphen_command (string_bytes first) (string_bytes word ∷ map string_bytes words) few
 
 -- a word with a hyphen in front
 pub tiles_misused : (usage : Usage) (words : List Text) → has_hyphen_word (tile_paths words) ≡ true

@@ -5,7 +5,7 @@ use Rattle.std.proofs.lemmas.List.{append-nil, map-append, take_more}
 use Rattle.std.proofs.lemmas.List.Elements.{filter-append}
 use Rattle.clap.proofs.WalkLemmas.{list_any-map}
 use Rattle.clap.specs.Walk.{Text, texts}
-use Rattle.rcell_join.specs.JoinCommandLine.{begins_with_hyphen, contains_flag, is_flag}
+use Rattle.rcell_join.specs.JoinCommandLine.{contains_flag, is_flag}
 
 module _ (p : Text → Bool) (words : List (Bor Text)) (i : ℕ) (word : Bor Text) (bytes : Text)
     (within : i < length words) (same : bytes ≡ (slice_index_or words i word).now) where
@@ -26,10 +26,6 @@ module _ (p : Text → Bool) (words : List (Bor Text)) (i : ℕ) (word : Bor Tex
       ∙ append-nil (filter p (texts (take i words)))
 
 -- the words that are lent, and their bytes
-pub hyphens_of_texts : (words : List (Bor Text)) → list_any (λ word. begins_with_hyphen word.now) words
-    ≡ list_any begins_with_hyphen (texts words)
-hyphens_of_texts words = list_any-map begins_with_hyphen (λ (w : Bor Text). w.now) words
-
 pub flags_of_texts : (flag : Text) (words : List (Bor Text)) → list_any (λ word. is_flag flag word.now) words
     ≡ contains_flag flag (texts words)
 flags_of_texts flag words = list_any-map (is_flag flag) (λ (w : Bor Text). w.now) words

@@ -1,5 +1,5 @@
 -- What the words of a command line ask for: rcell-join tables, border, clumps or sizes, and what follows it (profile).
-use Rattle.std.specs.Prelude.{ℕ, Bool, not, List, [], ◌∷◌, ◌==◌, ◌||◌, false, true, map, Result, Ok, Err, is_some, unwrap_or, if◌then◌else◌, bytes_eq, codes}
+use Rattle.std.specs.Prelude.{ℕ, Bool, not, List, [], ◌∷◌, ◌||◌, false, true, map, Result, Ok, Err, is_some, unwrap_or, if◌then◌else◌, bytes_eq, codes}
 use Rattle.std.specs.List.{filter, list_any}
 use Rattle.cell_ascii_meaning.specs.Header.{usual_null}
 use Rattle.cell_cats_areas.specs.declared.clump.Joining.{Joining}
@@ -8,6 +8,7 @@ use Rattle.cell_core_values.specs.Answers.{◌>>=◌}
 use Rattle.cell_core_values.specs.Letters.{byte}
 use Rattle.cell_stats.specs.TableText.{FormatValue}
 use Rattle.cell_join_lines.specs.ClearFormats.{is_clear}
+use Rattle.rcell_command.specs.CommandWords.{has_hyphen_word}
 use Rattle.rcell_script_commands.specs.OptionReading.{Given, options_of}
 use Rattle.rcell_script_commands.specs.Options.{value_in}
 use Rattle.rcell_script_commands.specs.declared.option_fault.OptionFault.{OptionFault}
@@ -32,15 +33,6 @@ request_value (requests.Tables format tables) = Tables format (map (λ path. pat
 request_value (requests.Border joining cells) = Border joining cells.now
 request_value (requests.Clumps joining borders) = Clumps joining (map (λ path. path.now) borders.items)
 request_value (requests.Sizes format numbering tables) = Sizes format numbering.now (map (λ path. path.now) tables.items)
-
--- a word that begins with a hyphen
-abbrev pub begins_with_hyphen : List ℕ → Bool
-begins_with_hyphen [] = false
-begins_with_hyphen (b ∷ rest) = b == byte (codes "-")
-
--- one of the words begins with a hyphen
-abbrev pub has_hyphen_word : List (List ℕ) → Bool
-has_hyphen_word words = list_any begins_with_hyphen words
 
 -- a word that gives the separator or the null text
 abbrev pub is_option : List ℕ → Bool

@@ -9,4 +9,3 @@ pub mod TablesReports
 pub mod BorderReports
 pub mod ClumpsReports
 pub mod SizesReports
-pub mod parts

@@ -6,39 +6,8 @@ ghost use Rattle.rcell_join.specs.JoinRefusals.{IsOfJoinOpening};
 
 use crate::join_refusal::JoinRefusal;
 use cell_core::source::ReadSource;
-use std::fs;
-use std::io::ErrorKind;
+use rcell_command::file_opening::open_file;
 use std::rt::Files;
-
-// Out of memory is reported as such, and any other fault of an opening as that of the file.
-fn of_opening(kind: ErrorKind, file: usize) -> JoinRefusal
-    ensures { result ≢ JoinRefusal.Memory → result ≡ JoinRefusal.File file }
-{
-    match kind {
-        ErrorKind::OutOfMemory => JoinRefusal::Memory,
-        _ => JoinRefusal::File { file },
-    }
-}
-
-/// Opens the file of a path, which has this place.
-///
-/// # Errors
-///
-/// [`JoinRefusal::File`] of the place; [`JoinRefusal::Memory`].
-pub fn open_file<R: Files>(
-    rt: &R,
-    path: &str,
-    file: usize,
-) -> Result<ReadSource<R::File>, JoinRefusal>
-    ensures asked { IfOk result (λ source. source.1 ≡ Asked.Going) }
-    ensures reported { IfErr result (λ refusal. refusal ≢ JoinRefusal.Memory
-        → refusal ≡ JoinRefusal.File file) }
-{
-    match fs::open(rt, path) {
-        Ok(source) => Ok(ReadSource::new(source)),
-        Err(fault) => Err(of_opening(fault.kind(), file)),
-    }
-}
 
 /// Opens the files in order.
 ///
@@ -56,7 +25,12 @@ pub fn open_paths<R: Files + AllocGlobal>(
 {
     let mut opened = Vec::new(rt.alloc());
     for file in 0..paths.len() {
-        let source = match open_file(rt, paths[file], file) {
+        let source = match open_file(
+            rt,
+            paths[file],
+            JoinRefusal::Memory,
+            JoinRefusal::File { file },
+        ) {
             Ok(source) => source,
             Err(refusal) => return Err(refusal),
         };

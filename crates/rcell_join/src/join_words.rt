@@ -1,92 +1,27 @@
 //! The words of the command line.
 
-ghost use Rattle.std.specs.Prelude.{◌≡◌, ◌≢◌, false, true, IfErr, IfOk, drop, map, not};
+ghost use Rattle.std.specs.Prelude.{◌≡◌, ◌≢◌, IfErr, IfOk, drop, map, not};
 ghost use Rattle.std.specs.List.{list_any};
 ghost use Rattle.std.specs.String.{string_bytes};
-ghost use Rattle.clap.specs.Words.{app_of};
 ghost use Rattle.clap.specs.Walk.{texts};
 ghost use Rattle.cell_core_values.specs.Answers.{Answers};
-ghost use Rattle.rcell_join.specs.JoinCommandLine.{asked_border, asked_clumps, asked_labelled, asked_of, asked_sizes, asked_tables, begins_with_hyphen, command_of, format_in, is_flag, is_option, joined_tiles, joining_in, options_in, paths_in, request_value, without_flag};
-ghost use Rattle.rcell_join.specs.parts.ClapJoinWords.{FindsAllJoinWords, join_command_line, has_no_command};
+ghost use Rattle.rcell_join.specs.JoinCommandLine.{asked_border, asked_clumps, asked_labelled, asked_of, asked_sizes, asked_tables, command_of, format_in, is_flag, is_option, joined_tiles, joining_in, options_in, paths_in, request_value, without_flag};
 
 use crate::join_refusal::{JoinRefusal, Usage};
 use crate::join_request::{JoinRequest, TableFormat};
 use cell_cats_areas::clump::Joining;
 use cell_core_values::words::pair_of;
 use cell_join_lines::clear_formats::is_clear;
-use clap::error::ErrorKind;
-use clap::{Arg, ArgAction, ArgMatches, Command};
+use rcell_command::arguments::{first_and_rest, has_hyphen_word};
 use rcell_script_commands::option_fault::OptionFault;
 use rcell_script_commands::options::{Form, options_of};
-use std::alloc::{AllocError, Global};
+use std::alloc::Global;
 
 // The flag by which clumps join at corners too.
 const CORNERS_FLAG: &str = "-d";
 
 // The flag by which categories have labels.
 const LABELS_FLAG: &str = "-l";
-
-// The refusal for a fault of clap.
-fn of_clap(kind: ErrorKind) -> JoinRefusal
-    ensures memory { kind ≡ ErrorKind.OutOfMemory → result ≡ JoinRefusal.Memory }
-    ensures usage { result ≢ JoinRefusal.Memory → result ≡ JoinRefusal.Usage Usage.AnyCommand }
-{
-    match kind {
-        ErrorKind::OutOfMemory => JoinRefusal::Memory,
-        _ => JoinRefusal::Usage(Usage::AnyCommand),
-    }
-}
-
-fn begins_with_hyphen(word: &str) -> bool
-    ensures { result ≡ begins_with_hyphen word.now }
-{
-    word.as_bytes().first() == Some(&b'-')
-}
-
-// Whether one of the words begins with a hyphen.
-fn has_hyphen_word(words: &[&str]) -> bool
-    ensures { result ≡ list_any (λ word. begins_with_hyphen word.now) words.now }
-{
-    words.iter().any(|word| begins_with_hyphen(word))
-}
-
-// Whether there is no word, or the first one begins with a hyphen.
-fn has_no_command(words: &[String]) -> bool
-    ensures { result ≡ has_no_command (map string_bytes words.now) }
-{
-    match words {
-        [] => true,
-        [command, ..] => begins_with_hyphen(command.as_str()),
-    }
-}
-
-// The words that clap takes: a command and what is behind it, with hyphens or without.
-//
-// They are one list: to say what clap does with a flag between paths would take its whole walk over the words.
-fn command<'a>(alloc: Global) -> Result<Command<'a>, AllocError>
-    ensures { IfOk result (λ command. app_of command ≡ join_command_line) }
-{
-    let words = Arg::new(alloc, "WORD")
-        .required(true)
-        .num_args(1..)
-        .trailing_var_arg(true)
-        .action(ArgAction::Append);
-    Command::new(alloc, "rcell-join").arg(words)
-}
-
-// What clap finds among the words, the program's own name first.
-fn clap_matches<'a>(alloc: Global, words: &'a [String]) -> Result<ArgMatches<'a>, JoinRefusal>
-    ensures found { IfOk result (FindsAllJoinWords (map string_bytes words.now)) }
-    ensures misuse { IfErr result (λ refusal. refusal ≢ JoinRefusal.Memory
-        → (refusal ≡ JoinRefusal.Usage Usage.AnyCommand)
-        × (has_no_command (drop 1 (map string_bytes words.now)) ≡ true)) }
-{
-    let command = command(alloc).map_err(|_| JoinRefusal::Memory)?;
-    match command.try_get_matches_from(words) {
-        Ok(matches) => Ok(matches),
-        Err(fault) => Err(of_clap(fault.kind())),
-    }
-}
 
 // Whether a word gives the separator or the null text.
 fn is_option(word: &[u8]) -> bool
@@ -216,7 +151,6 @@ fn without_flag<'a>(
 }
 
 // What words ask for behind `tables`, beside the flag of labels, which is given or not.
-#[tactic(auto, using(crate::proofs::WordLemmas::hyphens_of_texts))]
 fn asked_labelled<'a>(
     alloc: Global,
     labels: bool,
@@ -265,7 +199,6 @@ fn joining_in(words: &[&str]) -> Joining
 }
 
 // The paths of one tile or more behind a command, and which cells are adjacent.
-#[tactic(auto, using(crate::proofs::WordLemmas::hyphens_of_texts))]
 fn joined_tiles<'a>(
     alloc: Global,
     usage: Usage,
@@ -313,7 +246,6 @@ fn asked_clumps<'a>(alloc: Global, words: &[&'a str]) -> Result<JoinRequest<'a>,
 }
 
 // What the words behind `sizes` ask for.
-#[tactic(auto, using(crate::proofs::WordLemmas::hyphens_of_texts))]
 fn asked_sizes<'a>(alloc: Global, words: &[&'a str]) -> Result<JoinRequest<'a>, JoinRefusal>
     ensures { Answers JoinRefusal.Memory request_value result (asked_sizes (texts words.now)) }
 {
@@ -374,21 +306,12 @@ pub fn read_join_words<'a>(
     ensures { Answers JoinRefusal.Memory request_value result
         (asked_of (drop 1 (map string_bytes words.now))) }
 {
-    let Some((_, later)) = words.split_first() else {
-        return Err(JoinRefusal::Usage(Usage::AnyCommand));
-    };
-    if has_no_command(later) {
-        return Err(JoinRefusal::Usage(Usage::AnyCommand));
+    if let [_, command] = words {
+        return command_of(alloc, command.as_str(), &[]);
     }
-    let matches = match clap_matches(alloc, words) {
-        Ok(matches) => matches,
-        Err(refusal) => return Err(refusal),
-    };
-    let Some(given) = matches.get_strs("WORD") else {
-        return Err(JoinRefusal::Usage(Usage::AnyCommand));
-    };
-    let Some((command, behind)) = given.split_first() else {
-        return Err(JoinRefusal::Usage(Usage::AnyCommand));
-    };
-    command_of(alloc, *command, behind)
+    let misuse = JoinRefusal::Usage(Usage::AnyCommand);
+    match first_and_rest(alloc, "rcell-join", words, JoinRefusal::Memory, misuse) {
+        Ok((command, behind)) => command_of(alloc, command, &behind),
+        Err(refusal) => Err(refusal),
+    }
 }

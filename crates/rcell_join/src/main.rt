@@ -27,7 +27,7 @@ mod tables_report;
 
 use crate::border_report::border_report;
 use crate::clumps_report::clumps_report;
-use crate::join_opening::{open_file, open_paths};
+use crate::join_opening::open_paths;
 use crate::join_refusal::{JoinRefusal, Usage};
 use crate::join_request::{JoinRequest, TableFormat};
 use crate::join_words::read_join_words;
@@ -40,19 +40,11 @@ use cell_join_borders::map_border::write_border;
 use cell_join_clumps::clumps_joining::join_border_texts;
 use cell_join_sizes::table_sizes::join_table_sizes;
 use cell_join_tables::table_joining::join_texts;
-use std::env;
-use std::io::{self, ErrorKind};
+use rcell_command::arguments::words_given;
+use rcell_command::file_opening::open_file;
+use std::io;
 use std::process::ExitCode;
 use std::rt::{Env, Files};
-
-// The words that the program was given, its own name first.
-fn words_given<R: Env + AllocGlobal>(rt: &R) -> Result<Vec<String>, JoinRefusal> {
-    let given = env::args(rt).map_err(|fault| match fault.kind() {
-        ErrorKind::OutOfMemory => JoinRefusal::Memory,
-        _ => JoinRefusal::Usage(Usage::AnyCommand),
-    })?;
-    given.collect(rt.alloc()).map_err(|_| JoinRefusal::Memory)
-}
 
 // Merges the tables of tiles, with labels if they have them.
 fn merge_tables<R: Files + Print + Eprint + AllocGlobal>(
@@ -75,7 +67,7 @@ fn write_tile_border<R: Files + Print + Eprint + AllocGlobal>(
     joining: Joining,
     map: &str,
 ) -> u8 {
-    let source = match open_file(rt, map, 0) {
+    let source = match open_file(rt, map, JoinRefusal::Memory, JoinRefusal::File { file: 0 }) {
         Ok(source) => source,
         Err(refusal) => return print_refusal(rt, refusal, &[map]),
     };
@@ -106,7 +98,12 @@ fn add_sizes<R: Files + Print + Eprint + AllocGlobal>(
     numbering: &str,
     tables: &[&str],
 ) -> u8 {
-    let numbers = match open_file(rt, numbering, 0) {
+    let numbers = match open_file(
+        rt,
+        numbering,
+        JoinRefusal::Memory,
+        JoinRefusal::File { file: 0 },
+    ) {
         Ok(source) => source,
         Err(refusal) => return print_refusal(rt, refusal, &[numbering]),
     };
@@ -121,7 +118,8 @@ fn add_sizes<R: Files + Print + Eprint + AllocGlobal>(
 
 // Does what the words ask for, and returns the exit status.
 fn work<R: Env + Files + Print + Eprint + AllocGlobal>(rt: &R) -> u8 {
-    let words = match words_given(rt) {
+    let misuse = JoinRefusal::Usage(Usage::AnyCommand);
+    let words = match words_given(rt, JoinRefusal::Memory, misuse) {
         Ok(words) => words,
         Err(refusal) => return print_refusal(rt, refusal, &[]),
     };

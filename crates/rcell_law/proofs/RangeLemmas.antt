@@ -2,16 +2,14 @@
 use Rattle.std.proofs.Common.{◌≡◌, ℕ, ℤ, pos, negsuc, ◌+◌, ◌<◌, ◌≤◌, ◌+ℤ◌, ◌-◌, Bool, true, false, cond, not, ◌||◌}
 use Rattle.std.proofs.Common.{List, [], ◌∷◌}
 use Rattle.std.proofs.Common.{length, fold, get_or, Option, Some, None, refl, sym, subst, arith, ⊎_elim}
-use Rattle.std.specs.Prelude.{slice_get, All, IfSome, IsTrue, if◌then◌else◌, filter, int_lt, int_le, int_div, ◌-ℤ◌}
+use Rattle.std.specs.Prelude.{slice_get, All, if◌then◌else◌, filter, int_lt, int_le, int_div, ◌-ℤ◌}
 use Rattle.std.specs.Prelude.{◌*ℤ◌, ◌&&◌, neg_ℤ, unsigned_abs}
 use Rattle.std.specs.List.{list_any}
 use Rattle.std.proofs.lemmas.Bool.{cases_lt}
 use Rattle.std.proofs.lemmas.List.{get_or_past}
 use Rattle.std.proofs.lemmas.List.Elements.{All-nil, All-cons, All-head, All-tail, All-get_or, All-filter}
-use Rattle.std.proofs.lemmas.List.Elements.{All-from_get_or}
 use Rattle.std.proofs.lemmas.Option.{slice_get_within, get_or_from_slice_get}
-use Rattle.cell_core_values.specs.WholeNumbers.{is_in_range}
-use Rattle.cell_core.specs.Grid.{Grid, CellValue, IsFilled, cell_at}
+use Rattle.cell_core.specs.Grid.{Grid, CellValue}
 use Rattle.cell_calc_grammar.specs.declared.function.Function.{Function}
 use Rattle.cell_calc_grammar.specs.declared.function.Function.TheVariants as function
 use Rattle.cell_calc_grammar.specs.declared.operator.Operator.{Operator}
@@ -24,17 +22,10 @@ use Rattle.cell_calc_binding.specs.CellOperators.{greatest_cell}
 use Rattle.cell_calc_binding.specs.CellOperators.{known_cells, most_frequent}
 use Rattle.cell_calc_binding.specs.CellOperators.{is_most_frequent, first_known, if_of}
 use Rattle.cell_calc_binding.specs.Offsets.{item_at, cell_in}
-use Rattle.cell_calc_binding.proofs.Fit.{fit_number}
 use Rattle.cell_calc_binding.specs.Formula.{Formula, Number, Map, Negated, Not, Binary, Call, Formulas, NoTrees}
 use Rattle.cell_calc_binding.specs.Formula.{Then}
 use Rattle.cell_calc_binding.specs.Value.{value, argument_values}
-
--- null, or a category in range
-abbrev pub InRange : CellValue → Type 0
-InRange cell = IfSome cell (λ category. IsTrue (is_in_range category))
-
-abbrev pub AllInRange : List (List CellValue) → Type 0
-AllInRange rows = All (λ row. All InRange row) rows
+use Rattle.cell_join_law.proofs.RangeLemmas.{AllInRange, InRange, number-in}
 
 -- ---- operators
 
@@ -45,12 +36,9 @@ fit_in n = by (is_category n) refl
     by true e = e
     by false e = tt
 
-pub number_in : (n : ℕ) → n ≤ 2147483647 → InRange (Some (pos n))
-number_in n h = subst InRange (fit_number n h) (fit_in (pos n))
-
 truth_in : (b : Bool) → InRange (truth b)
-truth_in true = number_in 1 (omega arith)
-truth_in false = number_in 0 (omega arith)
+truth_in true = number-in 1 (omega arith)
+truth_in false = number-in 0 (omega arith)
 
 one_in : (f : ℤ → CellValue) → ((x : ℤ) → InRange (f x)) → (a : CellValue) → InRange (of_one f a)
 one_in f h None = tt
@@ -91,12 +79,12 @@ applied_in operator.And a b = tested_in (λ x y. not (is_zero x) && not (is_zero
 applied_in operator.Or a b = tested_in (λ x y. not (is_zero x) || not (is_zero y)) a b
 applied_in operator.KnownAnd a b =
     if_in (is_false a || is_false b) (Some (pos 0)) (if is_null a || is_null b then None else Some (pos 1))
-    (number_in 0 (omega arith))
-    (if_in (is_null a || is_null b) None (Some (pos 1)) tt (number_in 1 (omega arith)))
+    (number-in 0 (omega arith))
+    (if_in (is_null a || is_null b) None (Some (pos 1)) tt (number-in 1 (omega arith)))
 applied_in operator.KnownOr a b =
     if_in (is_true a || is_true b) (Some (pos 1)) (if is_null a || is_null b then None else Some (pos 0))
-    (number_in 1 (omega arith))
-    (if_in (is_null a || is_null b) None (Some (pos 0)) tt (number_in 0 (omega arith)))
+    (number-in 1 (omega arith))
+    (if_in (is_null a || is_null b) None (Some (pos 0)) tt (number-in 0 (omega arith)))
 
 -- ---- functions
 
@@ -142,9 +130,9 @@ item_in xs i all =
     (cases_lt i (length xs))
 
 if_of_in : (xs : List CellValue) → All InRange xs → InRange (if_of xs)
-if_of_in (x ∷ []) all = chosen_in x (Some (pos 1)) (Some (pos 0)) (number_in 1 (omega arith))
-    (number_in 0 (omega arith))
-if_of_in (x ∷ a ∷ []) all = chosen_in x a (Some (pos 0)) (item_in (x ∷ a ∷ []) 1 all) (number_in 0 (omega arith))
+if_of_in (x ∷ []) all = chosen_in x (Some (pos 1)) (Some (pos 0)) (number-in 1 (omega arith))
+    (number-in 0 (omega arith))
+if_of_in (x ∷ a ∷ []) all = chosen_in x a (Some (pos 0)) (item_in (x ∷ a ∷ []) 1 all) (number-in 0 (omega arith))
 if_of_in (x ∷ a ∷ b ∷ []) all = chosen_in x a b (item_in (x ∷ a ∷ b ∷ []) 1 all) (item_in (x ∷ a ∷ b ∷ []) 2 all)
 if_of_in _ all = tt
 
@@ -165,10 +153,10 @@ result_in function.Abs s xs is all = one_in (λ x. fit (pos (unsigned_abs x))) (
 result_in function.Min s xs is all = least_in xs all
 result_in function.Max s xs is all = greatest_in xs all
 result_in function.Mode s xs is all = if_in (list_any is_null xs) None (most_frequent xs) tt (frequent_in xs all)
-result_in function.Row s xs is all = number_in (s.row + 1) (let a = is.row in let b = is.rows in omega (arith, a, b))
-result_in function.Column s xs is all = number_in (s.col + 1) (let a = is.col in let b = is.cols in omega (arith, a, b))
-result_in function.RowCount s xs is all = number_in s.rows (let b = is.rows in omega (arith, b))
-result_in function.ColumnCount s xs is all = number_in s.cols (let b = is.cols in omega (arith, b))
+result_in function.Row s xs is all = number-in (s.row + 1) (let a = is.row in let b = is.rows in omega (arith, a, b))
+result_in function.Column s xs is all = number-in (s.col + 1) (let a = is.col in let b = is.cols in omega (arith, a, b))
+result_in function.RowCount s xs is all = number-in s.rows (let b = is.rows in omega (arith, b))
+result_in function.ColumnCount s xs is all = number-in s.cols (let b = is.cols in omega (arith, b))
 result_in function.Eval s xs is all = item_in xs (length xs - 1) all
 result_in function.KnownMin s xs is all = least_in (known_cells xs) (known_in xs all)
 result_in function.KnownMax s xs is all = greatest_in (known_cells xs) (known_in xs all)
@@ -214,7 +202,7 @@ map_in maps (Some m) i r c there all =
 module _ (maps : List Grid) (all : All (λ m. AllInRange m.rows) maps) (s : GridPosition) (is : IsPosition s) where
   mutual
     pub value_in : (f : Formula) → HasCategories f → InRange (value f maps s)
-    value_in (Number n) h = number_in n h
+    value_in (Number n) h = number-in n h
     value_in (Map i down right) h = map_in maps (slice_get maps i) i (pos s.row +ℤ down) (pos s.col +ℤ right) refl all
     value_in (Negated a) h = one_in (λ x. fit (neg_ℤ x)) (λ x. fit_in (neg_ℤ x)) (value a maps s)
     value_in (Not a) h = one_in (λ x. truth (is_zero x)) (λ x. truth_in (is_zero x)) (value a maps s)
@@ -225,16 +213,3 @@ module _ (maps : List Grid) (all : All (λ m. AllInRange m.rows) maps) (s : Grid
     values_in NoTrees h = All-nil InRange
     values_in (Then a xs) h = All-cons InRange (value a maps s) (argument_values xs maps s) (value_in a h.0)
         (values_in xs h.1)
-
--- ---- maps, cell by cell
-
-pub cells_in : (m : Grid) → IsFilled m.region m.rows →
-    ((r c : ℕ) → r < m.region.rows → c < m.region.cols → InRange (cell_at m r c)) → AllInRange m.rows
-cells_in m filled each =
-    All-from_get_or (λ row. All InRange row) m.rows []
-    (λ r lt. All-from_get_or InRange (get_or m.rows r []) None
-    (λ c less.
-    let count = filled.count in
-    let wide : length (get_or m.rows r []) ≡ m.region.cols = All-get_or
-    (λ row. length row ≡ m.region.cols) m.rows r [] lt filled.width in
-    each r c (omega (arith, lt, count)) (omega (arith, less, wide))))

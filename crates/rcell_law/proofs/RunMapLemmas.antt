@@ -1,29 +1,20 @@
 -- Each map of a run has a region, its rows and columns, and categories in range.
-use Rattle.std.proofs.Common.{◌≡◌, ◌≢◌, ℕ, zero, suc, ℤ, ◌+◌, ◌*◌, ◌<◌, ◌≤◌, Bool, true, false, not, List, [], ◌∷◌}
+use Rattle.std.proofs.Common.{◌≡◌, ℕ, zero, suc, ℤ, ◌*◌, ◌<◌, ◌≤◌, Bool, true, false, List, [], ◌∷◌}
 use Rattle.std.proofs.Common.{length, map, get_or, Option, Some, None, Result, Ok, Err, refl, ap, sym, ◌∙◌, subst}
 use Rattle.std.proofs.Common.{arith}
-use Rattle.std.specs.Prelude.{slice_get, All, IfSome, IsOkAnd, if◌then◌else◌, bytes_eq, nat_le, IsSome, ◌*ℤ◌}
-use Rattle.std.specs.Fmt.{signed_decimal}
+use Rattle.std.specs.Prelude.{slice_get, All, IsOkAnd, if◌then◌else◌, IsSome}
 use Rattle.std.specs.List.{AllPairs}
 use Rattle.std.specs.Option.{option_map, option_or}
-use Rattle.std.proofs.lemmas.Bool.{and_parts, leb-true}
 use Rattle.std.proofs.lemmas.List.Elements.{All-nil, All-cons, All-head, All-tail, All-get_or, All-map, All-push}
 use Rattle.std.proofs.lemmas.List.Elements.{All-weaker, Contains-get_or}
-use Rattle.std.proofs.lemmas.Option.{slice_get_within, get_or_from_slice_get, same_Some}
-use Rattle.cell_core_values.specs.Region.{RegionValue, IsRegion, region_fault, is_rectangle, is_side, is_countable}
-use Rattle.cell_core_values.specs.Region.{most_side, most_cells}
-use Rattle.cell_core_values.specs.declared.region.RegionFault.TheVariants.{BadExtent, BadRows, BadCols, TooManyCells}
-use Rattle.cell_core_devices.specs.Device.{Coming}
+use Rattle.std.proofs.lemmas.Option.{slice_get_within, get_or_from_slice_get}
+use Rattle.cell_core_values.specs.Region.{RegionValue, IsRegion}
 use Rattle.cell_core_values.specs.Blanks.{trimmed_text}
 use Rattle.cell_core_values.specs.WholeNumbers.{whole_number, whole_in_range, is_in_range}
-use Rattle.cell_core.specs.Grid.{Grid, CellValue, IsFilled, cell_at}
+use Rattle.cell_core.specs.Grid.{Grid, CellValue, IsFilled}
 use Rattle.cell_core.specs.Shelf.{ShelfValue}
-use Rattle.cell_ascii_meaning.specs.GridText.{Denotes, data_words, line_words}
-use Rattle.cell_ascii_meaning.specs.declared.grid_fault.GridKind.{GridKind}
-use Rattle.cell_ascii_meaning.specs.declared.grid_fault.GridKind.TheVariants.{CellRange}
-use Rattle.cell_ascii_meaning.specs.GridWords.{HeaderValue, cell_of_number, cell_of_word}
+use Rattle.cell_ascii_meaning.specs.GridText.{Denotes}
 use Rattle.cell_ascii_law.specs.WrittenLaw.{IsWritable}
-use Rattle.cell_ascii_law.proofs.WritingNumberLemmas.{whole_back, in_range_low}
 use Rattle.cell_calc_binding.specs.Applied.{grid_position}
 use Rattle.cell_calc_binding.specs.Formula.{Formula}
 use Rattle.cell_cats.specs.Rule.{RuleValue, last_such, last_output, outcome, new_category, lists, is_star_rule}
@@ -66,8 +57,9 @@ use Rattle.rcell_law.specs.RunMaps.{RunMapsAreWritable}
 use Rattle.rcell_law.proofs.ExistLemmas.{classes_filled}
 use Rattle.rcell_script.specs.ReclassRules.{AreRules}
 use Rattle.rcell_script.specs.ReclassRules as rules
-use Rattle.rcell_law.proofs.RangeLemmas.{InRange, AllInRange, IsPosition, HasCategories, HaveCategories, value_in}
-use Rattle.rcell_law.proofs.RangeLemmas.{number_in, cells_in}
+use Rattle.cell_join_law.proofs.RangeLemmas.{InRange, AllInRange, accepted-region, all-apart, cells-in}
+use Rattle.cell_join_law.proofs.RangeLemmas.{denoted-filled, denoted-in, number-in}
+use Rattle.rcell_law.proofs.RangeLemmas.{IsPosition, HasCategories, HaveCategories, value_in}
 
 -- ---- rules
 
@@ -190,7 +182,7 @@ number_low j m p n filled h = by n h.count
 
 numbers_in : (j : Joining) (m made : Grid) → IsFilled m.region m.rows → IsRegion m.region
     → IsFilled made.region made.rows → IsClumping j m made → AllInRange made.rows
-numbers_in j m made filled is made_filled clumping = cells_in made made_filled
+numbers_in j m made filled is made_filled clumping = cells-in made made_filled
     (λ r c high wide. by (position r c) (cell_at_position m (position r c)) refl)
   where
     by : (p : Position) (x : CellValue) → cell_at_position m p ≡ x → InRange (cell_at_position made p)
@@ -200,69 +192,7 @@ numbers_in j m made filled is made_filled clumping = cells_in made made_filled
         let given = clumping.numbered p some in
         let low = number_low j m p given.0 filled given.1 in
         let most = is.cells_most in
-        subst InRange (sym given.2) (number_in given.0 (omega (arith, low, most)))
-
--- ---- maps of grids
-
-word_in : (h : HeaderValue) (word : List ℕ) (cell : CellValue) → cell_of_word h word ≡ Ok cell → InRange cell
-word_in h word cell e = by (bytes_eq word h.null_text) (whole_number word) e
-  where
-    good : Result CellValue GridKind → Type 0
-    good (Ok x) = InRange x
-    good (Err kind) = Unit {0}
-
-    product : (n : ℤ) (t : Bool) → is_in_range n ≡ t → good (if t then Ok (Some n) else Err CellRange)
-    product n true is = is
-    product n false is = tt
-
-    first : (n m : ℤ) (t : Bool) → good
-        (if t then (if is_in_range m then Ok (Some m) else Err CellRange) else Err CellRange)
-    first n m true = product m (is_in_range m) refl
-    first n m false = tt
-
-    number : (o : Option ℤ) → good (cell_of_number h.multiplier o)
-    number None = tt
-    number (Some n) = first n (n *ℤ h.multiplier) (is_in_range n)
-
-    by : (t : Bool) (o : Option ℤ) → (if t then Ok None else cell_of_number h.multiplier o) ≡ Ok cell → InRange cell
-    by true o is = let same : None ≡ cell = cc in subst InRange same tt
-    by false o is = subst good is (number o)
-
-denoted_in : (c : Coming) (m : Grid) → Denotes c m → AllInRange m.rows
-denoted_in c m h =
-    let rows : m.region.rows ≡ h.said.region.rows = ap (λ (r : RegionValue). r.rows) h.region in
-    let cols : m.region.cols ≡ h.said.region.cols = ap (λ (r : RegionValue). r.cols) h.region in
-    cells_in m (subst (λ (e : RegionValue). IsFilled e m.rows) (sym h.region) h.cells.shape)
-    (λ r k high wide. by (slice_get (data_words (line_words c.bytes)) (r * h.said.region.cols + k)) (cell_at m r k)
-    (h.cells.each r k (omega (arith, rows, high)) (omega (arith, cols, wide))))
-  where
-    by : (o : Option (List ℕ)) (cell : CellValue) → option_map (cell_of_word h.said) o ≡ Some (Ok cell) → InRange cell
-    by None cell e = cc
-    by (Some word) cell e = word_in h.said word cell (same_Some (cell_of_word h.said word) (Ok cell) e)
-
-region_is : (e : RegionValue) → region_fault e ≡ Ok e → IsRegion e
-region_is e accepted = by (parts (is_rectangle e) (is_side e.rows) (is_side e.cols) (is_countable e) accepted)
-  where
-    parts : (a b c d : Bool) →
-        (if not a then Err BadExtent else
-        (if not b then Err BadRows else
-        (if not c then Err BadCols else (if not d then Err TooManyCells else Ok e)))) ≡ Ok e
-        → (b ≡ true) × ((c ≡ true) × (d ≡ true))
-    parts true true true true h = (refl, (refl, refl))
-    parts _ _ _ _ h = cc
-
-    by : (is_side e.rows ≡ true) × ((is_side e.cols ≡ true) × (is_countable e ≡ true)) → IsRegion e
-    by (b, (c, d)) =
-        let rows = and_parts (nat_le 1 e.rows) (nat_le e.rows most_side) b in
-        let cols = and_parts (nat_le 1 e.cols) (nat_le e.cols most_side) c in
-        record {
-          rows_least = leb-true 1 e.rows rows.0;
-          rows_most = leb-true e.rows most_side rows.1;
-          cols_least = leb-true 1 e.cols cols.0;
-          cols_most = leb-true e.cols most_side cols.1;
-          cells_most = leb-true (e.rows * e.cols) most_cells d;
-          accepted = accepted;
-        }
+        subst InRange (sym given.2) (number-in given.0 (omega (arith, low, most)))
 
 -- ---- what holds of each map
 
@@ -280,8 +210,8 @@ grids_sound region (g ∷ grids) (m ∷ maps) denote same =
     All-cons (IsSound region) m maps
     (record {
       region_is = All-head (λ m. m.region ≡ region) m maps same;
-      filled = subst (λ (e : RegionValue). IsFilled e m.rows) (sym h.region) h.cells.shape;
-      range = denoted_in g.1 m h;
+      filled = denoted-filled g.1 m h;
+      range = denoted-in g.1 m h;
     })
     (grids_sound region grids maps denote.1 (All-tail (λ m. m.region ≡ region) m maps same))
 grids_sound region _ _ denote same = absurd denote
@@ -293,7 +223,7 @@ grids_region region (g ∷ grids) [] some denote same = absurd denote
 grids_region region (g ∷ grids) (m ∷ maps) some denote same =
     let h : Denotes g.1 m = denote.0 in
     let here : h.said.region ≡ region = sym h.region ∙ All-head (λ m. m.region ≡ region) m maps same in
-    subst IsRegion here (region_is h.said.region h.header.good)
+    subst IsRegion here (accepted-region h.said.region h.header.good)
 
 -- ---- what a script asks for
 
@@ -385,7 +315,7 @@ module _ (region : RegionValue) (is : IsRegion region) where
       record {
         region_is = k.region ∙ h.region_is;
         filled = k.filled;
-        range = cells_in made k.filled (λ r c high wide.
+        range = cells-in made k.filled (λ r c high wide.
             let here : IsPosition (grid_position shelf.region r c) = record {
               row = omega (arith, rows, high);
               col = omega (arith, cols, wide);
@@ -441,22 +371,13 @@ module _ (region : RegionValue) (is : IsRegion region) where
 
 -- ---- and can be written
 
-apart : (null_text : List ℕ) → whole_number null_text ≡ None → (cell : CellValue) → InRange cell → IfSome cell
-    (λ category. signed_decimal category ≢ null_text)
-apart null_text no_number None h = tt
-apart null_text no_number (Some z) h =
-    λ same. let both : Some z ≡ None = sym (whole_back z (in_range_low z h)) ∙ ap whole_number same ∙ no_number in cc
-
 sound_writable : (region : RegionValue) → IsRegion region → (null_text : List ℕ) → whole_number null_text ≡ None →
     (m : Grid) → IsSound region m → IsWritable null_text m
 sound_writable region is null_text no_number m h = record {
   region = subst IsRegion (sym h.region_is) is;
   filled = h.filled;
   range = h.range;
-  apart = All-weaker (λ row. All InRange row)
-      (λ row. All (λ cell. IfSome cell (λ category. signed_decimal category ≢ null_text)) row)
-      (λ row. All-weaker InRange (λ cell. IfSome cell (λ category. signed_decimal category ≢ null_text))
-      (apart null_text no_number) row) m.rows h.range;
+  apart = all-apart null_text no_number m.rows h.range;
 }
 
 pub run_maps_are_writable : RunMapsAreWritable

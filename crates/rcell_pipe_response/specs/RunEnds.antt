@@ -8,6 +8,7 @@ use Rattle.rcell_script.specs.declared.statement.Statement.{Statement}
 use Rattle.rcell_script_commands.specs.declared.script_fault.ScriptFault.{ScriptFault}
 use Rattle.rcell_script_commands.specs.declared.script_fault.ScriptKind.{ScriptKind}
 use Rattle.rcell_script_commands.specs.declared.script_fault.ScriptKind.TheVariants as script_kinds
+use Rattle.rcell.specs.Output.{IsOutput}
 use Rattle.rcell_pipe_request.specs.declared.error.ErrorKind.{ErrorKind}
 use Rattle.rcell_pipe_request.specs.declared.error.ErrorKind.TheVariants as kinds
 use Rattle.rcell_pipe_request.specs.declared.error.RequestError.{RequestError}
@@ -15,6 +16,8 @@ use Rattle.rcell_pipe_request.specs.Requests.{RunRequestValue}
 use Rattle.rcell_pipe_response.specs.declared.end.End.{End}
 use Rattle.rcell_pipe_response.specs.declared.end.PipeError.{PipeError}
 use Rattle.rcell_pipe_response.specs.declared.end.PipeError.TheVariants as errors
+use Rattle.rcell_pipe_response.specs.declared.frame_run.RunForm.{RunForm}
+use Rattle.rcell_pipe_response.specs.declared.frame_run.RunForm.TheVariants.{Frames, Text}
 use Rattle.rcell_pipe_response.specs.Frames.{OutputFrame, GivesFrames}
 use Rattle.rcell_pipe_response.specs.FrameBytes.{EndValue, response_bytes}
 
@@ -86,15 +89,18 @@ pub record IsPipeAccepted (read : Result RunRequestValue RequestError) (shelf : 
   pub request : read ≡ Ok (record { shelf = shelf; script = script })
   pub denoted : IsScript shelf.names script statements
 
--- the frames of the statements of an accepted script, and the end
-pub record IsPipeDone (read : Result RunRequestValue RequestError) (response : List ℕ) : Type 0 where
+-- what statements over a shelf give: their frames and an end, or the text that rcell writes for them
+abbrev pub GivesResponse : RunForm → ShelfValue → List Statement → EndValue → List ℕ → Type 0
+GivesResponse Frames shelf statements end response =
+    (frames : List OutputFrame) × ((after : ShelfValue) × (GivesFrames shelf statements frames after × (response ≡ response_bytes frames end)))
+GivesResponse Text shelf statements end response = IsOutput shelf statements response
+
+-- the response that the statements of an accepted script give
+pub record IsPipeDone (form : RunForm) (read : Result RunRequestValue RequestError) (response : List ℕ) : Type 0 where
   pub shelf : ShelfValue
   pub statements : List Statement
   pub accepted : IsPipeAccepted read shelf statements
-  pub frames : List OutputFrame
-  pub after : ShelfValue
-  pub given : GivesFrames shelf statements frames after
-  pub bytes : response ≡ response_bytes frames done_end
+  pub gives : GivesResponse form shelf statements done_end response
 
 -- the script is rejected for its first error: no frame but the end, with some text of the error
 pub record IsScriptRejected (read : Result RunRequestValue RequestError) (response : List ℕ) (error : ScriptFault) : Type 0 where
@@ -105,27 +111,24 @@ pub record IsScriptRejected (read : Result RunRequestValue RequestError) (respon
   pub text : List ℕ
   pub bytes : response ≡ response_bytes [] (script_end error text)
 
--- memory runs out at a statement: the frames of those before it, and the end
-pub record IsPipeStopped (read : Result RunRequestValue RequestError) (response : List ℕ) (line : ℕ) : Type 0 where
+-- memory runs out at a statement: the response that those before it give
+pub record IsPipeStopped (form : RunForm) (read : Result RunRequestValue RequestError) (response : List ℕ) (line : ℕ) : Type 0 where
   pub shelf : ShelfValue
   pub first : List Statement
   pub statement : Statement
   pub others : List Statement
   pub accepted : IsPipeAccepted read shelf (first ++ statement ∷ others)
   pub line_is : line ≡ statement.line
-  pub frames : List OutputFrame
-  pub after : ShelfValue
-  pub given : GivesFrames shelf first frames after
-  pub bytes : response ≡ response_bytes frames (memory_end line)
+  pub gives : GivesResponse form shelf first (memory_end line) response
 
 -- the whole response of a run, by its error; a run whose write failed has none
-abbrev pub IsResponse : Result RunRequestValue RequestError → List ℕ → Option PipeError → Type 0
-IsResponse read response None = IsPipeDone read response
-IsResponse read response (Some (errors.Request error)) = (read ≡ Err error) × (response ≡ response_bytes [] (request_end error))
-IsResponse read response (Some (errors.Script error)) = IsScriptRejected read response error
-IsResponse read response (Some errors.Memory) = response ≡ response_bytes [] (memory_end 0)
-IsResponse read response (Some (errors.MemoryAt line)) = IsPipeStopped read response line
-IsResponse read response (Some errors.Write) = ⊥
+abbrev pub IsResponse : RunForm → Result RunRequestValue RequestError → List ℕ → Option PipeError → Type 0
+IsResponse form read response None = IsPipeDone form read response
+IsResponse form read response (Some (errors.Request error)) = (read ≡ Err error) × (response ≡ response_bytes [] (request_end error))
+IsResponse form read response (Some (errors.Script error)) = IsScriptRejected read response error
+IsResponse form read response (Some errors.Memory) = response ≡ response_bytes [] (memory_end 0)
+IsResponse form read response (Some (errors.MemoryAt line)) = IsPipeStopped form read response line
+IsResponse form read response (Some errors.Write) = ⊥
 
 -- the sink took the first bytes of a text
 pub record IsCut (before now : Option (List ℕ)) (text : List ℕ) : Type 0 where

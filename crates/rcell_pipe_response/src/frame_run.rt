@@ -1,11 +1,12 @@
 //! A run, from a request to bytes.
 
 ghost use Rattle.std.specs.Prelude.{ℕ, ◌≡◌, List, [], ◌++◌, Option, Some, Result, Ok};
-ghost use Rattle.cell_core_devices.specs.Device.{Faults};
+ghost use Rattle.cell_core_devices.specs.Device.{Faults, append_known};
 ghost use Rattle.cell_core_devices.specs.Blocks.{Appended};
 ghost use Rattle.rcell_script.specs.FittingScripts.{Fits};
 ghost use Rattle.rcell_pipe_request.specs.declared.error.RequestError.{RequestError};
 ghost use Rattle.rcell_pipe_request.specs.Requests.{RunRequestValue, run_request_value};
+ghost use Rattle.rcell_pipe_response.specs.declared.frame_run.RunForm.TheVariants.{Frames, Text};
 ghost use Rattle.rcell_pipe_response.specs.FrameBytes.{response_magic, response_bytes, end_bytes};
 ghost use Rattle.rcell_pipe_response.specs.RunEnds.{end_status_after, IsPipeAccepted, IsResponse, end_value};
 ghost use Rattle.rcell_pipe_response.specs.FrameEndings.{error_after, Finished, Rejected, EndsAs};
@@ -17,12 +18,22 @@ use crate::frames::push_end;
 use cell_core::block::OutputBlock;
 use cell_core::shelf::Shelf;
 use cell_core::sink::Sink;
+use rcell::execution::{RunStop, execute as execute_as_text};
 use rcell::loading::shelf_names;
 use rcell_pipe_request::request::Request;
 use rcell_script::script_fault::ScriptFault;
 use rcell_script::script_parsing::parse_script;
 use rcell_script::statement::Script;
 use std::alloc::Global;
+
+/// What a run responds with.
+#[derive(Clone, Copy, Debug, PartialEq, Eq)]
+pub enum RunForm {
+    /// A frame for each statement that writes, and a last frame.
+    Frames,
+    /// The text that `rcell` writes for the same maps and script.
+    Text,
+}
 
 /// What a run did.
 #[derive(Clone, Copy, Debug, PartialEq, Eq)]
@@ -111,7 +122,7 @@ pub fn reject_script<W: Sink>(alloc: Global, out: &mut W, error: ScriptFault) ->
     }
 }
 
-// Runs statements over the maps on a shelf.
+// Writes the frames of statements over the maps on a shelf.
 fn run_statements<W: Sink>(
     alloc: Global,
     mut shelf: Shelf,
@@ -120,7 +131,7 @@ fn run_statements<W: Sink>(
 ) -> PipeOutcome
     requires { Fits shelf.names script.now }
     ensures { (read : Result RunRequestValue RequestError) → IsPipeAccepted read shelf script.now
-        → EndsAs (IsResponse read) (W.taken out.old) (W.faults out.old) (W.taken out.new)
+        → EndsAs (IsResponse Frames read) (W.taken out.old) (W.faults out.old) (W.taken out.new)
         (W.faults out.new) result }
 {
     let mut block = begin_response(out);
@@ -138,9 +149,47 @@ fn run_statements<W: Sink>(
     }
 }
 
+// Flushes the sink after a text, and returns the error, or a failed write.
+fn end_text<W: Sink>(out: &mut W, error: Option<PipeError>) -> PipeOutcome
+    ensures { (before : Option (List ℕ)) (text : List ℕ)
+        → W.taken out.old ≡ append_known before text
+        → Finished before (W.faults out.old) (W.taken out.new) (W.faults out.new) error text result }
+{
+    match out.flush() {
+        Ok(()) => outcome_of(error, true),
+        Err(_) => outcome_of(error, false),
+    }
+}
+
+// Writes the text of statements over the maps on a shelf, and nothing else.
+fn print_statements<W: Sink>(
+    alloc: Global,
+    mut shelf: Shelf,
+    script: &Script,
+    out: &mut W,
+) -> PipeOutcome
+    requires { Fits shelf.names script.now }
+    ensures { (read : Result RunRequestValue RequestError) → IsPipeAccepted read shelf script.now
+        → EndsAs (IsResponse Text read) (W.taken out.old) (W.faults out.old) (W.taken out.new)
+        (W.faults out.new) result }
+{
+    match execute_as_text(alloc, &mut shelf, script.statements(), out) {
+        Ok(_) => end_text(out, None),
+        Err(stopped) => match stopped.stop {
+            RunStop::Memory { line } => end_text(out, Some(PipeError::MemoryAt { line })),
+            RunStop::Write => outcome_of(None, false),
+        },
+    }
+}
+
 /// Runs the script of a request over its maps.
-pub fn run_request<W: Sink>(alloc: Global, request: Request, out: &mut W) -> PipeOutcome
-    ensures { EndsAs (IsResponse (Ok (run_request_value request))) (W.taken out.old)
+pub fn run_request<W: Sink>(
+    alloc: Global,
+    request: Request,
+    form: RunForm,
+    out: &mut W,
+) -> PipeOutcome
+    ensures { EndsAs (IsResponse form (Ok (run_request_value request))) (W.taken out.old)
         (W.faults out.old) (W.taken out.new) (W.faults out.new) result }
 {
     let Request { shelf, script } = request;
@@ -148,7 +197,10 @@ pub fn run_request<W: Sink>(alloc: Global, request: Request, out: &mut W) -> Pip
         return reject(out, PipeError::Memory, &memory_end(0));
     };
     match parse_script(alloc, &script, &names) {
-        Ok(statements) => run_statements(alloc, shelf, &statements, out),
+        Ok(statements) => match form {
+            RunForm::Frames => run_statements(alloc, shelf, &statements, out),
+            RunForm::Text => print_statements(alloc, shelf, &statements, out),
+        },
         Err(error) => {
             if is_memory(error.kind) {
                 reject(out, PipeError::Memory, &memory_end(0))

@@ -1,7 +1,7 @@
 //! Responses of `rcell-pipe`: a frame for each statement that writes, and a last frame that says
-//! how the run ended. docs/pipe.md defines the bytes (profile).
+//! how the run ended; or the text that `rcell` writes. docs/pipe.md defines the bytes (profile).
 //!
-//! - `frame_run`: `run_request`, from a request to its response; `PipeOutcome`
+//! - `frame_run`: `run_request`, from a request to its response in a `RunForm`; `PipeOutcome`
 //! - `end`: `End`, the fields of the last frame; `PipeError`, why the work was not done
 //! - `bytes`: numbers, texts and cells as bytes
 //! - specs/FrameBytes.antt: the bytes of a response; specs/Frames.antt: the frames of a script

@@ -24,6 +24,7 @@ use Rattle.rcell_pipe_response.specs.declared.frame_run.PipeOutcome.{PipeOutcome
 use Rattle.rcell_pipe_response.specs.FrameBytes.{EndValue, response_magic, response_bytes, end_bytes}
 use Rattle.rcell_pipe_response.specs.RunEnds.{end_status_after, done_end, script_end, memory_end, IsResponse, HasResponded}
 use Rattle.rcell_pipe_response.specs.FrameEndings.{Finished, IsRejection, EndsAs}
+use Rattle.rcell_pipe_response.specs.declared.frame_run.RunForm.{RunForm}
 use Rattle.rcell_plan_response.specs.declared.responding.RequestForm.{RequestForm}
 use Rattle.rcell_plan_response.specs.declared.responding.RequestForm.TheVariants as form
 use Rattle.rcell_plan.specs.declared.planning.Plan.{Plan}
@@ -117,12 +118,13 @@ pub stop_fine : (stop : RequestStop) → Some (error_of_stop stop) ≡ Some erro
 stop_fine stops.Memory is = cc
 stop_fine (stops.Error error) is = cc
 
-pub stopped_run : (read : Result (RunRequestValue × Coming) RequestError) (stop : RequestStop) (known : Bool)
+pub stopped_run : (form : RunForm) (read : Result (RunRequestValue × Coming) RequestError) (stop : RequestStop)
+    (known : Bool)
     → PlacedFails stop known read → known ≡ true → (all : Result RunRequestValue RequestError)
     → ((error : RequestError) → read ≡ Err error → all ≡ Err error)
-    → IsResponse all (response_bytes [] (end_of_stop stop)) (Some (error_of_stop stop))
-stopped_run read stops.Memory known fails is all on = refl
-stopped_run read (stops.Error error) known fails is all on = (on error (fails is), refl)
+    → IsResponse form all (response_bytes [] (end_of_stop stop)) (Some (error_of_stop stop))
+stopped_run form read stops.Memory known fails is all on = refl
+stopped_run form read (stops.Error error) known fails is all on = (on error (fails is), refl)
 
 pub stopped_plan : (read : Result (PlanRequestValue × Coming) RequestError) (stop : RequestStop) (known : Bool)
     → PlacedFails stop known read → known ≡ true → (all : Result PlanRequestValue RequestError)
@@ -135,7 +137,7 @@ stopped_plan read (stops.Error error) known fails is all on = (on error (fails i
 pub memory_form : (form : FieldReading RequestForm)
     → IsResponseTo form (response_bytes [] (memory_end 0)) (Some errors.Memory)
 memory_form (Err kind) = refl
-memory_form (Ok (form.Run, rest)) = refl
+memory_form (Ok (form.Run run, rest)) = refl
 memory_form (Ok (form.Plan, rest)) = refl
 
 -- the first eight bytes were not read
@@ -174,8 +176,9 @@ refused : NoFaultOfAScript → (form : FieldReading RequestForm) → IsRequestAc
     → (response : List ℕ) (error : PipeError)
     → end_status_after (Some error) ≢ 3 → (error ≡ errors.Write → ⊥) → IsResponseTo form response (Some error) → ⊥
 refused law (Err kind) accepted response error lasts fine is = accepted
-refused law (Ok (form.Run, rest)) accepted response (errors.Request e) lasts fine is = cc (is.0, accepted.1.1.request)
-refused law (Ok (form.Run, rest)) accepted response (errors.Script fault) lasts fine is =
+refused law (Ok (form.Run run, rest)) accepted response (errors.Request e) lasts fine is =
+    cc (is.0, accepted.1.1.request)
+refused law (Ok (form.Run run, rest)) accepted response (errors.Script fault) lasts fine is =
     let same : of_run accepted.0 accepted.1.1.script ≡ of_run is.shelf is.script = cc
     (is.request, accepted.1.1.request) in
     law is.shelf.names is.script accepted.1.0 fault

@@ -1,4 +1,4 @@
--- Plan requests, their responses, and responses to requests of either form.
+-- Plan requests, their responses, and responses to requests of any form.
 pub mod PlanRequests
 pub mod MapNames
 pub mod PlanOptions

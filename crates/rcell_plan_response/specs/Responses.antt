@@ -1,4 +1,4 @@
--- What is written in response to a request of either form (profile).
+-- What is written in response to a request of any form (profile).
 use Rattle.std.specs.Prelude.{ℕ, List, Option, Some, None, Result, Ok, Err, if◌then◌else◌, codes, bytes_eq}
 use Rattle.cell_core_devices.specs.Device.{Coming}
 use Rattle.cell_core_values.specs.Answers.{◌>>=◌}
@@ -13,13 +13,15 @@ use Rattle.rcell_pipe_response.specs.declared.end.PipeError.{PipeError}
 use Rattle.rcell_pipe_response.specs.RunEnds.{IsResponse, IsPipeAccepted}
 use Rattle.rcell_plan_response.specs.declared.responding.RequestForm.{RequestForm}
 use Rattle.rcell_plan_response.specs.declared.responding.RequestForm.TheVariants.{Run, Plan}
+use Rattle.rcell_pipe_response.specs.declared.frame_run.RunForm.TheVariants.{Frames, Text}
 use Rattle.rcell_plan_response.specs.PlanRequests.{PlanRequestValue, plan_at}
 use Rattle.rcell_plan_response.specs.PlanEnds.{IsPlanResponse, IsPlanAccepted}
 
 -- the form of a request, by its first eight bytes
 abbrev pub form_of : List ℕ → Option RequestForm
-form_of magic = if bytes_eq magic (codes "RCELLQ1\n") then Some Run else
-    (if bytes_eq magic (codes "RCELLP1\n") then Some Plan else None)
+form_of magic = if bytes_eq magic (codes "RCELLQ1\n") then Some (Run Frames) else
+    (if bytes_eq magic (codes "RCELLT1\n") then Some (Run Text) else
+    (if bytes_eq magic (codes "RCELLP1\n") then Some Plan else None))
 
 -- the first eight bytes
 unfoldable pub form_at : Coming → FieldReading RequestForm
@@ -37,14 +39,14 @@ plan_request_of c = plan_at c >>= λ plan. Ok plan.0
 
 -- the whole response to a request, by its form and by the error
 abbrev pub IsResponseTo : FieldReading RequestForm → List ℕ → Option PipeError → Type 0
-IsResponseTo (Err kind) response error = IsResponse (Err (record { kind = kind; maps = 0; row = 0 })) response error
-IsResponseTo (Ok (Run, rest)) response error = IsResponse (run_request_of rest) response error
+IsResponseTo (Err kind) response error = IsResponse Frames (Err (record { kind = kind; maps = 0; row = 0 })) response error
+IsResponseTo (Ok (Run form, rest)) response error = IsResponse form (run_request_of rest) response error
 IsResponseTo (Ok (Plan, rest)) response error = IsPlanResponse (plan_request_of rest) response error
 
 -- the bytes are a request, and its script denotes statements
 abbrev pub IsRequestAccepted : FieldReading RequestForm → Type 0
 IsRequestAccepted (Err kind) = ⊥
-IsRequestAccepted (Ok (Run, rest)) = (shelf : ShelfValue) ×
+IsRequestAccepted (Ok (Run form, rest)) = (shelf : ShelfValue) ×
     ((statements : List Statement) × IsPipeAccepted (run_request_of rest) shelf statements)
 IsRequestAccepted (Ok (Plan, rest)) = (names : List (List ℕ)) ×
     ((statements : List Statement) × IsPlanAccepted (plan_request_of rest) names statements)

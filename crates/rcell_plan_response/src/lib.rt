@@ -1,5 +1,5 @@
-//! Responses of `rcell-pipe` to requests of either form: a run or a plan. docs/pipe.md defines the
-//! bytes (profile).
+//! Responses of `rcell-pipe` to requests of each form: a run, with frames or as text, or a plan.
+//! docs/pipe.md defines the bytes (profile).
 //!
 //! - `responding`: `respond`, from a source of bytes to its response; all that `rcell-pipe` does
 //! - `plan_request`: `read_plan`, names of maps and a script, or their first error

@@ -19,7 +19,7 @@ use rcell_pipe_request::error::{ErrorKind, FieldStop, RequestStop};
 use rcell_pipe_request::feed::{Feed, read_into};
 use rcell_pipe_request::request::read_run;
 use rcell_pipe_response::end::{PipeError, memory_end, request_end};
-use rcell_pipe_response::frame_run::{PipeOutcome, reject, run_request};
+use rcell_pipe_response::frame_run::{PipeOutcome, RunForm, reject, run_request};
 use rcell_script::law::no_fault_of_a_script;
 use std::alloc::Global;
 
@@ -27,7 +27,7 @@ use std::alloc::Global;
 #[derive(Clone, Copy, Debug, PartialEq, Eq)]
 pub enum RequestForm {
     /// To run a script over maps.
-    Run,
+    Run(RunForm),
     /// To say what the statements of a script read, make and write.
     Plan,
 }
@@ -36,6 +36,12 @@ fn is_run(magic: &[u8]) -> bool
     ensures { result ≡ bytes_eq magic.now (codes "RCELLQ1\n") }
 {
     magic == b"RCELLQ1\n".as_slice()
+}
+
+fn is_text(magic: &[u8]) -> bool
+    ensures { result ≡ bytes_eq magic.now (codes "RCELLT1\n") }
+{
+    magic == b"RCELLT1\n".as_slice()
 }
 
 fn is_plan(magic: &[u8]) -> bool
@@ -48,7 +54,10 @@ fn form_of(magic: &[u8]) -> Option<RequestForm>
     ensures { result ≡ form_of magic.now }
 {
     if is_run(magic) {
-        return Some(RequestForm::Run);
+        return Some(RequestForm::Run(RunForm::Frames));
+    }
+    if is_text(magic) {
+        return Some(RequestForm::Run(RunForm::Text));
     }
     if is_plan(magic) {
         return Some(RequestForm::Plan);
@@ -81,14 +90,19 @@ fn reject_stop<W: Sink>(out: &mut W, stop: RequestStop) -> PipeOutcome
 }
 
 // Reads what follows the first eight bytes of a run, and responds to it.
-fn respond_to_run<R: Source, W: Sink>(alloc: Global, feed: &mut Feed<R>, out: &mut W) -> PipeOutcome
+fn respond_to_run<R: Source, W: Sink>(
+    alloc: Global,
+    feed: &mut Feed<R>,
+    form: RunForm,
+    out: &mut W,
+) -> PipeOutcome
     ensures { EndsAs
         (λ response error. feed.old.known ≡ true
-        → IsResponse (run_request_of (left feed.old)) response error)
+        → IsResponse form (run_request_of (left feed.old)) response error)
         (W.taken out.old) (W.faults out.old) (W.taken out.new) (W.faults out.new) result }
 {
     match read_run(alloc, feed) {
-        Ok(request) => run_request(alloc, request, out),
+        Ok(request) => run_request(alloc, request, form, out),
         Err(stop) => reject_stop(out, stop),
     }
 }
@@ -110,7 +124,7 @@ fn respond_to_plan<R: Source, W: Sink>(
     }
 }
 
-// Reads a request of either form, and responds to it.
+// Reads a request of any form, and responds to it.
 fn respond_to<R: Source, W: Sink>(alloc: Global, feed: &mut Feed<R>, out: &mut W) -> PipeOutcome
     ensures { EndsAs
         (λ response error. feed.old.known ≡ true
@@ -119,7 +133,7 @@ fn respond_to<R: Source, W: Sink>(alloc: Global, feed: &mut Feed<R>, out: &mut W
 {
     match read_form(feed) {
         Ok(form) => match form {
-            RequestForm::Run => respond_to_run(alloc, feed, out),
+            RequestForm::Run(form) => respond_to_run(alloc, feed, form, out),
             RequestForm::Plan => respond_to_plan(alloc, feed, out),
         },
         Err(stop) => reject_stop(out, stop.at(0, 0)),
@@ -131,9 +145,9 @@ fn respond_to<R: Source, W: Sink>(alloc: Global, feed: &mut Feed<R>, out: &mut W
 /// The request is read whole before the first statement is executed. Each statement of a run has all that it needs of memory
 /// before its first byte is written, and a plan before the first byte of its response.
 pub fn respond<R: Source + Drop, W: Sink>(alloc: Global, source: R, out: &mut W) -> PipeOutcome
-    // The error says what has been written. Without one: the frames of the statements, or their plans, and the end.
-    // Otherwise: the end with the first error of the request or of its script, after the frames of the statements before
-    // memory ran out. If a write failed: the first bytes of such a response.
+    // The error says what has been written. Without one: the frames of the statements, or their plans, and the end; or the
+    // text that `rcell` writes. Otherwise: the end with the first error of the request or of its script, or the frames, or
+    // the text, of the statements before memory ran out. If a write failed: the first bytes of such a response.
     ensures end { IfSome (R.coming source) (λ c. HasResponded (IsResponseTo (form_at c))
         (W.taken out.old) (W.taken out.new) result.error) }
     ensures status { result.status ≡ end_status_after result.error }

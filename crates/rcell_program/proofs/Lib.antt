@@ -1,2 +1,2 @@
 -- What several proofs share.
-pub mod ParseLemmas
+pub mod WordLemmas

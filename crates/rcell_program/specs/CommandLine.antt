@@ -1,15 +1,11 @@
 -- What the words of a command line ask for: rcell SCRIPT NAME=PATH... (profile).
 use Rattle.std.specs.Prelude.{ℕ, Bool, false, List, [], ◌∷◌, ◌++◌, ◌==◌, ◌≡◌, ◌≢◌, ◌+◌, ◌&&◌, ◌||◌, drop, if◌then◌else◌, length, nat_lt, None, Option, Some, Result, Ok, Err, option_map, codes}
-use Rattle.std.specs.List.{after_first, before_first, list_any}
+use Rattle.std.specs.List.{after_first, before_first}
 use Rattle.cell_core_values.specs.Letters.{byte}
 use Rattle.cell_core_values.specs.Name.{is_name}
+use Rattle.rcell_command.specs.CommandWords.{has_hyphen_word}
 use Rattle.rcell_program.specs.declared.refusal.Refusal.{Refusal}
 use Rattle.rcell_program.specs.declared.refusal.Refusal.TheVariants.{GridWord, Memory, Usage}
-
--- a word that begins with a hyphen
-abbrev pub begins_with_hyphen : List ℕ → Bool
-begins_with_hyphen [] = false
-begins_with_hyphen (b ∷ rest) = b == byte (codes "-")
 
 -- each name and the path of its grid, with an equals sign between them
 abbrev pub grid_words : List (List ℕ) → List (List ℕ) → List (List ℕ)
@@ -27,7 +23,7 @@ first_bad place (word ∷ words) = if is_grid_argument word then first_bad (plac
 
 -- one of the words begins with a hyphen, or they are fewer than two, a script and a grid
 abbrev pub is_misuse : List (List ℕ) → Bool
-is_misuse words = list_any begins_with_hyphen words || nat_lt (length words) 2
+is_misuse words = has_hyphen_word words || nat_lt (length words) 2
 
 -- why these words, which follow the program's own name, are refused; None where they ask for a run
 abbrev pub refusal_of : List (List ℕ) → Option Refusal

@@ -4,4 +4,3 @@ pub mod CommandLine
 pub mod OpenedGrids
 pub mod Refusals
 pub mod RefusalLines
-pub mod parts

@@ -1,19 +1,15 @@
 //! The words of the command line.
 
-ghost use Rattle.std.specs.Prelude.{◌≡◌, ◌≢◌, ◌++◌, ◌∷◌, [], true, false, IfErr, IfOk, None, OnOk, Some, drop, map, option_map, vec_len};
-ghost use Rattle.std.specs.List.{list_any};
+ghost use Rattle.std.specs.Prelude.{◌≡◌, ◌≢◌, ◌++◌, ◌∷◌, true, false, IfErr, IfOk, None, OnOk, Some, drop, map, option_map, vec_len};
 ghost use Rattle.std.specs.String.{string_bytes};
-ghost use Rattle.clap.specs.Words.{app_of};
 ghost use Rattle.clap.specs.Walk.{texts};
 ghost use Rattle.cell_core_values.specs.Name.{is_name};
-ghost use Rattle.rcell_program.specs.CommandLine.{begins_with_hyphen, first_bad, grid_words, is_grid_argument, is_misuse, refusal_of, IsRefusedFor};
-ghost use Rattle.rcell_program.specs.parts.ClapWords.{FindsAll, command_line};
+ghost use Rattle.rcell_program.specs.CommandLine.{first_bad, grid_words, is_grid_argument, refusal_of, IsRefusedFor};
 
 use crate::refusal::Refusal;
 use cell_core::name::{Name, NameFault};
-use clap::error::ErrorKind;
-use clap::{Arg, ArgAction, ArgMatches, Command};
-use std::alloc::{AllocError, Global};
+use rcell_command::arguments::{first_and_rest, has_hyphen_word};
+use std::alloc::Global;
 
 /// What the words ask for: a script over the grids of these names, each in the file of its path.
 #[derive(Drop)]
@@ -29,17 +25,6 @@ pub struct RunRequest<'a> {
 
 // The place of SCRIPT among the words; the program's own name has place 0.
 const SCRIPT_PLACE: u64 = 1;
-
-// The refusal for a fault of clap.
-fn of_clap(kind: ErrorKind) -> Refusal
-    ensures memory { kind ≡ ErrorKind.OutOfMemory → result ≡ Refusal.Memory }
-    ensures usage { result ≢ Refusal.Memory → result ≡ Refusal.Usage }
-{
-    match kind {
-        ErrorKind::OutOfMemory => Refusal::Memory,
-        _ => Refusal::Usage,
-    }
-}
 
 // The name and the path that a grid word has around its first equals sign.
 fn grid_of<'a>(alloc: Global, word: &'a str, place: u64) -> Result<(Name, &'a str), Refusal>
@@ -62,54 +47,8 @@ fn grid_of<'a>(alloc: Global, word: &'a str, place: u64) -> Result<(Name, &'a st
     }
 }
 
-fn begins_with_hyphen(word: &str) -> bool
-    ensures { result ≡ begins_with_hyphen word.now }
-{
-    word.as_bytes().first() == Some(&b'-')
-}
-
-// Whether one of the words begins with a hyphen.
-#[tactic(auto, using(std::proofs::lemmas::List::Folds::list_any_at, std::proofs::lemmas::List::Folds::list_any_more))]
-fn has_hyphen_word(words: &[String]) -> bool
-    ensures { result ≡ list_any (λ word. begins_with_hyphen (string_bytes word)) words.now }
-{
-    for word in words {
-        if begins_with_hyphen(word.as_str()) {
-            return true;
-        }
-    }
-    false
-}
-
-// The words that clap takes: a script, and then a grid or more.
-fn command<'a>(alloc: Global) -> Result<Command<'a>, AllocError>
-    ensures { IfOk result (λ command. app_of command ≡ command_line) }
-{
-    let script = Arg::new(alloc, "SCRIPT")
-        .required(true)
-        .action(ArgAction::Set);
-    let grid = Arg::new(alloc, "GRID")
-        .required(true)
-        .num_args(1..)
-        .action(ArgAction::Append);
-    Command::new(alloc, "rcell").arg(script)?.arg(grid)
-}
-
-// What clap finds among the words, the program's own name first.
-fn clap_matches<'a>(alloc: Global, words: &'a [String]) -> Result<ArgMatches<'a>, Refusal>
-    ensures found { IfOk result (FindsAll (map string_bytes words.now)) }
-    ensures misuse { IfErr result (λ refusal. refusal ≢ Refusal.Memory
-        → (refusal ≡ Refusal.Usage) × (is_misuse (drop 1 (map string_bytes words.now)) ≡ true)) }
-{
-    let command = command(alloc).map_err(|_| Refusal::Memory)?;
-    match command.try_get_matches_from(words) {
-        Ok(matches) => Ok(matches),
-        Err(fault) => Err(of_clap(fault.kind())),
-    }
-}
-
 // The names and the paths of the grid words, of which the first has place 2.
-#[tactic(auto, using(crate::proofs::ParseLemmas::grid_words_more))]
+#[tactic(auto, using(crate::proofs::WordLemmas::grid_words_more))]
 fn grids_of<'a>(alloc: Global, words: &[&'a str]) -> Result<(Vec<Name>, Vec<&'a str>), Refusal>
     ensures words { IfOk result (λ grids. grid_words grids.0.items (texts grids.1.items)
         ≡ texts words.now) }
@@ -143,15 +82,15 @@ pub fn read_words<'a>(alloc: Global, words: &'a [String]) -> Result<RunRequest<'
         ∷ grid_words request.names.items (map (λ path. path.now) request.paths.items)) }
     ensures refused { IsRefusedFor (refusal_of (drop 1 (map string_bytes words.now))) result }
 {
-    let Some((_, later)) = words.split_first() else {
-        return Err(Refusal::Usage);
+    let found = first_and_rest(alloc, "rcell", words, Refusal::Memory, Refusal::Usage);
+    let (script, grids) = match found {
+        Ok(found) => found,
+        Err(refusal) => return Err(refusal),
     };
-    if has_hyphen_word(later) {
+    let grids = grids.as_slice();
+    if has_hyphen_word(grids) {
         return Err(Refusal::Usage);
     }
-    let matches = clap_matches(alloc, words)?;
-    let script = matches.get_str("SCRIPT").ok_or(Refusal::Usage)?;
-    let grids = matches.get_strs("GRID").ok_or(Refusal::Usage)?;
     let (names, paths) = grids_of(alloc, grids)?;
     Ok(RunRequest {
         script,

@@ -23,19 +23,10 @@ use cell_core::name::Name;
 use cell_core::sink::WriteSink;
 use rcell::report::fault_line;
 use rcell::run;
-use std::env;
-use std::io::{self, ErrorKind};
+use rcell_command::arguments::words_given;
+use std::io;
 use std::process::ExitCode;
 use std::rt::{Env, Files};
-
-// The words that the program was given, its own name first.
-fn words_given<R: Env + AllocGlobal>(rt: &R) -> Result<Vec<String>, Refusal> {
-    let given = env::args(rt).map_err(|fault| match fault.kind() {
-        ErrorKind::OutOfMemory => Refusal::Memory,
-        _ => Refusal::Usage,
-    })?;
-    given.collect(rt.alloc()).map_err(|_| Refusal::Memory)
-}
 
 // Reports a refusal on standard error, and returns its status. Where standard error takes nothing, the status still says it.
 fn print_error<R: Eprint>(rt: &R, refusal: Refusal, names: &[Name]) -> u8 {
@@ -46,7 +37,7 @@ fn print_error<R: Eprint>(rt: &R, refusal: Refusal, names: &[Name]) -> u8 {
 
 // Does what the words ask for, and returns the exit status.
 fn work<R: Env + Files + Print + Eprint + AllocGlobal>(rt: &R) -> u8 {
-    let words = match words_given(rt) {
+    let words = match words_given(rt, Refusal::Memory, Refusal::Usage) {
         Ok(words) => words,
         Err(refusal) => return print_error(rt, refusal, &[]),
     };

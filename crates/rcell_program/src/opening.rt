@@ -9,8 +9,8 @@ use crate::command_words::RunRequest;
 use crate::refusal::Refusal;
 use cell_core::name::Name;
 use cell_core::source::ReadSource;
-use std::fs;
-use std::io::{ErrorKind, Read};
+use rcell_command::file_opening::open_file;
+use std::io::Read;
 use std::rt::Files;
 
 /// The sources of a script and of its grids.
@@ -21,27 +21,6 @@ pub struct OpenedFiles<F: Read> {
     /// The name of each grid and its source, in order; at least one.
     pub grids: Vec<(Name, ReadSource<F>)>,
     ghost has_grid: { 0 < vec_len grids },
-}
-
-// Out of memory is reported as such, and any other fault of an opening as that of the file.
-fn of_opening(kind: ErrorKind, of_file: Refusal) -> Refusal
-    ensures { result ≢ Refusal.Memory → result ≡ of_file }
-{
-    match kind {
-        ErrorKind::OutOfMemory => Refusal::Memory,
-        _ => of_file,
-    }
-}
-
-// The file of a path; where it can't be opened, the refusal of the file is returned, or out of memory.
-fn open_file<R: Files>(rt: &R, path: &str, of_file: Refusal) -> Result<ReadSource<R::File>, Refusal>
-    ensures asked { IfOk result (λ source. source.1 ≡ Asked.Going) }
-    ensures reported { IfErr result (λ refusal. refusal ≢ Refusal.Memory → refusal ≡ of_file) }
-{
-    match fs::open(rt, path) {
-        Ok(file) => Ok(ReadSource::new(file)),
-        Err(fault) => Err(of_opening(fault.kind(), of_file)),
-    }
 }
 
 // A grid of a name, with the source of its path.
@@ -56,7 +35,7 @@ fn open_grid<R: Files + AllocGlobal>(
     ensures reported { IfErr result (λ refusal. refusal ≢ Refusal.Memory
         → refusal ≡ Refusal.GridFile grid) }
 {
-    let source = open_file(rt, path, Refusal::GridFile { grid })?;
+    let source = open_file(rt, path, Refusal::Memory, Refusal::GridFile { grid })?;
     match name.copy(rt.alloc()) {
         Ok(name) => Ok((name, source)),
         Err(_) => Err(Refusal::Memory),
@@ -81,8 +60,6 @@ fn open_grids<R: Files + AllocGlobal>(
 
 /// Opens the script and then each grid in order.
 ///
-/// No clause says that a source has the bytes of the file at its path, since nothing is assumed about files.
-///
 /// # Errors
 ///
 /// [`Refusal::ScriptFile`] or [`Refusal::GridFile`] of the first that can't be opened; [`Refusal::Usage`] where the request
@@ -96,7 +73,7 @@ pub fn open_files<R: Files + AllocGlobal>(
     ensures grids { IfOk result (λ opened. AreOpened request.now.names.items opened.grids.items) }
     ensures reported { IfErr result (IsOfOpening (vec_len request.now.names)) }
 {
-    let script = open_file(rt, request.script, Refusal::ScriptFile)?;
+    let script = open_file(rt, request.script, Refusal::Memory, Refusal::ScriptFile)?;
     let grids = open_grids(rt, request)?;
     if grids.is_empty() {
         return Err(Refusal::Usage);

@@ -18,7 +18,7 @@ import sys
 
 from osgeo import gdal, ogr, osr
 
-# The number on our map (Madura is one with Java there), the name, that of the almanac, the western and southern edges of a degree
+# The number on our map (Madura is one with Java there), the name, the almanac's name, the western and southern edges of a degree
 # square on its coast, and the longitude and latitude of a place within it.
 ISLANDS = (
     (126, "New Guinea", "New Guinea", (138, -9), (138, -4)),
@@ -57,7 +57,7 @@ def shoreline():
 
 
 def land():
-    """The polygons of all land around, in degrees: those of provinces, joined."""
+    """The polygons of all land around, in degrees: provinces, joined."""
     provinces = ogr.Open(NATURAL_EARTH)
     layer = provinces.GetLayer("states_provinces")
     layer.SetSpatialFilterRect(*AROUND)

@@ -3,7 +3,7 @@
 # projection EPSG:6933 (so that a cell is 256 square kilometres), sea null. Land is GSHHG's in its full resolution, countries
 # are DCW's. It needs rcell-tif on the path and, of Debian: gmt gmt-gshhg-full gmt-dcw gdal-bin python3-gdal python3-scipy.
 #
-#     sh make.sh ROOM              ROOM is a folder for what lies between; archipelago.txt and labels are made there, too
+#     sh make.sh ROOM              ROOM is a folder for what lies between; archipelago.txt and labels are also made there
 set -eu
 here=$(cd "$(dirname "$0")" && pwd)
 room=${1:?a folder for the files that are made}

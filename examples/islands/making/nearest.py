@@ -3,7 +3,7 @@
 
     nearest.py LAND.tif COUNTRIES.tif LABELS OUT.tif OUT_LABELS
 
-The countries are numbered anew: those of the archipelago first, in a fixed order, then the others by name. OUT_LABELS gets a
+The countries are numbered anew: the countries of the archipelago first, in a fixed order, then the others by name. OUT_LABELS gets a
 rule of r.reclass for each.
 """
 import sys

@@ -66,7 +66,7 @@ class TestRcell(TestCase):
         return module.outputs.stdout
 
     def refused(self, text, **options):
-        """A run that must be refused and leave nothing behind; what it tells."""
+        """A run that must be rejected and leave no file; its message."""
         before = gs.list_strings("raster")
         module = SimpleModule("r.rcell", script=self.script(text), **options)
         self.assertModuleFail(module)

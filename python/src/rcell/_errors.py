@@ -65,8 +65,8 @@ class Refused(Fault, RcellError):
     >>> import numpy as np, rcell
     >>> try:
     ...     rcell.run("r.mapcalc half = lc * 0.5", lc=np.array([[1, 2]]))
-    ... except rcell.Refused as refusal:
-    ...     print(refusal)
+    ... except rcell.Refused as error:
+    ...     print(error)
     script, line 1: number not whole at column 23
       r.mapcalc half = lc * 0.5
                             ^
@@ -109,8 +109,8 @@ class BadMap(Refused, ValueError):
     >>> import numpy as np, rcell
     >>> try:
     ...     rcell.table("r.stats -c input=lc", lc=np.array([[1.0, 1.5]]))
-    ... except rcell.BadMap as refusal:
-    ...     print(refusal, refusal.row, refusal.col, refusal.value, sep=" | ")
+    ... except rcell.BadMap as error:
+    ...     print(error, error.row, error.col, error.value, sep=" | ")
     lc: not a map of whole numbers: the cell at row 1, column 2 is 1.5 | 1 | 2 | 1.5
     """
 
@@ -138,8 +138,8 @@ class OtherRegion(BadMap):
     >>> import numpy as np, rcell
     >>> try:
     ...     rcell.table("r.stats -c input=a,b", a=np.ones((2, 2), int), b=np.ones((2, 3), int))
-    ... except rcell.OtherRegion as refusal:
-    ...     print(refusal.text.splitlines()[0])
+    ... except rcell.OtherRegion as error:
+    ...     print(error.text.splitlines()[0])
     not of the region of `a`, and nothing is resampled: east is 3, not 2 (1 more); cols is 3, not 2 (1 more)
     """
 
@@ -158,8 +158,8 @@ class OtherCrs(BadMap):
     >>> utm, arctic = (rcell.Map([[1]], crs=crs) for crs in ("EPSG:25832", "EPSG:3413"))
     >>> try:
     ...     rcell.table("r.stats -c input=a,b", a=utm, b=arctic)
-    ... except rcell.OtherCrs as refusal:
-    ...     print(refusal.source, refusal.text.partition(",")[0])
+    ... except rcell.OtherCrs as error:
+    ...     print(error.source, error.text.partition(",")[0])
     b its coordinate reference system is EPSG:3413 (WGS 84 / NSIDC Sea Ice Polar Stereographic North)
     """
 
@@ -177,8 +177,8 @@ class ReadFailed(BadMap):
     >>> import rcell
     >>> try:
     ...     rcell.run("r.stats -c input=lc", lc="nowhere.tif")
-    ... except rcell.ReadFailed as refusal:
-    ...     print(refusal)
+    ... except rcell.ReadFailed as error:
+    ...     print(error)
     lc: cannot open: nowhere.tif: No such file or directory
     """
 

@@ -60,8 +60,8 @@ def replacing(path: str) -> Iterator[str]:
     --------
     >>> import tempfile
     >>> with tempfile.TemporaryDirectory() as folder:
-    ...     with replacing(os.path.join(folder, "a.txt")) as beside:
-    ...         _ = open(beside, "w").write("whole")
+    ...     with replacing(os.path.join(folder, "a.txt")) as new:
+    ...         _ = open(new, "w").write("whole")
     ...     print(os.listdir(folder))
     ['a.txt']
     """

@@ -3,7 +3,7 @@
 
 `rcell-join` is proved from bytes to bytes: the tables that `r.stats -c` prints of the tiles of a map are merged to the table that it
 prints of the map, the borders of tiles give the numbering of their clumps, and the tables of these add up to the sizes of the clumps
-of the map. So the texts come here as a program printed them, and go on as the joiner printed them: they are read once, where the last
+of the map. So the texts come here as a program printed them, and are passed on as the joiner printed them: they are read once, where the last
 one is needed as numbers.
 """
 
@@ -79,13 +79,13 @@ def joined(texts: Sequence[bytes], program: str | os.PathLike[str] | None = None
     Parameters
     ----------
     texts : sequence of bytes
-        At least one.
+        One or more.
     program : path, optional
 
     Raises
     ------
     TooManyCells
-        A sum is too great.
+        A sum is too large.
     OutOfMemory, Killed, WriteFailed, MissingProgram, WrongProgram
 
     Examples
@@ -159,7 +159,7 @@ def numbering_of(borders: Sequence[bytes], diagonal: bool = False, program: str 
 
 
 def joined_sizes(numbering: bytes, tables: Sequence[bytes], program: str | os.PathLike[str] | None = None) -> bytes:
-    """Add up the sizes of the clumps of tiles, by their numbering, to those of the clumps of the map.
+    """Add up the sizes of the clumps of tiles, by their numbering, to the sizes of the clumps of the map.
 
     Parameters
     ----------

@@ -95,15 +95,7 @@ def flags_of(values: Any, meanings: Any) -> dict[int, str]:
     """
     codes = re.findall(r"[+-]?[0-9]+", str(values)) if isinstance(values, str) else [] if values is None else list(values)
     words = str(meanings).split() if meanings else []
-    return {code: word for code, word in zip(map(_category, codes), words) if code is not None} if len(codes) == len(words) else {}
-
-
-def _category(number: Any) -> int | None:
-    """Return the category that a number is or a text spells, or None."""
-    with contextlib.suppress(TypeError, ValueError, OverflowError):
-        if float(number).is_integer() and abs(float(number)) < -NULL:
-            return int(float(number))
-    return None
+    return maps.labels_of_rows(zip(codes, words)) if len(codes) == len(words) else {}
 
 
 def _color_table(dataset: Any, band: int, labels: Mapping[int, str]) -> dict[int, str]:
@@ -134,7 +126,8 @@ def _attribute_colors(path: str, band: int) -> dict[int, str]:
     if value is None or not set(_USAGES_RGB) <= set(usages):
         return {}
     columns = [usages.index(usage) for usage in _USAGES_RGB]
-    return {table.GetValueAsInt(row, value): "#" + bytes(table.GetValueAsInt(row, at) & 255 for at in columns).hex() for row in range(table.GetRowCount())}
+    rows = ([table.GetValueAsString(row, value), "#" + bytes(table.GetValueAsInt(row, at) & 255 for at in columns).hex()] for row in range(table.GetRowCount()))
+    return maps.labels_of_rows(rows)
 
 
 def write_labels(path: str, labels: Mapping[int, str]) -> str | None:
@@ -241,13 +234,12 @@ def _read_beside(path: str, band: int) -> dict[int, str]:
 
 def _labels_of_element(table: ElementTree.Element) -> dict[int, str]:
     fields = table.findall("FieldDefn")
-    usages = [_category(field.findtext("Usage", "0")) or 0 for field in fields]
+    usages = [maps.category_of(field.findtext("Usage", "0")) or 0 for field in fields]
     value, name = maps.columns_of(usages, [field.findtext("Name", "") for field in fields])
     if value is None or name is None:
         return {}
     rows = [[cell.text or "" for cell in row.findall("F")] for row in table.findall("Row")]
-    pairs = [(_category(row[value]), row[name]) for row in rows if max(value, name) < len(row)]
-    return {category: label for category, label in pairs if category is not None and label}
+    return maps.labels_of_rows((row[value], row[name]) for row in rows if max(value, name) < len(row))
 
 
 def _write_beside(path: str, labels: Mapping[int, str]) -> None:

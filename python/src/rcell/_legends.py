@@ -92,7 +92,8 @@ def _of_csv(path: str) -> Legend:
             if header is None:
                 raise _refused(f"{path} is empty")
             at = _columns_of(header, f"the first line is {','.join(header)!r}")
-            return _of_rows((f"line {lines.line_num}", _picked(row, at)) for row in lines if row)
+            rows = ((f"line {lines.line_num}", row) for row in lines if row)
+            return _of_rows((place, _picked(_narrow(place, row, len(header)), at)) for place, row in rows)
     except (OSError, ValueError, csv.Error) as error:
         raise ReadFailed("labels", f"cannot open: {path}: {getattr(error, 'strerror', None) or error}") from None
 
@@ -104,6 +105,13 @@ def _columns_of(names: list[str], told: str) -> tuple[int, int, int | None]:
         raise _refused(f"no header value,label: {told}")
     color = next((titles.index(name) for name in _COLOR_NAMES if name in titles), None)
     return titles.index("value"), titles.index("label"), color
+
+
+def _narrow(place: str, row: list[str], most: int) -> list[str]:
+    """Return a row of a CSV, after checking that no label is cut at a comma."""
+    if any(map(str.strip, row[most:])):
+        raise _refused(f"{place}: {len(row)} fields under a header of {most}: put a label with a comma in quotes")
+    return row
 
 
 def _picked(row: Any, at: tuple[int, int, int | None]) -> tuple[Any, Any, Any]:

@@ -15,7 +15,7 @@ from ._maps import source_of
 __all__ = ["majority", "majority_script"]
 
 SIZES = range(3, 16, 2)
-# The most tokens of an expression, less those of `x = if(isnull(map), null(), nmode(..))`.
+# The most tokens of an expression, less the tokens of `x = if(isnull(map), null(), nmode(..))`.
 _MOST_TOKENS, _TOKENS_AROUND = 1000, 25
 _TOKENS_OF_NAME = 2
 

@@ -1,7 +1,7 @@
 # SPDX-License-Identifier: Apache-2.0 OR GPL-2.0-or-later
-"""The programs: where they are, and runs of them.
+"""The programs: their paths, and runs of them.
 
-Scripts run in rcell-pipe, which takes maps as bytes and returns tables and maps as bytes. Grids in text form are read by rcell.
+Scripts run in rcell-pipe, which takes maps as bytes and returns tables and maps as bytes. rcell reads grids in text form.
 """
 
 from __future__ import annotations
@@ -20,14 +20,13 @@ from rcell_front import pipe as front
 from rcell_front.files import write_all
 from rcell_front.pipe import NULL
 from rcell_front.programs import Started, close, found_on_path, pipe
-from rcell_front.spelling import rows_text
 
 from ._arrays import NDArray
 from ._errors import Killed, MissingProgram, OutOfMemory, RcellError, Refused, WrongProgram
 from ._maps import MAX_CATEGORY, ArrayMap, Source
 from ._region import Region
 
-__all__ = ["Output", "candidates", "execute", "find_beside", "find_pipe", "find_program", "grid_text", "known_after", "labels_of", "planned", "table_text"]
+__all__ = ["Output", "candidates", "execute", "find_beside", "find_pipe", "find_program", "grid_text", "known_after", "labels_of", "planned", "printed"]
 
 PROBE_SECONDS = 60
 """So long a program may take for a map of three cells, on a machine that has much else to do."""
@@ -109,7 +108,7 @@ def find_beside(name: str, variable: str, probe: Callable[[str], None], program:
     """Return the path of a program that belongs to rcell.
 
     Looked for in this order: the argument, an environment variable, next to the program rcell that is used, the scripts of this
-    installation of Python (where the wheel puts it), the path. The errors are those of `find_program`.
+    installation of Python (where the wheel puts it), the path. The errors are the same as in `find_program`.
     """
     path = os.fspath(program) if program is not None else os.environ.get(variable)
     if not path:
@@ -211,7 +210,7 @@ def execute(
 
 
 def planned(script: str, names: Iterable[str], *, program: str | os.PathLike[str] | None = None) -> list[front.Statement]:
-    """Return what each statement of a script reads, makes and needs, over maps of some names; the errors are those of `execute`."""
+    """Return what each statement of a script reads, makes and needs, over maps of some names; the errors are the same as in `execute`."""
     known = list(names)
     with _told(script, known, path := find_pipe(program)):
         return front.plan(path, known, front.script_bytes(script))
@@ -229,30 +228,21 @@ def labels_of(statement: front.Statement) -> dict[int, str]:
     return {code: label.decode("utf-8", "surrogateescape") for code, label in zip(frame.cells.tolist(), frame.labels) if label}
 
 
-def table_text(script: str, maps: Mapping[str, Source], *, program: str | os.PathLike[str] | None = None) -> bytes:
-    """Return the table of a script, byte for byte as rcell prints it.
-
-    Parameters
-    ----------
-    script : str
-        With one line that writes: an r.stats without `-1`.
-    maps : mapping of str to Source
-        As for `execute`, and so are the errors.
-    """
-    return b"".join(frame.printed() for frame in _frames(script, maps, (), program) if isinstance(frame, front.TableFrame))
+def printed(script: str, maps: Mapping[str, Source], *, program: str | os.PathLike[str] | None = None) -> bytes:
+    """Return what rcell prints for a script; arguments and errors are the same as in `execute`."""
+    with _told(script, list(maps), path := find_pipe(program)):
+        return b"".join(front.text(path, [_sent(name, source) for name, source in maps.items()], front.script_bytes(script)))
 
 
 def grid_text(source: Source) -> bytes:
     """Return a map as a grid text."""
-    [frame] = _frames("r.out.ascii input=map", {"map": source})
-    assert isinstance(frame, front.GridFrame)
-    return source.region.header().encode() + rows_text(np.asarray(frame.cells).reshape(frame.rows, frame.cols), frame.null)
+    return printed("r.out.ascii input=map", {"map": source})
 
 
 def _frames(
     script: str, maps: Mapping[str, Source], wanted: Sequence[str] = (), program: str | os.PathLike[str] | None = None
 ) -> list[front.Frame]:
-    """Return the frames of a script, and then those of some of its maps."""
+    """Return the frames of a script, and then the frames of some of its maps."""
     lines = [script, *(f"r.out.ascii input={name}" for name in wanted)]
     with _told(script, list(maps), path := find_pipe(program)):
         return front.run(path, [_sent(name, source) for name, source in maps.items()], front.script_bytes("\n".join(lines)))
@@ -264,7 +254,7 @@ def _told(script: str, names: list[str], path: str) -> Iterator[None]:
     try:
         yield
     except front.Rejected as end:
-        raise (OutOfMemory if end.status == 3 else Refused)(**end.parts(script, names)) from None
+        raise (OutOfMemory if end.status == 3 else Refused)(**end.parts(path, script, names)) from None
     except front.Killed as error:
         raise Killed(int(error.args[0])) from None
     except front.NoAnswer as error:

@@ -92,7 +92,7 @@ class Layer:
     dtype : str
     nodata : float or int or None
     has_mask : bool
-        Whether the raster has a mask of its own.
+        Whether the band has a mask of its own, or one for all bands.
     alpha : int or None
         The band that marks transparent cells, which are null.
     """
@@ -114,7 +114,7 @@ class Layer:
             dtype, nodata = _of_64_bits(dataset, band)
         flags = dataset.mask_flag_enums[band - 1]
         alpha = next((at for at in alphas(dataset, enums) if at != band), None)
-        has_mask = enums.MaskFlags.per_dataset in flags and enums.MaskFlags.alpha not in flags
+        has_mask = (not flags or enums.MaskFlags.per_dataset in flags) and enums.MaskFlags.alpha not in flags
         return cls(band, dtype, nodata, has_mask, alpha)
 
     def read(self, name: str, dataset: Any, place: tuple[int, int, int, int], told: str) -> tuple[Cells, Mask | None]:

@@ -15,9 +15,9 @@ from typing import Any, Iterator, Mapping
 import numpy as np
 
 from rcell_front.files import write_all
+from rcell_front.listing import listed_rows
 from rcell_front.pipe import NULL
 from rcell_front.programs import Started, above_standard, close, pipe
-from rcell_front.spelling import listed_rows
 
 from ._errors import BadMap, ReadFailed
 from ._maps import Block, Source, in_region

@@ -1,5 +1,5 @@
 # SPDX-License-Identifier: Apache-2.0 OR GPL-2.0-or-later
-"""The version of the package, which is that of the program that its wheel brings."""
+"""The version of the package, the same as the program's in its wheel."""
 
 from __future__ import annotations
 

@@ -21,9 +21,10 @@ from ._region import Region, Transform, six_numbers
 
 __all__ = ["Flat", "data_array", "data_array_of", "flat_of", "is_lazy", "layers_of", "source_of_data_array", "variables_of"]
 
+# Names, CF's standard names and axes, and its units, which alone make a coordinate a latitude or longitude.
 _AXES = {
-    "Y": {"Y", "y", "lat", "latitude", "northing", "projection_y_coordinate"},
-    "X": {"X", "x", "lon", "longitude", "easting", "projection_x_coordinate"},
+    "Y": {"Y", "y", "lat", "latitude", "rlat", "grid_latitude", "northing", "projection_y_coordinate", "degrees_north", "degree_north", "degrees_N", "degree_N"},
+    "X": {"X", "x", "lon", "longitude", "rlon", "grid_longitude", "easting", "projection_x_coordinate", "degrees_east", "degree_east", "degrees_E", "degree_E"},
 }
 # By how much of a cell coordinates may be off the grid that they are taken for.
 _TOLERANCE = 1e-4
@@ -168,7 +169,7 @@ def _flat(name: str, array: Any) -> Any:
 def _axis_of(array: Any, dim: Any) -> str | None:
     """Return X or Y, if a dimension is known to be that: by CF's attributes of its coordinate, or by a usual name."""
     attributes = array.coords[dim].attrs if dim in array.coords else {}
-    told = {attributes.get("axis"), attributes.get("standard_name"), str(dim).lower()}
+    told = {*(attributes.get(key) for key in ("axis", "standard_name", "units")), str(dim).lower()}
     return next((axis for axis, names in _AXES.items() if told & names), None)
 
 

@@ -15,20 +15,13 @@ LONGEST_VALUE = 300  # characters of a word or line quoted in a sentence
 
 
 class Fault:
-    """An error in a line of the script: rcell's message, its cause, and what to write instead.
+    """An error in a line of a script: its place in bytes, rcell's message, the cause, the part of the table, and the words to fill in."""
 
-    `start` and `end` are positions in bytes. `fixes` are the edits that correct the line, if there is a correction: each has
-    a start, an end and the new text.
-    """
-
-    def __init__(self, line, start, end, text, cause, values=None, fix=None):
-        self.line, self.start, self.end, self.text, self.cause = line, start, end, text, cause
-        self.values = values or {}
-        self.reported_at = line  # the line at which rcell notices it
-        self.fixes = [] if fix is None else [(start, end, fix)]
+    def __init__(self, start, end, text, cause, part, values):
+        self.start, self.end, self.text, self.cause, self.part, self.values = start, end, text, cause, part, values
 
     def __repr__(self):
-        return "Fault(%d, %d, %d, %r, %r)" % (self.line, self.start, self.end, self.text, self.cause)
+        return "Fault(%d, %d, %r, %r)" % (self.start, self.end, self.text, self.cause)
 
 
 def folder():

@@ -125,7 +125,7 @@ class GridFile:
         return stem + ".txt" if stem + ".txt" != self.path else stem + "2.txt"
 
     def is_as_converted(self):
-        """Return whether the header could have been written by rcell-aaigrid."""
+        """Return whether rcell-aaigrid could have written the header."""
         return list(self.values)[:6] == list(SIX)
 
 

@@ -3,14 +3,17 @@
 
 from __future__ import annotations
 
+import contextlib
 from collections.abc import Callable, Iterable, Mapping, Sequence
 from typing import Any, Optional
 
-__all__ = ["DECIMALS", "UNITS", "columns_of", "differences_of", "edge_text", "fit_names", "labels_of_band", "names_of", "put_labels"]
+__all__ = ["DECIMALS", "UNITS", "category_of", "columns_of", "differences_of", "edge_text", "fit_names", "labels_of_band", "labels_of_rows", "names_of", "put_labels"]
 
 DECIMALS = 8
 UNITS = 10**DECIMALS
 """An edge of 1; the program keeps edges as whole numbers of this unit."""
+
+CATEGORY_LIMIT = 2147483647
 
 NAMES_LIMIT = 1 << 16
 """Category names are a list from 0 on. For larger or negative categories, an attribute table is smaller."""
@@ -57,8 +60,27 @@ def _labels_of_table(table: Any) -> dict[int, str]:
     value, name = columns_of([table.GetUsageOfCol(at) for at in places], [table.GetNameOfCol(at) for at in places])
     if value is None or name is None:
         return {}
-    rows = range(table.GetRowCount())
-    return {table.GetValueAsInt(row, value): text for row in rows if (text := table.GetValueAsString(row, name))}
+    return labels_of_rows([table.GetValueAsString(row, at) for at in (value, name)] for row in range(table.GetRowCount()))
+
+
+def labels_of_rows(rows: Iterable[Sequence[Any]]) -> dict[int, str]:
+    """Return labels by category, from pairs of a number or its text and a label; the label of what is no category is left out.
+
+    Examples
+    --------
+    >>> labels_of_rows([("1", "wood"), ("1.5", "heath"), ("2", "")])
+    {1: 'wood'}
+    """
+    found = ((category_of(number), label) for number, label in rows)
+    return {category: label for category, label in found if category is not None and label}
+
+
+def category_of(number: Any) -> Optional[int]:
+    """Return the category that a number is or a text spells, or None."""
+    with contextlib.suppress(TypeError, ValueError, OverflowError):
+        if float(number).is_integer() and abs(float(number)) <= CATEGORY_LIMIT:
+            return int(float(number))
+    return None
 
 
 def columns_of(usages: Sequence[int], titles: Sequence[str]) -> tuple[Optional[int], Optional[int]]:

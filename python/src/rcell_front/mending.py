@@ -1,74 +1,380 @@
 # SPDX-License-Identifier: Apache-2.0 OR GPL-2.0-or-later
-"""Suggest what to write instead of a script line that rcell rejects."""
-import re
+"""Explain the errors of a script, and find what to write instead, by asking rcell-pipe about changed scripts.
 
-from .advice import Messages, shown
-from .script import Script
+    rejected_lines(ask, script, names)           yield the lines that are rejected, with their errors and corrections
+    warnings(ask, script, names)                 yield what is accepted but seldom meant
+    advice(program, script, names, line, text)   return the column of one error, and what to write instead
+    asker(program)                               return `ask` of a program
+
+The program reports where a line fails; causes.py has the usual causes and what to try instead; only what the program
+accepts is proposed. Scripts are strings with one character per byte, so an index into a line counts bytes.
+"""
+import re
+from itertools import islice, product
+from typing import NamedTuple
+
+from . import pipe
+from .advice import LONGEST_VALUE, Fault, Messages, filled, shown
+from .causes import CAUSES, LINE, MADE, WARNINGS, WRITERS
+from .grids import kind_of
 
 LONGEST_SCRIPT = 65535  # bytes; for longer scripts, advice would delay the package's error
-_messages = None
+LONGEST_SEARCHED, WINDOW = 1000, 300  # bytes: a longer line is searched only around the error
+MOST_QUESTIONS, MOST_BYTES = 600, 1 << 24  # for one script
+MOST_OF_A_LINE, MOST_OF_AN_ERROR, MOST_MATCHES, LONGEST_CHAIN = 40, 30, 20, 3
+MOST_NAMES, BYTES_OF_A_NAME = 50000, 10
+COLUMN = re.compile(r" at column \d+$")
+NAME = re.compile(r"[A-Za-z_][A-Za-z0-9_.]{0,63}")
+WORD = re.compile(r"[^ \t\r]+")
+PARTS = re.compile(r"\{(\w+)\}")
+# The program looks for these errors of a line later than for others.
+STAGES = {"missing option": 1, "unknown map": 2, "map exists": 3, "bad combination": 4,
+          "combination of another width": 5}
+LATER_IN_A_WORD = ("wrong number of arguments", "bad name")
+# What may replace an error without a correction, so that the rest of the line can be checked.
+STAND_INS = ("", "1", "*", "eval", "{map}", "{key}={map}", "{key}={spare}")
 
 
-def advice(script, names, line, text):
-    """Return the position (from 1) of the word that a message is about, and what to write instead; None for both if unknown."""
-    global _messages
-    if len(script) > LONGEST_SCRIPT:
+class Found(NamedTuple):
+    """An error of a block: its text, its part of messages.json, and the span of the block that it is about."""
+
+    text: str
+    part: str
+    start: int
+    end: int
+
+
+class Line(NamedTuple):
+    """A rejected line: its number, its bytes, its errors, and the lines to write instead, which may be none."""
+
+    number: int
+    text: str
+    faults: list
+    mended: list
+
+
+class Block(NamedTuple):
+    """A line, and those that continue it, as changed so far, and for each character the span of the given text."""
+
+    text: str
+    origins: list
+
+    def span(self, start, end):
+        """Return the span of the given text for a span of this one."""
+        return self.origins[start][0], self.origins[end - 1][1] if end > start else self.origins[start][0]
+
+    def changed(self, match, template, values):
+        """Return the block with a match replaced by a template; groups of the match keep their origins."""
+        span, texts, origins = self.span(*span_of(match)), [], []
+        for at, part in enumerate(PARTS.split(template)):
+            start, end = match.span(part) if at % 2 and part in match.re.groupindex else (-1, -1)
+            text = self.text[start:end] if start >= 0 else values.get(part, "") if at % 2 else part
+            texts.append(text)
+            origins += self.origins[start:end] if start >= 0 else [span] * len(text)
+        start, end = match.span()
+        text = self.text[:start] + "".join(texts) + self.text[end:]
+        return Block(text, self.origins[:start] + origins + self.origins[end:])
+
+    def order(self, found):
+        """Return a key by which the errors of a line are sorted as the program looks for them."""
+        return STAGES.get(found.text, 0), self.origins[found.start][0], found.text in LATER_IN_A_WORD
+
+
+def span_of(match):
+    """Return the span of a match that is marked."""
+    return match.span("mark" if match.groupdict().get("mark") is not None else 0)
+
+
+def key_of(error):
+    """Return the part of messages.json, and the text there, of what the program reports."""
+    return "expression" if error.column else "script", COLUMN.sub("", error.text)
+
+
+def first_bad(count, is_bad):
+    """Return the first number from 1 to count that is bad; so are those after it."""
+    good, bad = 0, count
+    while bad - good > 1:
+        middle = (good + bad) // 2
+        good, bad = (good, middle) if is_bad(middle) else (middle, bad)
+    return bad
+
+
+class Judge:
+    """A script that is checked from error to error: `head` is accepted, `rest` is not."""
+
+    def __init__(self, ask, text, names):
+        self.ask, self.names, self.head, self.rest = ask, names, "", text
+        self.given = text.split("\n")
+        self.numbers = list(range(1, len(self.given) + 1))  # the given line of each line
+        self.questions, self.bytes, self.has_rules = 0, 0, True
+        self.map, self.spare, self.spares = self.unused("map"), "", set()
+
+    def unused(self, name):
+        while any(name in text for text in (self.head, self.rest, *self.names)):
+            name += "_"
+        return name
+
+    def error(self, text):
+        """Return the first error that the program reports in a text, or None."""
+        self.questions, self.bytes = self.questions + 1, self.bytes + len(text) + BYTES_OF_A_NAME * len(self.names)
+        self.statements, found = self.ask([*self.names, self.map], text)
+        return found
+
+    @property
+    def is_enough(self):
+        return self.questions > MOST_QUESTIONS or self.bytes > MOST_BYTES
+
+    def maps(self):
+        """Return the maps that are known before the line of the error, with where they come from."""
+        self.error(self.head)
+        made = {it.made: "line %d" % self.numbers[it.line - 1] for it in self.statements if it.made}
+        known = {**dict.fromkeys(self.names, "a grid"), **made}
+        return {name: whence for name, whence in known.items() if name not in self.spares}
+
+    def later(self, name):
+        """Return the first line after the error that makes a map, or None."""
+        found = next((it for it in MADE.finditer(self.rest) if name in it.groups()), None)
+        return found and self.numbers[-1 - self.rest.count("\n", found.start(found.lastindex))]
+
+    def lines(self):
+        """Yield the rejected lines; the last is None if there may be more."""
+        while (error := self.error(self.head + self.rest)) is not None:
+            if self.is_enough or error.line < 1 or key_of(error) not in CAUSES:
+                yield None
+                return
+            line = self.rejected(error)
+            if not self.has_rules and line.faults[0].cause in ("missing end", "next command"):
+                line = line._replace(faults=line.faults[1:], mended=[it for it in line.mended if it != "end"])
+            if line.faults:
+                yield line
+            self.has_rules = all(fault.cause != "rules" for fault in line.faults)
+
+    def rejected(self, error):
+        """Return the line of an error, with all its errors, and continue after it."""
+        if error.text == "missing end":
+            self.rest, self.numbers = self.rest + "\nend", [*self.numbers, self.numbers[-1]]
+            number = self.numbers[error.line - 1]
+            text = self.given[number - 1]
+            return Line(number, text, [Fault(0, len(text), error.text, "missing end", "script", {})], [])
+        lines, self.spare = (self.head + self.rest).split("\n"), self.unused("spare")
+        self.spares.add(self.spare)
+        first, number = error.line - 1, self.numbers[error.line - 1]
+        end = first + 1
+        while end < len(lines) and lines[end - 1].rstrip(" \t\r").endswith("\\"):
+            end += 1
+        self.head, text = "".join(line + "\n" for line in lines[:first]), "\n".join(lines[first:end])
+        self.rest = "".join("\n" + line for line in lines[end:])
+        block, faults, is_proposed = self.mended(Block(text, [(at, at + 1) for at in range(len(text) + 1)]))
+        written = [it for it in (re.sub(r"[ \t\r]+", " ", line).strip() for line in block.text.split("\n")) if it]
+        last = shown(written[-1]) if written else ""
+        for fault in faults:
+            fault.values = {key: last if value == LINE else value for key, value in fault.values.items()}
+        left = block.text if is_proposed or not self.is_enough and self.first(block) is None else self.stand_in(text)
+        self.head, self.numbers[first:end] = self.head + left, [number] * (left.count("\n") + 1)
+        return Line(number, lines[first], faults, written if is_proposed else [])
+
+    def stand_in(self, text):
+        """Return a line that makes the map of a line that cannot be corrected, or nothing."""
+        made = MADE.match(text)
+        form = "r.reclass input={map} output=%s" if text.split()[:1] == ["r.reclass"] else "r.mapcalc %s = {map}"
+        lines = [filled(form, vars(self)) % name for name in (made.group(made.lastindex), self.spare)] if made else []
+        return next((line for line in lines if self.first(Block(line, [(0, 0)] * (len(line) + 1))) is None), "")
+
+    # The errors of a line
+
+    def first(self, block):
+        """Return the first error of a block, or None if there is none before the rest."""
+        error = self.error(self.head + block.text + self.rest)
+        lines, at = block.text.split("\n"), error.line - 1 - self.head.count("\n") if error else -1
+        if not 0 <= at < len(lines) or error.text == "missing end":
+            return None
+        start, (part, text) = sum(len(line) + 1 for line in lines[:at]), key_of(error)
+        span = (error.column - 1,) * 2 if error.column else self.span(block, start, lines[at], error)
+        return Found(text, part, start + span[0], start + span[1])
+
+    def span(self, block, start, line, error):
+        """Return the span of a line that an error without a column is about."""
+        words = [it.span() for it in WORD.finditer(line)]
+        if error.text == "unknown command":
+            return words[0]
+        if error.text == "unknown map":
+            maps, values = self.maps(), re.compile(r"[^,\s]+").finditer(line, re.search(r"(?<!\S)input=", line).end())
+            return next(it.span() for it in values if it.group() not in maps)
+        if error.text not in ("bad option", "bad name"):
+            return 0, len(line)
+
+        def is_bad(count):
+            cut = block.text[: start + words[count][1]] + block.text[start + len(line) :]
+            found = self.error(self.head + cut + self.rest)
+            return found is not None and (found.line, found.text) == (error.line, error.text)
+
+        return words[first_bad(len(words) - 1, is_bad)]
+
+    def mended(self, block):
+        """Return a block with its errors corrected or replaced, the errors, and whether it can be proposed."""
+        faults, is_proposed, found = [], True, self.first(block)
+        while found is not None and len(faults) < MOST_OF_A_LINE and not self.is_enough:
+            after, new, is_shown = self.corrected(block, found)
+            faults, is_proposed = faults + new, is_proposed and is_shown
+            if after is None:
+                break
+            block, found = after, self.first(after)
+        return block, faults, is_proposed and found is None
+
+    def corrected(self, block, found):
+        """Return a block without an error, or None, the causes of the error, and whether the block can be proposed."""
+        waiting, tries, last = [(block, found, [], True)], 0, None
+        for before, error, faults, is_shown in waiting:
+            for after, fault, match, cause in self.attempts(before, error):
+                if after is None and before is block:
+                    last = fault, match
+                    waiting[:] = waiting if cause is CAUSES[error.part, error.text][-1] else []
+                if after is None or tries == MOST_OF_AN_ERROR:
+                    continue
+                new, tries = self.first(after), tries + 1
+                if new is None or after.order(new) > block.order(found):
+                    return after, [*faults, fault], is_shown and cause.shown
+                is_later = STAGES.get(new.text, 0) >= STAGES.get(error.text, 0)
+                if is_later and len(faults) + 1 < LONGEST_CHAIN:
+                    waiting.append((after, new, [*faults, fault], is_shown and cause.shown))
+        return self.passed(block, found, last[1]), [last[0]], False
+
+    def attempts(self, block, found):
+        """Yield changed blocks that may be right, with their causes; the last is None, for if none is accepted."""
+        for cause in CAUSES[found.part, found.text]:
+            for match in self.matches(block, found, cause):
+                at = self.surroundings(block, found, match)
+                for new, template in product(cause.new(at) if cause.new else [""], cause.write or [None]):
+                    at["new"] = new
+                    after = block.changed(match, template, at) if template is not None else None
+                    values = values_of(cause, at)
+                    if values is None or after and after.text == block.text:
+                        continue
+                    if after:
+                        fixed = after.text[match.start() : len(after.text) - len(block.text) + match.end()]
+                        values.setdefault("fixed", shown(fixed[: 2 * LONGEST_VALUE].strip()))
+                    span = block.span(*span_of(match))
+                    yield after, Fault(*span, found.text, cause.name, found.part, values), match, cause
+                    if not after:
+                        return
+
+    @staticmethod
+    def matches(block, found, cause):
+        """Yield the places next to an error where the pattern of a cause is found."""
+        start, end = block.text.rfind("\n", 0, found.start) + 1, len(block.text)
+        if end - start > LONGEST_SEARCHED:
+            start, end = max(start, found.start - WINDOW), min(end, found.start + WINDOW)
+        first = found.start - (block.text[found.start : found.start + 1] in ("", "\n"))
+        matches = re.compile(cause.find, re.ASCII | re.MULTILINE).finditer(block.text, start, end)
+        matches = list(islice((it for it in matches if it.start() <= found.end and it.end() > first), MOST_MATCHES))
+        is_last = cause is CAUSES[found.part, found.text][-1]  # which is the cause of what no other one explains
+        return matches or [re.compile("").match(block.text, found.start)] * is_last
+
+    def surroundings(self, block, found, match):
+        """Return what the functions of a cause get, by the names that causes.py has for it."""
+        first, (start, end) = block.text.rfind("\n", 0, found.start) + 1, span_of(match)
+        line, groups = block.text[first:].partition("\n")[0].strip(" \t\r"), match.groupdict("")
+        return {"judge": self, "mark": block.text[start:end], "all": match.group(), "before": block.text[first:start],
+                "after": block.text[start:], "line": line.replace(self.map, "NAME"),
+                "command": WORD.search(line).group(), "groups": groups, **groups}
+
+    def passed(self, block, found, match):
+        """Return the block with a stand-in for what is marked, or None if no stand-in leads further."""
+        mark, best = re.compile(r"(?P<key>[^=\s]*)[^\n]*").fullmatch(block.text, *span_of(match)), None
+        for template in STAND_INS if mark and found.text != "unknown command" else ():
+            after = block.changed(mark, template, vars(self))
+            new = self.first(after)
+            if new is None:
+                return after
+            block_, found_ = best or (block, found)
+            best = (after, new) if after.order(new) > block_.order(found_) else best
+        return best and best[0]
+
+
+def values_of(cause, at):
+    """Return what is filled into the sentences of a cause, or None if a value excludes the cause."""
+    values = {"word": at["mark"], "name": at["mark"], "command": at["command"], **at["groups"]}
+    for key, value in cause.values.items():
+        value = value(at) if callable(value) else value
+        value = (value or [None])[0] if isinstance(value, list) else value
+        if value is None:
+            return None
+        values[key] = filled(value, {**at, **values}) if isinstance(value, str) else value
+    return {key: shown(value[: 2 * LONGEST_VALUE]) if isinstance(value, str) and value != LINE else value
+            for key, value in values.items()}
+
+
+# Scripts
+
+
+def no_script(text):
+    """Return why bytes cannot be a script, as rcell's message, a cause and its values, or None."""
+    first = text.split(None, 1)[0].lower() if text.strip() else b""
+    kind = kind_of(text[:4096])
+    if text[:2] in (b"\xff\xfe", b"\xfe\xff") or (len(text) > 3 and text[:4].count(b"\0") == 2 and text[0:1].isascii()):
+        return "unknown command", "utf-16", {}
+    if first in (b"north:", b"south:", b"east:", b"west:", b"rows:", b"cols:", b"ncols", b"nrows"):
+        return "unknown command", "grid", {"word": shown(first)}
+    if kind and kind.is_binary:
+        return "unknown command", "no text", {"kind": kind.article}
+    if b"\r" in text and b"\n" not in text and len([it for it in text.split(b"\r") if it.strip()]) > 1:
+        return "bad option", "line ends", {}
+    return None
+
+
+def rejected_lines(ask, script, names, path="script"):
+    """Yield the lines of a script that the program rejects."""
+    reason, text = no_script(script), script.decode("latin-1")
+    names = [name for name in dict.fromkeys(names) if NAME.fullmatch(name)]
+    bad = reason and Line(1, "", [Fault(0, 0, *reason[:2], "script", reason[2])], [])
+    for line in [bad] if bad else Judge(ask, text, names).lines():
+        for fault in line.faults if line else ():
+            fault.values.setdefault("path", path)
+        yield line
+
+
+def names_in(script):
+    """Return the words of a script that may be names of grids."""
+    text = script.decode("latin-1")
+    return sorted(set(NAME.findall(text)) - {name for found in MADE.findall(text) for name in found})[:MOST_NAMES]
+
+
+def is_name(text):
+    return NAME.fullmatch(text) is not None
+
+
+def warnings(ask, script, names):
+    """Yield what an accepted script has that is seldom meant: a line or 0, the name of the warning, and its values."""
+    text, reason = script.decode("latin-1"), no_script(script)
+    statements, error = ask(names, text)
+    if reason and reason[1] == "line ends":
+        yield 0, "line ends", {}
+    if error is None and not any(it.command in WRITERS for it in statements):
+        yield 0, "no output" if statements else "empty script", {}
+    found = [(it.start(), name, it["mark"]) for name, find in WARNINGS.items() for it in re.finditer(find, text, re.M)]
+    for start, name, word in sorted(found):
+        yield text.count("\n", 0, start) + 1, name, {"word": shown(word)}
+
+
+def asker(program, seconds=10):
+    """Return a function that returns the statements of a script, and its first error or None, as a program plans it."""
+    def ask(names, text):
+        try:
+            return pipe.plan(program, names, text.encode("latin-1"), seconds=seconds), None
+        except pipe.Rejected as error:
+            return [], error
+
+    return ask
+
+
+def advice(program, script, names, line, text):
+    """Return the column of the word that a message is about, and what to write instead; None for both if unknown."""
+    found = next(rejected_lines(asker(program), script, names), None) if len(script) <= LONGEST_SCRIPT else None
+    first = found and found.faults[0]
+    if not first or (found.number, first.text) != (line, text):
         return None, None
-    _messages = _messages or Messages()
-    judged = Script(script, names)
-    faults = sorted((fault for fault in judged.faults if fault.line == line), key=order_of)
-    first = next((fault for fault in faults if fault.text == text), None)
-    if first is None:
-        return None, None
-    part = "expression" if is_of_expression(judged, first) else "script"
-    instead = _messages.said(part, first.text, first.cause, first.values)[1]
-    mended = [first.values["whole"]] if "whole" in first.values else mended_lines(judged, line, faults)
+    instead = Messages().said(first.part, first.text, first.cause, first.values)[1]
+    mended = [shown(it) for it in found.mended]
     if first.cause == "fraction" and mended and "; " in instead:
         mended[-1] += "  (%s)" % instead.partition("; ")[2]
-    return first.start + 1, "\n".join(map(shown, mended)) or instead
-
-
-def order_of(fault):
-    """Return a sort key for rcell's order of errors in a line: its form, a missing option, an unknown map, a map that exists."""
-    return {"missing option": 1, "unknown map": 2, "map exists": 3}.get(fault.text, 0), fault.start
-
-
-def first_of(faults):
-    return min(faults, key=order_of)
-
-
-def is_of_expression(script, fault):
-    """Return whether rcell reports an error with a column."""
-    if not 1 <= fault.line <= len(script.lines):
-        return False
-    is_mapcalc = (script.lines[fault.line - 1].split() or [""])[0].lower() == "r.mapcalc"
-    return is_mapcalc and fault.text not in ("map exists", "unknown command", "line too long")
-
-
-def mended_lines(script, line, faults):
-    """Return the line, as one line or more, with all errors corrected; an empty list if an error would remain."""
-    if any(not fault.fixes for fault in faults):
-        return []
-    text, last = script.lines[line - 1], len(script.lines[line - 1]) + 1
-    fixes = sorted({fix for fault in faults for fix in fault.fixes}, reverse=True)
-    for start, end, by in fixes:
-        if end > last:
-            continue
-        text, last = text[:start] + by + text[end:], start
-    lines = [re.sub(r"[ \t]+", " ", it).strip() for it in text.split("\n")]
-    lines = [it for it in lines if it]
-    return lines if lines and is_right(script, line, lines) else []
-
-
-def is_right(script, line, lines):
-    """Return whether the lines that replace a line are free of errors, given the maps that are known there."""
-    known = [name for name, whence in script.known.items() if whence == "a grid" or int(whence.split()[-1]) < line]
-    text = "\n".join(lines)
-    if lines[0].split()[0] == "r.reclass" and len(lines) == 1:
-        text += "\nend"
-    is_rule = lines[0][0] in "*+-0123456789"
-    if is_rule:
-        text, known = "r.reclass input=a output=b\n%s\nend" % text, ["a"]
-    if lines[0] == "end":
-        return True
-    return not Script(text.encode("latin-1"), known).faults
+    return first.start + 1, "\n".join(mended) or instead

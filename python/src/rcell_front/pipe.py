@@ -24,6 +24,7 @@ __all__ = [
     "NULL", "Block", "Buffer", "Fault", "Frame", "GridFrame", "Killed", "Map", "Margin", "NoAnswer", "NotStarted", "Rejected", "Statement", "TableFrame", "is_known", "plan", "request",
     "run",
     "script_bytes",
+    "text",
 ]
 
 NULL = -2_147_483_648
@@ -40,6 +41,7 @@ _SOURCES = {1: "request", 2: "script"}
 _COMMANDS = ("r.mapcalc", "r.reclass", "r.clump", "r.stats", "r.out.ascii")
 _OPTIONS = "cl1nN"
 _IS_PLACED = 8
+_NO_MEMORY = 3  # a status
 _AT_COLUMN = re.compile(r" at column (\d+)$")
 # Rows and their masks are put together in pieces that stay in the cache of a processor.
 PIECE_BYTES = 1 << 18
@@ -137,9 +139,9 @@ def _interleaved(cells: memoryview, mask: memoryview, row_bytes: int, cols: int)
         yield b"".join(part for pair in parts for part in pair)
 
 
-def request(maps: Sequence[Map], script: bytes) -> Iterator[Buffer]:
+def request(maps: Sequence[Map], script: bytes, magic: bytes = b"RCELLQ1\n") -> Iterator[Buffer]:
     """Yield the bytes of a request."""
-    yield b"RCELLQ1\n" + struct.pack("<I", len(maps))
+    yield magic + struct.pack("<I", len(maps))
     for each in maps:
         yield from each.pieces()
     yield struct.pack("<I", len(script)) + script
@@ -199,17 +201,6 @@ class TableFrame:
     counts: Optional[memoryview]
     cells: memoryview
     labels: Optional[list[bytes]]
-
-    def printed(self) -> bytes:
-        """Return the table as rcell prints it."""
-        words = [self.null_text if cell == NULL else b"%d" % cell for cell in self.cells.tolist()]
-        if self.labels is not None:
-            words = [word for pair in zip(words, self.labels) for word in pair]
-        width = len(words) // max(self.entries, 1)
-        rows = [words[at : at + width] for at in range(0, len(words), max(width, 1))]
-        if self.counts is not None:
-            rows = [[*row, b"%d" % count] for row, count in zip(rows, self.counts.tolist())]
-        return b"".join(self.separator.join(row) + b"\n" for row in rows)
 
 
 @dataclass(frozen=True)
@@ -355,8 +346,8 @@ class Rejected(Exception):
         super().__init__(status, source, map, line, column, text)
         self.status, self.source, self.map, self.line, self.column, self.text = status, source, map, line, column, text
 
-    def parts(self, script: str, names: Sequence[str]) -> dict[str, Any]:
-        """Return the arguments of `Fault` for this error of a script over maps of some names."""
+    def parts(self, program: str, script: str, names: Sequence[str]) -> dict[str, Any]:
+        """Return the arguments of `Fault` for this error of a script over maps of some names; the program is asked for advice."""
         parts = {"text": self.text, "source": "script", "line": self.line, "status": self.status}
         if self.source == "request" and self.map < len(names):
             return {**parts, "source": names[self.map]}
@@ -366,7 +357,7 @@ class Rejected(Exception):
         column = advice = None
         with contextlib.suppress(Exception):  # an error of the advice must not hide the message
             mending: Any = importlib.import_module(".mending", __package__)
-            column, advice = mending.advice(script.encode("utf-8", "surrogateescape"), list(names), self.line, _AT_COLUMN.sub("", self.text))
+            column, advice = mending.advice(program, script.encode("utf-8", "surrogateescape"), list(names), self.line, _AT_COLUMN.sub("", self.text))
         return {**parts, "content": lines[self.line - 1].rstrip("\r"), "advice": advice, "column": column if self.text == "bad option" else None}
 
 
@@ -522,6 +513,35 @@ def run(
     return [frame for frame in _answered(program, request(maps, script), seconds, watch) if not isinstance(frame, Statement)]
 
 
+_REJECTION = b"RCELLA1\nDONE"
+
+
+def text(
+    program: str,
+    maps: Sequence[Map],
+    script: bytes,
+    *,
+    seconds: Optional[float] = None,
+    watch: Optional[Callable[[], None]] = None,
+) -> Iterator[bytes]:
+    """Yield the text that rcell prints for a script over maps, piece by piece; it is complete if nothing is raised. The rest is as in `run`."""
+    with _asked(program, request(maps, script, b"RCELLT1\n"), seconds, watch) as process:
+        pieces, held = process.pieces(), b""
+        for piece in pieces:
+            held += piece
+            if held[: len(_REJECTION)] != _REJECTION[: len(held)]:
+                yield held
+                held = b""
+                yield from pieces
+        status, message = process.end()
+    if status == 0:
+        yield held
+    elif status == _NO_MEMORY:
+        raise Rejected(status, "", 0, 0, 0, "no memory")
+    else:
+        _check(_response(iter([held])), status, message)
+
+
 _PROBE_SCRIPT = b"r.clump -d input=probe output=k\nr.stats -c input=probe,k after=7,1\nr.stats -1 input=k\nr.out.ascii input=k\n"
 _PROBE_CELLS = [struct.pack("<4i", 12, 2, NULL, NULL), struct.pack("<3i", 1, NULL, 2), b"\1\xff\2"]
 
@@ -560,14 +580,14 @@ def plan(
 
 def _answered(program: str, sent: Iterator[Buffer], seconds: Optional[float], watch: Optional[Callable[[], None]]) -> list[_AnyFrame]:
     """Send a request, and return the frames of its response."""
-    process, writer = _started(program, seconds, watch)
-    with process:
-        try:
-            _send(writer, sent, watch)
-        finally:
-            close(writer)
-        response = _read(process)
-        status, message = process.end()
+    with _asked(program, sent, seconds, watch) as process:
+        response = _response(process.pieces())
+        ended = process.end()
+    return _check(response, *ended)
+
+
+def _check(response: Optional[tuple[list[_AnyFrame], Rejected]], status: int, message: bytes) -> list[_AnyFrame]:
+    """Return the frames of a response, if the program ended well."""
     if status < 0:
         raise Killed(-status)
     if response is None or status != response[1].status:
@@ -576,6 +596,18 @@ def _answered(program: str, sent: Iterator[Buffer], seconds: Optional[float], wa
     if status:
         raise end
     return frames
+
+
+@contextlib.contextmanager
+def _asked(program: str, sent: Iterator[Buffer], seconds: Optional[float], watch: Optional[Callable[[], None]]) -> Iterator[Started]:
+    """Start the program, and send it a request."""
+    process, writer = _started(program, seconds, watch)
+    with process:
+        try:
+            _send(writer, sent, watch)
+        finally:
+            close(writer)
+        yield process
 
 
 def _started(program: str, seconds: Optional[float], watch: Optional[Callable[[], None]]) -> tuple[Started, int]:
@@ -611,9 +643,8 @@ def _send(writer: int, pieces: Iterator[Buffer], watch: Optional[Callable[[], No
                 return
 
 
-def _read(process: Started) -> Optional[tuple[list[_AnyFrame], Rejected]]:
-    """Return the response, or None if it is not understood; all output is read."""
-    pieces = process.pieces()
+def _response(pieces: Iterator[bytes]) -> Optional[tuple[list[_AnyFrame], Rejected]]:
+    """Return the response, or None if it is not understood; all pieces are read."""
     try:
         return _Response(pieces).frames()
     except _NotUnderstood:

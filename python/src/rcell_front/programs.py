@@ -1,5 +1,5 @@
 # SPDX-License-Identifier: Apache-2.0 OR GPL-2.0-or-later
-"""Programs that are found and started: with pipes that no other process holds open, and never left behind."""
+"""Programs that are found and started: with pipes that no other process holds open, and always ended."""
 
 from __future__ import annotations
 

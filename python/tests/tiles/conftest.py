@@ -45,7 +45,7 @@ def needless_tiles_are_fine() -> Iterator[None]:
 
 
 def joined_by_both(texts: Sequence[bytes]) -> bytes:
-    """Tables merged by rcell-join and by numpy, which must agree."""
+    """Tables merged with rcell-join and with numpy, which must agree."""
     text = joined(texts)
     maps = next((part.partition(b"\n")[0].count(b" ") for part in texts if part), 1)
     found, expected = counts_of(text, maps), merge([counts_of(part, maps) for part in texts])
@@ -55,7 +55,7 @@ def joined_by_both(texts: Sequence[bytes]) -> bytes:
 
 
 def clumps_joined_by_both(borders: Sequence[bytes], diagonal: bool = False) -> joining.Joined:
-    """Clumps of tiles joined by rcell-join and by scipy, which must agree."""
+    """Clumps of tiles joined with rcell-join and with scipy, which must agree."""
     found, expected = joining.join(borders, diagonal), second.join(borders, diagonal)
     assert found.clumps == max((int(numbers.max()) for numbers in expected if len(numbers)), default=0)
     for tile, numbers in zip(found.tiles, expected, strict=True):
@@ -65,7 +65,7 @@ def clumps_joined_by_both(borders: Sequence[bytes], diagonal: bool = False) -> j
 
 
 def sizes_added_by_both(whole: joining.Joined, tables: Sequence[bytes], categories: Sequence[Any]) -> tuple[Any, Any]:
-    """Sizes of clumps added up by rcell-join and by numpy, which must agree."""
+    """Sizes of clumps added up with rcell-join and with numpy, which must agree."""
     found = joining.sizes(whole, tables, categories)
     expected = np.zeros(whole.clumps, dtype=np.int64)
     for tile, table in zip(whole.tiles, tables, strict=True):
@@ -102,7 +102,7 @@ def write_tif(path: Path | str, cells: Any, nodata: float | None = None, transfo
 
 @pytest.fixture
 def tif(tmp_path: Path) -> MakeTif:
-    """Writes an array as a GeoTIFF, and answers its path."""
+    """Writes an array as a GeoTIFF, and returns its path."""
 
     def write(name: str, cells: Any, nodata: float | None = None, **options: Any) -> str:
         return write_tif(tmp_path / f"{name}.tif", cells, nodata, **options)

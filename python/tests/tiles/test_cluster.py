@@ -71,7 +71,7 @@ MARK = "RCELL_TEST_OF_CLUSTERS"
 
 @pytest.fixture(autouse=True)
 def temporary(tmp_path_factory: pytest.TempPathFactory, monkeypatch: pytest.MonkeyPatch) -> Path:
-    """A folder for temporary files of all processes of a test, whose name in their environment tells them from others."""
+    """A folder for temporary files of all processes of a test, whose name in their environment distinguishes them from others."""
     folder = tmp_path_factory.mktemp("temporary")
     monkeypatch.setenv("TMPDIR", str(folder))
     monkeypatch.setenv(MARK, str(folder))

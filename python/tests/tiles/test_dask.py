@@ -1,4 +1,4 @@
-"""DataArrays and arrays of Dask by tiles, beside one run over the same cells."""
+"""DataArrays and arrays of Dask by tiles, compared with one run over the same cells."""
 
 from __future__ import annotations
 

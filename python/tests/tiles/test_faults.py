@@ -1,4 +1,4 @@
-"""Bad input, broken tiles, full disks: each has a name, and nothing is left behind."""
+"""Bad input, broken tiles, full disks: each has a name, and nothing is left over."""
 
 from __future__ import annotations
 

@@ -1,4 +1,4 @@
-"""Clumps of tiles joined by rcell-join, beside scipy's joiner and beside the full map; tables merged by it, beside numpy."""
+"""Clumps of tiles joined with rcell-join, compared with scipy's joiner and with the full map; tables merged with it, compared with numpy."""
 
 from __future__ import annotations
 

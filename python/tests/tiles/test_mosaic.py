@@ -1,4 +1,4 @@
-"""Tiled answers beside the undivided ones, cell by cell."""
+"""Tiled results compared with the full maps, cell by cell."""
 
 from __future__ import annotations
 

@@ -1,4 +1,4 @@
-"""What tiles make of the plan of a script: how far they read, and what `row()` and its like are told."""
+"""What tiles make of the plan of a script: how far they read, and what `row()` and the like report."""
 
 from __future__ import annotations
 

@@ -1,4 +1,4 @@
-"""The undivided map by other means: areas by scipy, tables by a Counter, and maps that are hard to cut."""
+"""The full map by other means: areas by scipy, tables by a Counter, and maps that are hard to cut."""
 
 from __future__ import annotations
 

@@ -240,7 +240,7 @@ def reclass(program: str, raster: Raster, rules: str, watch: Watch | None = None
     Raises
     ------
     Refused
-        As the program refuses; the lines are those of the rules.
+        As the program reports it; lines count in the rules.
     """
     lines = rules.rstrip("\n").split("\n")
     script = "\n".join(["r.reclass input=map output=classes", *lines])

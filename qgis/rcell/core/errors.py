@@ -1,5 +1,5 @@
 # SPDX-License-Identifier: Apache-2.0 OR GPL-2.0-or-later
-"""Errors, each with a class of its own; the messages are those of the Python and R packages."""
+"""Errors, each with a class of its own; the messages are the same as in the Python and R packages."""
 
 from __future__ import annotations
 

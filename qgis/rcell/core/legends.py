@@ -4,12 +4,15 @@
 from __future__ import annotations
 
 import csv
+import re
 import xml.etree.ElementTree as ElementTree
-from typing import Iterable
+from typing import Iterable, Iterator
 
 from .errors import Refused
 from .rasters import MAX_CATEGORY
 
+_COLOUR = re.compile(r"#[0-9a-fA-F]{6}")
+_WHOLE = re.compile(r"\s*[+-]?[0-9]+\s*")
 _HEADERS = (["value", "label"], ["value", "label", "colour"], ["value", "label", "color"])
 
 
@@ -34,7 +37,19 @@ def legend_of(path: str, name: str = "labels") -> dict[int, str]:
         raise Refused(f"{path}: no header value,label: the first line is {','.join(rows[0])}", name)
     if len(rows) < 2:
         raise Refused(f"{path} is empty", name)
-    return _checked(((f"{path}, line {line}: ", *row[:2]) for line, row in enumerate(rows[1:], 2) if row), name)
+    return _checked(_fields(path, name, rows), name)
+
+
+def _fields(path: str, name: str, rows: list[list[str]]) -> Iterator[tuple[str, ...]]:
+    """Yield the place, the value and the label of each row, after checking that no label is cut at a comma."""
+    for line, row in enumerate(rows[1:], 2):
+        place, color = f"{path}, line {line}: ", "".join(row[2:3]).strip()
+        if any(map(str.strip, row[len(rows[0]):])):
+            raise Refused(f"{place}{len(row)} fields under a header of {len(rows[0])}: put a label with a comma in quotes", name)
+        if color and not _COLOUR.fullmatch(color):
+            raise Refused(f"{place}{color} is no colour as #rrggbb", name)
+        if row:
+            yield (place, *row[:2])
 
 
 def _of_style(path: str) -> list[tuple[str, str, str]]:
@@ -46,11 +61,8 @@ def _of_style(path: str) -> list[tuple[str, str, str]]:
 def _checked(rows: Iterable[tuple[str, ...]], name: str) -> dict[int, str]:
     found: dict[int, str] = {}
     for place, value, *label in rows:
-        try:
-            code = int(value)
-        except ValueError:
-            raise Refused(f"{place}{value} is no whole number", name) from None
-        if abs(code) > MAX_CATEGORY:
+        code = int(value) if _WHOLE.fullmatch(value) else None
+        if code is None or abs(code) > MAX_CATEGORY:
             raise Refused(f"{place}{value} is no whole number", name)
         if code in found:
             raise Refused(f"{place}the value {value} is there twice", name)

@@ -1,5 +1,5 @@
 # SPDX-License-Identifier: Apache-2.0 OR GPL-2.0-or-later
-"""The programs: where they are, and runs of rcell-pipe over maps, which the user can cancel."""
+"""The programs: their paths, and runs of rcell-pipe over maps, which the user can cancel."""
 
 from __future__ import annotations
 
@@ -16,9 +16,9 @@ import numpy as np
 
 from .errors import Cancelled, Killed, MissingProgram, OutOfMemory, RcellError, Refused, WrongProgram
 from .front import pipe
+from .front.listing import listed_rows
 from .front.pipe import NULL
 from .front.programs import Started, above_standard, found_on_path
-from .front.spelling import listed_rows
 from .rasters import Cells, Mask, Raster, Warn
 
 _MESSAGE = re.compile(r"rcell: ([^:]*):(\d+): (.*)")
@@ -129,7 +129,7 @@ def plan_of(program: str, script: str, names: Sequence[str], watch: Watch | None
     Refused
         The program rejects the script.
     """
-    with _errors_of(script, names):
+    with _errors_of(program, script, names):
         plan: list[pipe.Statement] = pipe.plan(program, names, pipe.script_bytes(script), watch=(watch or Watch()).check)
     return plan
 
@@ -160,7 +160,7 @@ def frames_of(program: str, maps: Mapping[str, Raster], script: str, sent: str, 
     words = [f"{name}={shlex.quote(raster.path)}" for name, raster in maps.items()]
     watch.command("\n".join([f"rcell script {' '.join(words)}", *(f"  {line}" for line in script.split("\n"))]))
     sender = _Sender(program, maps, watch)
-    with _errors_of(script, list(maps)):
+    with _errors_of(program, script, list(maps)):
         sources = [sender.map_of(name, raster) for name, raster in maps.items()]
         frames: list[pipe.Frame] = pipe.run(program, sources, pipe.script_bytes(sent), watch=watch.check)
     watch.progress(1.0)
@@ -168,12 +168,12 @@ def frames_of(program: str, maps: Mapping[str, Raster], script: str, sent: str, 
 
 
 @contextlib.contextmanager
-def _errors_of(script: str, names: Sequence[str]) -> Iterator[None]:
+def _errors_of(program: str, script: str, names: Sequence[str]) -> Iterator[None]:
     """Raise the errors of rcell-pipe as errors of this plugin."""
     try:
         yield
     except pipe.Rejected as end:
-        raise (OutOfMemory if end.status == 3 else Refused)(**end.parts(script, names)) from None
+        raise (OutOfMemory if end.status == 3 else Refused)(**end.parts(program, script, names)) from None
     except pipe.Killed as error:
         raise Killed(int(error.args[0])) from None
     except pipe.NoAnswer as error:

@@ -89,7 +89,7 @@ class Raster:
     null_ranges : tuple of pairs of float
         Values that are null.
     has_mask : bool
-        Whether the raster also has a mask of its own.
+        Whether the band also has a mask of its own, or one for all bands.
     alpha : int or None
         The band in which a cell is 0 if it is transparent, and null.
     is_upside_down : bool
@@ -132,7 +132,7 @@ class Raster:
         use_nodata : bool
             Whether the nodata value of the file is null.
         crs : str, optional
-            The reference system that the user sees, as well-known text; that of the file if it is empty or the same.
+            The reference system that the user sees, as well-known text; the file's if it is empty or the same.
 
         Raises
         ------
@@ -162,7 +162,7 @@ class Raster:
                 metres=system.metres,
                 dtype=_dtype_of(layer),
                 null_ranges=(*_nodata_of(layer, use_nodata), *null_ranges),
-                has_mask=bool(layer.GetMaskFlags() & gdal.GMF_PER_DATASET) and not layer.GetMaskFlags() & gdal.GMF_ALPHA,
+                has_mask=layer.GetMaskFlags() in (0, gdal.GMF_PER_DATASET, gdal.GMF_PER_DATASET | gdal.GMF_NODATA),
                 alpha=None if alpha == layer.GetBand() else alpha,
                 is_upside_down=is_upside_down,
                 block_shape=(height, width),

@@ -6,13 +6,13 @@ ADVICE_SECONDS <- 5
 ADVICE_CODE <- "
 import sys
 from rcell_front.mending import advice
-path, line, text, *names = sys.argv[1:]
+program, path, line, text, *names = sys.argv[1:]
 with open(path, 'rb') as script:
-    found = advice(script.read(), names, int(line), text)[1]
+    found = advice(program, script.read(), names, int(line), text)[1]
 sys.stdout.buffer.write((found or '').encode())
 "
 
-advice_on <- function(lines, line, text, names) {
+advice_on <- function(program, lines, line, text, names) {
   python <- getOption("rcell.python", Sys.which("python3")[[1]])
   if (!nzchar(python)) return("")
   path <- tempfile("rcell-")
@@ -20,7 +20,7 @@ advice_on <- function(lines, line, text, names) {
   # An error of the advice must not hide the message.
   said <- tryCatch({
     writeLines(lines, path, useBytes = TRUE)
-    run(python, c("-c", ADVICE_CODE, path, line, sub(" at column [0-9]+$", "", text), names), timeout = ADVICE_SECONDS)$stdout
+    run(python, c("-c", ADVICE_CODE, program, path, line, sub(" at column [0-9]+$", "", text), names), timeout = ADVICE_SECONDS)$stdout
   }, error = function(e) "")
   Encoding(said) <- "UTF-8"
   said

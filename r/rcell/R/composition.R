@@ -56,7 +56,7 @@ rcell_change <- function(before, after = NULL, years = NULL, area = "ha", labels
   names(maps) <- if (length(maps) == 2L) c("before", "after") else sprintf("map_%d", seq_along(maps))
   sources <- sources_of(maps, crs)
   given <- if (!is.null(labels)) legend_of(labels, "labels")
-  # Maps without labels have those of the first map with labels.
+  # Maps without labels have the labels of the first map that has some.
   shared <- Find(function(labels) length(labels$codes) > 0L, lapply(sources, `[[`, "labels"))
   pairs <- lapply(seq_len(length(maps) - 1L), function(first) {
     pair <- sources[first + 0:1]

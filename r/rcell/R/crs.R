@@ -17,7 +17,7 @@ with_stated <- function(source, stated) {
   source
 }
 
-# All maps have one system: that of the first that has any, and the stated one if one is stated.
+# All maps have one system: the first one's that has any, and the stated one if one is stated.
 check_crs <- function(sources, stated) {
   known <- Filter(function(source) nzchar(source$crs), sources)
   if (!length(known)) return(invisible())

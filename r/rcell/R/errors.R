@@ -10,13 +10,13 @@ signal <- function(class, message, ...) {
   stop(structure(class = c(class, "rcell_error", "error", "condition"), list(message = message, call = NULL, ...)))
 }
 
-# The words of an error begin a line of their own, so that a mark stands beneath its column.
+# The words of an error begin a line of their own, so that a mark is below its column.
 print.rcell_error <- function(x, ...) {
   cat(sprintf("<%s>\n%s\n", class(x)[[1]], conditionMessage(x)))
   invisible(x)
 }
 
-# A map, a script or a request was refused, and nothing was answered. `content` is the line of the script itself, `bad` the word
+# A map, a script or a request was rejected, and nothing was returned. `content` is the line of the script itself, `bad` the word
 # of it that the text is about, with its column, and `advice` what to write instead.
 refuse <- function(text, source = "arguments", line = 0L, status = 1L, content = NULL, class = NULL, bad = NULL, advice = "") {
   column <- if (is.null(bad)) column_in(text) else bad$column

@@ -3,7 +3,7 @@
 
 PIECE_BYTES <- 4194304L
 
-# Files that GDAL reads with a raster: those of an old raster would change a new one.
+# Files that GDAL reads with a raster: files of an old raster would change a new one.
 SIDECARS <- c(".msk", ".aux.xml", ".ovr")
 
 check_filename <- function(filename, overwrite) {
@@ -60,6 +60,9 @@ check_size <- function(path, size) {
 
 # Return a path for the system as bytes, since in the C locale R cannot write letters beyond ASCII.
 native_path <- function(path) {
+  if (!validEnc(path)) {
+    refuse(sprintf("%s: terra takes no path that is not UTF-8: rename the file", iconv(path, "UTF-8", "UTF-8", "byte")), status = 2L)
+  }
   if (is_ascii_locale() && Encoding(path) == "UTF-8") Encoding(path) <- "unknown"
   path.expand(path)
 }

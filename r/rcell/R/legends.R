@@ -20,16 +20,31 @@ legend_of <- function(given, name) {
 legend_of_file <- function(path, name) {
   path <- native_path(path)
   if (!file.exists(path)) refuse(sprintf("cannot open: %s: No such file or directory", path), name, status = 4L)
+  bad <- which(!validUTF8(readLines(path, warn = FALSE)))
+  if (length(bad)) refuse(sprintf("%s, line %d: not in UTF-8", path, bad[[1]]), name)
   if (grepl("[.]qml$", path, ignore.case = TRUE)) return(legend_of_style(path, name))
   is_empty <- function(e) refuse(sprintf("%s is empty", path), name)
   table <- tryCatch(
     read.csv(path, header = FALSE, colClasses = "character", na.strings = character(), fill = TRUE, fileEncoding = "UTF-8-BOM",
       strip.white = TRUE, blank.lines.skip = FALSE),
     error = is_empty)
-  header <- paste(unlist(table[1, ]), collapse = ",")
+  header <- sub(",+$", "", paste(unlist(table[1, ]), collapse = ","))
   if (!(header %in% LEGEND_HEADERS)) refuse(sprintf("%s: no header value,label: the first line is %s", path, header), name)
   if (nrow(table) < 2L) is_empty()
+  check_commas(path, table, name)
   checked_legend(table[[1]][-1], table[[2]][-1], name, path)
+}
+
+# Check that no label is cut at a comma: a row has the fields of the header, and a colour is one.
+check_commas <- function(path, table, name) {
+  fields <- count.fields(path, sep = ",", quote = "\"", comment.char = "", blank.lines.skip = FALSE)
+  wide <- which(fields > fields[[1]])
+  if (length(wide)) {
+    refuse(sprintf("%s, line %d: %d fields under a header of %d: put a label with a comma in quotes", path, wide[[1]], fields[[wide[[1]]]], fields[[1]]), name)
+  }
+  colours <- if (ncol(table) > 2L) table[[3]][-1] else character()
+  bad <- which(nzchar(colours) & !grepl("^#[0-9a-fA-F]{6}$", colours))
+  if (length(bad)) refuse(sprintf("%s, line %d: %s is no colour as #rrggbb", path, bad[[1]] + 1L, colours[[bad[[1]]]]), name)
 }
 
 # The classes of a style of QGIS: of a paletted renderer, or of exact colours.
@@ -50,7 +65,8 @@ legend_of_style <- function(path, name) {
 checked_legend <- function(values, labels, name, path) {
   place <- function(at) if (nzchar(path)) sprintf("%s, line %d: ", path, at + 1L) else ""
   codes <- suppressWarnings(as.numeric(values))
-  bad <- which(is.na(codes) | codes != trunc(codes) | abs(codes) > CATEGORY_LIMIT)
+  is_spelled <- !nzchar(path) | grepl("^[+-]?[0-9]+([.]0*)?$", trimws(values))
+  bad <- which(!is_spelled | is.na(codes) | codes != trunc(codes) | abs(codes) > CATEGORY_LIMIT)
   if (length(bad)) refuse(sprintf("%s%s is no whole number", place(bad[[1]]), values[[bad[[1]]]]), name)
   again <- which(duplicated(codes))
   if (length(again)) refuse(sprintf("%sthe value %s is there twice", place(again[[1]]), values[[again[[1]]]]), name)

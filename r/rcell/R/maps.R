@@ -11,7 +11,7 @@ HEADER_LINE <- "^[ \t\r\n]*(north|south|east|west|rows|cols|null|type|multiplier
 # terra returns 64-bit cells as floats, in which a null value beyond this limit equals other numbers.
 INEXACT_FLOAT <- 2^53
 
-# Return the maps of a call by name: those of `...` and of `maps`.
+# Return the maps of a call by name: the ones in `...` and in `maps`.
 named_maps <- function(dots, maps) {
   given <- c(maps, dots)
   if (!length(given) || is.null(names(given)) || any(!nzchar(names(given)))) {
@@ -87,10 +87,11 @@ opaque_layer <- function(name, raster) {
   paths <- unique(files$source[nzchar(files$source)])
   facts <- if (length(paths) == 1L) file_facts(paths)
   is_alpha <- if (is.null(facts)) rep(FALSE, nlyr(raster)) else files$bands %in% facts$alpha
-  if (nlyr(raster) > 1L && any(is_alpha)) raster <- raster[[which(!is_alpha)]]
-  if (nlyr(raster) != 1L) bad_map(name, sprintf("has %d layers: give one, as x[[1]]", nlyr(raster)))
+  layers <- if (nlyr(raster) > 1L && any(is_alpha)) which(!is_alpha) else seq_len(nlyr(raster))
+  if (length(layers) != 1L) bad_map(name, sprintf("has %d layers: give one, as x[[1]]", length(layers)))
+  if (nlyr(raster) > 1L) raster <- raster[[layers]]
   if (is.null(facts)) return(list(raster = raster, path = ""))
-  band <- sources(raster, bands = TRUE)$bands[[1]]
+  band <- files$bands[[layers]]
   found <- list(raster = raster, path = paths, facts = facts, band = band)
   if (!length(facts$alpha) || band %in% facts$alpha) return(found)
   # A TIFF has one nodata value for all bands, and terra takes an alpha of this value for NA.
@@ -133,7 +134,7 @@ check_file <- function(name, raster, facts, band) {
   if ("INT1U" %in% datatype(raster) && any(grepl("PIXELTYPE=SIGNEDBYTE", told, fixed = TRUE))) {
     bad_map(name, "its bytes are signed, and terra reads them as 0 to 255: write it with 16 bits a cell by another program first")
   }
-  if (any(grepl("Mask Flags: PER_DATASET *$", told))) {
+  if (any(grepl("Mask Flags:", told, fixed = TRUE) & !grepl("ALPHA", told, fixed = TRUE))) {
     bad_map(name, "has a mask of its own, and terra reads what lies beneath it: write it with a nodata value first")
   }
 }
@@ -221,9 +222,9 @@ labels_of <- function(raster) {
   table <- levels(raster)[[1]]
   if (!is.data.frame(table) || NCOL(table) < 2L) return(NULL)
   labels <- utf8_of(as.character(table[[2]]))
-  codes <- suppressWarnings(as.integer(table[[1]]))
-  kept <- !is.na(labels) & !is.na(codes)
-  list(codes = codes[kept], labels = labels[kept])
+  codes <- suppressWarnings(as.numeric(table[[1]]))
+  kept <- !is.na(labels) & !is.na(codes) & codes == trunc(codes) & abs(codes) <= CATEGORY_LIMIT
+  list(codes = as.integer(codes[kept]), labels = labels[kept])
 }
 
 # Call a function with the cells of each block of rows, as whole numbers.

@@ -1,5 +1,5 @@
 # SPDX-License-Identifier: Apache-2.0 OR GPL-2.0-or-later
-# The programs: where they are, and a run of one in a temporary folder of its own.
+# The programs: their paths, and a run of one in a temporary folder of its own.
 
 known_programs <- new.env(parent = emptyenv())
 
@@ -154,5 +154,5 @@ fault <- function(end, path, names, lines) {
   Encoding(content) <- "UTF-8"
   # The program names no word of a statement whose options are wrong.
   bad <- if (end$text == "bad option") bad_word(path, lines, line, names)
-  refuse(end$text, "script", line, status, content, kind, bad, advice_on(lines, line, end$text, names))
+  refuse(end$text, "script", line, status, content, kind, bad, advice_on(path, lines, line, end$text, names))
 }

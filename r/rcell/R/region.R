@@ -12,7 +12,7 @@ EDGES <- c("north", "south", "east", "west")
 edge_text <- function(edge) sub("^-(0\\.0+)$", "\\1", sprintf("%.8f", edge))
 
 region_of <- function(name, raster) {
-  edges <- c(ymax(raster), ymin(raster), xmax(raster), xmin(raster))
+  edges <- as.vector(ext(raster))[c("ymax", "ymin", "xmax", "xmin")]
   said <- paste(EDGES, format(edges, digits = 15, trim = TRUE), collapse = ", ")
   if (any(!is.finite(edges))) bad_map(name, sprintf("a transform with a number that is not finite: its edges are %s", said))
   if (edges[[3]] < edges[[4]]) bad_map(name, sprintf("a transform whose columns are from east to west: its edges are %s", said))
@@ -45,7 +45,7 @@ told_region <- function(region) {
   sprintf("%s, %d rows, %d columns", paste(EDGES, short_edge(region$edges), collapse = ", "), region$rows, region$cols)
 }
 
-# In which edges and sizes a region differs from that of the first map, and by how much.
+# In which edges and sizes a region differs from the first map's, and by how much.
 differences <- function(first, other) {
   edges <- which(first$edges != other$edges)
   by <- as.numeric(other$edges) - as.numeric(first$edges)

@@ -2,7 +2,7 @@
 
     python3 tools/documents/site [--check] [--out FOLDER]
 
-The pages are made from the Markdown of the repository with mkdocs, the reference of Python from docstrings, that of R from its Rd
+The pages are made from the Markdown of the repository with mkdocs, the reference of Python from docstrings, R's from its Rd
 files, and the manual pages with groff. The site works from the file system and loads nothing from elsewhere. --check opens each page
 of it in headless Chromium. The last line is then 'N passed, M failed'.
 """

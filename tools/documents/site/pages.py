@@ -62,7 +62,7 @@ def linked(text, name, root, names):
 
 
 def picture_name(path):
-    """The name in the site of a picture: those of an example have its name before their own."""
+    """The name in the site of a picture: the pictures of an example have its name before their own."""
     path = pathlib.Path(path)
     return path.name if path.parent.name == "docs" else f"{path.parent.name}-{path.name}"
 

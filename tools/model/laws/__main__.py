@@ -2,7 +2,7 @@
 
     python3 tools/model/laws [--program PATH] [MODULE..]
 
-Each module beside this one but `runs` has LAWS, a dict of functions that show a law, each by the sentence that says it. Such a
+Each module next to this one but `runs` has LAWS, a dict of functions that show a law, each by the sentence that says it. Such a
 function is given the runs of the program, and says what the law was shown on; where an output breaks the law, it raises
 BrokenError. Each law is printed on a line. The last line is 'N passed, M failed'.
 """

@@ -40,7 +40,7 @@ def written(runs, script, name, null_text, **grids):
 
 
 def read_again(runs):
-    """A second run over a written map beside the same run over the map, for several texts for null."""
+    """A second run over a written map compared with the same run over the map, for several texts for null."""
     for name, grid in shown_on().items():
         expected = runs.output(SECOND, m=grid)
         for null_text in NULL_TEXTS:
@@ -62,7 +62,7 @@ def made_maps_are_writable(runs):
 
 
 def cut_in_two(runs):
-    """A script cut after each of its statements: the outputs of both parts, beside that of the whole."""
+    """A script cut after each of its statements: the outputs of both parts, compared with the output of the full script."""
     for where, grid in shown_on().items():
         whole = runs.output("\n".join(words for words, _ in STATEMENTS), m=grid)
         for cut in range(1, len(STATEMENTS)):

@@ -20,7 +20,7 @@ def on_maps(show):
 
 @on_maps
 def pages_join(runs, grid):
-    """The rests after some combinations, beside the table: of the map and its areas, so that there are many entries."""
+    """The rests after some combinations, compared with the table: of the map and its areas, so that there are many entries."""
     areas = "r.clump input=m output=a\n"
     whole = runs.output(f"{areas}r.stats -c input=m,a", m=grid).splitlines(keepends=True)
     places = range(0, len(whole), len(whole) // PARTS + 1)
@@ -42,7 +42,7 @@ def reclass(rules):
 
 @on_maps
 def reclassing_keeps_cells(runs, grid):
-    """The table of a map by rules beside the sums of the table of the map: what no rule names is null."""
+    """The table of a map by rules compared with the sums of the table of the map; values that no rule lists are null."""
     old = runs.table("", "m", m=grid)
     sums = Counter()
     for (cell,), count in old.items():
@@ -67,7 +67,7 @@ def renaming_keeps_counts(runs, grid):
 
 @on_maps
 def areas_divide_their_category(runs, grid):
-    """The table of a map and its areas beside the tables of the two: one category a number, all areas, and their sums."""
+    """The table of a map and its areas compared with the tables of the two: one category a number, all areas, and their sums."""
     areas = "r.clump input=m output=a"
     both = runs.table(areas, "m,a", m=grid)
     expect(len({number for _, number in both}) == len(both), "a number stands with two categories")
@@ -83,7 +83,7 @@ def areas_divide_their_category(runs, grid):
 
 @on_maps
 def other_areas_stay(runs, grid):
-    """The areas of a map beside those where one area is made null: each other keeps its cells, and its number or one less."""
+    """The areas of a map compared with the areas where one is made null: each other keeps its cells, and its number or one less."""
     areas = "r.clump input=m output=a"
     sizes = runs.table(f"{areas}", "a", m=grid)
     gone = len(sizes) // 2
@@ -99,7 +99,7 @@ def other_areas_stay(runs, grid):
 
 @on_maps
 def corners_only_join(runs, grid):
-    """The table of both clump maps: one number by corners for each by edges, no greater, and all from 1 on."""
+    """The table of both clump maps: one number by corners for each by edges, no larger, and all from 1 on."""
     both = table_of(runs.output("r.clump input=m output=e\nr.clump -d input=m output=d\nr.stats -c input=e,d", m=grid))
     joined = defaultdict(set)
     for edges, corners in both:

@@ -21,7 +21,7 @@ def tiles(grid, side=SIDE):
 
 
 def tables_add_up(runs):
-    """The table of a map is that of its tiles, added up, and by rules, too."""
+    """The table of a map is the table of its tiles, added up, also by rules."""
     for grid, side in ((made(1), SIDE), (land_cover(), 3)):
         for script, names in (("", "g"), (RULES, "g,x")):
             whole = runs.table(script, names, g=grid)
@@ -49,7 +49,7 @@ def root_of(parents, label):
 
 
 def labels_by_tiles(runs, grid, flag):
-    """The areas of a map by those of its tiles: a label a cell, None for null, and which labels the borders join."""
+    """The areas of a map by the areas of its tiles: a label a cell, None for null, and which labels the borders join."""
     labels = [[None] * len(row) for row in grid.rows]
     for (top, left), tile in tiles(grid):
         for down, row in enumerate(runs.map(f"r.clump {flag} input=g output=x", "x", g=tile).rows):
@@ -67,7 +67,7 @@ def labels_by_tiles(runs, grid, flag):
 
 
 def join_beside(grid, labels, parents, place, steps):
-    """Joins the label of a cell with those of the cells of its category that a step leads to."""
+    """Joins the label of a cell with the labels of the cells of its category that a step leads to."""
     row, col = place
     for down, right in steps:
         to_row, to_col = row + down, col + right
@@ -77,7 +77,7 @@ def join_beside(grid, labels, parents, place, steps):
 
 
 def areas_join(runs):
-    """The areas of a map are those of its tiles, joined over the borders, and numbered by their first cells."""
+    """The areas of a map are the areas of its tiles, joined over the borders, and numbered by their first cells."""
     grid, counts = made(1), []
     for flag in ("", "-d"):
         whole = runs.map(f"r.clump {flag} input=g output=x", "x", g=grid)

@@ -19,7 +19,7 @@ def pair():
 
 
 def has_its_values(runs):
-    """The table of a, b and x is that of a and b, with one value behind each combination."""
+    """The table of a, b and x is the table of a and b, with one value after each combination."""
     lines = 0
     for expression in LOCAL:
         without = runs.table("", "a,b", **pair())
@@ -31,7 +31,7 @@ def has_its_values(runs):
 
 
 def counts_follow(runs):
-    """The counts of x are sums of those of a and b."""
+    """The counts of x are sums of the counts of a and b."""
     for expression in LOCAL:
         sums = Counter()
         for (*_, value), count in runs.table(f"r.mapcalc x = {expression}", "a,b,x", **pair()).items():
@@ -82,7 +82,7 @@ def null_beyond(runs):
 
 
 def tiles_make_the_map(runs):
-    """A tile with its halo has the values of the whole."""
+    """A tile with its halo has the values of the full map."""
     grid, script, side = made(1), f"r.mapcalc x = {FOCAL}", 250
     whole = runs.map(script, "x", g=grid)
     up, down, left, right = REACH

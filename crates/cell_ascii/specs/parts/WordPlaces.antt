@@ -9,7 +9,7 @@ use Rattle.cell_ascii.specs.TableWords.{IsEntry}
 pub record CanPut (h : HeaderValue) (bytes : List ℕ) (size : ℕ) (entries : List WordEntry) (i : ℕ) (row : List CellValue) : Type 0 where
   pub some : 0 < size
   pub within : size ≤ length bytes
-  pub buffered : 8 ≤ length bytes
+  pub buffered : 10 ≤ length bytes
   pub room : length entries ≡ 4096
   pub known : All (IsEntry h) entries
   pub place : i < length row

@@ -3,7 +3,7 @@
 ghost use Rattle.std.specs.Prelude.{◌≡◌, ◌≤◌, length, IfOk};
 ghost use Rattle.std.specs.List.{slice_split, filter};
 ghost use Rattle.cell_ascii_meaning.specs.GridTokens.{is_space, is_word_byte};
-ghost use Rattle.cell_ascii_meaning.specs.GridText.{is_token, lines_of, grid_words_of};
+ghost use Rattle.cell_ascii_meaning.specs.GridText.{is_word, lines_of, grid_words_of};
 ghost use Rattle.cell_ascii_meaning.specs.FaultPlaces.{line_of_place, gap_of_place, last_token, token_at_place};
 ghost use Rattle.cell_ascii_tests.specs.Seen.{texts};
 
@@ -26,7 +26,7 @@ pub(crate) fn is_word(b: u8) -> bool
 
 /// Whether a piece holds a byte.
 pub(crate) fn is_token(piece: &[u8]) -> bool
-    ensures { result ≡ is_token piece.now }
+    ensures { result ≡ is_word piece.now }
 {
     !piece.is_empty()
 }
@@ -40,7 +40,7 @@ fn pieces_of<'a>(alloc: Global, text: &'a [u8]) -> Result<Vec<&'a [u8]>, AllocEr
 
 /// The pieces that hold a byte.
 pub(crate) fn tokens_of<'a>(alloc: Global, pieces: &[&'a [u8]]) -> Result<Vec<&'a [u8]>, Memory>
-    ensures { IfOk result (λ tokens. texts tokens.items ≡ filter is_token (texts pieces.now)) }
+    ensures { IfOk result (λ tokens. texts tokens.items ≡ filter is_word (texts pieces.now)) }
 {
     let mut tokens = Vec::new(alloc);
     for piece in pieces {

@@ -3,7 +3,7 @@ use Rattle.std.specs.Prelude.{◌≡◌, ◌<◌, ◌≤◌, ◌<ℤ◌, ℕ, �
 use Rattle.cell_core.specs.Grid.{CellValue}
 use Rattle.cell_calc_binding.specs.CellOperators.{occurrences}
 
--- the least of the categories that occur most often and how often they do, the last one and how often it does
+-- the smallest of the categories that occur most often and how often they do, the last one and how often it does
 pub record IsLongestRun (cells : List CellValue) (best : ℤ) (most : ℕ) (last : ℤ) (run : ℕ) : Type 0 where
   pub within : (w : ℤ) → occurrences (Some w) cells ≤ most
   pub below : (w : ℤ) → w <ℤ best → occurrences (Some w) cells < most

@@ -63,11 +63,11 @@ operand_at windows strip c (operand.Number n) = Some (pos n)
 operand_at windows strip c (operand.Map i down right) = item_at None (row_below down (slice_get windows i)) (pos (strip.from + c) +ℤ right)
 operand_at windows strip c (operand.Row cells) = at cells.items c
 
--- those of operands
+-- the cells of operands
 abbrev pub operand_cells_at : List Window → Strip → ℕ → List Operand → List CellValue
 operand_cells_at windows strip c operands = map (operand_at windows strip c) operands
 
--- what a step makes of cells, with the rows that windows hold for those of maps
+-- what a step makes of cells, with the rows that windows hold as the rows of maps
 abbrev pub seen_cell : List Window → GridPosition → Step ℕ → List CellValue → CellValue
 seen_cell windows s (step.Number n) xs = Some (pos n)
 seen_cell windows s (step.Map i down right) xs = item_at None (row_below down (slice_get windows i)) (pos s.col +ℤ right)

@@ -31,12 +31,12 @@ ReadsPlace i Not = ⊥
 ReadsPlace i (Binary op) = ⊥
 ReadsPlace i (Call f n) = ⊥
 
--- where a place stands in a list of places; past its end if it does not
+-- the index of a place in a list of places; past its end if it is not in it
 abbrev pub index_in : List ℕ → ℕ → ℕ
 index_in [] i = 0
 index_in (p ∷ places) i = if p == i then 0 else index_in places i + 1
 
--- the place that a step reads stands in a list of places
+-- the place that a step reads is in a list of places
 abbrev pub IsListed : List ℕ → Step ℕ → Type 0
 IsListed places (Map i down right) = index_in places i < length places
 IsListed places (Number n) = Unit {0}

@@ -41,7 +41,7 @@ Fills s (frame.Call f from n ∷ fs) steps o =
 abbrev pub Awaits : State → List Frame → List (Step MapName) → State → Type 0
 Awaits s fs steps t = (o : ReadOutcome) → GrammarReads t o → Fills s fs steps o
 
--- the last steps are those of an operand, with which the state is read; the rest follows
+-- the last steps belong to an operand, with which the state is read; the rest follows
 abbrev pub IsReadExpression : State → List Frame → List (Step MapName) → List Placed → Type 0
 IsReadExpression s fs steps rest = (a : Term) × (before : List (Step MapName)) × (steps ≡ before ++ postfix a) × Fills s fs before (Got a rest)
 
@@ -79,11 +79,11 @@ turn_tokens (turn.After ts) = ts.now
 abbrev pub work : List Placed → Reader → ℕ
 work ts r = 4 * length ts + vec_len r.frames
 
--- whatever awaits this state with the first reader goes on with the second
+-- whatever awaits this state with the first reader continues with the second
 abbrev pub ReadsOn : Reader → State → Reader → Result Turn ParseStop → Type 0
 ReadsOn old t new result = (s : State) → IsAwaited s old t → Goes s new result
 
--- whatever the frame and those of the first reader wait for goes on with the second
+-- whatever the frame and the first reader's frames wait for continues with the second
 abbrev pub Resumes : Reader → Frame → List Placed → Reader → Result Turn ParseStop → Type 0
 Resumes old f ts new result = (s : State) → IsResumed s old f ts → Goes s new result
 

@@ -7,7 +7,7 @@ ghost use Rattle.cell_calc_binding.specs.Applied.{negated_cell, inverted_cell, s
 use cell_calc_language::operator::Operator;
 use cell_core::cell::Cell;
 
-// The least and the greatest category (GRASS: a CELL value).
+// The smallest and the largest category (GRASS: a CELL value).
 const LEAST: i64 = -2147483647;
 
 const GREATEST: i64 = 2147483647;
@@ -86,7 +86,7 @@ fn of_both(operator: Operator, x: i32, y: i32) -> Cell
     }
 }
 
-// The value of an operator beside null: another only where one category alone decides.
+// The value of an operator with a null operand: not null only if the other category alone decides.
 fn beside_null(operator: Operator, a: Cell) -> Cell
     ensures left { result ≡ operator_value operator a None }
     ensures right { result ≡ operator_value operator None a }

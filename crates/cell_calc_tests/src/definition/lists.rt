@@ -19,7 +19,7 @@ fn least_from(best: Cell, cells: &[Cell]) -> Cell
     }
 }
 
-/// The least of the cells, null if one is.
+/// The smallest of the cells, null if one is.
 pub(crate) fn least(cells: &[Cell]) -> Cell
     ensures { result ≡ least cells.now }
 {
@@ -38,7 +38,7 @@ fn greatest_from(best: Cell, cells: &[Cell]) -> Cell
     }
 }
 
-/// The greatest of the cells, null if one is.
+/// The largest of the cells, null if one is.
 pub(crate) fn greatest(cells: &[Cell]) -> Cell
     ensures { result ≡ greatest_cell cells.now }
 {
@@ -126,7 +126,7 @@ fn frequent(alloc: Global, cells: &[Cell], these: &[Cell]) -> Result<Vec<Cell>, 
     }
 }
 
-/// The least of the cells than which none occurs more often.
+/// The smallest of the cells that occur most often.
 pub(crate) fn most_frequent(alloc: Global, cells: &[Cell]) -> Result<Cell, Memory>
     ensures { IfOk result (λ v. v ≡ most_frequent cells.now) }
 {
@@ -153,7 +153,7 @@ pub(crate) fn mode(alloc: Global, cells: &[Cell]) -> Result<Cell, Memory>
     most_frequent(alloc, cells)
 }
 
-/// The first cell, null where there is none.
+/// The first cell, null if there is none.
 pub(crate) fn first(cells: &[Cell]) -> Cell
     ensures { result ≡ first_known cells.now }
 {
@@ -163,7 +163,7 @@ pub(crate) fn first(cells: &[Cell]) -> Cell
     }
 }
 
-/// The last cell, null where there is none.
+/// The last cell, null if there is none.
 pub(crate) fn last(cells: &[Cell]) -> Cell
     ensures { result ≡ last_argument cells.now }
 {

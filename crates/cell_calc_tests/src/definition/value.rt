@@ -74,7 +74,7 @@ fn place_in(map: &MapName, names: &Names) -> usize
     }
 }
 
-// The value of a function, of those of its arguments.
+// The value of a function, from the values of its arguments.
 fn called(
     alloc: Global,
     function: Function,
@@ -130,7 +130,7 @@ fn arity(step: &Step<MapName>) -> usize
     }
 }
 
-// The value of a step, of those of its operands.
+// The value of a step, from the values of its operands.
 fn step_value(
     alloc: Global,
     step: &Step<MapName>,
@@ -171,7 +171,7 @@ fn step_value(
 ///
 /// # Errors
 ///
-/// [`Memory`] where memory was refused.
+/// [`Memory`] if memory runs out.
 pub(crate) fn value(
     alloc: Global,
     expr: &Expr,

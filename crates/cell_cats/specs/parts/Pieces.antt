@@ -29,7 +29,7 @@ ruled_outputs rule outputs x = if lists x rule then Some rule.output else output
 abbrev pub HaveOutputs : (ℤ → Option Output) → Pieces → Type 0
 HaveOutputs outputs pieces = AreOutputs outputs (get int_cmp pieces.starts)
 
--- the pieces are those of the rules: each category has the output that the rules have for it
+-- the pieces agree with the rules: each category has the output that the rules have for it
 abbrev pub AreOfRules : List RuleValue → Pieces → Type 0
 AreOfRules rules pieces = HaveOutputs (output_for rules) pieces
 

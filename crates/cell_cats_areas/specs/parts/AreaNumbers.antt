@@ -24,7 +24,7 @@ firsts_below j m labels (suc k) = if is_first labels k then firsts_below j m lab
 abbrev pub area_number : Joining → Grid → List ℕ → ℕ → ℕ
 area_number j m labels k = length (firsts_below j m labels (suc k))
 
--- the number of a cell that is not null: that of the open label that its own leads to
+-- the number of a cell that is not null: the number of the open label that its own leads to
 unfoldable pub area_number_at : (j : Joining) (m : Grid) (table : List ℕ) → AreLabels j m table → Position → ℕ
 area_number_at j m table h p = area_number j m table (h.has_read.open_of (area_label_at m h.labels p))
 
@@ -50,12 +50,12 @@ pub record IsNumbered (j : Joining) (m : Grid) (labels : List ℕ) (h : AreLabel
   pub short : length labels < 2147483648
   pub done : (k : ℕ) → k < length labels → slice_index table k ≡ area_number j m labels (h.has_read.open_of k)
 
--- the cells before a column of a row have their numbers, which stand in the line
+-- the cells before a column of a row have their numbers, which are in the line
 pub record HaveNumbers (j : Joining) (m : Grid) (labels : List ℕ) (h : AreLabels j m labels) (next : ℕ) (line : List Labelled) (r c : ℕ) : Type 0 where
   pub next_is : next ≡ starts j m (r * m.region.cols + c)
   pub is_line : IsLine m (r * m.region.cols + c) (area_number_at j m labels h) r c line
 
--- a cell stands at a row and a column of a map, among such neighbours, and the cells before it begin so many areas
+-- a cell is at a row and a column of a map, among such neighbours, and the cells before it begin so many areas
 pub record StandsAt (j : Joining) (m : Grid) (labels : List ℕ) (h : AreLabels j m labels) (r c : ℕ) (cell : CellValue) (near : Near) (table : List ℕ) (next : ℕ) : Type 0 where
   pub cell_is : cell ≡ cell_at_position m (position r c)
   pub row : r < m.region.rows
@@ -68,7 +68,7 @@ pub record StandsAt (j : Joining) (m : Grid) (labels : List ℕ) (h : AreLabels 
 abbrev pub AreWritten : (j : Joining) (m : Grid) (labels : List ℕ) → AreLabels j m labels → ℕ → ℕ → List CellValue → Type 0
 AreWritten j m labels h r c row = (k : ℕ) → k < c → slice_index_or row k None ≡ cell_number j m labels h (position r k)
 
--- one more label of a table is replaced by its number, and the greatest number so far goes on
+-- one more label of a table is replaced by its number, and the largest number so far continues
 abbrev pub NumbersLabel : ℕ → List ℕ → ℕ → List ℕ → ℕ → Type 0
 NumbersLabel place old count new more = (j : Joining) (m : Grid) (labels : List ℕ) (open_of : ℕ → ℕ) → AreSound j m labels open_of
     → AreNumbered j m labels open_of place old count → AreNumbered j m labels open_of (place + 1) new more
@@ -78,7 +78,7 @@ abbrev pub NumbersLabels : List ℕ → List ℕ → Type 0
 NumbersLabels old new = (j : Joining) (m : Grid) (open_of : ℕ → ℕ) → AreSound j m old open_of
     → (k : ℕ) → k < length old → slice_index new k ≡ area_number j m old (open_of k)
 
--- wherever such a cell stands, the number is that of its area
+-- wherever such a cell is, the number is the number of its area
 abbrev pub NumbersCell : Joining → CellValue → Near → List ℕ → ℕ → ℕ → Type 0
 NumbersCell j cell near table next number = (m : Grid) (r c : ℕ) (v : ℤ) (labels : List ℕ) (h : AreLabels j m labels)
     → cell ≡ Some v → StandsAt j m labels h r c cell near table next → number ≡ area_number_at j m labels h (position r c)

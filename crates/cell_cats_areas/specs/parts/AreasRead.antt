@@ -35,26 +35,26 @@ pub record HasRead (j : Joining) (m : Grid) (table labels : List ℕ) : Type 0 w
   pub open_of : ℕ → ℕ
   pub read : AreRowsRead j m table labels open_of
 
--- a cell and what it is labelled with are those of the one cell of a kind, among the first cells of a map; null where there is none
+-- a cell and its label are the cell and the label of the one cell of a kind, among the first cells of a map; null if there is none
 pub record IsLabelledCell (m : Grid) (count : ℕ) (label_of : Position → ℕ) (Lies : Position → Type 0) (x : Labelled) : Type 0 where
   pub some : (v : ℤ) → x.cell ≡ Some v → (q : Position) × Lies q × (cell_at_position m q ≡ Some v) × (x.label ≡ label_of q) × (cell_place m.region.cols q < count)
   pub all : (q : Position) (v : ℤ) → Lies q → cell_at_position m q ≡ Some v → x.cell ≡ Some v
 
--- they are those of the neighbours of a cell that come before it
+-- they belong to the neighbours of a cell that come before it
 pub record AreNear (m : Grid) (count : ℕ) (label_of : Position → ℕ) (r c : ℕ) (near : Near) : Type 0 where
   pub left : IsLabelledCell m count label_of (IsLeft r c) near.left
   pub upper_left : IsLabelledCell m count label_of (IsUpperLeft r c) near.upper_left
   pub above : IsLabelledCell m count label_of (IsAbove r c) near.above
   pub upper_right : IsLabelledCell m count label_of (IsUpperRight r c) near.upper_right
 
--- they are those of a row up to a column, and of the row above it from there on; null stands after them
+-- they belong to a row up to a column, and to the row above it from there on; null is after them
 pub record IsLine (m : Grid) (count : ℕ) (label_of : Position → ℕ) (r c : ℕ) (line : List Labelled) : Type 0 where
   pub wide : length line ≡ m.region.cols + 1
   pub end : (d : Labelled) → (slice_index_or line m.region.cols d).cell ≡ None
   pub here : (k : ℕ) (d : Labelled) → k < c → IsLabelledCell m count label_of (IsCellAt r k) (slice_index_or line k d)
   pub above : (k : ℕ) (d : Labelled) → c ≤ k → k < m.region.cols → IsLabelledCell m count label_of (IsAbove r k) (slice_index_or line k d)
 
--- the cells before a column of a row were read, and their labels stand in the table and in the line
+-- the cells before a column of a row were read, and their labels are in the table and in the line
 pub record HaveCells (j : Joining) (m : Grid) (table : List ℕ) (line : List Labelled) (r c : ℕ) : Type 0 where
   pub labels : List ℕ
   pub has_read : HasRead j m table labels
@@ -70,7 +70,7 @@ pub record AreBeside (m : Grid) (count : ℕ) (label_of : Position → ℕ) (r c
   pub left : IsLabelledCell m count label_of (IsLeft r c) near.left
   pub upper_left : IsLabelledCell m count label_of (IsUpperLeft r c) near.above
 
--- the same of the cells before a column, and what was read beside the next
+-- the same of the cells before a column, and what was read along with the next
 pub record IsAreaReading (j : Joining) (m : Grid) (table : List ℕ) (line : List Labelled) (r c : ℕ) (near : Near) : Type 0 where
   pub cells : HaveCells j m table line r c
   pub beside : AreBeside m (length cells.labels) (area_label_at m cells.labels) r c near
@@ -88,7 +88,7 @@ pub record CanShare (cell : CellValue) (table : List ℕ) (near : Near) : Type 0
   pub down : PointDown table
   pub inside : AreInside (length table) near
 
--- wherever such a cell stands among such neighbours, and is the next, this label is read
+-- wherever such a cell is among such neighbours, and is the next, this label is read
 abbrev pub LabelsNext : Joining → CellValue → Near → List ℕ → List ℕ → ℕ → Type 0
 LabelsNext j cell near old new label = (m : Grid) (r c : ℕ) (labels : List ℕ)
     → cell ≡ cell_at_position m (position r c) → c < m.region.cols → length labels ≡ r * m.region.cols + c
@@ -106,7 +106,7 @@ pub record Shares (j : Joining) (m : Grid) (table labels : List ℕ) (before : �
   pub same : label ≡ area_label_at m labels from
   pub meet : (q : Position) → IsEarlier j r c q → cell_at_position m q ≡ Some v → after (area_label_at m labels q) ≡ after label
 
--- wherever such a cell stands among such neighbours, it shares the label
+-- wherever such a cell is among such neighbours, it shares the label
 abbrev pub SharesAt : Joining → CellValue → Near → List ℕ → List ℕ → ℕ → Type 0
 SharesAt j cell near table new label = (m : Grid) (r c : ℕ) (v : ℤ) (labels : List ℕ) (open_of : ℕ → ℕ)
     → cell ≡ Some v → cell_at_position m (position r c) ≡ Some v → AreNear m (length labels) (area_label_at m labels) r c near

@@ -1,4 +1,4 @@
--- Places of cells: how many cells stand before each in row order.
+-- Places of cells: how many cells are before each in row order.
 use Rattle.std.specs.Prelude.{ℕ, ◌+◌, ◌*◌, ◌/◌, ◌%◌, ◌<◌}
 use Rattle.cell_core.specs.Grid.{Grid}
 use Rattle.cell_cats_areas.specs.Areas.{Position}

@@ -5,7 +5,7 @@ use Rattle.std.specs.Prelude.{ℕ, ◌<◌, ◌≤◌, ◌≡◌, List, length, 
 abbrev pub PointDown : List ℕ → Type 0
 PointDown table = (k : ℕ) → slice_index table k ≤ k
 
--- a function tells which open label each label leads to; an open one points to itself
+-- a function shows which open label each label leads to; an open one points to itself
 pub record LeadsToOpen (table : List ℕ) (open_of : ℕ → ℕ) : Type 0 where
   pub points : (k : ℕ) → k < length table → open_of (slice_index table k) ≡ open_of k
   pub itself : (k : ℕ) → k < length table → slice_index table k ≡ k → open_of k ≡ k
@@ -16,6 +16,6 @@ pub record LeadsToOpen (table : List ℕ) (open_of : ℕ → ℕ) : Type 0 where
 abbrev pub closed_labels : (ℕ → ℕ) → ℕ → ℕ → ℕ → ℕ
 closed_labels open_of high low k = if nat_eq (open_of k) high then low else open_of k
 
--- what they lead to once two labels were joined: the greater open label is closed
+-- what they lead to once two labels were joined: the larger open label is closed
 abbrev pub after_join : (ℕ → ℕ) → ℕ → ℕ → ℕ → ℕ
 after_join open_of a b = closed_labels open_of (max (open_of a) (open_of b)) (min (open_of a) (open_of b))

@@ -39,7 +39,7 @@ abbrev pub runs_in : List CellValue → List RunValue
 runs_in [] = []
 runs_in (x ∷ cells) = with_cell x (runs_in cells)
 
--- the runs of cells behind a run that may go on in them
+-- the runs of cells after a run that may continue in them
 abbrev pub runs_from : RunValue → List CellValue → List RunValue
 runs_from run cells = (run.0, run.1 + alike run.0 cells) ∷ runs_in (drop (alike run.0 cells) cells)
 

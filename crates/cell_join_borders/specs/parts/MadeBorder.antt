@@ -1,4 +1,4 @@
--- The map of the border of a map, and the faults of its text.
+-- The map of the border of a map, and the errors of its text.
 use Rattle.std.specs.Prelude.{◌≡◌, length}
 use Rattle.cell_core_devices.specs.Device.{Coming}
 use Rattle.cell_core_values.specs.Region.{RegionValue}
@@ -23,7 +23,7 @@ pub record HasEachNumber (tile : RegionValue) (border : Border) : Type 0 where
   pub left : length border.left.numbers.items ≡ tile.rows
   pub right : length border.right.numbers.items ≡ tile.rows
 
--- a map is that of the border of a map and of the numbers of its clumps
+-- a map is the map of the border of a map and of the numbers of its clumps
 pub record IsMapOfBorder (j : Joining) (m made : Grid) : Type 0 where
   pub numbers : Grid
   pub border : Border
@@ -38,7 +38,7 @@ pub record IsMadeOfText (j : Joining) (text : Coming) (made : Grid) : Type 0 whe
   pub of_text : IsBorderOfText j text m border
   pub is : made ≡ border_grid j m.region border
 
--- the fault of a grid text, or being out of memory
+-- the error of a grid text, or being out of memory
 abbrev pub of_map_text : GridKind → GridFault → MapFault
 of_map_text kinds.Memory fault = faults.Memory
 of_map_text kind fault = faults.Text fault

@@ -21,20 +21,20 @@ pub record IsSized (m : Grid) (rows cols : ℕ) (tile : RegionValue) : Type 0 wh
   pub good : region_fault tile ≡ Ok tile
   pub width : m.region.cols ≡ border_width tile
 
--- two rows of a map are those of a side
+-- two rows of a map are the rows of a side
 pub record IsSideIn (m : Grid) (row : ℕ) (most : List ℕ) (side : Side) : Type 0 where
   pub cells : row_at m row ≡ filled_row m.region.cols side.cells.items
   pub numbers : row_at m (row + 1) ≡ filled_row m.region.cols side.numbers.items
   pub fit : IsSideFit most side
 
--- the greatest numbers of the cells of the sides of a tile whose clumps begin so
+-- the largest numbers of the cells of the sides of a tile whose clumps begin so
 pub record AreMosts (tile : RegionValue) (begun : List ℕ) (most : SideMosts) : Type 0 where
   pub first : most.first.items ≡ most_in_row tile.cols begun 0
   pub last : most.last.items ≡ most_in_row tile.cols begun (tile.rows - 1)
   pub left : most.left.items ≡ most_down begun
   pub right : most.right.items ≡ most_down begun
 
--- where each side begins in the text, with its greatest numbers
+-- where each side begins in the text, with its largest numbers
 abbrev pub most_places : SideMosts → List (ℕ × List ℕ)
 most_places most = (0, most.first.items) ∷ (2, most.last.items) ∷ (4, most.left.items) ∷ (6, most.right.items) ∷ []
 
@@ -53,12 +53,12 @@ pub record AreSidesIn (m : Grid) (tile : RegionValue) (begun : List ℕ) (border
   pub left : IsSideIn m 4 (most_down begun) border.left
   pub right : IsSideIn m 6 (most_down begun) border.right
 
--- a map but for its labels is that of a border, which fits
+-- a map but for its labels is the map of a border, which fits
 pub record IsGridOf (m : Grid) (j : Joining) (tile : RegionValue) (border : Border) : Type 0 where
   pub is : record m { labels = no_labels } ≡ border_grid j tile border
   pub fit : IsBorderFit tile border
 
--- the fault of a grid text, or being out of memory
+-- the error of a grid text, or being out of memory
 abbrev pub of_border_text : GridKind → GridFault → BorderFault
 of_border_text kinds.Memory fault = faults.Memory
 of_border_text kind fault = faults.Text fault

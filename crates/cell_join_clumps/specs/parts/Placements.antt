@@ -1,4 +1,4 @@
--- Where a tile goes after those of a row of tiles that has begun.
+-- Where a tile goes after the tiles of a row that has begun.
 use Rattle.std.specs.Prelude.{ℕ, ◌≡◌, ◌⊎◌, List, [], ◌∷◌, length, Some, None, slice_get}
 use Rattle.std.specs.List.{last_or}
 use Rattle.cell_core_values.specs.Region.{RegionValue}

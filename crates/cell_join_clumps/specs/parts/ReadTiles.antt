@@ -30,7 +30,7 @@ abbrev pub of_border : ℕ → BorderFault → ClumpsFault
 of_border place border_faults.Memory = Memory
 of_border place fault = NoBorder place fault
 
--- the text in a place is no border, or one by the other connectivity, or memory was refused
+-- the text in a place is no border, or one by the other connectivity, or memory ran out
 abbrev pub IsNoTile : Joining → ℕ → Coming → ClumpsFault → Type 0
 IsNoTile j place text (NoBorder at fault) = (at ≡ place) × (fault ≢ border_faults.Memory) × IsBorderFault text fault
 IsNoTile j place text (Connectivity at found) = (at ≡ place) × SpellsOtherwise j text found
@@ -48,7 +48,7 @@ pub record IsEvenRow (borders : List Border) : Type 0 where
 abbrev pub HasRowsOf : RegionValue → Border → Type 0
 HasRowsOf region border = length border.begun.items ≡ region.rows
 
--- the regions of the row lie side by side, and are those of its borders
+-- the regions of the row lie side by side, and belong to its borders
 pub record AreTilesKept (read : TileGrid) : Type 0 where
   pub some : read.row.items ≡ [] → read.above.items ≡ []
   pub beside : LieBeside None read.row.items
@@ -101,13 +101,13 @@ pub record HasAddedTile (j : Joining) (text : Option Coming) (old new : TileGrid
 abbrev pub HasManyClumps : TileJoinerValue → List Border → Type 0
 HasManyClumps joiner row = 2 ^ 64 ≤ joiner.clumps + clumps_in_row (begun_of (border_values row))
 
--- why a row is not joined: so, or memory was refused
+-- why a row is not joined: so, or memory ran out
 abbrev pub IsTooMany : TileJoinerValue → List Border → ClumpsFault → Type 0
 IsTooMany joiner row TooManyClumps = HasManyClumps joiner row
 IsTooMany joiner row Memory = Unit {0}
 IsTooMany joiner row fault = ⊥
 
--- why the text in a place does not go on tiles that were read, or their last row is not joined
+-- why the text in a place does not continue tiles that were read, or their last row is not joined
 abbrev pub IsFaultAtTile : Joining → ℕ → TileGrid → Coming → ClumpsFault → Type 0
 IsFaultAtTile j place read text (NoBorder at fault) = (at ≡ place) × IsFaultOfTile j place read.above.items read.row.items text (NoBorder at fault)
 IsFaultAtTile j place read text (Connectivity at found) = (at ≡ place) × IsFaultOfTile j place read.above.items read.row.items text (Connectivity at found)
@@ -135,7 +135,7 @@ IsTooShort texts read TooManyClumps = IsWholeRow read.above.items read.row.items
 IsTooShort texts read Memory = Unit {0}
 IsTooShort texts read fault = ⊥
 
--- what is held of tiles: whole rows, and those of a row
+-- what is held of tiles: complete rows, and the tiles of a row
 pub record AreHeld (j : Joining) (rows : List (List BorderText)) (row : List BorderText) (read : TileGrid) : Type 0 where
   pub joining : read.joiner.joining ≡ j
   pub joined : AreJoinedTiles (border_rows_of rows) read.joiner

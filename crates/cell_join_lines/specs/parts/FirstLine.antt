@@ -18,6 +18,6 @@ reading_by format width number last (Ok (Some (line, rest))) = then_reads number
 abbrev pub IsRead : FormatValue → ℕ → ℕ → Option Combination → Option Coming → TextValue → Type 0
 IsRead format width number last coming text = option_map (reading_of_rest format width number last) coming ≡ reading_from format text
 
--- what was to come stops at once, where it is known
+-- what was to come stops at once, if it is known
 abbrev pub IsRefused : FormatValue → ℕ → ℕ → Option Combination → Option Coming → TableKind → Type 0
 IsRefused format width number last coming kind = IfSome (option_map (reading_of_rest format width number last) coming) (λ reading. reading ≡ stopped number kind)

@@ -3,7 +3,7 @@ use Rattle.std.specs.Prelude.{ℕ, ◌≡◌, List, [], ◌∷◌, ◌++◌, dec
 use Rattle.cell_core_devices.specs.Blocks.{BlockValue, Appends}
 use Rattle.cell_core_devices.specs.Device.{Faults}
 
--- a number, and a byte behind it
+-- a number, and a byte after it
 abbrev pub number_and : ℕ → ℕ → List ℕ
 number_and end number = decimal number ++ end ∷ []
 

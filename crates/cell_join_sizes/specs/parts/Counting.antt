@@ -1,4 +1,4 @@
--- A table read beside the runs of its tile.
+-- A table read along with the runs of its tile.
 use Rattle.std.specs.Prelude.{ℕ, pos, ◌≡◌, ◌≢◌, ◌++◌, ◌+◌, true, List, [], ◌∷◌, length, map, All, Option, Some, None, IfSome, false}
 use Rattle.std.specs.Option.{option_map}
 use Rattle.std.specs.List.{range_with_len}
@@ -32,7 +32,7 @@ with_stretches stretches others = record { stretches = stretches ++ others.stret
 abbrev pub area_entry : ℕ → ℕ → Combination × ℕ
 area_entry area size = (Some (pos area) ∷ [], size)
 
--- so many clumps from one on were read from a table, and their sizes added to those of numbers from one on
+-- so many clumps from one on were read from a table, and their sizes added to the sizes of numbers from one on
 pub record HasCountedAreas (first number count : ℕ) (table left : Option TableReading) (old new : List ℕ) : Type 0 where
   pub sizes : List ℕ
   pub many : length sizes ≡ count
@@ -64,7 +64,7 @@ pub record HasCountedBand (band line start now : ℕ) (areas after : Option Area
 abbrev pub IsLeftOver : TableReading → Type 0
 IsLeftOver reading = IsNullEntry reading.entries × (reading.fault ≡ None)
 
--- a table was read to its end, where it is known
+-- a table was read to its end, if it is known
 pub record HasReadBand (band start now : ℕ) (areas after : Option AreasReading) (table : Option TableReading) (old new : List ℕ) : Type 0 where
   pub part : BandSizes
   pub reported : areas ≡ option_map (with_stretches part.stretches) after

@@ -4,14 +4,14 @@ use Rattle.cell_join_lines.specs.declared.stretch.Stretch.{Stretch}
 use Rattle.cell_join_lines.specs.AreasReading.{AreasReading, areas_ended, in_sequence}
 use Rattle.cell_join_sizes.specs.SizeFaults.{last_number}
 
--- the run that is read now, the number of the line behind it, the runs behind it, and all of them
+-- the run that is read now, the number of the line after it, the runs after it, and all of them
 pub record HeldValue : Type 0 where
   pub head : Option Stretch
   pub line : ℕ
   pub left : List Stretch
   pub all : List Stretch
 
--- what is read behind the head
+-- what is read after the head
 abbrev pub held_behind : HeldValue → Option AreasReading
 held_behind held = Some (record { stretches = held.left; fault = None })
 
@@ -23,17 +23,17 @@ held_from_head held (Some s) = Some (record { stretches = s ∷ held.left; fault
 abbrev pub held_from : HeldValue → Option AreasReading
 held_from held = held_from_head held held.head
 
--- each run comes next behind the one before it, the first behind this one, if there is one
+-- each run comes next after the one before it, the first after this one, if there is one
 abbrev pub AreInSequence : Option Stretch → List Stretch → Type 0
 AreInSequence before [] = Unit {0}
 AreInSequence before (s ∷ stretches) = (in_sequence before s ≡ Ok s) × AreInSequence (Some s) stretches
 
--- the last of these runs, or this one where there is none
+-- the last of these runs, or this one if there is none
 abbrev pub last_of : Option Stretch → List Stretch → Option Stretch
 last_of before [] = before
 last_of before (s ∷ stretches) = last_of (Some s) stretches
 
--- the run at this place tells a number above the count, and none before it does
+-- the run at this place shows a number above the count, and none before it does
 pub record IsFirstBeyond (stretches : List Stretch) (count place : ℕ) : Type 0 where
   pub stretch : Stretch
   pub at : slice_get stretches place ≡ Some stretch

@@ -17,7 +17,7 @@ use Rattle.cell_join_sizes.specs.declared.tally.TallyFault.{TallyFault}
 use Rattle.cell_join_sizes.specs.declared.tally.TallyFault.TheVariants as tally_faults
 use Rattle.cell_join_sizes.specs.parts.Tally.{Tallies}
 
--- ---- how a fault of a part is reported
+-- ---- how an error of a part is reported
 
 abbrev pub ReportsAreasFault : AreasFault → SizesFault → Type 0
 ReportsAreasFault fault (Areas reported) = (reported ≡ fault) × (fault.kind ≢ areas_kinds.Memory)
@@ -49,17 +49,17 @@ ReportsTallyFault number tally_faults.Memory reported = reported ≡ Memory
 
 -- ---- what the next stretch is
 
--- at the start of the tile behind so many
+-- at the start of the tile after so many
 abbrev pub IsBandStart : ℕ → Stretch → Type 0
 IsBandStart bands s = (s.first ≡ 1) × (s.first ≤ s.last) × (0 < bands → s.band ≢ bands)
 
--- behind the clumps of a tile up to that of this line
+-- after the clumps of a tile up to the clump of this line
 abbrev pub IsNextIn : (band line : ℕ) → Stretch → Type 0
 IsNextIn band line s = (s.first ≤ s.last) × (s.band ≡ band → s.first ≡ line) × (s.band ≢ band → s.first ≡ 1)
 
 -- ---- where it stopped
 
--- so many lines of a numbering behind one; from 2^64 - 1 on they are not told apart
+-- so many lines of a numbering after one; from 2^64 - 1 on they are not distinguished
 abbrev pub lines_behind : (start count : ℕ) → ℕ
 lines_behind start count = min (start + count) (2 ^ 64 - 1)
 
@@ -113,7 +113,7 @@ place_at_end table line areas areas_line left sizes = record {
   sizes = sizes;
 }
 
--- behind all clumps of a tile
+-- after all clumps of a tile
 abbrev pub HasStoppedAtEnd : (place line : ℕ) → TableReading → SizesFault → Type 0
 HasStoppedAtEnd place line table fault = (areas : AreasReading) (areas_line : ℕ) (sizes : List ℕ) → IsBandOver (place + 1) areas.stretches areas.fault
     → IsFaultAt (place_at_end place line areas areas_line table sizes) fault

@@ -1,10 +1,10 @@
--- Sizes of the clumps of tiles added up by their numbers in the whole.
+-- Sizes of the clumps of tiles added up by their numbers in the full map.
 use Rattle.std.specs.Prelude.{ℕ, ◌≡◌, ◌+◌, ◌-◌, ◌^◌, ◌<◌, ◌≤◌, List, ◌++◌, length, slice_index}
 use Rattle.cell_join_sizes.specs.SizeTexts.{HasSums}
 use Rattle.cell_join_sizes.specs.declared.tally.TallyFault.{TallyFault}
 use Rattle.cell_join_sizes.specs.declared.tally.TallyFault.TheVariants.{TooGreat, Memory}
 
--- more numbers and sizes behind whichever were added up before
+-- more numbers and sizes after whichever were added up before
 pub record Tallies (old more more_sizes new : List ℕ) : Type 0 where
   pub adds : (numbers sizes : List ℕ) → HasSums numbers sizes old → HasSums (numbers ++ more) (sizes ++ more_sizes) new
 

@@ -1,4 +1,4 @@
--- The order in which texts go on: that of what they go on with, and of two that go on with the same that of their places.
+-- The order in which texts continue: by what they continue with, and of two that continue with the same by their places.
 use Rattle.std.specs.Prelude.{ℕ, ◌≡◌, ◌≢◌, ◌<◌, Bool, true, false, nat_lt, List, [], ◌∷◌, All, Contains, length, map, take, drop, slice_set, slice_index_or, Option, Some, None, IfSome}
 use Rattle.std.specs.List.{AllByRecursion}
 use Rattle.std.specs.declared.cmp.Ordering.{Ordering}
@@ -11,7 +11,7 @@ use Rattle.cell_join_lines.specs.TextReading.{TextValue, combination_of, reading
 use Rattle.cell_join_tables.specs.declared.join_fault.JoinFault.{JoinFault}
 use Rattle.cell_join_tables.specs.declared.join_fault.JoinFault.TheVariants.{Text, TooMany, TooLong, Memory, Write}
 
--- the combinations that texts go on with
+-- the combinations that texts continue with
 abbrev pub heads_of : List TextValue → List (Option Combination)
 heads_of texts = map (λ text. combination_of text.head) texts
 
@@ -31,7 +31,7 @@ goes_before (Some a) place (Some b) other = lesser_or_earlier (combination_cmp a
 abbrev pub before : List (Option Combination) → ℕ → ℕ → Bool
 before heads place other = goes_before (slice_index_or heads place None) place (slice_index_or heads other None) other
 
--- each place goes before those behind it
+-- each place goes before those after it
 abbrev pub Ascends : List (Option Combination) → List ℕ → Type 0
 Ascends heads [] = Unit {0}
 Ascends heads (place ∷ places) = AllByRecursion (λ other. before heads place other ≡ true) places × Ascends heads places
@@ -51,7 +51,7 @@ pub record GoesFirst (heads : List (Option Combination)) (first : ℕ) : Type 0 
   pub within : first < length heads
   pub others : (other : ℕ) → other < length heads → other ≢ first → before heads first other ≡ true
 
--- the text that goes first goes on with this entry
+-- the text that goes first continues with this entry
 pub record BeginsWith (texts : List TextValue) (entry : Combination × ℕ) : Type 0 where
   pub first : ℕ
   pub goes : GoesFirst (heads_of texts) first

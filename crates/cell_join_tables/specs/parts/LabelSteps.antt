@@ -22,7 +22,7 @@ abbrev pub is_combination : Combination → Option Combination → Bool
 is_combination k None = false
 is_combination k (Some own) = eq_by_cmp combination_cmp own k
 
--- whether a text goes on with the combination
+-- whether a text continues with the combination
 abbrev pub goes_on_with : Combination → TextValue → Bool
 goes_on_with k text = is_combination k (combination_of text.head)
 
@@ -30,12 +30,12 @@ goes_on_with k text = is_combination k (combination_of text.head)
 abbrev pub is_other : FormatValue → Combination → List ℕ → TextValue → Bool
 is_other format k labelled text = goes_on_with k text && not (bytes_eq (before_count format.separator text.line) labelled)
 
--- what a text goes on with has these labels, if it is of the combination
+-- what a text continues with has these labels, if it is of the combination
 abbrev pub AgreesOn : Combination → List ℕ → Option Labelled → Type 0
 AgreesOn k labelled None = Unit {0}
 AgreesOn k labelled (Some line) = line.0 ≡ k → line.1 ≡ labelled
 
--- what the line of a head has, where there is a head
+-- what the line of a head has, if there is a head
 abbrev pub labelled_head : FormatValue → TextValue → Option Labelled
 labelled_head format text = option_map (λ entry. (entry.0, before_count format.separator text.line)) text.head
 
@@ -45,7 +45,7 @@ labelled_heads format texts = map (labelled_head format) texts
 abbrev pub AllAgree : FormatValue → Combination → List ℕ → List TextValue → Type 0
 AllAgree format k labelled texts = AllByRecursion (AgreesOn k labelled) (labelled_heads format texts)
 
--- two texts go on with the combination and other labels
+-- two texts continue with the combination and other labels
 pub record DifferAt (format : FormatValue) (k : Combination) (labelled : List ℕ) (texts : List TextValue) (first text : ℕ) : Type 0 where
   pub other : List ℕ
   pub before : first < text
@@ -53,13 +53,13 @@ pub record DifferAt (format : FormatValue) (k : Combination) (labelled : List �
   pub two : slice_get (labelled_heads format texts) text ≡ Some (Some (k, other))
   pub differ : other ≢ labelled
 
--- of texts at places in order the first so many agree on the labels of the combination, and the next one does not go on with it
+-- of texts at places in order the first so many agree on the labels of the combination, and the next one does not continue with it
 pub record AgreeInFront (format : FormatValue) (k : Combination) (labelled : List ℕ) (texts : List TextValue) (places : List ℕ) : Type 0 where
   pub count : ℕ
   pub agree : (i : ℕ) (text : TextValue) → i < count → is_other format k labelled (slice_index_or texts (slice_index_or places i 0) text) ≡ false
   pub next : count < length places → (text : TextValue) → goes_on_with k (slice_index_or texts (slice_index_or places count 0) text) ≡ false
 
--- the lines that texts go on with were passed where they are of the combination, and no others, of whatever texts are read as, in order
+-- the lines that texts continue with were passed if they are of the combination, and no others, of whatever texts are read as, in order
 abbrev pub LeavesLines : FormatValue → Combination → List TextValue → List TextValue → Type 0
 LeavesLines format k old new = (readings : List TableReading) → map (λ text. reading_from format text) old ≡ map Some readings → AllByRecursion IsListing (tables_of readings)
     → map (λ text. labelled_from format text) new ≡ map (λ text. option_map (past_labelled k) (labelled_from format text)) old
@@ -73,7 +73,7 @@ pub record HasLabelledStep {S : Type 0} (format : FormatValue) (old new : List T
   pub own : Contains (labelled_heads format old) (Some entry.0)
   pub appends : Appends taken faults out block (counted_line entry) now after
 
--- the lines before those that are left stand among these
+-- the lines before those that are left are among these
 abbrev pub IsReadPast : List Labelled → List Labelled → List Labelled → Type 0
 IsReadPast done whole left = (passed : List Labelled) × ((whole ≡ passed ++ left) × AllByRecursion (λ line. Contains done line) passed)
 
@@ -83,7 +83,7 @@ ArePassed done [] (left ∷ lefts) = ⊥
 ArePassed done (whole ∷ wholes) [] = ⊥
 ArePassed done (whole ∷ wholes) (left ∷ lefts) = IsReadPast done whole left × ArePassed done wholes lefts
 
--- of what the lines of texts have, all that was passed stands among these entries, which have labels of the texts
+-- of what the lines of texts have, all that was passed is among these entries, which have labels of the texts
 pub record HasPassed (format : FormatValue) (wholes : List (List Labelled)) (texts : List TextValue) (done : List LabelledEntry) : Type 0 where
   pub left : List (List Labelled)
   pub known : map (λ text. labelled_from format text) texts ≡ map Some left

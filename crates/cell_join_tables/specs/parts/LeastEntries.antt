@@ -1,4 +1,4 @@
--- The entries of the least combination, taken one after the other.
+-- The entries of the smallest combination, taken one after the other.
 use Rattle.std.specs.Prelude.{ℕ, ◌≡◌, ◌+◌, ◌≤◌, List, [], ◌∷◌, length, map, Option, Some, None}
 use Rattle.std.specs.List.{AllByRecursion}
 use Rattle.cell_stats_counts.specs.Combinations.{Combination}
@@ -18,7 +18,7 @@ abbrev pub begin_count : Combination → List Pairs → ℕ
 begin_count k [] = 0
 begin_count k (table ∷ tables) = one_if_any (first_count k table) + begin_count k tables
 
--- some entries of the least combination were taken, so many at the least, and their counts are this together
+-- some entries of the smallest combination were taken, at least so many, and their counts are this together
 pub record HasGone {X : Type 0} (read : X → Option TableReading) (k : Combination) (readings : List TableReading) (texts : List X) (total : Option ℕ) (taken : ℕ) : Type 0 where
   pub all : AllByRecursion IsListing (tables_of readings)
   pub start : AllByRecursion (BeginsAt k) (tables_of readings)

@@ -1,4 +1,4 @@
--- How a merge of texts ends, and how it is answered.
+-- How a merge of texts ends, and its result.
 use Rattle.std.specs.Prelude.{ℕ, ◌≡◌, List, [], ◌∷◌, ◌++◌, length, map, Option, Some, Result, Ok, Err}
 use Rattle.std.specs.List.{AllByRecursion}
 use Rattle.cell_core_devices.specs.Blocks.{BlockValue, Appends}
@@ -32,7 +32,7 @@ pub record HasSeen {R X Y : Type 0} (coming : R → Option Coming) (see : X → 
 abbrev pub AreEnded : {X : Type 0} → (X → Option TableReading) → List X → Type 0
 AreEnded read texts = (readings : List TableReading) → map read texts ≡ map Some readings → readings ≡ map (λ reading. ended) readings
 
--- what the lines that were appended are of the merge, by the answer: all of it, or the first of it before a fault
+-- what the lines that were appended are of the merge, by the result: all of it, or the first of it before an error
 abbrev pub EndsSo : List TableReading → Pairs → Result Unit JoinFault → Type 0
 EndsSo readings done (Ok unit) = AreTables readings × (merge_of (tables_of readings) ≡ done)
 EndsSo readings done (Err fault) = IsJoinFault readings fault × ((others : Pairs) × (merge_of (tables_of readings) ≡ done ++ others))

@@ -11,7 +11,7 @@ by_order Less less equal greater = less
 by_order Equal less equal greater = equal
 by_order Greater less equal greater = greater
 
--- an entry and a list after it merged with another list, where it is reported what the list after it makes with others
+-- an entry and a list after it merged with another list, if it is known what the list after it makes with others
 abbrev pub merge_entry : Combination × ℕ → (Pairs → Pairs) → Pairs → Pairs
 merge_entry x more [] = x ∷ more []
 merge_entry x more (y ∷ ys) = by_order (combination_cmp x.0 y.0) (x ∷ more (y ∷ ys)) ((x.0, x.1 + y.1) ∷ more ys) (y ∷ merge_entry x more ys)

@@ -10,7 +10,7 @@ use Rattle.cell_join_tables.specs.MergedTables.{merge_of}
 use Rattle.cell_join_tables.specs.declared.join_fault.JoinFault.{JoinFault}
 use Rattle.cell_join_tables.specs.declared.join_fault.JoinFault.TheVariants.{Text, TooMany, TooLong, Memory, Write}
 
--- these entries were taken: what is left makes the rest of the merge, with the same faults
+-- these entries were taken: what is left makes the rest of the merge, with the same errors
 pub record HasTaken {X : Type 0} (read : X → Option TableReading) (readings : List TableReading) (texts : List X) (done : Pairs) : Type 0 where
   pub after : List TableReading
   pub known : map read texts ≡ map Some after

@@ -1,14 +1,14 @@
--- The greatest number of a map.
+-- The largest number of a map.
 use Rattle.std.specs.Prelude.{ℕ, pos, negsuc, List, [], ◌∷◌, Some, None, max}
 use Rattle.cell_core.specs.Grid.{CellValue}
 
--- the greater of a number and that of a cell
+-- the larger of a number and a cell
 abbrev pub greater_of : ℕ → CellValue → ℕ
 greater_of most None = most
 greater_of most (Some (pos n)) = max most n
 greater_of most (Some (negsuc n)) = most
 
--- the greatest of a number and those of cells
+-- the largest of a number and cells
 abbrev pub greatest_in : ℕ → List CellValue → ℕ
 greatest_in most [] = most
 greatest_in most (cell ∷ cells) = greatest_in (greater_of most cell) cells

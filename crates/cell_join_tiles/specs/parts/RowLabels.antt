@@ -24,6 +24,6 @@ AreFirstLabels base tiles c firsts = (i : ℕ) → i < length firsts → slice_i
 abbrev pub row_label : (base : ℕ) → List Begun → (c k : ℕ) → ℕ
 row_label base tiles c k = base + label_in_row tiles c k
 
--- those of all its clumps
+-- the labels of all its clumps
 abbrev pub labels_in_tile : (base : ℕ) → List Begun → ℕ → List ℕ
 labels_in_tile base tiles c = map (row_label base tiles c) (range_with_len 0 (sum (slice_index_or tiles c [])))

@@ -15,7 +15,7 @@ clump_of_mark None = None
 clump_of_mark (Some (pos n)) = if n == 0 then None else Some (n - 1)
 clump_of_mark (Some (negsuc n)) = None
 
--- what stands at a cell of a category, if its tile has so many clumps that its own is one of them
+-- what is at a cell of a category, if its tile has so many clumps that its own is one of them
 abbrev pub mark_at : (ℕ → ℕ) → ℕ → ℤ → Option ℕ → Option Mark
 mark_at label clumps v None = None
 mark_at label clumps v (Some k) = if nat_lt k clumps then Some (record { category = v; label = label k }) else None
@@ -48,7 +48,7 @@ abbrev pub before_in : (base : ℕ) → List BorderValue → ℕ → Line
 before_in base row zero = []
 before_in base row (suc c) = side_in base row c (border_in row c).right
 
--- the pairs between the two, and those of all of the row
+-- the pairs between the two, and the pairs of the full row
 abbrev pub pairs_before : Joining → (base : ℕ) → List BorderValue → ℕ → List (ℕ × ℕ)
 pairs_before j base row c = line_meetings j (before_in base row c) (side_in base row c (border_in row c).left)
 

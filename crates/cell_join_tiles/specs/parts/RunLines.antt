@@ -1,4 +1,4 @@
--- The stretches of a band of which the last may go on.
+-- The stretches of a band of which the last may continue.
 use Rattle.std.specs.Prelude.{ℕ, ◌≡◌, List, ◌++◌, Option, Some, None}
 use Rattle.cell_join_lines.specs.AreasText.{stretches_behind, stretches_in}
 use Rattle.cell_join_lines.specs.declared.stretch.Stretch.{Stretch}
@@ -15,6 +15,6 @@ stretches_after band None numbers = stretches_in band numbers
 stretches_after band (Some line) numbers =
     stretches_behind line.stretch.band line.stretch.first line.stretch.last line.stretch.number line.previous numbers
 
--- behind others stand those of a band whose first areas have these numbers, but for a line that may go on
+-- after others come the stretches of a band whose first areas have these numbers, but for a line that may continue
 abbrev pub AreInLines : ℕ → List Stretch → List ℕ → List Stretch → Option Line → Type 0
 AreInLines band before numbers stretches line = (rest : List ℕ) → before ++ stretches_in band (numbers ++ rest) ≡ stretches ++ stretches_after band line rest

@@ -10,7 +10,7 @@ labels_of_span span = range_with_len span.first span.count
 abbrev pub labels_in : List Span → List ℕ
 labels_in spans = flat_map labels_of_span spans
 
--- those of each of some tiles
+-- the spans of each of some tiles
 abbrev pub labels_of_tiles : List (Vec Span Global) → List (List ℕ)
 labels_of_tiles tiles = map (λ spans. labels_in spans.items) tiles
 

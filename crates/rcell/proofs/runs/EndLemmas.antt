@@ -12,8 +12,7 @@ use Rattle.rcell.specs.declared.execution.RunStop.TheVariants.{Memory, Write}
 use Rattle.rcell.specs.declared.execution.Stopped.{Stopped}
 use Rattle.rcell.specs.declared.outcome.Outcome.{Outcome}
 use Rattle.rcell.specs.parts.Ends.{IsRunEnd, run_ended, fault_of_end, after_execution, after_stop}
-use Rattle.rcell.specs.parts.OutputSteps.{is_write, stops_write}
-use Rattle.rcell.specs.runs.Execution.{Stops}
+use Rattle.rcell.specs.runs.Execution.{is_write, stops_write, Stops}
 use Rattle.rcell.specs.runs.Outcomes.{Failing, IsDone}
 use Rattle.rcell.specs.runs.Statuses.{fault_status}
 use Rattle.rcell.proofs.runs.ExecutionLemmas.{done_within, line_above}

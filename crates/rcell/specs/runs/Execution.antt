@@ -1,5 +1,5 @@
 -- What has been written when the execution of statements stops (profile).
-use Rattle.std.specs.Prelude.{ℕ, ◌≡◌, List, ◌∷◌, ◌++◌, length, Option}
+use Rattle.std.specs.Prelude.{ℕ, ◌≡◌, Bool, true, false, List, ◌∷◌, ◌++◌, length, Option, Result, Ok, Err}
 use Rattle.cell_core_devices.specs.Device.{append_known}
 use Rattle.cell_core.specs.Shelf.{ShelfValue}
 use Rattle.cell_core_devices.specs.Blocks.{capped_count}
@@ -7,6 +7,17 @@ use Rattle.rcell_script.specs.declared.statement.Statement.{Statement}
 use Rattle.rcell.specs.Output.{Executes}
 use Rattle.rcell.specs.declared.execution.RunStop.{RunStop}
 use Rattle.rcell.specs.declared.execution.RunStop.TheVariants.{Memory, Write}
+use Rattle.rcell.specs.declared.execution.Stopped.{Stopped}
+
+-- whether the sink failed
+abbrev pub is_write : RunStop → Bool
+is_write (Memory line) = false
+is_write Write = true
+
+-- whether the sink failed, by an answer
+abbrev pub stops_write : {A : Type 0} → Result A Stopped → Bool
+stops_write (Ok x) = false
+stops_write (Err stopped) = is_write stopped.stop
 
 -- the sink took the whole output of the statements before one, which was not begun
 pub record IsShelfBefore (shelf : ShelfValue) (statements : List Statement) (before now : Option (List ℕ)) (written line : ℕ) : Type 0 where

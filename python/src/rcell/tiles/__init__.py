@@ -1,8 +1,8 @@
 # SPDX-License-Identifier: Apache-2.0 OR GPL-2.0-or-later
-"""Maps of any size: tiles of them go to a Dask cluster, and the answers are those of the undivided map.
+"""Maps of any size: tiles of them go to a Dask cluster, and the results equal the results of the full map.
 
 What holds of tiles is proved, in the crate `cell_parts` of this project: tables add up, a halo is enough, clumps join along
-borders. Each step of this code names its law. Tables are merged and clumps joined by rcell-join, which is proved itself.
+borders. Each step of this code names its law. rcell-join, which is proved itself, merges tables and joins clumps.
 """
 
 from __future__ import annotations

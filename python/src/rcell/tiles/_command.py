@@ -23,7 +23,7 @@ COMMAND_LINE, MEMORY, FILES = 2, 3, 4
 def main(argv: Sequence[str]) -> int:
     """Run `python3 -m rcell tiles` with the words after `tiles`, and return the exit status.
 
-    The statuses are those of the program: 0 done, 1 refused, 2 the command line, 3 memory, 4 files and workers.
+    The statuses are the program's: 0 done, 1 rejected, 2 the command line, 3 memory, 4 files and workers.
 
     Examples
     --------

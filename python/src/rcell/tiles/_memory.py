@@ -42,7 +42,7 @@ class Demand:
     clumps : int
         How many of these r.clump makes.
     answer : int
-        Bytes a cell of the answer, as it comes from the program.
+        Bytes a cell of the result, as it comes from the program.
     after : int
         Bytes a cell when the program has ended.
     per_clump : int

@@ -16,7 +16,7 @@ from .._counts import counts_of
 from .._errors import OutOfMemory
 from .._joiner import border_of, joined
 from .._maps import ArrayMap, Source
-from .._program import execute, table_text
+from .._program import execute, printed
 from .._region import Region
 from .._table import StatsTable
 from ._scripts import NO_REACH, Reach, Statement, TileScript, counting
@@ -130,7 +130,7 @@ def tile_table(task: TileRun, place: Rectangle, cells: Sequence[Any]) -> bytes:
         script = script.with_last(counting(stats, task.inside))
         maps[task.inside] = ArrayMap(task.inside, mask_of(place, outer), Region.of_cells(*outer[2:]), nodata_value=0)
     with told_of_size(maps):
-        text = table_text(script.text(outer, task.sheet.rows, task.sheet.cols), maps)
+        text = printed(script.text(outer, task.sheet.rows, task.sheet.cols), maps)
     return text if outer == place else without_halo(text, "N" in stats.options)
 
 
@@ -187,7 +187,7 @@ def grid_cells(task: TileRun, place: Rectangle, cells: Sequence[Any]) -> Integer
     outer = with_halo(place, task.script.reach, task.sheet)
     text = task.script.text(outer, task.sheet.rows, task.sheet.cols)
     # By the law `halo_is_enough`, or `reach_is_enough` if the script uses rows and columns, the values inside the halo are
-    # those of the full map.
+    # the full map's.
     made = made_cells(text, task.maps(outer, cells), task.script.statements[-1].made)
     return np.ascontiguousarray(inner(made, place, outer))
 
@@ -199,19 +199,19 @@ def clumps_table(task: ClumpRun, place: Rectangle, cells: Sequence[Any]) -> tupl
     """
     maps: dict[str, Source] = {"cells": task.tile(place, cells)}
     with told_of_size(maps):
-        text = table_text(f"{task.line}\nr.stats -c -n input=clumps,cells", maps)
+        text = printed(f"{task.line}\nr.stats -c -n input=clumps,cells", maps)
     return CATEGORY_OF_CLUMP.sub(rb"\1", text), counts_of(text, 2).combinations[:, 1].astype(np.int32)
 
 
 def tile_border(task: ClumpRun, place: Rectangle, cells: Sequence[Any]) -> bytes:
-    """Return the border of a tile, with which rcell-join joins its clumps to those of other tiles."""
+    """Return the border of a tile, with which rcell-join joins its clumps to the clumps of other tiles."""
     tile = replace(task.tile(place, cells), region=place.region)
     with told_of_size({"cells": tile}):
         return border_of(tile, task.diagonal)
 
 
 def join_borders(borders: list[bytes], diagonal: bool) -> Joined:
-    """Join the clumps of all tiles to those of the full map."""
+    """Join the clumps of all tiles to the clumps of the full map."""
     return join(borders, diagonal)
 
 

@@ -79,7 +79,7 @@ class Joined:
 
 
 def join(borders: Sequence[bytes], diagonal: bool = False) -> Joined:
-    """Join the clumps of tiles to those of the full map, and number these by their first cells.
+    """Join the clumps of tiles to the clumps of the full map, and number these by their first cells.
 
     Parameters
     ----------
@@ -113,7 +113,7 @@ def sizes(whole: Joined, tables: Sequence[bytes], categories: Sequence[Integers]
     tables : sequence of bytes
         Of each tile the table of its clump numbers, as the program prints it.
     categories : sequence of ndarray
-        Of each tile those of its clumps, in the order of their numbers.
+        Of each tile the numbers of its clumps, in the order of their numbers.
 
     Examples
     --------
@@ -128,7 +128,7 @@ def sizes(whole: Joined, tables: Sequence[bytes], categories: Sequence[Integers]
 
 
 def renumber(numbers: Integers, tile: TileNumbers, out: Integers | None = None) -> Integers:
-    """Give the clump numbers of a tile those of the full map.
+    """Replace the clump numbers of a tile by the numbers of the full map.
 
     Parameters
     ----------

@@ -286,7 +286,7 @@ class Mosaic:
         """Return the map of an expression as a DataArray of Dask, or write it as a GeoTIFF.
 
         Each tile is read with a halo of the rows and columns that the expression reaches, taken from its offsets. `row()`, `col()`,
-        `nrows()` and `ncols()` are those of the full map, whatever shape the tiles have (law `reach_is_enough`).
+        `nrows()` and `ncols()` refer to the full map, whatever shape the tiles have (law `reach_is_enough`).
 
         A file is tiled, compressed, of int32, with -2147483648 for null. It is written by windows next to its target, read back, and
         renamed at the end: no process holds the full map.
@@ -336,7 +336,7 @@ class Mosaic:
     def clump(self, name: str, path: str | os.PathLike[str] | None = None, connectivity: int = 4) -> Any:
         """Return the map of the patches of a map, its connected cells, as a DataArray of Dask, or write it as a GeoTIFF; null is 0.
 
-        The numbers are those of `r.clump` over the full map: from 1, in the order of first cells. A file is of int32, or of int64 if there
+        The numbers are the same as from `r.clump` over the full map: from 1, in the order of first cells. A file is of int32, or of int64 if there
         are more than 2,147,483,647 patches. Each tile is clumped twice, first for the joining and then for its cells: nothing of the size
         of the map is kept in between.
 
@@ -429,7 +429,7 @@ class Mosaic:
         return self._engine.finish("patches", table, borders + tables) if compute else table
 
     def _joined(self, run: _tasks.ClumpRun, tiles: _Tiles) -> tuple[list[Any], Any]:
-        """Return the work of the borders of tiles, and that of rcell-join, which joins their clumps to those of the full map."""
+        """Return the work of the borders of tiles, and the work of rcell-join, which joins their clumps to the clumps of the full map."""
         find_joiner()  # it is needed at the end, and missed at the beginning
         borders = _parts(self._over(_tasks.tile_border, run, tiles))
         check_files(len(borders))

@@ -1,5 +1,5 @@
 # SPDX-License-Identifier: Apache-2.0 OR GPL-2.0-or-later
-"""Modules shared with the package for Python: copies of them in the zip, and those of python/src/rcell_front in the repository."""
+"""Modules shared with the package for Python: copies of them in the zip, and python/src/rcell_front in the repository."""
 
 import os
 

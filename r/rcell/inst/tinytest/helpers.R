@@ -5,7 +5,7 @@ suppressMessages({
   library(rcell)
 })
 terraOptions(progress = 0)
-# The messages are those of this package, whatever Python has.
+# The messages are this package's, whatever Python has.
 options(rcell.python = "")
 
 # A map of some classes with nulls: noise, or patches as smooth as land cover.
@@ -32,7 +32,7 @@ as_rows <- function(map) {
   matrix(replace(cells, is.na(cells), NA), nrow(map), ncol(map), byrow = TRUE)
 }
 
-# What a call is refused with, or NULL.
+# The error of a call, or NULL.
 refusal <- function(call) tryCatch({
   force(call)
   NULL

@@ -6,7 +6,7 @@ zones <- made_map(40, 30, 3, seed = 33)
 rows <- function(map) as.integer(values(map, mat = FALSE))
 same <- function(found, wanted, ...) expect_equal(as.matrix(found), as.matrix(wanted), check.attributes = FALSE, ...)
 
-# Composition: the cells of terra's freq, and by zone those of its crosstab; percentages of the zone.
+# Composition: the cells of terra's freq, and by zone the cells of its crosstab; percentages of the zone.
 found <- rcell_composition(land)
 expect_identical(names(found), c("class", "cells", "area_ha", "percent"))
 same(found[c("class", "cells")], freq(land)[, c("value", "count")])

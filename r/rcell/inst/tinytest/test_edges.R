@@ -1,12 +1,12 @@
 source("helpers.R")
 
-# Rasters at the edge of what a file can say: each is read exactly, or refused by an error of this package.
+# Rasters at the edge of what a file can say: each is read exactly, or rejected by an error of this package.
 room <- tempfile("edges \u00fc ")
 dir.create(room)
 file <- function(name) file.path(room, name)
 counts <- function(map, ...) rcell_table("r.stats -c input=x", x = map, ...)
 
-# A raster of bytes described by a VRT: its bands, and what stands before them.
+# A raster of bytes described by a VRT: its bands, and what is before them.
 writeBin(as.raw(c(1, 2, 2, 3)), file("cells.raw"))
 writeBin(as.raw(c(255, 0, 255, 1)), file("alpha.raw"))
 band <- function(raw, number = 1, type = "Byte", inner = "", bytes = 1) c(
@@ -31,7 +31,7 @@ expect_identical(counts(rast(transparent)), expected)
 expect_identical(counts(rast(transparent)[[1]]), expected)
 expect_identical(counts(rast(transparent)[[2]])$x, c(0L, 1L, 255L))
 expect_identical(as_rows(rcell_grid("", "x", x = transparent)), matrix(c(1, 2, NA, 3), 2))
-# Also if both bands have a nodata value, as those of a TIFF have.
+# Also if both bands have a nodata value, as in a TIFF.
 for (case in list(list(null = 0, x = expected), list(null = 255, x = expected), list(null = 2, x = data.frame(x = c(1L, 3L, NA), cells = c(1L, 1L, 2L))))) {
   inner <- sprintf("<NoDataValue>%d</NoDataValue>", case$null)
   both_bands <- c(band("cells.raw", inner = inner), band("alpha.raw", 2, inner = paste0(inner, "<ColorInterp>Alpha</ColorInterp>")))
@@ -113,7 +113,7 @@ many <- rast(nrows = 269, ncols = 277, xmin = 0, xmax = 277 * 30, ymin = 0, ymax
 expect_identical(rcell_table("r.stats -c input=x", x = many, area = "ha")$area_ha[[1]], 6676.47)
 expect_identical(rcell_patches(many)$area_ha[[1]], 6676.47)
 
-# One default for the map of patches and for their sizes: that of r.clump.
+# One default for the map of patches and for their sizes: r.clump's.
 board <- matrix(c(1, 2, 1, 2, 1, 2, 1, 2, 3), 3)
 expect_equal(max(values(rcell_grid("r.clump input=x output=p", "p", x = board), mat = FALSE)), max(rcell_patches(board)$patch))
 expect_identical(formals(rcell_patches)$connectivity, 4)

@@ -89,7 +89,7 @@ for (name in names(maps)) for (connectivity in c(4, 8)) {
   }
 }
 
-# Rows that are left out change no number; the zone is that of most cells, the smaller of two.
+# Rows that are left out change no number; the zone is where most cells are, the smaller of two.
 all <- rcell_patches(maps$patchy, 8)
 expect_equal(rcell_patches(maps$patchy, 8, least = 30, classes = c(2, 5)), all[all$cells >= 30 & all$class %in% c(2, 5), ], check.attributes = FALSE)
 zones <- made_map(60, 50, 4, seed = 21)

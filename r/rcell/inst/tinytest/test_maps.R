@@ -53,7 +53,7 @@ for (value in c(-2147483648, 4294967295, 1e300, Inf, 0.1)) expect_inherits(bad(v
 scaled <- first
 writeRaster(scaled, file("scaled.tif"), datatype = "INT2S", scale = 0.1)
 expect_true(grepl("^its values are scaled: each cell times 0.1, plus 0", refusal(counts(file("scaled.tif")))$text))
-# Whole numbers of 64 bits are taken, and refused beyond the range. terra reads signed bytes as 0 to 255, and what a mask covers.
+# Whole numbers of 64 bits are taken, and rejected beyond the range. terra reads signed bytes as 0 to 255, and what a mask covers.
 writeRaster(first, file("long.tif"), datatype = "INT8S", NAflag = -9999)
 expect_identical(counts(file("long.tif")), counts(first))
 long <- first
@@ -86,7 +86,7 @@ expect_warning(counts(file("float.tif")), "not exact beyond 16777216")
 writeRaster(first, file("float.tif"), datatype = "FLT4S", overwrite = TRUE)
 expect_silent(counts(file("float.tif")))
 
-# Two layers of one name are two maps of a call, and a raster of two layers is refused.
+# Two layers of one name are two maps of a call, and a raster of two layers is rejected.
 expect_identical(names(rcell_cross(x = first, y = first)), c("x", "y", "cells", "area_ha", "percent"))
 twice <- c(first, first)
 names(twice) <- c("lc", "lc")

@@ -10,7 +10,7 @@ script <- function(name, lines) {
   path
 }
 
-# Which program: the argument, the option, RCELL, that of the package, the path.
+# Which program: the argument, the option, RCELL, the package's, the path.
 mine <- rcell_program()$path
 expect_true(file.exists(mine))
 expect_identical(rcell_program(mine)$path, mine)

@@ -48,6 +48,13 @@ expect_identical(refusal(rcell_patches(lc, classes = 3e9))$text, "classes= are w
 expect_identical(refusal(rcell_patches(lc, least = NA))$text, "least= is a number of cells")
 expect_identical(refusal(rcell_majority(lc, filename = NA))$text, "filename= is one path")
 
+# Paths that are not UTF-8.
+odd <- rawToChar(as.raw(c(0xff, utf8ToInt(".tif"))))
+for (found in list(refusal(rcell_table("r.stats input=m", m = odd)), refusal(rcell_grid("", "lc", lc = lc, filename = odd)),
+  refusal(rcell_composition(lc, labels = odd)), refusal(rcell_composition(lc, zones = odd)))) {
+  expect_identical(found$text, "<ff>.tif: terra takes no path that is not UTF-8: rename the file")
+}
+
 # A script that is too long, also with the line that asks for a map.
 long <- paste(c(rep(paste0("#", strrep("x", 60000)), 17), "#", strrep("#", 28536)), collapse = "\n")
 expect_identical(rcell_run(long, lc = lc), structure(list(), names = character()))

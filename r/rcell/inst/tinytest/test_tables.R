@@ -36,7 +36,7 @@ expect_identical(sum(outputs[[4]]$cells), 10L)
 expect_identical(length(rcell_table("r.stats -c input=lc\nr.stats -c input=zone", lc = lc, zone = zone)), 2L)
 expect_identical(rcell_run("r.mapcalc x = lc", lc = lc), structure(list(), names = character()))
 
-# Labels are joined by the category: those of the raster (terra takes a label `NA` for none), and those of the rules.
+# Labels are joined by the category: the raster's (terra takes a label `NA` for none), and the rules'.
 odd <- c("wood, wet", "a b  c", "tab\there", "pipe|", "quote\"", "#no", "Wiese \u00fc", "n/a", "*", "null", "back\\slash", "'", " in front")
 labelled <- rast(matrix(seq_along(odd), 1), extent = ext(0, 13, 0, 1), crs = "EPSG:32632")
 levels(labelled) <- data.frame(value = seq_along(odd), cover = odd)
@@ -48,7 +48,7 @@ expect_identical(rcell_table("r.reclass input=lc output=k\n1 = 1 NA\n2 = 2   in 
 expect_identical(rownames(rcell_table("r.stats -cnl input=lc,zone", lc = rcell_grid(sub("r.stats.*", "", rules), "kind", lc = lc),
   zone = zone, wide = TRUE)), c("built \u00fcp, mostly", "water"))
 
-# What can't be answered.
+# Errors of the call.
 expect_identical(refusal(rcell_table("r.stats input=lc", lc = lc, area = "ha"))$text, "area= needs a table with cells: r.stats -c")
 expect_identical(refusal(rcell_table("r.stats -c input=lc", lc = lc, area = "acre"))$text, "area= is one of m2, ha, km2, and not acre")
 expect_identical(refusal(rcell_table("r.stats -c input=lc", lc = lc, wide = TRUE))$line, 1L)

@@ -19,7 +19,7 @@ write("a.tif")
 expect_identical(files(), "a.tif")
 expect_equal(as_rows(rast(file("a.tif"))), as_rows(lc) + 1)
 
-# The rights of the file that is replaced stay; a new one has those of any new file.
+# The rights of the file that is replaced stay; a new one has the rights of any new file.
 Sys.chmod(file("a.tif"), "600")
 write("a.tif")
 expect_identical(format(file.mode(file("a.tif"))), "600")

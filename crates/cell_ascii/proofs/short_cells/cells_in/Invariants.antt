@@ -1,9 +1,9 @@
-use Rattle.std.proofs.Common.{◌≡◌, ◌-◌, ◌≤◌, ◌*◌, length, take, drop}
+use Rattle.std.proofs.Common.{◌≡◌, ◌+◌, ◌-◌, ◌≤◌, ◌*◌, length, take, drop}
 use Rattle.cell_ascii.specs.TableWords.{HoldsLines}
 use Rattle.cell_ascii.proofs.short_cells.cells_in.Given as goal
 
-abbrev pub invariant-parts : goal.invariant-parts
-invariant-parts l = record {
+abbrev pub invariant-ways : goal.invariant-ways
+invariant-ways l = record {
   low : l.i ≤ length l.row;
   within : l.passed ≤ length l.buffered;
   cells : HoldsLines l.fn.words l.buffered (take l.i l.row) l.i l.passed l.lines;
@@ -13,5 +13,5 @@ invariant-parts l = record {
   rest : drop l.i l.row ≡ drop l.i l.fn.row;
 }
 
-abbrev pub decreases-parts : goal.decreases-parts
-decreases-parts l = length l.row - l.i
+abbrev pub decreases-ways : goal.decreases-ways
+decreases-ways l = (length l.row - l.i) * 4 + l.tries

@@ -1,4 +1,4 @@
-use Rattle.std.proofs.Common.{◌≡◌, ◌<◌, ◌≤◌, ◌+◌, ◌++◌, ◌∷◌, [], ◌∙◌, arith, length, take, set, length-set}
+use Rattle.std.proofs.Common.{◌≡◌, ◌<◌, ◌≤◌, ◌+◌, ◌-◌, ◌++◌, ◌∷◌, [], ◌∙◌, arith, length, length-drop, length-take, take, drop, set, length-set}
 use Rattle.std.proofs.lemmas.List.{take_more_set, drop-set-lt, take_rest}
 use Rattle.std.proofs.lemmas.Grind.{drop_more_same}
 use Rattle.cell_ascii.specs.parts.BlankRuns.{IsAtBlank}
@@ -8,27 +8,47 @@ use Rattle.cell_ascii.proofs.word_table.block_cells_in.Goals as goal
 use lib.Count.{count_trailing_zeros}
 
 pub overflow_sub-size : goal.overflow_sub-size
-overflow_sub-size c =
+overflow_sub-size g c =
     let buffered : 64 ≤ length c.args.buffered.now = omega arith in
     let some : 0 < c.words.ends = omega (arith, c.words-test.true) in
     (next_end c.args.buffered.now c.words.at c.words.ends buffered some c.words.invariant.ends).behind
 
+pub put_cell-requires : goal.put_cell-requires
+put_cell-requires g c =
+    let bs = c.args.buffered.now in
+    let at = c.words.at in
+    let buffered : 64 ≤ length bs = omega arith in
+    let some : 0 < c.words.ends = omega (arith, c.words-test.true) in
+    let next = next_end bs at c.words.ends buffered some c.words.invariant.ends in
+    let lower : at < count_trailing_zeros 64 c.words.ends = omega (arith, c.if-size-gt0.true) in
+    let rest = length bs - at in
+    let long : length (take rest (drop at bs)) ≡ rest =
+    omega (arith, length-take rest (drop at bs), length-drop at bs) in
+    record {
+      some = omega (arith, lower);
+      within = omega (arith, long, lower, next.few);
+      buffered = omega (arith, long, lower, next.few, c.requires.buffered);
+      room = c.words.invariant.room;
+      known = c.words.invariant.known;
+      place = omega (arith, c.if-i-row.true);
+    }
+
 pub pass_blanks-passed-requires : goal.pass_blanks-passed-requires
-pass_blanks-passed-requires c =
+pass_blanks-passed-requires g c =
     let buffered : 64 ≤ length c.args.buffered.now = omega arith in
     let some : 0 < c.words.ends = omega (arith, c.words-test.true) in
     let next = next_end c.args.buffered.now c.words.at c.words.ends buffered some c.words.invariant.ends in
     omega (arith, next.behind, next.few)
 
 pub words-smaller-then-size-gt0 : goal.words-smaller-then-size-gt0
-words-smaller-then-size-gt0 c =
+words-smaller-then-size-gt0 g c =
     let buffered : 64 ≤ length c.args.buffered.now = omega arith in
     let some : 0 < c.words.ends = omega (arith, c.words-test.true) in
     let next = next_end c.args.buffered.now c.words.at c.words.ends buffered some c.words.invariant.ends in
     omega (arith, next.behind, next.few)
 
 pub words-smaller : goal.words-smaller
-words-smaller c =
+words-smaller g c =
     let bs = c.args.buffered.now in
     let at = c.words.at in
     let buffered : 64 ≤ length bs = omega arith in
@@ -41,7 +61,7 @@ words-smaller c =
     omega (arith, passed.some, passed.few)
 
 pub words-preserved-then-size-gt0 : goal.words-preserved-then-size-gt0
-words-preserved-then-size-gt0 c =
+words-preserved-then-size-gt0 g c =
     let bs = c.args.buffered.now in
     let at = c.words.at in
     let last = c.words.last in
@@ -76,7 +96,7 @@ words-preserved-then-size-gt0 c =
     })
 
 pub words-preserved : goal.words-preserved
-words-preserved c =
+words-preserved g c =
     let bs = c.args.buffered.now in
     let at = c.words.at in
     let buffered : 64 ≤ length bs = omega arith in

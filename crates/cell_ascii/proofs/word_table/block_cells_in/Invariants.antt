@@ -6,7 +6,7 @@ use Rattle.cell_ascii.specs.TableWords.{HoldsLines, IsEntry, blanks, cleared_fro
 use Rattle.cell_ascii.proofs.word_table.block_cells_in.Given as goal
 
 abbrev pub invariant-words : goal.invariant-words
-invariant-words l = record {
+invariant-words g l = record {
   within : l.at ≤ 64;
   behind : l.last ≤ l.at;
   inside : l.last ≤ 63;
@@ -20,4 +20,4 @@ invariant-words l = record {
 }
 
 abbrev pub decreases-words : goal.decreases-words
-decreases-words l = 64 - l.at
+decreases-words g l = 64 - l.at

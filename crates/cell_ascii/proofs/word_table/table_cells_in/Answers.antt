@@ -8,13 +8,13 @@ use Rattle.cell_ascii.proofs.WordLemmas.{HoldsLines-append, newlines-few}
 use Rattle.cell_ascii.proofs.word_table.table_cells_in.Goals as goal
 
 pub overflow_add-lines : goal.overflow_add-lines
-overflow_add-lines c =
+overflow_add-lines g c =
     let buffered = c.args.buffered.now in
     let inside : c.blocks-2.passed ≤ length buffered = c.blocks-2.invariant.within in
     record { fits = omega (arith, c.blocks-2.invariant.fewer, c.if-buffered-passed-ge-LEAST_BUFFERED.true, c.ones_below-lines.ensures.few) }
 
 pub blocks-2-preserved : goal.blocks-2-preserved
-blocks-2-preserved c =
+blocks-2-preserved g c =
     let buffered = c.args.buffered.now in
     let old = c.args.row.now in
     let row = c.blocks-2.row in
@@ -48,7 +48,7 @@ blocks-2-preserved c =
     }
 
 pub returns-then-found-eq0-clause-cells : goal.returns-then-found-eq0-clause-cells
-returns-then-found-eq0-clause-cells c =
+returns-then-found-eq0-clause-cells g c =
     let old = c.args.row.now in
     let row = c.blocks-2.row in
     let i = c.blocks-2.i in

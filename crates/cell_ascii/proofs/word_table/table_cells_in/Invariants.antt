@@ -4,7 +4,7 @@ use Rattle.cell_ascii.specs.TableWords.{HoldsLines, IsEntry}
 use Rattle.cell_ascii.proofs.word_table.table_cells_in.Given as goal
 
 abbrev pub invariant-blocks-2 : goal.invariant-blocks-2
-invariant-blocks-2 l = record {
+invariant-blocks-2 g l = record {
   low : l.i ≤ length l.row;
   within : l.passed ≤ length l.buffered;
   cells : HoldsLines l.header l.buffered (take l.i l.row) l.i l.passed l.lines;
@@ -16,4 +16,4 @@ invariant-blocks-2 l = record {
 }
 
 abbrev pub decreases-blocks-2 : goal.decreases-blocks-2
-decreases-blocks-2 l = length l.row - l.i
+decreases-blocks-2 g l = length l.row - l.i

@@ -9,7 +9,7 @@ use Rattle.cell_calc.proofs.calls.choose_call.Goals as goal
 within : (i more n : ℕ) → i + 1 + more ≤ n → i < n
 within i more n le = omega arith
 
--- what is before the end of a row is before that of one as long
+-- a column before the end of a row is before the end of a row as long
 below_same : (k : ℕ) (new old : List CellValue) → length new ≡ length old → k < length old → k < length new
 below_same k new old e lt = rw e lt
 

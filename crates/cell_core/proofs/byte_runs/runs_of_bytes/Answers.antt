@@ -51,7 +51,7 @@ parts-preserved c =
           ∙ c.parts.invariant.whole;
     }
 
--- all runs, once those of the last bytes are pushed
+-- all runs, once the runs of the last bytes are pushed
 last_pushed : (pushed runs all : List RunValue) (run : RunValue) (last : List CellValue) (others : List ℕ) (at : ℕ)
     → pushed ≡ runs ++ runs_from run last → last ≡ cells_of_bytes (take (length others - at) (drop at others))
     → runs ++ runs_from run (drop at (cells_of_bytes others)) ≡ all → pushed ≡ all

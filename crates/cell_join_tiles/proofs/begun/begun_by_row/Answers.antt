@@ -1,11 +1,12 @@
 use Rattle.std.proofs.Common.{◌≡◌, ◌+◌, ◌<◌, [], length, get_or, ap, sym, ◌∙◌, subst, arith}
 use Rattle.cell_core_values.specs.Region.{RegionValue}
 use Rattle.cell_join_tiles.specs.parts.Greatest.{greatest_in}
-use Rattle.cell_join_tiles.proofs.RiseLemmas.{RisesSoFar, greatest-least, rises-more}
+use Rattle.cell_join_tiles.proofs.GreatestLemmas.{in-least}
+use Rattle.cell_join_tiles.proofs.RiseLemmas.{RisesSoFar, rises-more}
 use Rattle.cell_join_tiles.proofs.begun.begun_by_row.Goals as goal
 
 pub overflow_sub-greatest : goal.overflow_sub-greatest
-overflow_sub-greatest c = omega (arith, c.greatest_in-greatest.ensures, greatest-least c.loop-row.most c.deref.result.now)
+overflow_sub-greatest c = omega (arith, c.greatest_in-greatest.ensures, in-least c.loop-row.most c.deref.result.now)
 
 pub loop-row-preserved : goal.loop-row-preserved
 loop-row-preserved c =

@@ -4,7 +4,8 @@ use Rattle.std.specs.List.{range_with_len}
 use Rattle.cell_core_devices.proofs.BlockLemmas.{appends_cut, appends_none, appends_then}
 use Rattle.cell_core_values.specs.Region.{RegionValue}
 use Rattle.cell_stats_counts.specs.Combinations.{all_combinations, row_combinations}
-use Rattle.cell_stats.proofs.CellsLemmas.{lines, lines-all, lines-more}
+use Rattle.cell_stats.proofs.CellsLemmas.{kept_text, row-more, rows-all}
+use Rattle.cell_stats.specs.TableText.{cell_line}
 use Rattle.cell_stats.proofs.printed_cells.write_cells.Goals as goal
 
 below : {row last rows : ℕ} → row < last → last ≡ rows → row < rows
@@ -16,7 +17,7 @@ at_end within ended same = omega arith
 pub loop-row-preserved : goal.loop-row-preserved
 loop-row-preserved g c =
     record {
-      appends = rw (lines-more c.args.format.now c.args.shelf.now.maps c.args.picks.now c.args.skip c.args.shelf.now.region.cols c.loop-row.row) (appends_then c.loop-row.invariant.appends c.write_cell_lines.ensures);
+      appends = rw (row-more (cell_line c.args.format.now c.args.shelf.now.maps c.args.picks.now) c.args.skip c.args.shelf.now.maps c.args.picks.now c.args.shelf.now.region.cols c.loop-row.row) (appends_then c.loop-row.invariant.appends c.write_cell_lines.ensures);
       cursors = c.write_cell_lines.auto.cursors ∙ c.loop-row.invariant.cursors;
       cells = c.write_cell_lines.auto.cells ∙ c.loop-row.invariant.cells;
     }
@@ -56,9 +57,10 @@ returns-then-has_failed g c =
     let picks = c.args.picks.now in
     let region = c.args.shelf.now.region in
     let row = c.loop-row.row in
-    let text = lines c.args.format.now maps picks c.args.skip in
+    let f = cell_line c.args.format.now maps picks in
+    let text = kept_text f c.args.skip in
     let within = below c.loop-row-test.true (c.rows-row-end.ensures.value ∙ ap (λ (r : RegionValue). r.rows) c.region.ensures.value) in
     let next = text (row_combinations maps picks region.cols row) in
     let rest = text (flat_map (row_combinations maps picks region.cols) (range_with_len (row + 1) (region.rows - (row + 1)))) in
-    let parts = sym (append_assoc (text (all_combinations maps picks row region.cols)) next rest) ∙ lines-all c.args.format.now maps picks c.args.skip region.cols row region.rows within in
+    let parts = sym (append_assoc (text (all_combinations maps picks row region.cols)) next rest) ∙ rows-all f c.args.skip maps picks region.cols row region.rows within in
     rw (← parts) (appends_cut (next ++ rest) c.loop-row.invariant.appends (sym c.has_failed.ensures ∙ c.if-has_failed.true))

@@ -2,7 +2,7 @@ use Rattle.std.proofs.Common.{◌≡◌, ℕ, ◌≤◌, false, true, replicate,
 use Rattle.cell_core_devices.proofs.BlockLemmas.{appends_none, appends_then}
 use Rattle.cell_stats.specs.TableText.{cell_line}
 use Rattle.cell_stats_counts.specs.LeftOut.{is_left_out}
-use Rattle.cell_stats.proofs.CellsLemmas.{lines-left, lines-kept, flat_map-replicate-more}
+use Rattle.cell_stats.proofs.CellsLemmas.{alike-kept, alike-left, flat_map-replicate-more}
 use Rattle.cell_stats.proofs.printed_cells.write_lines.Goals as goal
 
 at_end : {line count : ℕ} → line ≤ count → count ≤ line → line ≡ count
@@ -11,7 +11,8 @@ at_end within ended = omega arith
 pub returns-then-is_left_out : goal.returns-then-is_left_out
 returns-then-is_left_out g c =
     let left : is_left_out c.args.selection.skip c.args.cells.now ≡ true = sym c.is_left_out.ensures ∙ c.if-is_left_out.true in
-    rw (lines-left c.args.format.now c.args.selection.shelf.now.maps c.args.selection.picks.now c.args.selection.skip c.args.cells.now c.args.count left) appends_none
+    let f = cell_line c.args.format.now c.args.selection.shelf.now.maps c.args.selection.picks.now in
+    rw (alike-left f c.args.selection.skip c.args.cells.now c.args.count left) appends_none
 
 pub loop-line-preserved : goal.loop-line-preserved
 loop-line-preserved g c =
@@ -24,5 +25,5 @@ returns g c =
     let kept_in : is_left_out c.args.selection.skip cells ≡ false = sym c.is_left_out.ensures ∙ c.if-is_left_out.false in
     let f = cell_line c.args.format.now c.args.selection.shelf.now.maps c.args.selection.picks.now in
     let last = at_end c.loop-line.auto.line-end c.loop-line-test.false in
-    let whole = ap (λ (n : ℕ). flat_map f (replicate n cells)) last ∙ sym (lines-kept c.args.format.now c.args.selection.shelf.now.maps c.args.selection.picks.now c.args.selection.skip cells c.args.count kept_in) in
+    let whole = ap (λ (n : ℕ). flat_map f (replicate n cells)) last ∙ sym (alike-kept f c.args.selection.skip cells c.args.count kept_in) in
     rw whole at c.loop-line.invariant

@@ -1,4 +1,4 @@
-use Rattle.std.proofs.Common.{◌≡◌, ◌<◌, ◌+◌, ◌^◌, ℕ, List, length, drop, get_or, cond, Bool, arith, ap, sym, ◌∙◌, refl}
+use Rattle.std.proofs.Common.{◌≡◌, ◌<◌, ◌+◌, ◌^◌, ℕ, length, drop, get_or, cond, Bool, arith, ap, sym, ◌∙◌, refl}
 use Rattle.cell_core_values.specs.SmallCells.{byte_cell}
 use Rattle.cell_stats_counts.specs.Combinations.{Combination}
 use Rattle.cell_stats_counts.specs.declared.skip.Skip.{Skip}
@@ -6,7 +6,7 @@ use Rattle.cell_core.specs.Grid.{CellValue}
 use Rattle.cell_stats_counts.specs.LeftOut.{is_left_out}
 use Rattle.cell_stats_counts.specs.parts.Alone.{alone}
 use Rattle.cell_stats_counts.specs.parts.ByteCounts.{sum_counted}
-use Rattle.cell_stats_counts.specs.declared.counting.CountPlace.{CountPlace}
+use Rattle.cell_stats_counts.specs.declared.counting.CountPlaces.{CountPlaces}
 use Rattle.cell_stats_counts.specs.declared.gathered.Gathered.{Gathered}
 use Rattle.cell_stats_counts.specs.parts.HeldPlaces.{total_of, is_same, IsCounting}
 use Rattle.cell_stats_counts.proofs.ByteCountLemmas.{one_counted, cells-sum, length-sum, byte-left, byte-none, byte-more}
@@ -17,7 +17,7 @@ use Rattle.cell_stats_counts.proofs.alone.count_bytes.Goals.{else-count-gt0}
 use Rattle.cell_stats_counts.proofs.alone.count_bytes.Goals.{else-count-gt0-via-then-count-gt0+else-not-is_left_out}
 use Rattle.cell_stats_counts.proofs.alone.count_bytes.Goals.{else-count-gt0-via-else-count-gt0}
 
-same_total : (k : Combination) (places more : List CountPlace) (m n : Gathered) → places ≡ more → m ≡ n
+same_total : (k : Combination) (places more : CountPlaces) (m n : Gathered) → places ≡ more → m ≡ n
     → total_of 1 k places m ≡ total_of 1 k more n
 same_total k places more m n p e = ap (λ q. total_of 1 k q m) p ∙ ap (λ g. total_of 1 k more g) e
 

@@ -2,7 +2,7 @@ use Rattle.std.proofs.Common.{◌≡◌, ◌<◌, ◌*◌, ℕ, min, arith, ◌+
 use Rattle.std.proofs.lemmas.Result.{IfOk-from_err}
 use Rattle.cell_stats_counts.specs.declared.counting.CountPlace.{CountPlace}
 use Rattle.cell_stats_counts.specs.parts.HeldPlaces.{gathered_of}
-use Rattle.cell_stats_counts.specs.parts.HeldPlaces.{total_of}
+use Rattle.cell_stats_counts.specs.parts.HeldPlaces.{wide_total}
 use Rattle.cell_stats_counts.proofs.counting.make_room.Goals as goal
 
 some_places : {items size places more most : ℕ} → 0 < items → size ≡ items → places ≡ size
@@ -14,7 +14,7 @@ returns-clause-ok c = λ k.
     let map = c.flush_all.new.counted in
     ap (λ n. n + gathered_of k map) (c.in_ok-more.ensures.nothing c.args.width k) ∙ zero-add (gathered_of k map)
     ∙ c.in_ok-flush_all.ensures.counts k
-    ∙ ap (λ (p : List CountPlace). total_of c.args.width k p c.args.counted.now) c.as_slice.ensures.value
+    ∙ ap (λ (p : List CountPlace). wide_total c.args.width k p c.args.counted.now) c.as_slice.ensures.value
 
 pub returns-then-not-are_crowded-clause-ok : goal.returns-then-not-are_crowded-clause-ok
 returns-then-not-are_crowded-clause-ok c = λ k. refl

@@ -12,7 +12,7 @@ use Rattle.cell_stats_counts.specs.parts.HeldPlaces.{IsCounting}
 use Rattle.cell_stats_counts.specs.Cursors.{CursorValue, to_come}
 use Rattle.cell_stats_counts.specs.parts.HeldPlaces.{total_of, is_same}
 use Rattle.cell_stats_counts.specs.LeftOut.{kept_cells, is_left_out}
-use Rattle.cell_stats_counts.specs.declared.counting.CountPlace.{CountPlace}
+use Rattle.cell_stats_counts.specs.declared.counting.CountPlaces.{CountPlaces}
 use Rattle.cell_stats_counts.proofs.HeldLemmas.{going_of}
 use Rattle.cell_stats_counts.proofs.WalkLemmas.{alike, alive, passed-on, stretch}
 use Rattle.cell_stats_counts.proofs.WalkLemmas.{count-left, count-more, count_small, all_combinations_more}
@@ -124,7 +124,7 @@ loop-col-preserved c =
     elim joined.branch [
       | then-not-is_left_out+in_ok-add_count w ↦
           let kept_in : is_left_out skip cells ≡ false = sym c.is_left_out.ensures ∙ w.if-not-is_left_out.true in
-          ap (λ (p : List CountPlace). total_of (length picks) k p joined.counted) w.places-is ∙ ap (λ (m : Gathered). total_of (length picks) k w.add_count.new.places m) w.counted-is
+          ap (λ (p : CountPlaces). total_of (length picks) k p joined.counted) w.places-is ∙ ap (λ (m : Gathered). total_of (length picks) k w.add_count.new.places m) w.counted-is
           ∙ ap (λ n. total_of n k w.add_count.new.places w.add_count.new.counted) (sym width)
           ∙ w.in_ok-add_count.ensures.counts k
           ∙ ap (λ n. n + cond (is_same k cells) w.from.result 0) (ap (λ n. total_of n k c.loop-col.places c.loop-col.counted) width ∙ inv.counted k)
@@ -132,7 +132,7 @@ loop-col-preserved c =
           ∙ sym (count-more skip k cells count (base ++ map f (range_with_len 0 col)) kept_in) ∙ ap (λ (l : List Combination). count_of k (kept_cells skip l)) (sym longer)
       | else-not-is_left_out w ↦
           let out : is_left_out skip cells ≡ true = sym c.is_left_out.ensures ∙ w.if-not-is_left_out.false in
-          ap (λ (p : List CountPlace). total_of (length picks) k p joined.counted) w.places-is ∙ ap (λ (m : Gathered). total_of (length picks) k c.loop-col.places m) w.counted-is
+          ap (λ (p : CountPlaces). total_of (length picks) k p joined.counted) w.places-is ∙ ap (λ (m : Gathered). total_of (length picks) k c.loop-col.places m) w.counted-is
           ∙ inv.counted k
           ∙ sym (count-left skip k cells count (base ++ map f (range_with_len 0 col)) out) ∙ ap (λ (l : List Combination). count_of k (kept_cells skip l)) (sym longer)
     ] in

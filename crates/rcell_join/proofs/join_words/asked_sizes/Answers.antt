@@ -1,9 +1,9 @@
 use Rattle.std.proofs.Common.{◌≡◌, ◌≤◌, ◌∙◌, Ok, false, length, ap, sym, subst}
 use Rattle.clap.specs.Walk.{texts}
 use Rattle.cell_core_values.specs.Answers.{◌>>=◌}
-use Rattle.rcell_join.specs.JoinCommandLine.{Sizes, has_hyphen_word}
+use Rattle.rcell_command.specs.CommandWords.{has_hyphen_word}
+use Rattle.rcell_join.specs.JoinCommandLine.{Sizes}
 use Rattle.rcell_join.proofs.CommandLemmas.{sizes_read}
-use Rattle.rcell_join.proofs.WordLemmas.{hyphens_of_texts}
 use Rattle.rcell_join.proofs.join_words.asked_sizes.Goals as goal
 
 pub returns-in-Ok-format_in : goal.returns-in-Ok-format_in
@@ -13,7 +13,7 @@ returns-in-Ok-format_in c =
     let numbering = c.remove-numbering.result in
     let tables = c.remove-numbering.new.self.items in
     let plain : has_hyphen_word words ≡ false =
-    sym (hyphens_of_texts c.args.words.now) ∙ sym c.has_hyphen_word.ensures ∙ c.if-has_hyphen_word.false in
+    sym c.has_hyphen_word.ensures ∙ c.if-has_hyphen_word.false in
     let some : 2 ≤ length found = subst (λ n. 2 ≤ n) (c.len.ensures ∙ c.in-Ok.tables.ok.0) c.if-len-lt2.false in
     sizes_read words found numbering tables plain c.in-Ok.ensures.paths some c.remove-numbering.ensures.value
     c.remove-numbering.ensures.items
@@ -26,7 +26,7 @@ returns c = λ other.
     let numbering = c.remove-numbering.result in
     let tables = c.remove-numbering.new.self.items in
     let plain : has_hyphen_word words ≡ false =
-    sym (hyphens_of_texts c.args.words.now) ∙ sym c.has_hyphen_word.ensures ∙ c.if-has_hyphen_word.false in
+    sym c.has_hyphen_word.ensures ∙ c.if-has_hyphen_word.false in
     let some : 2 ≤ length found = subst (λ n. 2 ≤ n) (c.len.ensures ∙ c.in-Ok.tables.ok.0) c.if-len-lt2.false in
     sizes_read words found numbering tables plain c.in-Ok.ensures.paths some c.remove-numbering.ensures.value
     c.remove-numbering.ensures.items

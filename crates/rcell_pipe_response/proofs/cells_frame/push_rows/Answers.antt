@@ -1,11 +1,11 @@
-use Rattle.std.proofs.Common.{◌≡◌, ◌<◌, ◌≤◌, ◌+◌, ◌-◌, ◌++◌, ℕ, length, flat_map, arith, ap, sym, ◌∙◌, append_assoc}
+use Rattle.std.proofs.Common.{◌≡◌, ◌<◌, ◌≤◌, ◌+◌, ◌-◌, ◌++◌, ℕ, flat_map, arith, ap, sym, ◌∙◌, append_assoc}
 use borrow.Author.Count.{falls}
 use Rattle.std.specs.List.{range_with_len}
 use Rattle.cell_core_devices.proofs.BlockLemmas.{appends_cut, appends_none, appends_then}
 use Rattle.cell_core_values.specs.Region.{RegionValue}
+use Rattle.cell_stats.proofs.CellsLemmas.{row-more, rows-all}
 use Rattle.cell_stats_counts.specs.Combinations.{all_combinations, row_combinations}
 use Rattle.rcell_pipe_response.specs.parts.CellEntries.{entry_bytes, kept_entry_bytes}
-use Rattle.rcell_pipe_response.proofs.CellsLemmas.{row-more, rows-all}
 use Rattle.rcell_pipe_response.proofs.cells_frame.push_rows.Goals as goal
 
 below : {row last rows : ℕ} → row < last → last ≡ rows → row < rows
@@ -19,7 +19,7 @@ loop-row-preserved g c =
     let s = c.args.selection in
     let f = entry_bytes c.args.part s.shelf.now.maps s.picks.now in
     record {
-      appends = rw (row-more f s.shelf.now.maps s.picks.now s.skip s.shelf.now.region.cols c.loop-row.row)
+      appends = rw (row-more f s.skip s.shelf.now.maps s.picks.now s.shelf.now.region.cols c.loop-row.row)
           (appends_then c.loop-row.invariant.appends c.push_row.ensures);
       cursors = c.push_row.auto.cursors ∙ c.loop-row.invariant.cursors;
       cells = c.push_row.auto.cells ∙ c.loop-row.invariant.cells;
@@ -61,6 +61,6 @@ returns-then-has_failed-clause-all g c =
     let next = kept_entry_bytes f s.skip (row_combinations maps picks region.cols row) in
     let rest = kept_entry_bytes f s.skip (flat_map (row_combinations maps picks region.cols) (range_with_len
     (row + 1) (region.rows - (row + 1)))) in
-    let parts = sym (append_assoc (kept_entry_bytes f s.skip (all_combinations maps picks row region.cols)) next rest) ∙ rows-all f maps picks s.skip region.cols row region.rows within in
+    let parts = sym (append_assoc (kept_entry_bytes f s.skip (all_combinations maps picks row region.cols)) next rest) ∙ rows-all f s.skip maps picks region.cols row region.rows within in
     rw (← parts) (appends_cut (next ++ rest) c.loop-row.invariant.appends (sym c.has_failed.ensures
     ∙ c.if-has_failed.true))

@@ -1,9 +1,8 @@
 use Rattle.std.proofs.Common.{◌≡◌, ◌∙◌, Some, List, ℕ, Result, Ok, Err, refl, ap, sym, append-nil}
 use Rattle.std.specs.Prelude.{slice_get}
-use Rattle.std.specs.Result.{OnOk, OnErr}
+use Rattle.std.specs.Result.{OnOk}
 use Rattle.cell_core.specs.Grid.{Grid}
 use Rattle.cell_core.specs.Shelf.{ShelfValue}
-use Rattle.cell_core_devices.proofs.BlockLemmas.{appends_none}
 use Rattle.rcell_script_commands.specs.declared.command.Command.{Command}
 use Rattle.rcell_script_commands.specs.declared.command.Command.TheVariants.{Stats, OutAscii}
 use Rattle.rcell_script_commands.specs.declared.command.StatsOptions.{StatsOptions}
@@ -14,10 +13,6 @@ use Rattle.rcell_pipe_response.proofs.frame_execution.execute_statement.Goals as
 whenever_ok : {T E : Type 0} (r : Result T E) (P : Type 0) → P → OnOk r P
 whenever_ok (Ok x) P p = p
 whenever_ok (Err y) P p = tt
-
-whenever_err : {T E : Type 0} (r : Result T E) (P : Type 0) → P → OnErr r P
-whenever_err (Ok x) P p = tt
-whenever_err (Err y) P p = p
 
 -- the bytes of the frame of r.stats
 stats_command : (shelf : ShelfValue) (line : ℕ) (command : Command) (places : List ℕ) (options : StatsOptions) → command ≡ Stats places options → frame_bytes (stats_frame shelf line places options) ≡ frames_bytes (command_frames shelf line command)
@@ -31,29 +26,8 @@ grid_command shelf line command place null_text name grid is map named = rw (is,
 pub returns-in-Mapcalc-clause-after : goal.returns-in-Mapcalc-clause-after
 returns-in-Mapcalc-clause-after g c = rw c.in-Mapcalc.is c.make_values.ensures.ok
 
-pub returns-in-Mapcalc-clause-ok : goal.returns-in-Mapcalc-clause-ok
-returns-in-Mapcalc-clause-ok g c = rw c.in-Mapcalc.is (whenever_ok c.make_values.result _ appends_none)
-
-pub returns-in-Mapcalc-clause-err : goal.returns-in-Mapcalc-clause-err
-returns-in-Mapcalc-clause-err g c = whenever_err c.make_values.result _ (refl, refl)
-
-pub returns-in-Reclass-clause-after : goal.returns-in-Reclass-clause-after
-returns-in-Reclass-clause-after g c = rw c.in-Reclass.is c.make_classes.ensures.ok
-
-pub returns-in-Reclass-clause-ok : goal.returns-in-Reclass-clause-ok
-returns-in-Reclass-clause-ok g c = rw c.in-Reclass.is (whenever_ok c.make_classes.result _ appends_none)
-
-pub returns-in-Reclass-clause-err : goal.returns-in-Reclass-clause-err
-returns-in-Reclass-clause-err g c = whenever_err c.make_classes.result _ (refl, refl)
-
 pub returns-in-Clump-clause-after : goal.returns-in-Clump-clause-after
 returns-in-Clump-clause-after g c = rw c.in-Clump.is c.make_numbers.ensures.ok
-
-pub returns-in-Clump-clause-ok : goal.returns-in-Clump-clause-ok
-returns-in-Clump-clause-ok g c = rw c.in-Clump.is (whenever_ok c.make_numbers.result _ appends_none)
-
-pub returns-in-Clump-clause-err : goal.returns-in-Clump-clause-err
-returns-in-Clump-clause-err g c = whenever_err c.make_numbers.result _ (refl, refl)
 
 pub returns-in-Stats-clause-after : goal.returns-in-Stats-clause-after
 returns-in-Stats-clause-after g c = whenever_ok c.push_stats.result _ (rw c.in-Stats.is refl)

@@ -11,7 +11,7 @@ use Rattle.rcell_plan_response.proofs.responding.respond_to.Goals as goal
 pub returns-in-Run : goal.returns-in-Run
 returns-in-Run g c =
     ends_more (λ response error. c.read_form.new.feed.known ≡ true
-    → IsResponse (run_request_of (left c.read_form.new.feed)) response error)
+    → IsResponse c.in-Run.form (run_request_of (left c.read_form.new.feed)) response error)
     (λ response error. c.args.feed.now.known ≡ true → IsResponseTo (form_at (left c.args.feed.now)) response error)
     (λ response error is known. rw (c.in-Ok.ensures.1 known, c.in-Run.is) (is (c.in-Ok.ensures.0 ∙ known))) _ _
     _ _ _ c.respond_to_run.ensures

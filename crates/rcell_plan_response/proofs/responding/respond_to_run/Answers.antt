@@ -12,15 +12,16 @@ use Rattle.rcell_plan_response.proofs.responding.respond_to_run.Goals as goal
 pub returns-in-Ok : goal.returns-in-Ok
 returns-in-Ok g c =
     let read = Ok (run_request_value c.in-Ok.request) in
-    ends_more (IsResponse read) (λ response error. c.args.feed.now.known ≡ true
-    → IsResponse (run_request_of (left c.args.feed.now)) response error)
+    ends_more (IsResponse c.args.form read) (λ response error. c.args.feed.now.known ≡ true
+    → IsResponse c.args.form (run_request_of (left c.args.feed.now)) response error)
     (λ response error is known. rw (c.in-Ok.ensures.1 known) is) _ _ _ _ _
     c.run_request.ensures
 
 pub returns-in-Err : goal.returns-in-Err
 returns-in-Err g c =
     ends_as (λ response error. c.args.feed.now.known ≡ true
-    → IsResponse (run_request_of (left c.args.feed.now)) response error) (Some (error_of_stop c.in-Err.stop))
-    (λ known. stopped_run (run_at (left c.args.feed.now)) c.in-Err.stop c.args.feed.now.known c.in-Err.ensures
-    known (run_request_of (left c.args.feed.now)) (λ error is. ap (λ r. r >>= λ run. Ok run.0) is))
+    → IsResponse c.args.form (run_request_of (left c.args.feed.now)) response error)
+    (Some (error_of_stop c.in-Err.stop))
+    (λ known. stopped_run c.args.form (run_at (left c.args.feed.now)) c.in-Err.stop c.args.feed.now.known
+    c.in-Err.ensures known (run_request_of (left c.args.feed.now)) (λ error is. ap (λ r. r >>= λ run. Ok run.0) is))
     (stop_fine c.in-Err.stop) c.reject_stop.ensures

@@ -7,7 +7,7 @@ use Rattle.clap.specs.Walk.{Text, texts}
 use Rattle.rcell_program.specs.declared.refusal.Refusal.{Refusal}
 use Rattle.rcell_program.specs.declared.refusal.Refusal.TheVariants.{GridWord, Memory}
 use Rattle.rcell_program.specs.CommandLine.{first_bad, grid_words, is_grid_argument}
-use Rattle.rcell_program.proofs.ParseLemmas.{first_bad_next, grid_words_more, when_ok, made_reported}
+use Rattle.rcell_program.proofs.WordLemmas.{first_bad_next, grid_words_more, when_ok, made_reported}
 use borrow.Author.Count.{falls}
 use Rattle.rcell_program.proofs.command_words.grids_of.Goals as goal
 

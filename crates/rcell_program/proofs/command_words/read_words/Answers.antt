@@ -1,46 +1,60 @@
-use Rattle.std.proofs.Common.{rules, refl, ap, sym, ◌≡◌, ◌≢◌, ◌∙◌, ◌∷◌, List, Some, drop, map, option_map}
+use Rattle.std.proofs.Common.{Bor, refl, ap, sym, ◌≡◌, ◌∙◌, ◌∷◌, List, Some, drop, false, map, option_map, true}
 use Rattle.std.specs.String.{string_bytes}
 use Rattle.std.proofs.lemmas.Result.{err_from_is_err_and}
 use Rattle.clap.specs.Walk.{Text, texts}
-use Rattle.rcell_program.specs.CommandLine.{first_bad, refusal_of}
-use Rattle.rcell_program.specs.declared.refusal.Refusal.TheVariants.{GridWord, Memory}
-use Rattle.rcell_program.proofs.ParseLemmas.{later_flags}
+use Rattle.rcell_command.specs.CommandWords.{has_hyphen_word, is_command}
+use Rattle.rcell_program.specs.CommandLine.{first_bad, is_misuse, refusal_of}
+use Rattle.rcell_program.specs.declared.refusal.Refusal.TheVariants.{GridWord}
+use Rattle.rcell_program.proofs.WordLemmas.{flagged, too_few, well_used}
 use Rattle.rcell_program.proofs.command_words.read_words.Goals as goal
+
+-- why words are rejected that are a script and these grids, none with a hyphen in front
+used_well : (words : List Text) (script : Text) (grids : List Text) → words ≡ script ∷ grids → is_command words ≡ true
+    → false ≡ has_hyphen_word grids → refusal_of words ≡ option_map (λ place. GridWord place) (first_bad 2 grids)
+used_well words script grids all good plain =
+    let none : is_misuse (script ∷ grids) ≡ false =
+    well_used script grids (ap is_command (sym all) ∙ good) (sym plain) in
+    ap refusal_of all ∙ rw none refl
+
+pub returns-in-Err-clause-refused : goal.returns-in-Err-clause-refused
+returns-in-Err-clause-refused c = λ other.
+    let is = c.in-Err.ensures.refused other in
+    rw (too_few (drop 1 (map string_bytes c.args.words.now)) is.1, is.0) refl
 
 pub returns-then-has_hyphen_word-clause-refused : goal.returns-then-has_hyphen_word-clause-refused
 returns-then-has_hyphen_word-clause-refused c = λ other.
-    let flagged =
-    later_flags _ _ _ c.in-Some.ensures.cases.0 ∙ sym c.has_hyphen_word.ensures ∙ c.if-has_hyphen_word.true in
-    rw flagged refl
+    let script = c.in-Ok.found.0.now in
+    let grids = c.as_slice-grids.result.now in
+    let all = c.in-Ok.ensures.found
+    ∙ ap (λ (lent : List (Bor Text)). script ∷ texts lent) (sym c.as_slice-grids.ensures.value) in
+    let misuse = ap is_misuse all
+    ∙ flagged script (texts grids) (sym c.has_hyphen_word.ensures ∙ c.if-has_hyphen_word.true) in
+    rw misuse refl
 
 pub returns-in_err-names-clause-refused : goal.returns-in_err-names-clause-refused
 returns-in_err-names-clause-refused c =
-    let words = drop 1 (map string_bytes c.args.words.now) in
-    let plain = later_flags _ _ _ c.in-Some.ensures.cases.0 ∙ sym c.has_hyphen_word.ensures
-    ∙ c.if-has_hyphen_word.false in
-    let script_is = sym c.get_str.ensures ∙ ap (option_map (λ script. script.now)) c.in_ok-script.ensures.ok_part in
-    let grids_are = sym c.get_strs.ensures ∙ ap (option_map (λ grids. texts grids.now)) c.in_ok-grids.ensures.ok_part in
-    let all = c.in_ok-matches.ensures.found.all _ _ plain script_is grids_are in
-    let are : refusal_of words ≡ option_map (λ place. GridWord place) (first_bad 2 (texts c.in_ok-grids.grids.now)) =
-    rw (all.1) (ap (λ (later : List Text). option_map (λ place. GridWord place) (first_bad 2 (drop 1 later))) all.0) in
-    let p = err_from_is_err_and c.from_residual-in_err-names.result c.from_residual-in_err-names.ensures.1 in
+    let script = c.in-Ok.found.0.now in
+    let grids = c.as_slice-grids.result.now in
+    let all = c.in-Ok.ensures.found
+    ∙ ap (λ (lent : List (Bor Text)). script ∷ texts lent) (sym c.as_slice-grids.ensures.value) in
+    let are = used_well (drop 1 (map string_bytes c.args.words.now)) script (texts grids) all c.in-Ok.ensures.good
+    (sym c.if-has_hyphen_word.false ∙ c.has_hyphen_word.ensures) in
+    let p = err_from_is_err_and c.from_residual.result c.from_residual.ensures.1 in
     rw (p.1, p.2) (λ other. are ∙ c.in_err-names.ensures.bad other)
 
 pub returns-clause-asked : goal.returns-clause-asked
 returns-clause-asked c =
-    let plain = later_flags _ _ _ c.in-Some.ensures.cases.0 ∙ sym c.has_hyphen_word.ensures
-    ∙ c.if-has_hyphen_word.false in
-    let script_is = sym c.get_str.ensures ∙ ap (option_map (λ script. script.now)) c.in_ok-script.ensures.ok_part in
-    let grids_are = sym c.get_strs.ensures ∙ ap (option_map (λ grids. texts grids.now)) c.in_ok-grids.ensures.ok_part in
-    (c.in_ok-matches.ensures.found.all _ _ plain script_is grids_are).0
-    ∙ ap (λ (grids : List Text). c.in_ok-script.script.now ∷ grids) (sym c.in_ok-names.ensures.words)
+    let script = c.in-Ok.found.0.now in
+    let all = c.in-Ok.ensures.found
+    ∙ ap (λ (lent : List (Bor Text)). script ∷ texts lent) (sym c.as_slice-grids.ensures.value) in
+    all ∙ ap (λ (grids : List Text). script ∷ grids) (sym c.in_ok-names.ensures.words)
 
 pub returns-clause-refused : goal.returns-clause-refused
 returns-clause-refused c =
-    let plain = later_flags _ _ _ c.in-Some.ensures.cases.0 ∙ sym c.has_hyphen_word.ensures
-    ∙ c.if-has_hyphen_word.false in
-    let script_is = sym c.get_str.ensures ∙ ap (option_map (λ script. script.now)) c.in_ok-script.ensures.ok_part in
-    let grids_are = sym c.get_strs.ensures ∙ ap (option_map (λ grids. texts grids.now)) c.in_ok-grids.ensures.ok_part in
-    let all = c.in_ok-matches.ensures.found.all _ _ plain script_is grids_are in
-    rw (all.1) (ap (λ (later : List Text). option_map (λ place. GridWord place) (first_bad 2 (drop 1 later))) all.0
-    ∙ ap (option_map (λ place. GridWord place)) c.in_ok-names.ensures.good)
+    let script = c.in-Ok.found.0.now in
+    let grids = c.as_slice-grids.result.now in
+    let all = c.in-Ok.ensures.found
+    ∙ ap (λ (lent : List (Bor Text)). script ∷ texts lent) (sym c.as_slice-grids.ensures.value) in
+    used_well (drop 1 (map string_bytes c.args.words.now)) script (texts grids) all c.in-Ok.ensures.good
+    (sym c.if-has_hyphen_word.false ∙ c.has_hyphen_word.ensures)
+    ∙ ap (option_map (λ place. GridWord place)) c.in_ok-names.ensures.good

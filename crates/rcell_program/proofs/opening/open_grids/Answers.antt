@@ -6,7 +6,7 @@ use Rattle.cell_core_devices.specs.declared.source.Asked.TheVariants.{Going}
 use Rattle.rcell_program.specs.Refusals.{IsOfOpening}
 use Rattle.rcell_program.specs.declared.refusal.Refusal.{Refusal}
 use Rattle.rcell_program.specs.declared.refusal.Refusal.TheVariants.{Usage, GridWord, Memory, ScriptFile, GridFile}
-use Rattle.rcell_program.proofs.ParseLemmas.{when_ok, made_reported}
+use Rattle.rcell_program.proofs.WordLemmas.{when_ok, made_reported}
 use borrow.Author.Count.{falls}
 use Rattle.rcell_program.proofs.opening.open_grids.Goals as goal
 

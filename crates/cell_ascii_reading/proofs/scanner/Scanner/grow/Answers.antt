@@ -8,7 +8,8 @@ use Rattle.cell_ascii_meaning.specs.GridTokens.{word_from, grid_fault}
 use Rattle.cell_ascii_reading.specs.Scan.{Scan, part_seen}
 use Rattle.cell_ascii_reading.specs.Ahead.{Ahead, bytes_to_come}
 use Rattle.cell_ascii_meaning.specs.declared.grid_fault.GridKind.TheVariants.{Read, LongToken}
-use Rattle.cell_ascii_reading.proofs.StartLemmas.{at_byte, past_byte, at_end, word-ends, word-fails, word-stops, word-long, word-more}
+use Rattle.cell_ascii_meaning.proofs.TokenLemmas.{word-ends, word-fails, word-stops, word-long, word-more}
+use Rattle.cell_ascii_reading.proofs.ComingLemmas.{at_byte, past_byte, at_end}
 use Rattle.cell_ascii_reading.proofs.scanner.Scanner.grow.Goals as goal
 
 -- what fails has no answer

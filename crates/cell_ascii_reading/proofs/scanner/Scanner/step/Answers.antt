@@ -8,7 +8,7 @@ use Rattle.cell_ascii_reading.specs.Ahead.{bytes_to_come}
 use Rattle.cell_ascii_reading.specs.Scan.{Scan}
 use Rattle.cell_ascii_reading.specs.declared.scanner.ScanStep.TheVariants.{Blank, Feed, Word, End}
 use Rattle.cell_ascii_meaning.specs.declared.grid_fault.GridKind.TheVariants.{Read, ReaderStuck}
-use Rattle.cell_ascii_reading.proofs.StartLemmas.{at_byte, past_byte, at_end}
+use Rattle.cell_ascii_reading.proofs.ComingLemmas.{at_byte, past_byte, at_end}
 use Rattle.cell_ascii_reading.proofs.StepLemmas.{has_room, no_room, step-byte, step-ends, step-fails}
 use Rattle.cell_ascii_reading.proofs.scanner.Scanner.step.Goals as goal
 

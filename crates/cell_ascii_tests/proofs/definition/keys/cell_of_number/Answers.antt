@@ -1,18 +1,14 @@
-use Rattle.std.proofs.Common.{◌≡◌, ℤ, pos, negsuc, Bool, true, false, sym, ◌∙◌, arith, Option, Some, None, Ok, Err, ◌≤◌, w64, refl}
+use Rattle.std.proofs.Common.{◌≡◌, ℤ, Bool, true, false, sym, ◌∙◌, arith, Option, Some, None, Ok, Err, ◌≤◌, w64, refl}
 use Rattle.std.specs.Prelude.{◌*ℤ◌, if◌then◌else◌}
 use Rattle.std.specs.Option.{ok_or}
 use Rattle.std.specs.Int.RustNames.{FitsSigned, unsigned_abs}
 use Rattle.std.proofs.lemmas.Int.{ints, to_z-of_z, fits_signed_mul}
-use Rattle.std.proofs.lemmas.Bool.Decides.{nat_tests}
 use Rattle.cell_core.specs.Grid.{CellValue}
 use Rattle.cell_ascii_meaning.specs.EdgeNumbers.{is_in_range}
 use Rattle.cell_ascii_meaning.specs.CellTexts.{cell_of_number}
 use Rattle.cell_ascii_meaning.specs.declared.grid_fault.GridKind.TheVariants.{CellRange}
+use Rattle.cell_ascii_reading.proofs.NumberLemmas.{number_small}
 use Rattle.cell_ascii_tests.proofs.definition.keys.cell_of_number.Goals as goal
-
-abs_in : (n : ℤ) → is_in_range n ≡ true → unsigned_abs n ≤ 2147483647
-abs_in (pos k) e = grind (arith, nat_tests)
-abs_in (negsuc k) e = grind (arith, nat_tests)
 
 -- a cell where there is one, else the fault of the range
 or_range : (b : Bool) (cell : CellValue) → ok_or (if b then Some cell else None) CellRange ≡ (if b then Ok cell else Err CellRange)
@@ -31,6 +27,6 @@ returns c =
     let multiplier_fits = c.ranges.multiplier in
     let near : is_in_range n ≡ true = sym (simp to_z-of_z at c.is_in_range.ensures) ∙ c.if-not-is_in_range.false in
     let small : unsigned_abs m ≤ 2147483648 = omega (arith, ints) in
-    let product_fits = fits_signed_mul w64 n m 2147483647 2147483648 (abs_in n near) small (omega arith) in
+    let product_fits = fits_signed_mul w64 n m 2147483647 2147483648 (number_small n near) small (omega arith) in
     let wide : FitsSigned w64 m = record { sfits = omega (arith, multiplier_fits.sfits) } in
     c.ok_or.ensures.value ∙ by_product m n c.category.result near (simp to_z-of_z at c.category.ensures)

@@ -9,7 +9,7 @@ use Rattle.cell_core_values.specs.declared.region.RegionFault.TheVariants.{BadEx
 use Rattle.cell_core_values.proofs.region.Region.new.Goals as goal
 use Rattle.cell_core_values.proofs.region.Region.new.Goals.{then-not-is_above-via-then-not-is_above, then-not-is_above-via-else-not-is_above+then-not-is_above-2}
 
--- the first fault by what the tests say
+-- the first error by what the tests say
 abbrev fault_by : RegionValue → Bool → Bool → Bool → Bool → Bool → Result RegionValue RegionFault
 fault_by e high wide rows cols cells =
     if not (high && wide) then Err BadExtent

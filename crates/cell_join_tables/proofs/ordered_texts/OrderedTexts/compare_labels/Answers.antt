@@ -5,32 +5,24 @@ use Rattle.cell_join_tables.specs.parts.LabelSteps.{AgreeInFront, is_other}
 use Rattle.cell_join_tables.proofs.OrderedLabelLemmas.{all-agree, first-labels, line-here, none-begins, stops-here}
 use Rattle.cell_join_tables.proofs.ordered_texts.OrderedTexts.compare_labels.Goals as goal
 
-pub returns-in_default-head-clause-agree : goal.returns-in_default-head-clause-agree
-returns-in_default-head-clause-agree g c =
-    let i = c.self.inside in
-    let texts = i.texts.items in
-    let order = i.order.items in
+pub returns-in_default-head : goal.returns-in_default-head
+returns-in_default-head g c =
+    let texts = c.self.inside.texts.items in
     let place = c.in-Some.first.now in
     let x = c.index-texts-first.result in
     let is = c.in-Some.ensures.value ∙ ap (λ xs. slice_get xs 0) c.as_slice.ensures.value in
     let at = c.index-texts-first.is ∙ ap (λ (ts : List TextValue). get_or ts place x) c.as_slice-texts.ensures.value in
-    rw (← c.self.view_is) (λ e entry begins. absurd (none-begins c.args.format.now texts order c.self.invariant place is x at
-    (sym c.head.ensures ∙ c.in_default-head.is) entry begins))
+    let none = none-begins c.args.format.now texts c.self.inside.order.items c.self.invariant place is x at
+    (sym c.head.ensures ∙ c.in_default-head.is) in
+    rw (← c.self.view_is) (record {
+      agree = λ e entry begins. absurd (none entry begins);
+      own = λ e entry begins. absurd (none entry begins);
+      other = tt;
+      memory = tt;
+    })
 
-pub returns-in_default-head-clause-own : goal.returns-in_default-head-clause-own
-returns-in_default-head-clause-own g c =
-    let i = c.self.inside in
-    let texts = i.texts.items in
-    let order = i.order.items in
-    let place = c.in-Some.first.now in
-    let x = c.index-texts-first.result in
-    let is = c.in-Some.ensures.value ∙ ap (λ xs. slice_get xs 0) c.as_slice.ensures.value in
-    let at = c.index-texts-first.is ∙ ap (λ (ts : List TextValue). get_or ts place x) c.as_slice-texts.ensures.value in
-    rw (← c.self.view_is) (λ e entry begins. absurd (none-begins c.args.format.now texts order c.self.invariant place is x at
-    (sym c.head.ensures ∙ c.in_default-head.is) entry begins))
-
-pub returns-in_default-other_at-clause-agree : goal.returns-in_default-other_at-clause-agree
-returns-in_default-other_at-clause-agree g c =
+pub returns-in_default-other_at : goal.returns-in_default-other_at
+returns-in_default-other_at g c =
     let i = c.self.inside in
     let texts = i.texts.items in
     let order = i.order.items in
@@ -51,27 +43,14 @@ returns-in_default-other_at-clause-agree g c =
     (subst (λ (ts : List TextValue). AgreeInFront format k c.deref.result.now ts order) c.as_slice-texts.ensures.value
     (subst (λ (ps : List ℕ). AgreeInFront format k c.deref.result.now c.as_slice-texts.result.now ps) c.as_slice-2.ensures.value
     (c.other_at.ensures.none c.in_default-other_at.is))) in
-    rw (← c.self.view_is) (λ e entry begins. all-agree format texts order c.self.invariant place is x at
-    (k, c.in-Some-head.field-0-1) has items own front entry begins)
-
-pub returns-in_default-other_at-clause-own : goal.returns-in_default-other_at-clause-own
-returns-in_default-other_at-clause-own g c =
-    let i = c.self.inside in
-    let texts = i.texts.items in
-    let order = i.order.items in
-    let place = c.in-Some.first.now in
-    let x = c.index-texts-first.result in
-    let is = c.in-Some.ensures.value ∙ ap (λ xs. slice_get xs 0) c.as_slice.ensures.value in
-    let at = c.index-texts-first.is ∙ ap (λ (ts : List TextValue). get_or ts place x) c.as_slice-texts.ensures.value in
-    let format = c.args.format.now in
-    let k = c.in-Some-head.combo in
-    let items = c.extend_from_slice.new.self.items in
-    let has = sym c.head.ensures ∙ c.in-Some-head.is in
-    let own : items ≡ before_count format.separator x.line = c.in-Ok.ensures.items
-    ∙ ap (λ xs. xs ++ c.before_count.result.now) c.clear.ensures.items ∙ c.before_count.ensures
-    ∙ ap (λ b. before_count b x.line) c.separator.ensures in
-    rw (← c.self.view_is) (λ e entry begins. first-labels format texts order c.self.invariant place is x at
-    (k, c.in-Some-head.field-0-1) has items own entry begins)
+    rw (← c.self.view_is) (record {
+      agree = λ e entry begins. all-agree format texts order c.self.invariant place is x at
+          (k, c.in-Some-head.field-0-1) has items own front entry begins;
+      own = λ e entry begins. first-labels format texts order c.self.invariant place is x at
+          (k, c.in-Some-head.field-0-1) has items own entry begins;
+      other = tt;
+      memory = tt;
+    })
 
 pub returns-in-Ok-other_label-clause-other : goal.returns-in-Ok-other_label-clause-other
 returns-in-Ok-other_label-clause-other g c =

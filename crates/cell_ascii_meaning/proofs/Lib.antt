@@ -1,0 +1,2 @@
+-- Lemmas on the words and blanks of a grid text.
+pub mod TokenLemmas

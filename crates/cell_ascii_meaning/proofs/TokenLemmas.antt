@@ -1,0 +1,172 @@
+-- The next word, what ends the blanks of a line, and the rest of a word, one byte further.
+use Rattle.std.proofs.Common.{◌≡◌, ℕ, suc, ◌+◌, ◌-◌, ◌<◌, ◌≤◌, List, [], ◌∷◌, ◌++◌, ◌==◌, Bool, true, false, cond}
+use Rattle.std.proofs.Common.{drop, take, length, refl, ap, sym, ◌∙◌, arith, if◌then◌else◌, append-nil, append_assoc}
+use Rattle.std.proofs.Common.{length-append, Ok, Err, Result, not, ◌&&◌, ◌||◌}
+use Rattle.std.specs.List.{prefix_len}
+use Rattle.std.specs.Prelude.{nat_lt}
+use Rattle.std.proofs.lemmas.List.Sums.{sum_by-append}
+use Rattle.std.proofs.lemmas.Bool.Decides.{nat_tests}
+use Rattle.cell_core_devices.specs.Device.{Coming}
+use Rattle.cell_ascii_meaning.specs.GridTokens.{Start, Begins, Ends, Stops, grid_start, start_at, is_space}
+use Rattle.cell_ascii_meaning.specs.GridTokens.{is_word_byte, newlines, grid_fault, word_from, word_end}
+use Rattle.cell_ascii_meaning.specs.Header.{Gap, Word, Feed, Last, Fault, gap_of, gap_at, is_grid_blank}
+use Rattle.cell_ascii_meaning.specs.declared.grid_fault.GridFault.{GridFault}
+use Rattle.cell_ascii_meaning.specs.declared.grid_fault.GridKind.TheVariants.{Read, ReaderStuck, LongToken}
+
+-- these bytes, and then the end or a failure
+abbrev pub coming : List ℕ → Bool → Coming
+coming bs f = record { bytes = bs; fails = f }
+
+-- The next word, one byte further.
+abbrev parts : Bool → ℕ → ℕ → List ℕ → Bool → Start
+parts stuck at_fault at_start rest f =
+    if stuck then Stops (grid_fault ReaderStuck at_fault) else start_at at_start rest f
+
+prefix_more : (b : ℕ) (bs : List ℕ) → is_space b ≡ true
+    → prefix_len is_space (b ∷ bs) ≡ suc (prefix_len is_space bs)
+prefix_more b bs space = ap (λ (t : Bool). cond t (1 + prefix_len is_space bs) 0) space ∙ omega arith
+
+less_more : (run : ℕ) → run < 1048576 → 1048576 - run ≡ suc (1048576 - (run + 1))
+less_more run room = omega arith
+
+newlines_more : (line b : ℕ) (bs : List ℕ) → line + newlines (b ∷ bs) ≡ line + cond (b == 10) 1 0 + newlines bs
+newlines_more line b bs = omega (arith, sum_by-append (λ (x : ℕ). cond (x == 10) 1 0) (b ∷ []) bs)
+
+pub no_feed : (b : ℕ) → is_space b ≡ false → (b == 10) ≡ false
+no_feed b e = by (b == 32) (b == 9) (b == 13) (b == 10) e
+  where
+    by : (s t r f : Bool) → ((s || t) || (r || f)) ≡ false → f ≡ false
+    by true t r f e = cc
+    by false true r f e = cc
+    by false false true f e = cc
+    by false false false f e = e
+
+pub feed_space : (b : ℕ) → (b == 10) ≡ true → is_space b ≡ true
+feed_space b e = by (b == 32) (b == 9) (b == 13) (b == 10) e
+  where
+    by : (s t r f : Bool) → f ≡ true → ((s || t) || (r || f)) ≡ true
+    by true t r f e = refl
+    by false true r f e = refl
+    by false false true f e = refl
+    by false false false f e = e
+
+module _ (line run : ℕ) (low : run ≤ 1048576) where
+  pub start-ends : grid_start line run (coming [] false) ≡ Ends line
+  unfolding grid_start
+  start-ends = grind (arith, nat_tests)
+
+  pub start-fails : grid_start line run (coming [] true) ≡ Stops (grid_fault Read line)
+  unfolding grid_start
+  start-fails = grind (arith, nat_tests)
+
+  pub start-begins : (b : ℕ) (bs : List ℕ) (f : Bool) → is_space b ≡ false
+      → grid_start line run (coming (b ∷ bs) f) ≡ Begins line (coming (b ∷ bs) f)
+  unfolding grid_start
+  start-begins b bs f word = grind (arith, nat_tests)
+
+  pub start-stuck : (b : ℕ) (bs : List ℕ) (f : Bool) → is_space b ≡ true → 1048576 ≤ run
+      → grid_start line run (coming (b ∷ bs) f) ≡ Stops (grid_fault ReaderStuck line)
+  unfolding grid_start
+  start-stuck b bs f space full = grind (arith, nat_tests)
+
+  pub start-more : (b : ℕ) (bs : List ℕ) (f : Bool) → is_space b ≡ true → run < 1048576
+      → grid_start line run (coming (b ∷ bs) f) ≡ grid_start (line + cond (b == 10) 1 0) (run + 1) (coming bs f)
+  unfolding grid_start
+  start-more b bs f space room =
+      let gap = prefix_len is_space bs in
+      let longer : prefix_len is_space (b ∷ bs) ≡ suc gap = prefix_more b bs space in
+      let tests : nat_lt 1048576 (run + suc gap)
+      ≡ nat_lt 1048576 (run + 1 + gap) = ap (nat_lt 1048576) (omega arith) in
+      let stuck : line + newlines (take (1048576 - run) (b ∷ bs))
+      ≡ line + cond (b == 10) 1 0 + newlines (take (1048576 - (run + 1)) bs) =
+      rw (less_more run room) (newlines_more line b (take (1048576 - (run + 1)) bs)) in
+      ap (λ (n : ℕ). parts (nat_lt 1048576 (run + n)) (line + newlines (take (1048576 - run) (b ∷ bs)))
+      (line + newlines (take n (b ∷ bs))) (drop n (b ∷ bs)) f) longer
+      ∙ (λ i. parts (tests i) (stuck i) (newlines_more line b (take gap bs) i) (drop gap bs) f)
+
+  -- the line after the byte, by whatever name
+  pub start-next : (b m : ℕ) (bs : List ℕ) (f : Bool) → is_space b ≡ true → run < 1048576
+      → line + cond (b == 10) 1 0 ≡ m
+      → grid_start line run (coming (b ∷ bs) f) ≡ grid_start m (run + 1) (coming bs f)
+  start-next b m bs f space room e = start-more b bs f space room
+      ∙ ap (λ (l : ℕ). grid_start l (run + 1) (coming bs f)) e
+
+  -- What ends the blanks of a line, one byte further.
+  abbrev gap_parts : Bool → ℕ → List ℕ → Bool → Gap
+  gap_parts stuck at rest f = if stuck then Fault (grid_fault ReaderStuck line) else gap_at line at rest f
+
+  pub gap-ends : gap_of line run (coming [] false) ≡ Last
+  unfolding gap_of
+  gap-ends = grind (arith, nat_tests)
+
+  pub gap-fails : gap_of line run (coming [] true) ≡ Fault (grid_fault Read line)
+  unfolding gap_of
+  gap-fails = grind (arith, nat_tests)
+
+  pub gap-word : (b : ℕ) (bs : List ℕ) (f : Bool) → is_space b ≡ false
+      → gap_of line run (coming (b ∷ bs) f) ≡ Word (coming (b ∷ bs) f)
+  unfolding gap_of
+  gap-word b bs f word = let e = no_feed b word in grind (arith, nat_tests)
+
+  pub gap-feed : (b : ℕ) (bs : List ℕ) (f : Bool) → (b == 10) ≡ true → run < 1048576
+      → gap_of line run (coming (b ∷ bs) f) ≡ Feed (run + 1) (coming bs f)
+  unfolding gap_of
+  gap-feed b bs f feed room = let e = feed_space b feed in grind (arith, nat_tests)
+
+  full_gap : (b : ℕ) (bs : List ℕ) (f feed : Bool) → is_space b ≡ true → (b == 10) ≡ feed → 1048576 ≤ run
+      → gap_of line run (coming (b ∷ bs) f) ≡ Fault (grid_fault ReaderStuck line)
+  unfolding gap_of
+  full_gap b bs f true space e full = grind (arith, nat_tests)
+  full_gap b bs f false space e full = grind (arith, nat_tests)
+
+  pub gap-stuck : (b : ℕ) (bs : List ℕ) (f : Bool) → is_space b ≡ true → 1048576 ≤ run
+      → gap_of line run (coming (b ∷ bs) f) ≡ Fault (grid_fault ReaderStuck line)
+  gap-stuck b bs f space full = full_gap b bs f (b == 10) space refl full
+
+  pub gap-more : (b : ℕ) (bs : List ℕ) (f : Bool) → is_space b ≡ true → (b == 10) ≡ false
+      → gap_of line run (coming (b ∷ bs) f) ≡ gap_of line (run + 1) (coming bs f)
+  unfolding gap_of
+  gap-more b bs f space blank =
+      let gap = prefix_len is_grid_blank bs in
+      let longer : prefix_len is_grid_blank (b ∷ bs) ≡ suc gap = (λ i. cond (space i && not (blank i)) (1 + gap) 0)
+      ∙ omega arith in
+      let count : run + suc gap ≡ run + 1 + gap = omega arith in
+      ap (λ (n : ℕ). gap_parts (nat_lt 1048576 (run + n)) (run + n) (drop n (b ∷ bs)) f) longer
+      ∙ (λ i. gap_parts (nat_lt 1048576 (count i)) (count i) (drop gap bs) f)
+
+-- The rest of a word, one byte further.
+module _ (line : ℕ) (front : List ℕ) (short : length front ≤ 64) where
+  abbrev word_parts : Bool → List ℕ → List ℕ → Bool → Result (List ℕ × Coming) GridFault
+  word_parts long word rest f = if long then Err (grid_fault LongToken line) else word_end line word rest f
+
+  pub word-ends : word_from line front (coming [] false) ≡ Ok (front, coming [] false)
+  unfolding word_from
+  word-ends = grind (arith, nat_tests, append-nil)
+
+  pub word-fails : word_from line front (coming [] true) ≡ Err (grid_fault Read line)
+  unfolding word_from
+  word-fails = grind (arith, nat_tests)
+
+  pub word-stops : (b : ℕ) (bs : List ℕ) (f : Bool) → is_space b ≡ true
+      → word_from line front (coming (b ∷ bs) f) ≡ Ok (front, coming (b ∷ bs) f)
+  unfolding word_from
+  word-stops b bs f space = grind (arith, nat_tests, append-nil)
+
+  pub word-long : (b : ℕ) (bs : List ℕ) (f : Bool) → is_space b ≡ false → 64 ≤ length front
+      → word_from line front (coming (b ∷ bs) f) ≡ Err (grid_fault LongToken line)
+  unfolding word_from
+  word-long b bs f word full = grind (arith, nat_tests)
+
+  pub word-more : (b : ℕ) (bs : List ℕ) (f : Bool) → is_space b ≡ false
+      → word_from line front (coming (b ∷ bs) f) ≡ word_from line (front ++ b ∷ []) (coming bs f)
+  unfolding word_from
+  word-more b bs f word =
+      let more = prefix_len is_word_byte bs in
+      let longer : prefix_len is_word_byte (b ∷ bs) ≡ suc more = ap (λ (t : Bool). cond (not t) (1 + more) 0) word
+      ∙ omega arith in
+      let count : length front + suc more
+      ≡ length (front ++ b ∷ []) + more = omega (arith, length-append front (b ∷ [])) in
+      let whole : front ++ (b ∷ take more bs)
+      ≡ (front ++ b ∷ []) ++ take more bs = sym (append_assoc front (b ∷ []) (take more bs)) in
+      ap (λ (n : ℕ). word_parts (nat_lt 64 (length front + n)) (front ++ take n (b ∷ bs)) (drop n (b ∷ bs)) f) longer
+      ∙ (λ i. word_parts (nat_lt 64 (count i)) (whole i) (drop more bs) f)

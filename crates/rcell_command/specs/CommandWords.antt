@@ -1,0 +1,18 @@
+-- The words of a command line (profile).
+use Rattle.std.specs.Prelude.{ℕ, Bool, not, List, [], ◌∷◌, ◌==◌, false, codes}
+use Rattle.std.specs.List.{list_any}
+use Rattle.cell_core_values.specs.Letters.{byte}
+
+-- a word that begins with a hyphen
+abbrev pub begins_with_hyphen : List ℕ → Bool
+begins_with_hyphen [] = false
+begins_with_hyphen (b ∷ rest) = b == byte (codes "-")
+
+-- one of the words begins with a hyphen
+abbrev pub has_hyphen_word : List (List ℕ) → Bool
+has_hyphen_word words = list_any begins_with_hyphen words
+
+-- two words or more, of which the first does not begin with a hyphen
+abbrev pub is_command : List (List ℕ) → Bool
+is_command (first ∷ word ∷ words) = not (begins_with_hyphen first)
+is_command words = false

@@ -1,0 +1,39 @@
+-- The command line as clap defines it.
+use Rattle.std.specs.Prelude.{◌≡◌, List, ◌∷◌, true, Some, codes, drop, is_some, option_map}
+use Rattle.clap.specs.Lexer.{usize_max}
+use Rattle.clap.specs.Words.{App, Rule, Text, first_value, found_of, matched_of, new_app}
+use Rattle.clap.specs.Words.{new_rule, raw_values, with_rule}
+use Rattle.clap.specs.declared.builder.action.ArgAction.TheVariants.{Set, Append}
+use Rattle.clap.specs.declared.builder.range.ValueRange.{ValueRange}
+use Rattle.clap.specs.declared.parser.matches.ArgMatches.{ArgMatches}
+use Rattle.rcell_command.specs.CommandWords.{is_command}
+
+-- the first word; those behind it may begin with a hyphen
+abbrev pub first_rule : Rule
+first_rule = record (new_rule (codes "FIRST")) { required = true; action = Some Set; trailing_var_arg = true }
+
+-- one word or more
+abbrev pub any_number : ValueRange
+any_number = record { start_inclusive = 1; end_inclusive = usize_max }
+
+-- the words behind the first
+abbrev pub rest_rule : Rule
+rest_rule = record (new_rule (codes "REST")) {
+  required = true;
+  action = Some Append;
+  range = Some any_number;
+}
+
+-- of a program of this name: a word, and then one or more
+abbrev pub command_line : Text → App
+command_line program = with_rule (with_rule (new_app program) first_rule) rest_rule
+
+-- words that are found are all words after the program's own name, in their order; and they are found where there are
+-- enough
+pub record FindsAll (words : List Text) (matches : ArgMatches) : Type 0 where
+  pub all : (first : Text) (rest : List Text) → is_command (drop 1 words) ≡ true
+      → first_value (found_of matches) (codes "FIRST") ≡ Some first
+      → option_map raw_values (matched_of (found_of matches) (codes "REST")) ≡ Some rest
+      → drop 1 words ≡ first ∷ rest
+  pub some : is_command (drop 1 words) ≡ true → (is_some (first_value (found_of matches) (codes "FIRST")) ≡ true)
+      × (is_some (option_map raw_values (matched_of (found_of matches) (codes "REST"))) ≡ true)

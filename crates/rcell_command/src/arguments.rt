@@ -1,0 +1,155 @@
+//! The words of the command line.
+
+ghost use Rattle.std.specs.Prelude.{◌≡◌, ◌≢◌, ◌∷◌, false, true, IfErr, IfOk, OnOk, drop, map};
+ghost use Rattle.std.specs.List.{list_any};
+ghost use Rattle.std.specs.String.{string_bytes};
+ghost use Rattle.clap.specs.Walk.{texts};
+ghost use Rattle.clap.specs.Words.{app_of};
+ghost use Rattle.rcell_command.specs.CommandWords.{begins_with_hyphen, has_hyphen_word, is_command};
+ghost use Rattle.rcell_command.specs.parts.ClapWords.{FindsAll, command_line};
+
+use clap::error::ErrorKind;
+use clap::{Arg, ArgAction, ArgMatches, Command};
+use std::alloc::{AllocError, Global};
+use std::rt::Env;
+use std::{env, io};
+
+/// The words that the program was given, its own name first.
+///
+/// # Errors
+///
+/// `usage` if a word is not UTF-8; `memory`.
+pub fn words_given<R: Env + AllocGlobal, E: Copy>(
+    rt: &R,
+    memory: E,
+    usage: E,
+) -> Result<Vec<String>, E>
+    ensures { IfErr result (λ error. error ≢ memory → error ≡ usage) }
+{
+    let given = match env::args(rt) {
+        Ok(given) => given,
+        Err(fault) => {
+            return match fault.kind() {
+                io::ErrorKind::OutOfMemory => Err(memory),
+                _ => Err(usage),
+            };
+        }
+    };
+    given.collect(rt.alloc()).map_err(|_| memory)
+}
+
+fn begins_with_hyphen(word: &str) -> bool
+    ensures { result ≡ begins_with_hyphen word.now }
+{
+    word.as_bytes().first() == Some(&b'-')
+}
+
+fn any_with_hyphen(words: &[&str]) -> bool
+    ensures { result ≡ list_any (λ word. begins_with_hyphen word.now) words.now }
+{
+    words.iter().any(|word| begins_with_hyphen(word))
+}
+
+/// Whether one of the words begins with a hyphen.
+pub fn has_hyphen_word(words: &[&str]) -> bool
+    ensures { result ≡ has_hyphen_word (texts words.now) }
+{
+    any_with_hyphen(words)
+}
+
+// Whether two words or more follow the program's own name, of which the first does not begin with a hyphen.
+fn is_command(words: &[String]) -> bool
+    ensures { result ≡ is_command (drop 1 (map string_bytes words.now)) }
+{
+    match words {
+        [_, first, _, ..] => !begins_with_hyphen(first.as_str()),
+        _ => false,
+    }
+}
+
+// The words that clap takes: one, and then one or more, with hyphens or without.
+//
+// What follows the first word is one list: what clap does with a flag between paths takes its whole walk to say.
+fn command<'a>(alloc: Global, program: &'a str) -> Result<Command<'a>, AllocError>
+    ensures { IfOk result (λ command. app_of command ≡ command_line program.now) }
+{
+    let first = Arg::new(alloc, "FIRST")
+        .required(true)
+        .trailing_var_arg(true)
+        .action(ArgAction::Set);
+    let rest = Arg::new(alloc, "REST")
+        .required(true)
+        .num_args(1..)
+        .action(ArgAction::Append);
+    Command::new(alloc, program).arg(first)?.arg(rest)
+}
+
+// The error for one of clap.
+fn of_clap<E: Copy>(kind: ErrorKind, memory: E, usage: E) -> E
+    ensures memory { kind ≡ ErrorKind.OutOfMemory → result ≡ memory }
+    ensures usage { result ≢ memory → result ≡ usage }
+{
+    match kind {
+        ErrorKind::OutOfMemory => memory,
+        _ => usage,
+    }
+}
+
+// What clap finds among the words, the program's own name first.
+fn clap_matches<'a, E: Copy>(
+    alloc: Global,
+    program: &'a str,
+    words: &'a [String],
+    memory: E,
+    usage: E,
+) -> Result<ArgMatches<'a>, E>
+    ensures found { IfOk result (FindsAll (map string_bytes words.now)) }
+    ensures misuse { IfErr result (λ error. error ≢ memory → (error ≡ usage)
+        × (is_command (drop 1 (map string_bytes words.now)) ≡ false)) }
+{
+    let command = match command(alloc, program) {
+        Ok(command) => command,
+        Err(_) => return Err(memory),
+    };
+    match command.try_get_matches_from(words) {
+        Ok(matches) => Ok(matches),
+        Err(fault) => Err(of_clap(fault.kind(), memory, usage)),
+    }
+}
+
+/// The first word behind the program's own name, and the words behind it.
+///
+/// # Errors
+///
+/// `usage` if fewer than two words follow the program's own name, or the first of them begins with `-`; `memory`.
+pub fn first_and_rest<'a, E: Copy>(
+    alloc: Global,
+    program: &'a str,
+    words: &'a [String],
+    memory: E,
+    usage: E,
+) -> Result<(&'a str, Vec<&'a str>), E>
+    ensures found { IfOk result (λ found. drop 1 (map string_bytes words.now)
+        ≡ found.0.now ∷ texts found.1.items) }
+    ensures good { OnOk result (is_command (drop 1 (map string_bytes words.now)) ≡ true) }
+    ensures refused { IfErr result (λ error. error ≢ memory → (error ≡ usage)
+        × (is_command (drop 1 (map string_bytes words.now)) ≡ false)) }
+{
+    if !is_command(words) {
+        return Err(usage);
+    }
+    let matches = match clap_matches(alloc, program, words, memory, usage) {
+        Ok(matches) => matches,
+        Err(error) => return Err(error),
+    };
+    let Some(first) = matches.get_str("FIRST") else {
+        return Err(usage);
+    };
+    let Some(rest) = matches.get_strs("REST") else {
+        return Err(usage);
+    };
+    match rest.to_vec(alloc) {
+        Ok(rest) => Ok((first, rest)),
+        Err(_) => Err(memory),
+    }
+}

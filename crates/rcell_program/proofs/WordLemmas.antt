@@ -1,0 +1,66 @@
+-- Words of a command line, those of grids, and calls that gave no value.
+use Rattle.std.proofs.Common.{Result, Ok, Err, MatchResult, if◌then◌else◌, Bor, Bool, List, ℕ, ◌≡◌, ◌||◌, ◌+◌, ◌<◌}
+use Rattle.std.proofs.Common.{◌∷◌, ◌++◌, [], ◌∙◌, ap, true, false, refl, not, nat_lt, length, drop, arith}
+use Rattle.std.specs.List.{slice_index_or}
+use Rattle.std.proofs.lemmas.Bool.Decides.{nat_tests}
+use Rattle.std.proofs.lemmas.List.{drop_more}
+use Rattle.clap.specs.Walk.{Text, texts}
+use Rattle.rcell_command.specs.CommandWords.{begins_with_hyphen, has_hyphen_word, is_command}
+use Rattle.rcell_program.specs.CommandLine.{first_bad, grid_words, is_grid_argument, is_misuse}
+
+or_true : (b : Bool) → (b || true) ≡ true
+or_true true = refl
+or_true false = refl
+
+apart : {X : Type 0} → false ≡ true → X
+apart bad = cc
+
+from_not : (b c : Bool) → not b ≡ c → b ≡ not c
+from_not true c is = ap not is
+from_not false c is = ap not is
+
+-- fewer than two words, or a first one with a hyphen in front
+pub too_few : (words : List Text) → is_command words ≡ false → is_misuse words ≡ true
+too_few [] bad = refl
+too_few (word ∷ []) bad = or_true (has_hyphen_word (word ∷ []))
+too_few (first ∷ word ∷ words) bad =
+    let flagged : begins_with_hyphen first ≡ true = from_not _ false bad in
+    rw flagged refl
+
+-- a later one with a hyphen in front
+pub flagged : (first : Text) (rest : List Text) → has_hyphen_word rest ≡ true → is_misuse (first ∷ rest) ≡ true
+flagged first rest is =
+    ap (λ some. (begins_with_hyphen first || some) || nat_lt (length (first ∷ rest)) 2) is
+    ∙ ap (λ some. some || nat_lt (length (first ∷ rest)) 2) (or_true (begins_with_hyphen first))
+
+pub well_used : (first : Text) (rest : List Text) → is_command (first ∷ rest) ≡ true → has_hyphen_word rest ≡ false
+    → is_misuse (first ∷ rest) ≡ false
+well_used first [] good plain = apart good
+well_used first (word ∷ words) good plain =
+    let first_plain : begins_with_hyphen first ≡ false = from_not _ true good in
+    let enough : nat_lt (length (first ∷ word ∷ words)) 2 ≡ false = grind (arith, nat_tests) in
+    rw (first_plain, plain, enough) refl
+
+pub when_ok : {X : Type 0} (ok : Bool) {z : X} (x y : X) → true ≡ ok → z ≡ (if ok then x else y) → z ≡ x
+when_ok true x y taken is = is
+when_ok false x y taken is = cc
+
+-- what a failed call tells
+pub made_reported : {T E F : Type 0} {Q : E → Type 0} {P : Type 0} (r : Result T E) (y : F)
+    → MatchResult r (λ x. ◌≡◌ {A = Result T F} (Err y) (Ok x)) Q → ((e : E) → Q e → P) → P
+made_reported (Ok x) y is f = cc
+made_reported (Err e) y is f = f e is
+
+pub grid_words_more : (names paths : List Text) (name path : Text) → length names ≡ length paths
+    → grid_words (names ++ name ∷ []) (paths ++ path ∷ []) ≡ grid_words names paths ++ (name ++ 61 ∷ path) ∷ []
+grid_words_more [] [] name path same = refl
+grid_words_more [] (p ∷ ps) name path same = cc
+grid_words_more (n ∷ ns) [] name path same = cc
+grid_words_more (n ∷ ns) (p ∷ ps) name path same =
+    ap (λ rest. (n ++ 61 ∷ p) ∷ rest) (grid_words_more ns ps name path (omega arith))
+
+pub first_bad_next : (place : ℕ) (words : List (Bor Text)) (i : ℕ) (word : Bor Text) → i < length words
+    → is_grid_argument (slice_index_or words i word).now ≡ true
+    → first_bad place (texts (drop i words)) ≡ first_bad (place + 1) (texts (drop (i + 1) words))
+first_bad_next place words i word within good =
+    ap (λ left. first_bad place (texts left)) (drop_more words i word within) ∙ rw good refl
