@@ -384,7 +384,7 @@ all_are_known [] h = refl
 all_are_known (None ∷ xs) h = cc
 all_are_known (Some v ∷ xs) h = ap (λ l. Some v ∷ l) (all_are_known xs h)
 
--- the mode where a category is missing, and where none is
+-- the mode if a category is missing, and if none is
 pub null_mode : {V : Type 0} (f : V → List CellValue) (args : List V) (k count : ℕ) (cells : List CellValue)
     → take count cells ≡ known_cells (column k (map f args)) → count ≤ length cells → count < length args → None ≡ mode (column k (map f args))
 null_mode f args k count cells is room few =

@@ -54,7 +54,7 @@ pub(crate) fn combine_one<F: Fn(Cell, Cell) -> Cell>(row: &mut [Cell], other: Ce
     }
 }
 
-/// Puts the cells of another row where conditions hold, and null where they are null.
+/// Replaces each cell with the cell of another row if its condition holds, and with null if its condition is null.
 pub fn choose(row: &mut [Cell], conditions: &[Cell], yes: &[Cell])
     requires width_conditions { length conditions.now ≡ length row.old }
     requires width_yes { length yes.now ≡ length row.old }

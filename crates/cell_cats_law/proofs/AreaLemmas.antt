@@ -1,4 +1,4 @@
--- A number stands with one category, and the entries of a category are its cells.
+-- A number occurs with one category only, and the entries of a category are its cells.
 use Rattle.cell_cats_areas.proofs.CountLemmas.{no_number_is_left_out}
 use Rattle.cell_stats_counts.specs.Counts.{count_of}
 use Rattle.std.proofs.Common.{
@@ -98,7 +98,7 @@ second-cell (c ∷ k) = first-cell k
 abbrev grid_position : ℕ → ℕ → Position
 grid_position row col = record { row = row; col = col }
 
--- where an entry of the table of two maps stands
+-- a position at which an entry of the table of two maps occurs
 pub record Stands (one other : Grid) (a b : CellValue) : Type 0 where
   pub at : Position
   pub first : cell_at_position one at ≡ a
@@ -117,7 +117,7 @@ numbers-have-one-category j m numbers is skip rows cols table is_table number on
     let q = stands-at m numbers skip rows cols table is_table other number b second in
     sym p.first ∙ one-category j m numbers is p.at q.at number p.second q.second ∙ q.first
 
--- ---- tests that answer the same
+-- ---- tests with the same result
 
 equal-itself : (a b : Combination) → a ≡ b → eq_by_cmp combination_cmp a b ≡ true
 equal-itself a b same = ap (eq_by_cmp combination_cmp a) (sym same) ∙ ap is_eq (tied_itself combination_cmp_total a)

@@ -85,7 +85,7 @@ module _ (f g : ℕ → ℕ → Combination) (t u : Combination → Bool)
       ∙ ap (λ n. count_by u (map (g row) cols) + n) (all-counts rows cols)
       ∙ sym (count_by-append u (map (g row) cols) (flat_map (λ r. map (g r) cols) rows))
 
--- where two tests answer the same at each cell, as many pass the one as the other
+-- if two tests agree at each cell, as many cells pass the one as the other
 pub counts-same : (maps others : List Grid) (picks places : List ℕ) (t u : Combination → Bool) →
     ((row col : ℕ) → t (combination_at maps picks row col) ≡ u (combination_at others places row col)) →
     (rows cols : ℕ) →
@@ -93,7 +93,7 @@ pub counts-same : (maps others : List Grid) (picks places : List ℕ) (t u : Com
 counts-same maps others picks places t u same rows cols = all-counts (combination_at maps picks)
     (combination_at others places) t u same (range_with_len 0 rows) (range_with_len 0 cols)
 
--- ---- what is counted stands at a cell
+-- ---- what is counted occurs at a cell
 
 pub record At (f : ℕ → ℕ → Combination) (t : Combination → Bool) : Type 0 where
   pub row : ℕ
@@ -174,7 +174,7 @@ counted-cell maps picks t rows cols row col low wide is =
     let line = row-counted f t row 0 cols col (omega arith) (omega (arith, wide)) is in
     rows-counted f t 0 rows row (range_with_len 0 cols) (omega arith) (omega (arith, low)) line
 
--- an entry of a table stands at a cell
+-- each entry of a table occurs at a cell
 pub entry-at : (skip : Skip) (maps : List Grid) (picks : List ℕ) (rows cols : ℕ) (table : Pairs) →
     IsTable skip (all_combinations maps picks rows cols) table → (k : Combination) (n : ℕ) → Contains table (k, n) →
     (row : ℕ) × (col : ℕ) × (combination_at maps picks row col ≡ k)
@@ -232,7 +232,7 @@ count-filter t p (x ∷ xs) = by (p x) refl (count-filter t p xs)
 
 -- ---- sums over a table
 
--- 1 where the entry is that of the combination
+-- 1 if the entry has the combination
 abbrev mark : Combination → Combination × ℕ → ℕ
 mark k e = one-if (eq_by_cmp combination_cmp e.0 k)
 
@@ -422,7 +422,7 @@ module _ (t : Combination → Bool) where
       mark-one k es (count_of k cells) table.sorted (table.finds k
       ∙ found-some (count_of k cells) (counts-self cells i d within)))
 
--- the counts of the entries that pass are those of the cells that do and are not left out
+-- the counts of the entries that pass add up to the number of cells that pass and are not left out
 pub table-sums : (skip : Skip) (cells : List Combination) (table : Pairs) → IsTable skip cells table →
     (t : Combination → Bool) →
     sum_by (λ pair. pair.1) (filter (λ pair. t pair.0) table) ≡ count_by (λ k. not (is_left_out skip k) && t k) cells

@@ -224,7 +224,7 @@ module _ (j : Joining) (m : Grid) (filled : IsFilled m.region m.rows) (f : ℕ �
       (arith, e))
       (cases_Bool (is_own k))
 
-  -- an area whose first cell comes later has a greater number
+  -- an area whose first cell comes later has a larger number
   later_is_more : (p q : Position) (v : ℤ) → cell_at_position m q ≡ Some v → first_place p < first_place q
       → number p < number q
   later_is_more p q v is lt =

@@ -1,4 +1,4 @@
--- Numbers that are linked lead to the least of those that links join.
+-- Linked numbers lead to the smallest number that the links join to them.
 use Rattle.std.proofs.Common.{◌≡◌, ℕ, zero, suc, ◌+◌, ◌*◌, ◌/◌, ◌%◌, ◌<◌, ◌≤◌, max, min, refl, ap, sym, ◌∙◌, arith}
 use Rattle.std.proofs.Common.{subst, inl, inr, ⊎_elim, ◌⊎◌}
 use Rattle.std.proofs.lemmas.Bool.{cases_eq, cases_lt}
@@ -11,7 +11,7 @@ use Rattle.cell_cats_areas.proofs.MeetingLemmas.{after_join_one, after_join_keep
 abbrev pub AreNear : (ℕ → ℕ → Type 0) → ℕ → ℕ → Type 0
 AreNear Joined x y = (x ≡ y) ⊎ Joined x y
 
--- each number leads to one that is no greater, leads to itself and is joined to it
+-- each number leads to one that is at most as large, is joined to it, and leads to itself
 pub record Leads (Joined : ℕ → ℕ → Type 0) (f : ℕ → ℕ) : Type 0 where
   pub low : (k : ℕ) → f k ≤ k
   pub stays : (k : ℕ) → f (f k) ≡ f k
@@ -33,7 +33,7 @@ module _ (Joined : ℕ → ℕ → Type 0) (back : (x y : ℕ) → Joined x y �
   near_of_same f leads x y e = near_onwards x (f y) y (subst (λ (n : ℕ). AreNear Joined x n) e (leads.near x))
       (near_back y (f y) (leads.near y))
 
-  -- the greater of two ends is closed
+  -- the larger of two ends is closed
   closed_leads : (f : ℕ → ℕ) (high low : ℕ) → Leads Joined f → low ≤ high → f low ≡ low → AreNear Joined high low
       → Leads Joined (closed_labels f high low)
   closed_leads f high low leads le low_is near = record {

@@ -78,7 +78,7 @@ unnamed-is-null rules = (
 
 -- ---- the cells of a map by rules
 
--- what stands at a place of a mapped list, also past its end
+-- the item at a place of a mapped list, also past its end
 map-at : {X Y : Type 0} (f : X → Y) (xs : List X) (i : ℕ) (d : X) → get_or (map f xs) i (f d) ≡ f (get_or xs i d)
 map-at f [] i d = refl
 map-at f (x ∷ xs) zero d = refl

@@ -181,7 +181,7 @@ module _ (j : Joining) (m numbers : Grid) (is : IsClumping j m numbers) (number 
               at.1 (subst (λ (s : Position). IsEarlierCell s q) (sym same-first) before),
         )
 
-    -- a first cell that goes is that of the area
+    -- a first cell that is removed is the first cell of the area
     gone-first : (q : Position) → IsFirst j m q → goes q ≡ true → q ≡ g.first
     gone-first q first goes_q =
         let here : cell_at_position numbers q ≡ Some (pos number) =

@@ -56,7 +56,7 @@ module _ (j : Joining) (m numbers : Grid) (is : IsClumping j m numbers) (number 
   pub some-before : (p : Position) (v : ℤ) → cell_at_position less p ≡ Some v → cell_at_position m p ≡ Some v
   some-before p v some = sym (kept-cell p (stays-some p v some)) ∙ some
 
-  -- a path of what is left is one of the whole
+  -- a path of the cells that are left is a path of the map
   alike-before : (v : ℤ) (ps : List Position) → All (λ s. cell_at_position less s ≡ Some v) ps →
       All (λ s. cell_at_position m s ≡ Some v) ps
   alike-before v [] all = All-nil (λ s. cell_at_position m s ≡ Some v)
@@ -73,7 +73,7 @@ module _ (j : Joining) (m numbers : Grid) (is : IsClumping j m numbers) (number 
     alike = alike-before h.category (p ∷ h.others) h.alike;
   }
 
-  -- a path of the whole that begins at a cell that is left is one of what is left
+  -- a path of the map that begins at a cell that is left is a path of the cells that are left
   alike-after : (v : ℤ) (p : Position) (others : List Position) (q : Position) → LeadsTo j p others q →
       gone p ≡ false → All (λ s. cell_at_position m s ≡ Some v) (p ∷ others) →
       All (λ s. cell_at_position less s ≡ Some v) (p ∷ others)

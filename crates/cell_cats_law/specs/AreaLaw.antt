@@ -18,7 +18,7 @@ cells_of m rows cols = all_combinations (m ∷ []) (0 ∷ []) rows cols
 abbrev pub cells_of_both : Grid → Grid → (rows cols : ℕ) → List Combination
 cells_of_both m numbers rows cols = all_combinations (m ∷ numbers ∷ []) (0 ∷ 1 ∷ []) rows cols
 
--- in the table of a map and its clump map each number stands with one category
+-- in the table of a map and its clump map each number occurs with one category only
 abbrev pub NumbersHaveOneCategory : Type 0
 NumbersHaveOneCategory = (j : Joining) (m numbers : Grid) → IsClumping j m numbers
     → (skip : Skip) (rows cols : ℕ) (table : Pairs) → IsTable skip (cells_of_both m numbers rows cols) table
@@ -44,7 +44,7 @@ AreasDivideTheirCategory = (j : Joining) (m numbers : Grid) → IsClumping j m n
     → (category : ℤ)
     → sum_by (λ pair. pair.1) (entries_of category table) ≡ count_of (Some category ∷ []) (cells_of m rows cols)
 
--- an area is never empty: where a number stands in the table, each from 1 to it stands there, with a count above 0
+-- an area is never empty: if a number occurs in the table, each number from 1 up to it occurs, with a count above 0
 abbrev pub NoAreaIsEmpty : Type 0
 NoAreaIsEmpty = (j : Joining) (m numbers : Grid) → IsClumping j m numbers → IsFilled numbers.region numbers.rows
     → (skip : Skip) (table : Pairs)
@@ -75,7 +75,7 @@ OtherAreasKeepTheirSize = (j : Joining) (m numbers : Grid) → IsClumping j m nu
     → count_of (Some now ∷ []) (cells_of renumbered rows cols)
     ≡ count_of (Some was ∷ []) (cells_of numbers rows cols)
 
--- and the numbers close up: those before that of the area stay, and those after it are one less
+-- and the numbers close up: numbers below the number of the area stay, and numbers above it are one less
 abbrev pub NumbersCloseUp : Type 0
 NumbersCloseUp = (j : Joining) (m numbers : Grid) → IsClumping j m numbers → (number : ℕ)
     → Occurs numbers number → (less renumbered : Grid) → IsWithout m numbers (pos number) less

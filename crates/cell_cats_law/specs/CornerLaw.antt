@@ -19,7 +19,7 @@ CornersOnlyJoin = (m edges corners : Grid) → AreBothClumpings m edges corners 
     → IsSome (cell_at_position edges p) → cell_at_position edges p ≡ cell_at_position edges q
     → cell_at_position corners p ≡ cell_at_position corners q
 
--- no cell has a greater number by corners than by edges
+-- no cell has a larger number by corners than by edges
 abbrev pub NumbersOnlyFall : Type 0
 NumbersOnlyFall = (m edges corners : Grid) → AreBothClumpings m edges corners → (p : Position) (n k : ℕ)
     → cell_at_position edges p ≡ Some (pos n) → cell_at_position corners p ≡ Some (pos k) → k ≤ n

@@ -5,7 +5,7 @@ use Rattle.cell_stats_counts.specs.declared.skip.Skip.{Skip}
 use Rattle.cell_stats_counts.specs.Combinations.{Combination, combination_cmp}
 use Rattle.cell_stats.specs.CategoryTables.{Pairs, IsTable, rest_after}
 
--- the entries up to a combination: those of it, or of a lesser one
+-- the entries up to a combination: its own entry, and the entries before it
 abbrev pub up_to : Combination → Pairs → Pairs
 up_to k pairs = filter (λ pair. is_le (combination_cmp pair.0 k)) pairs
 
@@ -19,7 +19,7 @@ abbrev pub RestFollows : Type 0
 RestFollows = (skip : Skip) (cells : List Combination) (page rest : Pairs) (last : Combination × ℕ)
     → IsTable skip cells (page ++ last ∷ rest) → rest_after last.0 (page ++ last ∷ rest) ≡ rest
 
--- the rest of a rest, after a combination that comes no earlier, is the rest of the whole after it
+-- the rest of a rest, after a combination that comes no earlier, is the rest of the full table after it
 abbrev pub RestOfRest : Type 0
 RestOfRest = (table : Pairs) (j k : Combination) → is_le (combination_cmp j k) ≡ true
     → rest_after k (rest_after j table) ≡ rest_after k table

@@ -21,7 +21,7 @@ abbrev pub ReclassedPartsHaveTheLabels : Type 0
 ReclassedPartsHaveTheLabels = (rules : List RuleValue) (r : Rectangle) (whole part : List Grid)
     → AreCutOut r whole part → HaveTheLabels (map (reclassed_map rules) whole) (map (reclassed_map rules) part)
 
--- where parts have the labels of the whole, a table is printed over them as over the whole
+-- if parts have the labels of the full maps, a table is printed over them as over the full maps
 abbrev pub PartsPrintTheWhole : Type 0
 PartsPrintTheWhole = (whole part : List Grid) → HaveTheLabels whole part
     → (format : FormatValue) (picks : List ℕ) (table : Pairs)

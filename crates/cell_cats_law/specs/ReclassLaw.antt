@@ -27,13 +27,13 @@ sent rules (cell ∷ others) = new_category rules cell ∷ others
 abbrev pub sent_to : List RuleValue → Combination → Pairs → Pairs
 sent_to rules to table = filter (λ pair. eq_by_cmp combination_cmp to (sent rules pair.0)) table
 
--- a map on the shelf, and beside it the map by rules
+-- a map on the shelf, and also the map that the rules make of it
 pub record IsReclassed (rules : List RuleValue) (maps : List Grid) (old new : ℕ) : Type 0 where
   pub given : Grid
   pub first : slice_get maps old ≡ Some given
   pub second : slice_get maps new ≡ Some (reclassed_map rules given)
 
--- beside any maps, a combination of the new map has as many cells as those together that the rules send there
+-- with any other maps, a combination of the new map has as many cells as all combinations that the rules send there
 abbrev pub ReclassKeepsCells : Type 0
 ReclassKeepsCells = (rules : List RuleValue) (maps : List Grid) (old new : ℕ) → IsReclassed rules maps old new
     → (others : List ℕ) (rows cols : ℕ) (skip : Skip) (table : Pairs)
@@ -47,7 +47,7 @@ abbrev pub AreSentApart : List RuleValue → Pairs → Type 0
 AreSentApart rules table = (a b : Combination × ℕ) → Contains table a → Contains table b
     → sent rules a.0 ≡ sent rules b.0 → a.0 ≡ b.0
 
--- rules that send no two entries to one only rename them: each count stands in the new table under the new name
+-- rules that send no two entries to one only rename them: each count is in the new table under the new name
 abbrev pub RenamingKeepsCounts : Type 0
 RenamingKeepsCounts = (rules : List RuleValue) (maps : List Grid) (old new : ℕ) → IsReclassed rules maps old new
     → (others : List ℕ) (rows cols : ℕ) (table renamed : Pairs)

@@ -5,7 +5,7 @@ ghost use Rattle.cell_cats_law.specs.AreaLaw.{NumbersCloseUp, OtherAreasKeepThei
 ghost use Rattle.cell_cats_law.specs.CornerLaw.{CornersAddNoArea, CornersOnlyJoin, NumbersOnlyFall, OneByCorners};
 ghost use Rattle.cell_cats_law.specs.PartLaw.{PartsPrintTheWhole, ReclassedPartsAreParts, ReclassedPartsHaveTheLabels};
 
-/// In the table of a map and its clump map each number stands with one category.
+/// In the table of a map and its clump map each number occurs with one category only.
 pub fn numbers_have_one_category()
     ensures { NumbersHaveOneCategory }
 {}
@@ -20,7 +20,7 @@ pub fn areas_divide_their_category()
     ensures { AreasDivideTheirCategory }
 {}
 
-/// An area is never empty: where a number stands in that table, each from 1 to it does, with a count above 0.
+/// An area is never empty: if a number occurs in that table, each number from 1 up to it does, with a count above 0.
 pub fn no_area_is_empty()
     ensures { NoAreaIsEmpty }
 {}
@@ -45,7 +45,7 @@ pub fn corners_only_join()
     ensures { CornersOnlyJoin }
 {}
 
-/// No cell has a greater number by corners than by edges.
+/// No cell has a larger number by corners than by edges.
 pub fn numbers_only_fall()
     ensures { NumbersOnlyFall }
 {}
@@ -70,7 +70,7 @@ pub fn reclassed_parts_have_the_labels()
     ensures { ReclassedPartsHaveTheLabels }
 {}
 
-/// Where parts have the labels of the whole, a table is printed over them as over the whole.
+/// If parts have the labels of the full maps, a table is printed over them as over the full maps.
 pub fn parts_print_the_whole()
     ensures { PartsPrintTheWhole }
 {}

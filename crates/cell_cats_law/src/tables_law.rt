@@ -13,7 +13,7 @@ pub fn rest_follows()
     ensures { RestFollows }
 {}
 
-/// The rest of a rest, after a combination that comes no earlier, is the rest of the whole after it.
+/// The rest of a rest, after a combination that comes no earlier, is the rest of the full table after it.
 pub fn rest_of_rest()
     ensures { RestOfRest }
 {}
@@ -29,8 +29,8 @@ pub fn reclass_keeps_cells()
     ensures { ReclassKeepsCells }
 {}
 
-/// Rules that send no two combinations of a table to one only rename them: each count stands in the table of the new map under
-/// the new name, and no other count does.
+/// Rules that send no two combinations of a table to one only rename them: each count is in the table of the new map
+/// under the new name, and no other count is.
 pub fn renaming_keeps_counts()
     ensures { RenamingKeepsCounts }
 {}

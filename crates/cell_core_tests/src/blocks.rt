@@ -7,7 +7,7 @@ use cell_core::sink::{Flushes, MemorySink, Sink, WriteFault};
 use std::alloc::Global;
 use std::test::Fail;
 
-// Pushes so many bytes, all alike, and answers how many bytes the block counts and the sink has then.
+// Pushes so many equal bytes, and returns how many bytes the block counts and how many the sink then has.
 fn pushed(
     alloc: Global,
     block: &mut OutputBlock,
@@ -20,7 +20,7 @@ fn pushed(
     Ok((block.written(), sink.bytes().len()))
 }
 
-// A sink that refuses one put, and would take all others. It counts its puts.
+// A sink that rejects one put and takes all others. It counts its puts.
 #[derive(Drop)]
 struct RefusesOnce {
     calls: u32,

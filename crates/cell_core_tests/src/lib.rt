@@ -1,5 +1,4 @@
-//! Worked answers of the calls of cell_core, and what no clause says of a reader's and a writer's `Err`.
-//! Worked answers of the calls of cell_text.
+//! Worked results of the calls of cell_core and cell_core_values, and what no clause says of a reader's and a writer's `Err`.
 #![tactic(auto)]
 
 #[cfg(test)]

@@ -70,7 +70,7 @@ fn gives_its_runs(rt: HostRuntime) -> Result<(), Fail> {
     )
 }
 
-// The cell at a place; None where it is outside.
+// The cell at a place; None outside the map.
 fn cell_at(map: &CellMap, row: u32, col: u32) -> Option<Cell> {
     let region = map.region();
     if row < region.rows() && col < region.cols() {

@@ -78,7 +78,7 @@ fn finds_maps(rt: HostRuntime) -> Result<(), Fail> {
     Ok(())
 }
 
-// Why a shelf with one map refuses another, and the name that comes back.
+// Checks why a shelf with one map rejects another, and that the name comes back.
 fn expect_refused<R: Abort + AllocGlobal>(
     rt: &R,
     name: &[u8],

@@ -1,4 +1,4 @@
-//! The four faults of a region, in their order.
+//! The four errors of a region, in their order.
 
 use crate::assertions::assert_same;
 use cell_core::region::{Region, RegionFault};

@@ -81,7 +81,7 @@ module _ (j : Joining) (m whole : Grid) (to : Position → Position) (near : (p 
     alike = alike-by h.category (p ∷ h.others) h.alike;
   }
 
--- where a cell of the whole lies in a rectangle
+-- the position within a rectangle of a cell of the full map
 abbrev inside-of : Rectangle → Position → Position
 inside-of r s = record { row = s.row - r.top; col = s.col - r.left }
 
@@ -125,7 +125,7 @@ module _ (whole : Grid) (t : Tile) (tile : IsTile whole t) where
       let inner = joined-moved j h.0 h.1 h.4 in
       subst (λ (s : Position). AreJoined j whole s q) (sym h.2) (subst (λ (s : Position). AreJoined j whole (moved_position t.place h.0) s) (sym h.3) inner)
 
-  -- a cell of the whole in the rectangle, as one of the tile
+  -- a cell of the full map in the rectangle, as a cell of the tile
   cell-inside : (s : Position) (v : ℤ) → IsIn t.place s → cell_at_position whole s ≡ Some v → cell_at_position t.map (inside-of t.place s) ≡ Some v
   cell-inside s v is_within is =
       let within = in-bounds t.place s.row s.col is_within in
@@ -277,7 +277,7 @@ before-then p q s (inl a) (inr b) = inl (let e = b.0 in omega (arith, a, e))
 before-then p q s (inr a) (inl b) = inl (let e = a.0 in omega (arith, e, b))
 before-then p q s (inr a) (inr b) = inr (a.0 ∙ b.0, omega (arith, a.1, b.1))
 
--- a first cell of a tile stands at or before each cell of the tile, and is joined to it
+-- a first cell that is joined to a cell, and is that cell or comes before it
 record HasFirst (j : Joining) (m : Grid) (p : Position) : Type 0 where
   first : Position
   is_first : IsFirst j m first

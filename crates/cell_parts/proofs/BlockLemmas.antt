@@ -25,7 +25,7 @@ flat_map-shifted f g a b (suc n) same =
     ap f left ∙ same (suc i) (omega (arith, h)) ∙ ap g right) in
     ap (λ x. x ++ flat_map f (range_with_len (a + 1) n)) here ∙ ap (λ l. g b ++ l) others
 
--- the combinations of a rectangle of the whole
+-- the combinations in a rectangle of the full maps
 abbrev pub block : (whole : List Grid) (picks : List ℕ) (top rows left cols : ℕ) → List Combination
 block whole picks top rows left cols = flat_map (λ row. map (combination_at whole picks row) (range_with_len left cols)) (range_with_len top rows)
 
@@ -34,7 +34,7 @@ combination-same whole part r s c d same [] = refl
 combination-same whole part r s c d same (p ∷ picks) =
     ap (λ (x : CellValue). x ∷ combination_at part picks r c) (same p) ∙ ap (λ (l : Combination). cell_of_map whole s d p ∷ l) (combination-same whole part r s c d same picks)
 
--- those of a part are those of its rectangle
+-- the combinations of a part are the combinations in its rectangle
 pub part-block : (top left rows cols : ℕ) (whole part : List Grid) → IsPart (record { top = top; left = left; rows = rows; cols = cols }) whole part → (picks : List ℕ) → all_combinations part picks rows cols ≡ block whole picks top rows left cols
 part-block top left rows cols whole part is picks =
     flat_map-shifted (row_combinations part picks cols) (λ row. map (combination_at whole picks row) (range_with_len left cols)) 0 top rows (λ row h.

@@ -14,7 +14,7 @@ found-or : (n : ℕ) → unwrap_or (found n) 0 ≡ n
 found-or zero = refl
 found-or (suc n) = refl
 
--- the number beside a combination in a table is its count among the cells that are kept
+-- the count of a combination in a table is its count among the cells that are kept
 beside : (skip : Skip) (cells : List Combination) (es : Pairs) → IsTable skip cells es → (k : Combination) → count_in k es ≡ count_of k (kept_cells skip cells)
 beside skip cells es table k =
     ap (λ o. unwrap_or o 0) ((IsFound-from (kept_cells skip cells) es (kept-IsTable skip cells es table)).finds k) ∙ found-or (count_of k (kept_cells skip cells))
@@ -39,7 +39,7 @@ kept-sum skip whole k {X} cells parts sum = count_kept skip k whole ∙ by (is_l
     by true left = sym (out left parts)
     by false left = sum ∙ sym (in_ left parts)
 
--- the numbers beside a combination in the tables of parts
+-- the counts of a combination in the tables of parts
 beside-all : (skip : Skip) (k : Combination) {X : Type 0} (cells : X → List Combination) (parts : List X) → sum_by (count_in k) (map (λ part. table_of skip (cells part)) parts) ≡ sum_by (λ part. count_of k (kept_cells skip (cells part))) parts
 beside-all skip k cells [] = refl
 beside-all skip k cells (part ∷ parts) =

@@ -68,7 +68,7 @@ among-before a n i lt = ap (λ b. b && ltb i (a + n)) (not-leb a i lt)
         by true e = absurd (let le = leb-true a i e in omega (arith, le, lt))
         by false e = refl
 
--- so many terms are those of a longer line, the others left out
+-- a sum of so many terms is the sum of a longer line with the other terms left out
 line-within : (g : ℕ → ℕ) (a n total : ℕ) → a + n ≤ total → line g a n ≡ line (λ i. cond (among a n i) (g i) 0) 0 total
 line-within g a n total fits =
     let h = λ (i : ℕ). cond (among a n i) (g i) 0 in

@@ -1,4 +1,4 @@
--- Areas of parts: paths within the tiles of a map, and adjacent cells at their borders, make the areas of the whole.
+-- Areas of parts: paths within the tiles of a map, and adjacent cells at their borders, make the areas of the full map.
 use Rattle.std.specs.Prelude.{ℤ, ◌+◌, ◌<◌, ◌≡◌, ◌⊎◌, ◌↔◌, List, [], ◌∷◌, map, Some, IsSome, IsTrue, All, Contains}
 use Rattle.cell_core.specs.Grid.{Grid}
 use Rattle.cell_cats_areas.specs.declared.clump.Joining.{Joining}
@@ -19,7 +19,7 @@ pub record Tile : Type 0 where
 abbrev pub moved_position : Rectangle → Position → Position
 moved_position r p = record { row = r.top + p.row; col = r.left + p.col }
 
--- a cell of the whole lies in a rectangle
+-- a cell of the full map lies in a rectangle
 abbrev pub IsIn : Rectangle → Position → Type 0
 IsIn r p = IsTrue (is_in r p.row p.col)
 
@@ -28,7 +28,7 @@ pub record IsTile (whole : Grid) (t : Tile) : Type 0 where
   pub cells : (p : Position) → p.row < t.place.rows → p.col < t.place.cols → cell_at_position t.map p ≡ cell_at_position whole (moved_position t.place p)
   pub outside : (p : Position) → IsSome (cell_at_position t.map p) → (p.row < t.place.rows) × (p.col < t.place.cols)
 
--- a path within a tile joins two cells of the whole
+-- a path within a tile joins two cells of the full map
 abbrev pub AreJoinedIn : Joining → Tile → Position → Position → Type 0
 AreJoinedIn j t p q = (a b : Position) × (p ≡ moved_position t.place a) × (q ≡ moved_position t.place b) × AreJoined j t.map a b
 
@@ -53,7 +53,7 @@ pub record Numbered : Type 0 where
   pub tile : Tile
   pub numbers : Grid
 
--- two cells of the whole that have one number in a tile
+-- two cells of the full map have one number in a tile
 abbrev pub HaveOneNumber : Numbered → Position → Position → Type 0
 HaveOneNumber n p q = (a b : Position) × (p ≡ moved_position n.tile.place a) × (q ≡ moved_position n.tile.place b) × IsSome (cell_at_position n.tile.map a) × IsSome (cell_at_position n.tile.map b) × (cell_at_position n.numbers a ≡ cell_at_position n.numbers b)
 
@@ -61,15 +61,16 @@ HaveOneNumber n p q = (a b : Position) × (p ≡ moved_position n.tile.place a) 
 abbrev pub AreLinkedByNumbers : Joining → Grid → List Numbered → Position → Position → Type 0
 AreLinkedByNumbers j whole numbered p q = ((n : Numbered) × Contains numbered n × HaveOneNumber n p q) ⊎ MeetAtBorder j whole (map (λ n. n.tile) numbered) p q
 
--- the numbers of the areas of tiles, and the steps over their borders, tell which cells of the whole a path joins
+-- the numbers of the tiles' areas, and the steps over their borders, determine which cells of the full map a path joins
 abbrev pub NumbersJoin : Type 0
 NumbersJoin = (j : Joining) (whole : Grid) (numbered : List Numbered) → All (λ n. IsTile whole n.tile × IsClumping j n.tile.map n.numbers) numbered → (p q : Position) → IsSome (cell_at_position whole p) → AreJoined j whole p q ↔ ((others : List Position) × IsChain (AreLinkedByNumbers j whole numbered) p others q)
 
--- a first cell of the whole is a first cell of its tile
+-- a first cell of the full map is a first cell of its tile
 abbrev pub FirstsAreFirsts : Type 0
 FirstsAreFirsts = (j : Joining) (whole : Grid) (t : Tile) → IsTile whole t → (p : Position) → p.row < t.place.rows → p.col < t.place.cols → IsFirst j whole (moved_position t.place p) → IsFirst j t.map p
 
--- where each cell that is not null lies in a tile: a first cell of the whole is a first cell of its tile that no earlier first cell of a tile is joined to
+-- if each cell that is not null lies in a tile: a first cell of the full map is a first cell of its tile that no
+-- earlier first cell of a tile is joined to
 abbrev pub FirstsOfTheWhole : Type 0
 FirstsOfTheWhole = (j : Joining) (whole : Grid) (numbered : List Numbered) → All (λ n. IsTile whole n.tile × IsClumping j n.tile.map n.numbers) numbered → ((p : Position) → IsSome (cell_at_position whole p) → (n : Numbered) × Contains numbered n × IsIn n.tile.place p) → (n : Numbered) → Contains numbered n → (p : Position) → p.row < n.tile.place.rows → p.col < n.tile.place.cols → IsFirst j whole (moved_position n.tile.place p) ↔ (IsFirst j n.tile.map p × ((m : Numbered) → Contains numbered m → (q : Position) → IsFirst j m.tile.map q → IsEarlierCell (moved_position m.tile.place q) (moved_position n.tile.place p) → ¬ AreJoined j whole (moved_position m.tile.place q) (moved_position n.tile.place p)))
 

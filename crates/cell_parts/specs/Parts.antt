@@ -32,7 +32,7 @@ grid_of_cuts heights widths = flat_map (λ h. map (λ w. record { top = h.0; lef
 abbrev pub GridsCover : Type 0
 GridsCover = (heights widths : List ℕ) → AreTiling (sum heights) (sum widths) (grid_of_cuts heights widths)
 
--- the maps of a part have the cells that those of the whole have in the rectangle
+-- the maps of a part have the cells that the full maps have in the rectangle
 abbrev pub IsPart : Rectangle → (whole part : List Grid) → Type 0
 IsPart r whole part = (row col place : ℕ) → row < r.rows → col < r.cols → cell_of_map part row col place ≡ cell_of_map whole (r.top + row) (r.left + col) place
 
@@ -40,7 +40,7 @@ IsPart r whole part = (row col place : ℕ) → row < r.rows → col < r.cols �
 abbrev pub cut_out : Rectangle → List (List CellValue) → List (List CellValue)
 cut_out r rows = map (λ row. take r.cols (drop r.left row)) (take r.rows (drop r.top rows))
 
--- maps whose rows are those cells of the maps of the whole
+-- maps whose rows are those cells of the full maps
 abbrev pub AreCutOut : Rectangle → (whole part : List Grid) → Type 0
 AreCutOut r whole part = map (λ m. m.rows) part ≡ map (λ m. cut_out r m.rows) whole
 

@@ -1,4 +1,4 @@
--- Tables of parts: counts add up, and the table of the whole is that of the parts merged.
+-- Tables of parts: counts add up, and merging the tables of the parts gives the table of the full maps.
 use Rattle.std.specs.Prelude.{ℕ, ◌≡◌, ◌<◌, ◌↔◌, List, All, map, sum_by, unwrap_or}
 use Rattle.std.specs.FinMap.Entries.{find}
 use Rattle.std.specs.List.{Contains}
@@ -10,7 +10,7 @@ use Rattle.cell_stats_counts.specs.Counts.{count_of}
 use Rattle.cell_stats.specs.CategoryTables.{Pairs, IsTable, table_of}
 use Rattle.cell_parts.specs.Parts.{Rectangle, AreTiling, IsPart}
 
--- the number beside a combination in a table, 0 where it is not listed
+-- the count of a combination in a table, 0 if it is not listed
 abbrev pub count_in : Combination → Pairs → ℕ
 count_in k pairs = unwrap_or (find combination_cmp k pairs) 0
 
@@ -37,6 +37,6 @@ combinations_of_part picks part = all_combinations part.maps picks part.place.ro
 abbrev pub PartsAddUp : Type 0
 PartsAddUp = (rows cols : ℕ) (whole : List Grid) (parts : List Part) → AreParts rows cols whole parts → (picks : List ℕ) (k : Combination) → count_of k (all_combinations whole picks rows cols) ≡ sum_by (λ part. count_of k (combinations_of_part picks part)) parts
 
--- however maps are cut: the table of the whole is the merge of the tables of the parts, and no other list is
+-- however maps are cut: the table of the full maps is the merge of the tables of the parts, and no other list is
 abbrev pub TablesMerge : Type 0
 TablesMerge = (rows cols : ℕ) (whole : List Grid) (parts : List Part) → AreParts rows cols whole parts → (picks : List ℕ) (skip : Skip) (pairs : Pairs) → IsMerge (map (λ part. table_of skip (combinations_of_part picks part)) parts) pairs ↔ IsTable skip (all_combinations whole picks rows cols) pairs

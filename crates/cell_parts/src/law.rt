@@ -1,4 +1,4 @@
-//! What the parts of maps say of the whole.
+//! How the parts of maps determine the full maps.
 
 ghost use Rattle.cell_parts.specs.AreaParts.{AreasJoin, CutOutsAreTiles, FirstsAreFirsts, FirstsOfTheWhole, NumbersJoin};
 ghost use Rattle.cell_parts.specs.Merging.{MergesMerge};
@@ -20,7 +20,7 @@ pub fn parts_add_up()
     ensures { PartsAddUp }
 {}
 
-/// And the table of the whole is the merge of the tables of the parts, and no other list is.
+/// And the table of the full maps is the merge of the tables of the parts, and no other list is.
 pub fn tables_merge()
     ensures { TablesMerge }
 {}
@@ -46,12 +46,12 @@ pub fn numbers_join()
     ensures { NumbersJoin }
 {}
 
-/// The first cell of an area of the whole is the first cell of an area of its tile.
+/// The first cell of an area of the full map is the first cell of an area of its tile.
 pub fn firsts_are_firsts()
     ensures { FirstsAreFirsts }
 {}
 
-/// The first cells of areas of the whole are those first cells of areas of the tiles that no earlier one is joined to.
+/// The first cells of areas of the full map are the first cells of areas of tiles that no earlier one is joined to.
 pub fn firsts_of_the_whole()
     ensures { FirstsOfTheWhole }
 {}

@@ -53,7 +53,7 @@ module _ (f : Combination → List ℕ) (skip : Skip) where
         ∙ ap text (all_combinations_more maps picks cols row)
         ∙ text-append (all_combinations maps picks row cols) (row_combinations maps picks cols row)
 
-    -- and the rows behind it
+    -- and the rows after it
     pub rows-all : (cols row rows : ℕ) → row < rows
         → (text (all_combinations maps picks row cols) ++ text (row_combinations maps picks cols row))
         ++ text (flat_map (row_combinations maps picks cols) (range_with_len (row + 1) (rows - (row + 1))))
@@ -82,7 +82,7 @@ flat_map-replicate-more f n x =
 
 -- ---- a walk over a row, stretch after stretch
 
--- it stands at a column, from which on so many columns have these cells
+-- the walk is at a column, and so many columns from there on have these cells
 pub record StandsAt (shelf : ShelfValue) (picks : List ℕ) (row cols col count : ℕ) (cursors : List CursorValue)
     (cells : Combination) : Type 0 where
   pub wide : AreWideRows shelf row picks
@@ -133,7 +133,7 @@ module _ {shelf : ShelfValue} {picks : List ℕ} {row cols next : ℕ} {new : Li
       passed-to 0 0 cols old wide (value ∙ ap (λ (r : RegionValue). r.cols) region) (zero-add cols) before passed ready
       same least most some
 
-  -- and goes on behind a stretch
+  -- and continues after a stretch
   pub stands-next : {col count : ℕ} {old : List CursorValue} {cells-before : Combination}
       → StandsAt shelf picks row cols col count old cells-before
       → map to_come new ≡ map (λ c. drop count (to_come c)) old
@@ -159,7 +159,7 @@ module _ {shelf : ShelfValue} {picks : List ℕ} {row cols col count : ℕ} {cur
   pub stands-picks : {before : Combination} → IsOfPicks shelf picks before → IsOfPicks shelf picks cells
   stands-picks is = record { picked = is.picked; some = is.some; width = stands-width }
 
-  -- what is written of the row goes on by the cells of the stretch
+  -- the text of the row grows by the cells of the stretch
   pub stands-more : (f : Combination → List ℕ) (skip : Skip)
       → kept_text f skip (map (combination_at shelf.maps picks row) (range_with_len 0 (col + count)))
       ≡ kept_text f skip (map (combination_at shelf.maps picks row) (range_with_len 0 col))

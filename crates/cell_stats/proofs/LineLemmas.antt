@@ -26,7 +26,7 @@ next_text-preceded : (format : FormatValue) (maps : List Grid) (p : ℕ × CellV
 next_text-preceded format maps p =
     ap (λ (l : List ℕ). format.separator ∷ l) (sym (join-cons format.separator (cell_text format.null_text p.1) (if format.labels then label_of_cell maps p.0 p.1 ∷ [] else [])))
 
--- and those of several
+-- and the fields of several maps
 others-preceded : (format : FormatValue) (maps : List Grid) (ps : List (ℕ × CellValue)) → preceded_texts format.separator (flat_map (λ p. cell_fields format maps p.0 p.1) ps) ≡ flat_map (next_text format maps) ps
 others-preceded format maps [] = refl
 others-preceded format maps (p ∷ ps) =
@@ -42,7 +42,7 @@ combination-others format maps (p ∷ picks) (x ∷ k) d e some same =
     join-more format.separator (cell_text format.null_text x) (if format.labels then label_of_cell maps p x ∷ [] else []) (flat_map (λ p. cell_fields format maps p.0 p.1) (zip picks k))
     ∙ ap (λ (l : List ℕ). pick_text format maps p x ++ l) (others-preceded format maps (zip picks k))
 
--- the fields of a combination, and more behind them
+-- the fields of a combination, followed by more
 pub line-more : (format : FormatValue) (maps : List Grid) (picks : List ℕ) (k : Combination) (more : List (List ℕ)) → 0 < length picks → length k ≡ length picks → join_with_byte format.separator (combination_fields format maps picks k ++ more) ≡ join_with_byte format.separator (combination_fields format maps picks k) ++ preceded_texts format.separator more
 line-more format maps [] k more some same = absurd (omega arith)
 line-more format maps (p ∷ picks) [] more some same = absurd (omega arith)
@@ -50,7 +50,7 @@ line-more format maps (p ∷ picks) (x ∷ k) more some same =
     let others = (if format.labels then label_of_cell maps p x ∷ [] else []) ++ flat_map (λ p. cell_fields format maps p.0 p.1) (zip picks k) in
     join-more format.separator (cell_text format.null_text x) others more
 
--- a cell, and its label behind it
+-- a cell, followed by its label
 pub pick_text-label : (format : FormatValue) (maps : List Grid) (place : ℕ) (cell : CellValue) → cell_text format.null_text cell ++ preceded_texts format.separator (if format.labels then label_of_cell maps place cell ∷ [] else []) ≡ pick_text format maps place cell
 pick_text-label format maps place cell = sym (join-cons format.separator (cell_text format.null_text cell) (if format.labels then label_of_cell maps place cell ∷ [] else []))
 

@@ -63,7 +63,7 @@ pub record IsFound (cells : List Combination) (es : Pairs) : Type 0 where
   pub sorted : IsTrue (is_sorted combination_cmp es)
   pub finds : (k : Combination) → find combination_cmp k es ≡ found (count_of k cells)
 
--- what is found stands in the list
+-- what is found is in the list
 pub stands : (k : Combination) (n : ℕ) (es : Pairs) → find combination_cmp k es ≡ Some n → Contains es (k, n)
 stands k n [] e = cc
 stands k n (x ∷ es) e =
@@ -197,7 +197,7 @@ count_kept skip k (x ∷ cells) = by (is_left_out skip x) (eq_by_cmp combination
         ∙ ap (λ n. cond (is_left_out skip k) 0 n) (sym (count_cons k x cells ∙ ap (λ b. cond b 1 0 + count_of k cells) e ∙ zero-add (count_of k cells)))
 
 module _ (skip : Skip) (cells : List Combination) (es : Pairs) where
-  -- what stands in the table of the cells that are kept, and what in that of all
+  -- what is in the table of the cells that are kept, and what in the table of all cells
   stands_kept : (b : Bool) (k : Combination) (n : ℕ) → is_left_out skip k ≡ b → ((0 < n) × (n ≡ count_of k (kept_cells skip cells))) ↔ ((is_left_out skip k ≡ false) × ((0 < n) × (n ≡ count_of k cells)))
   stands_kept true k n left = (
     λ h.
@@ -238,7 +238,7 @@ table_is skip cells es table = one_table_kept skip cells es (table_of skip cells
 
 -- ---- the table from the counts in a list
 
--- no combination behind greater ones is counted there
+-- a combination is not counted if all entries come after it
 none_behind : (x : Combination) (es : Counts) → AllByRecursion (λ y. combination_cmp x y ≡ Less) (keys_of es) → listed_of x es ≡ 0
 none_behind x [] above = refl
 none_behind x (e ∷ es) above =

@@ -16,10 +16,10 @@ TableAgrees = (skip : Skip) (cells : List Combination) → IsTable skip cells (t
 abbrev pub CountsAddUp : Type 0
 CountsAddUp = (maps : List Grid) (picks : List ℕ) (rows cols : ℕ) → sum_by (λ pair. pair.1) (table_of Nothing (all_combinations maps picks rows cols)) ≡ rows * cols
 
--- what a rule leaves out is left out of the whole table, and no count changes
+-- what a rule leaves out is left out of the full table, and no count changes
 abbrev pub RuleLeavesOut : Type 0
 RuleLeavesOut = (skip : Skip) (cells : List Combination) → table_of skip cells ≡ filter (λ pair. not (is_left_out skip pair.0)) (table_of Nothing cells)
 
--- the table of one map without cells that are null is the whole table without the entry of null
+-- the table of one map without null cells is the full table without the entry of null
 abbrev pub NullLeftOut : Type 0
 NullLeftOut = (maps : List Grid) (place rows cols : ℕ) → table_of AnyNull (all_combinations maps (place ∷ []) rows cols) ≡ filter (λ pair. not (eq_by_cmp combination_cmp (None ∷ []) pair.0)) (table_of Nothing (all_combinations maps (place ∷ []) rows cols))

@@ -50,7 +50,7 @@ pair_line format maps picks pair = line_text format (combination_fields format m
 abbrev pub cell_line : FormatValue → List Grid → List ℕ → Combination → List ℕ
 cell_line format maps picks k = line_text format (combination_fields format maps picks k)
 
--- the pairs that are printed: all, or those whose combination is greater
+-- the pairs that are printed: all, or those after a combination
 abbrev pub printed_pairs : Option Combination → Pairs → Pairs
 printed_pairs None pairs = pairs
 printed_pairs (Some k) pairs = rest_after k pairs

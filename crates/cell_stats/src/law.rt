@@ -13,7 +13,7 @@ pub fn counts_add_up()
     ensures { CountsAddUp }
 {}
 
-/// A table under a skip rule is the whole table without the entries that the rule leaves out.
+/// A table under a skip rule is the full table without the entries that the rule leaves out.
 pub fn rule_leaves_out()
     ensures { RuleLeavesOut }
 {}

@@ -45,7 +45,7 @@ impl<'a> CellWalk<'a> {
     ///
     /// # Errors
     ///
-    /// `Memory`, where memory is refused.
+    /// `Memory` if memory runs out.
     pub fn new(alloc: Global, shelf: &'a Shelf, picks: &[usize]) -> Result<CellWalk<'a>, Memory>
         requires { ArePicks shelf.now picks.now }
         ensures { IfOk result (λ walk. walk ≡ length picks.now) }
@@ -56,7 +56,7 @@ impl<'a> CellWalk<'a> {
     }
 }
 
-// Writes the lines of cells that are alike, or none where they are left out.
+// Writes a line for each of so many equal cells, or nothing if they are left out.
 fn write_lines<W: Sink>(
     out: &mut W,
     block: &mut OutputBlock,
@@ -105,10 +105,10 @@ fn write_cell_lines<'a, W: Sink>(
     }
 }
 
-/// Writes a line for each cell of the picked maps that is not left out, row by row from the top left. The walk has the memory
-/// for it, so that it takes none.
+/// Writes a line for each cell of the picked maps that is not left out, row by row from the top left. Takes no memory,
+/// since the walk has it.
 ///
-/// The text is gathered in the block, which goes on holding its last part. After a refused put nothing more is written.
+/// The block keeps the last part of the text. After a failed put nothing more is written.
 pub fn write_cells<'a, W: Sink>(
     out: &mut W,
     block: &mut OutputBlock,

@@ -168,10 +168,9 @@ pub(crate) fn write_cell_line<W: Sink>(
     block.push(out, b"\n");
 }
 
-/// Writes a line for each entry of a table of the picked maps, or for each whose combination is greater than the one given.
-/// Takes no memory.
+/// Writes a line for each entry of a table of the picked maps, or for each entry after a given one. Takes no memory.
 ///
-/// The text is gathered in the block, which goes on holding its last part. After a refused put nothing more is written.
+/// The block keeps the last part of the text. After a failed put nothing more is written.
 pub fn write_table<W: Sink>(
     out: &mut W,
     block: &mut OutputBlock,

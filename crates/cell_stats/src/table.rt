@@ -36,7 +36,7 @@ impl Model for Table {
     ghost invariant = { λ t. IsStrictlySortedBy combination_cmp (map (λ pair. pair.0) t.entries.items) × All (λ pair. length pair.0 ≡ t.width) t.entries.items };
 }
 
-// The place of the first entry that is greater, found by halving.
+// The place of the first entry after a combination, found by halving.
 fn place_after(entries: &[(Combo, u64)], combo: &Combo) -> usize
     requires { AreAscending entries.now }
     ensures rest { drop result entries.now ≡ rest_after combo.now entries.now }
@@ -88,7 +88,7 @@ impl Table {
         }
     }
 
-    /// Its entries whose combination is greater, whether or not the given one occurs. It is as long as the table is wide.
+    /// Its entries after a combination, which need not occur but has as many cells as the table has maps.
     pub fn after(&self, combo: &Combo) -> Listing<'_>
         requires { length combo.now ≡ self.now.width }
         ensures { result ≡ rest_after combo.now self.now.pairs }
@@ -99,7 +99,7 @@ impl Table {
         }
     }
 
-    // Its entries, or those whose combination is greater.
+    // Its entries, or its entries after a combination.
     pub(crate) fn printed_entries(&self, after: Option<&Combo>) -> &[(Combo, u64)]
         requires { IfSome after (λ k. length k.now ≡ self.now.width) }
         ensures value { result.now

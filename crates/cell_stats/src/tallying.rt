@@ -16,7 +16,7 @@ use std::alloc::Global;
 ///
 /// # Errors
 ///
-/// `Memory`, where memory is refused.
+/// `Memory` if memory runs out.
 pub fn tally(alloc: Global, shelf: &Shelf, picks: &[usize], skip: Skip) -> Result<Table, Memory>
     requires width { (1 ≤ length picks.now) × (length picks.now ≤ 16) }
     requires picked { ArePicks shelf.now picks.now }

@@ -15,7 +15,7 @@ drop-run n left x rest h =
     let fits : n ≤ length (replicate left x) = omega (arith, length-replicate left x) in
     drop-append-le n (replicate left x) rest fits ∙ ap (λ l. l ++ rest) (drop-replicate n left x)
 
--- the next run is no empty one, and so are those behind it
+-- neither the next run nor any run after it is empty
 pub ready-next : (runs rest : List RunValue) (x : CellValue) (n : ℕ) → runs ≡ (x, n) ∷ rest → All (λ run. 0 < run.1) runs → AreCursorsReady (record { runs = rest; cell = x; left = n })
 ready-next runs rest x n e all =
     let here : 0 < n = all_of e all 0 in
@@ -46,11 +46,11 @@ drop_one zero xs = refl
 drop_one (suc i) [] = refl
 drop_one (suc i) (x ∷ xs) = drop_one i xs
 
--- and behind it
+-- and after it
 pub same-behind : {X : Type 0} (xs ys : List X) (i : ℕ) → drop i xs ≡ drop i ys → drop (i + 1) xs ≡ drop (i + 1) ys
 same-behind xs ys i e = rw add-one (sym (drop_one i xs) ∙ ap (drop 1) e ∙ drop_one i ys)
 
--- what holds of the front, and of one more
+-- what holds of the items before a place, and of the item there
 pub All-take-set : {X : Type 0} (P Q : X → Type 0) (xs : List X) (i : ℕ) (y : X) → i < length xs → ((x : X) → P x → Q x) → All P (take i xs) → Q y → All Q (take (i + 1) (set xs i y))
 All-take-set P Q xs i y h weaker all here = rw (take_more_set xs i y h) (All-push Q (take i xs) y (λ k d within. weaker _ (all k d within)) here)
 

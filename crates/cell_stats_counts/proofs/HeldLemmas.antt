@@ -20,7 +20,7 @@ same-is a b e = combination_cmp-exact a b (is_equal _ e)
 pub held_by-own : (w : ℕ) (k : Combination) (h : CountPlace) → k ≡ take w h.cells → held_by w k h ≡ h.count
 held_by-own w k h e = ap (λ x. cond (is_same k x) h.count 0) (sym e) ∙ ap (λ b. cond b h.count 0) (same-itself k)
 
--- what a place holds, of a combination that stands there
+-- what a place holds of any combination, if its own one is known
 held_by-of : (w : ℕ) (k cells : Combination) (h : CountPlace) (n : ℕ) → take w h.cells ≡ cells → h.count ≡ n → held_by w k h ≡ cond (is_same k cells) n 0
 held_by-of w k cells h n same count = ap (λ x. cond (is_same k x) h.count 0) same ∙ ap (λ v. cond (is_same k cells) v 0) count
 

@@ -34,7 +34,7 @@ unfolding IsStrictlySortedBy
 strictly [] up = tt
 strictly (e ∷ es) up = (below e.0 es (λ d some. up 0 d (omega (arith, some))) (λ i d within. up (suc i) d (omega (arith, within))), strictly es (λ i d within. up (suc i) d (omega (arith, within))))
 
--- ---- what is not less and not equal is greater
+-- ---- what is neither less nor equal is above
 
 greater : (o : Ordering) → is_lt o ≡ false → is_eq o ≡ false → ordering_reverse o ≡ Less
 greater Less l e = cc
@@ -64,7 +64,7 @@ module _ (old : Counts) (rising : IsRising old) (zeros : HasNoZero old) where
     no_zero = All-take (λ (e : Combination × ℕ). 0 < e.1) 1 old zeros;
   }
 
--- what holds of one more holds of the front, and of the last of it
+-- if no count up to a place is 0, no count before it is, and its own is not
 front : (n : ℕ) (xs : Counts) → HasNoZero (take (n + 1) xs) → HasNoZero (take n xs)
 front n xs all i d within =
     let sizes : i < n = omega (arith, within, length-take n xs) in

@@ -66,7 +66,7 @@ module _ (maps : List Grid) (row col : ℕ) where
       let cell : cell_of_map maps row (col + j) p ≡ c.cell = cell-row maps row (col + j) p ∙ sym (get_or-drop col (row_in maps row p) j None) ∙ ap (λ l. get_or l j None) (sym here) ∙ first-cell c j within in
       ap (λ x. x ∷ combination_at maps picks row (col + j)) cell ∙ ap (λ l. c.cell ∷ l) (alike cs picks n j others (tail_of (λ (x : CursorValue). n ≤ x.left) c cs all) h)
 
-  -- in a column within the region each cursor stands on a cell
+  -- in a column within the region each cursor is at a cell
   pub alive : (cs : List CursorValue) (picks : List ℕ) (cols : ℕ) → map to_come cs ≡ map (λ p. drop col (row_in maps row p)) picks → All (λ p. length (row_in maps row p) ≡ cols) picks → col < cols → All AreCursorsReady cs → All (λ c. 0 < c.left) cs
   alive cs picks cols e wide h ready i d within =
       let c = get_or cs i d in

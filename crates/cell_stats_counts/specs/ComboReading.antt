@@ -1,4 +1,4 @@
--- How a combination is read of a text, with its faults, and that it is read where it is spelled (profile).
+-- How the combination that a text spells is read from it, and the errors of other texts (profile).
 use Rattle.std.specs.Prelude.{ℕ, ◌≡◌, ◌↔◌, ◌==◌, List, [], ◌∷◌, length, Option, Some, None, Result, Ok, Err, if◌then◌else◌, bytes_eq, codes}
 use Rattle.std.specs.Option.{option_map, option_and_then}
 use Rattle.cell_core.specs.Grid.{CellValue}

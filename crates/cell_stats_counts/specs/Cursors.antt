@@ -16,7 +16,7 @@ pub record CursorValue : Type 0 where
 abbrev pub to_come : CursorValue → List CellValue
 to_come c = replicate c.left c.cell ++ written_out c.runs
 
--- no run to come is empty, and the present one only where none is to come
+-- no run to come is empty, and the present run is empty only if no run is to come
 pub record AreCursorsReady (c : CursorValue) : Type 0 where
   pub runs : All (λ run. 0 < run.1) c.runs
   pub present : c.left ≡ 0 → c.runs ≡ []

@@ -63,7 +63,7 @@ fn byte_counts(bytes: &[u8]) -> [u32; BYTES]
     counts
 }
 
-// Counts the cells that bytes stand for: those of each byte together.
+// Counts the cells that bytes represent, all cells of one byte together.
 fn count_bytes(
     alloc: Global,
     bytes: &[u8],
@@ -92,8 +92,8 @@ fn count_bytes(
     Ok(())
 }
 
-// Counts the cells of a row of one map, as they are kept: those of each byte together, if the row is long enough for this to
-// be faster than one by one.
+// Counts the cells of a row of one map: all cells of one byte together, if the row is long enough for this to be faster
+// than one by one.
 pub(crate) fn count_alone(
     alloc: Global,
     grid: &CellMap,

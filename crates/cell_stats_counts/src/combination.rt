@@ -50,7 +50,7 @@ impl Combo {
     ///
     /// # Errors
     ///
-    /// `Memory`, where memory is refused.
+    /// `Memory` if memory runs out.
     pub fn from_cells(alloc: Global, cells: &[Cell]) -> Result<Combo, Memory>
         ensures { IfOk result (λ combo. combo ≡ cells.now) }
     {

@@ -18,7 +18,7 @@ pub enum ComboFault {
     BadCombo,
     /// There is another number of parts.
     BadWidth,
-    /// Memory was refused.
+    /// Memory ran out.
     Memory,
 }
 

@@ -41,7 +41,7 @@ pub(crate) struct CountPlace {
     cells: [Cell; WIDEST],
 }
 
-// Combinations of two maps are counted in the table, those of one map or more than two in the places.
+// Combinations of two maps are counted in the table, all others in the places.
 #[derive(Drop)]
 pub(crate) struct CountPlaces {
     pub(crate) wide: Vec<CountPlace>,
@@ -135,8 +135,8 @@ fn hold(held: &mut CountPlace, cells: &[Cell], count: u64)
     held.count = count;
 }
 
-// Counts cells of a combination that its own place does not hold, at a place near that. What it held of another goes to the
-// map. It stays out of the loop over the cells, where it is rare.
+// Counts cells of a combination that is not in its own place, in a place near it. A combination that this place holds
+// first moves to the map. This is rare, and stays out of the loop over the cells.
 #[inline(never)]
 fn add_near(
     alloc: Global,
@@ -219,7 +219,7 @@ pub(crate) fn add_count(
     Ok(())
 }
 
-// How many combinations are held at first: fewer where there are few cells.
+// How many combinations are held at first: fewer if there are few cells.
 fn places_for(shelf: &Shelf) -> usize
     ensures { 0 < result }
 {
@@ -283,8 +283,8 @@ fn are_crowded(width: usize, places: usize, new: usize) -> bool {
     width != PAIR && places < MOST && new > places / CROWD
 }
 
-// Makes more places where there are too few. `before` is how many combinations the map had when the places were made;
-// returns the same number for the places that there are now.
+// Makes more places if there are too few. `before` is how many combinations the map had when the places were made;
+// returns this number for the places that there are now.
 pub(crate) fn make_room(
     alloc: Global,
     width: usize,

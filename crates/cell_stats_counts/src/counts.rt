@@ -113,7 +113,7 @@ fn count_row<'a>(
 ///
 /// # Errors
 ///
-/// `Memory`, where memory is refused.
+/// `Memory` if memory runs out.
 pub fn count_cells(
     alloc: Global,
     shelf: &Shelf,

@@ -102,7 +102,7 @@ fn start_all<'a>(
 ///
 /// # Errors
 ///
-/// `Memory`, where memory is refused.
+/// `Memory` if memory runs out.
 pub fn cursors_of<'a>(
     alloc: Global,
     shelf: &'a Shelf,

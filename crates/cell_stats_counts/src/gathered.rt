@@ -27,11 +27,11 @@ const NONE: u64 = u64::MAX;
 // The lower half of a number.
 const LOW: u64 = u32::MAX as u64;
 
-// Counts of combinations, and the places of an index: each that is taken has the lower half of the number of a combination,
-// and below it where its entry stands. What is pending is counted too.
+// Counts of combinations, and an index. A taken place of the index has the lower half of the number of a combination,
+// and below it the place of its entry. What is pending is counted too.
 //
-// Nothing is proved of the index, since what it names is compared. A combination that it misses gets one more entry, and equal
-// entries are added up in place at the end.
+// Nothing is proved of the index, since the entries that it names are compared. A combination that it misses gets one
+// more entry, and equal entries are added up in place at the end.
 #[derive(Drop)]
 pub(crate) struct Gathered {
     pub(crate) entries: Vec<(Combo, u64)>,
@@ -116,7 +116,7 @@ fn are_same(entries: &[(Combo, u64)], a: usize, b: usize) -> bool
     is_of(&entries[a], &entries[b].0)
 }
 
-// Adds cells to the entry at a place, if it has the combination, and tells whether it has.
+// Adds cells to the entry at a place if it has the combination, and returns whether it has.
 fn has_added(entries: &mut [(Combo, u64)], at: usize, combo: &Combo, count: u64) -> bool
     requires fits { listed_of combo.now entries.old + count < 2 ^ 64 }
     requires no_zero { HasNoZero entries.old }
@@ -143,7 +143,7 @@ fn named_entry(index: &[u64], slot: usize) -> usize {
     }
 }
 
-// For each pending combination the entry that is named where it is looked for first. These reads wait for memory together.
+// For each pending combination the entry that its first slot names. These reads wait for memory together.
 fn guesses_of(pending: &[(Combo, u64)], index: &[u64]) -> [usize; BATCH] {
     let mut guesses = [0; BATCH];
     for (guess, entry) in guesses.iter_mut().zip(pending.iter()) {

@@ -1,4 +1,4 @@
-//! The areas beside a plain, slow search, on all small maps and on random ones.
+//! Areas compared with a plain, slow search, on all small maps and on random ones.
 
 ghost use Rattle.std.specs.Prelude.{◌<◌};
 

@@ -27,7 +27,7 @@ fn expect_map<R: Abort + AllocGlobal>(
     Ok(())
 }
 
-/// The numbers of the areas of a map of these categories are the wanted ones; by edges, those of `clump` are the same.
+/// Checks the numbers of the areas of a map of these categories; by edges, also those that `clump` returns.
 pub(crate) fn expect_numbers<R: Abort + AllocGlobal>(
     rt: &R,
     categories: &[i32],

@@ -1,5 +1,5 @@
-//! Maps by random rules beside a plain look at every rule: ranges in either order that overlap, rules of `*` in any place,
-//! the least and the greatest category.
+//! Maps by random rules, compared with a plain look at every rule: ranges in either order that overlap, rules of `*` in
+//! any place, the smallest and the largest category.
 
 use crate::assertions::{assert_holds, assert_same};
 use cell_cats::reclassing::reclass;
@@ -67,7 +67,7 @@ fn items(alloc: Global, seed: &mut u64) -> Result<String, Fail> {
     Ok(text)
 }
 
-// The line of a rule, whose output tells it from most others.
+// The line of a rule, whose output most other rules do not have.
 fn rule(alloc: Global, seed: &mut u64) -> Result<String, Fail> {
     let output = next_random(seed, 100000);
     let line = match next_random(seed, 10) {

@@ -1,7 +1,7 @@
-//! A rule for which memory was refused: the rules are as before, and the same line added again gives it.
+//! A rule for which memory runs out leaves the rules unchanged, and the same line can be added again.
 //!
-//! Run as it is, each growth is granted: tools/hostile.py refuses them in turn, one in each run, and wants the call to be made
-//! again in some of them.
+//! Every growth succeeds in a normal run. tools/hostile makes the growths fail in turn, one in each run, and checks
+//! that the call is made again in some of the runs.
 
 use crate::assertions::{assert_holds, assert_same};
 use cell_cats::rules::{LineKind, RuleFault, Rules};

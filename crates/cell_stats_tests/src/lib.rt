@@ -1,5 +1,5 @@
 //! Tests of the rules of r.reclass: each form of a line, worked maps, and maps by random rules.
-//! Tests of the connected areas of a map: worked maps, shapes, and a plain, slow search beside them.
+//! Tests of the connected areas of a map: worked maps, shapes, and comparisons with a plain, slow search.
 //! Tests of tables and of their printed text: worked maps, wide picks and a table of very many combinations.
 #![tactic(auto)]
 

@@ -32,7 +32,7 @@ fn pair_of(alloc: Global, text: &[u8]) -> Result<[i32; 2], ComboFault> {
     Ok([first, second])
 }
 
-// Texts, and the two categories or the fault of each.
+// Texts, and the two categories or the error of each.
 const TEXTS: [(&[u8], Result<[i32; 2], ComboFault>); 12] = [
     (b"1,*", Ok([1, NULL])),
     (b"*,*", Ok([NULL, NULL])),

@@ -44,18 +44,18 @@ AreEmpty places = (width : ℕ) (k : Combination) → held_of width k places ≡
 abbrev pub CountWideMore : Combination → ℕ → List CountPlace → Gathered → List CountPlace → Gathered → Type 0
 CountWideMore cells count places m more n = (k : Combination) → wide_total (length cells) k more n ≡ wide_total (length cells) k places m + cond (is_same k cells) count 0
 
--- so many more can be told of each combination
+-- so many more cells of each combination can be counted
 abbrev pub HasWideRoom : ℕ → List CountPlace → Gathered → ℕ → Type 0
 HasWideRoom width places m count = (k : Combination) → wide_total width k places m + count < 2 ^ 64
 
--- counts of combinations of so many maps can go on: there is one to write to, there are places, and no entry counts nothing
+-- counting can continue for combinations of so many maps: there is one to write to, there are places, and no count is 0
 pub record IsWideCounting (width : ℕ) (spare : Combination) (places : List CountPlace) (m : Gathered) : Type 0 where
   pub few : width ≤ 16
   pub wide : length spare ≡ width
   pub some : 0 < length places
   pub no_zero : GathersNoZero m
 
--- so many cells of a combination were counted, and counts can go on
+-- so many cells of a combination were counted, and counting can continue
 pub record HasWideCounted (cells : Combination) (count : ℕ) (places : List CountPlace) (m : Gathered) (spare : Combination) (more : List CountPlace) (n : Gathered) : Type 0 where
   pub counts : CountWideMore cells count places m more n
   pub going : IsWideCounting (length cells) spare more n
@@ -98,7 +98,7 @@ HasPairRoom width places entries count = (k : Combination) → paired_of width k
 abbrev pub total_of : ℕ → Combination → CountPlaces → Gathered → ℕ
 total_of width k places m = paired_of width k places.pairs.places.items + wide_total width k places.wide.items m
 
--- so many more can be told of each combination
+-- so many more cells of each combination can be counted
 abbrev pub HasRoom : ℕ → CountPlaces → Gathered → ℕ → Type 0
 HasRoom width places m count = (k : Combination) → total_of width k places m + count < 2 ^ 64
 
@@ -106,12 +106,12 @@ HasRoom width places m count = (k : Combination) → total_of width k places m +
 abbrev pub AreCounted : ShelfValue → List ℕ → Skip → ℕ → CountPlaces → Gathered → Type 0
 AreCounted shelf picks skip row places m = (k : Combination) → total_of (length picks) k places m ≡ count_of k (kept_cells skip (all_combinations shelf.maps picks row shelf.region.cols))
 
--- counts of combinations of so many maps can go on
+-- counting can continue for combinations of so many maps
 pub record IsCounting (width : ℕ) (spare : Combination) (places : CountPlaces) (m : Gathered) : Type 0 where
   pub wide : IsWideCounting width spare places.wide.items m
   pub pairs : 0 < length places.pairs.places.items
 
--- so many cells of a combination were counted, and counts can go on
+-- so many cells of a combination were counted, and counting can continue
 pub record HasCounted (cells : Combination) (count : ℕ) (places : CountPlaces) (m : Gathered) (spare : Combination) (more : CountPlaces) (n : Gathered) : Type 0 where
   pub counts : (k : Combination) → total_of (length cells) k more n ≡ total_of (length cells) k places m + cond (is_same k cells) count 0
   pub going : IsCounting (length cells) spare more n

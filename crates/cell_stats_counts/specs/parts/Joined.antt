@@ -25,11 +25,11 @@ pub record IsJoined (old now : Counts) (last at : ℕ) : Type 0 where
 abbrev pub AreOfOne : Counts → ℕ → ℕ → Bool → Type 0
 AreOfOne entries a b same = (d : Combination × ℕ) → same ≡ is_same (slice_index_or entries a d).0 (slice_index_or entries b d).0
 
--- and if they are, their sum can be told
+-- and if they are, their sum fits a number
 abbrev pub CanAddUp : Counts → ℕ → ℕ → Type 0
 CanAddUp entries a b = (d : Combination × ℕ) → (slice_index_or entries a d).0 ≡ (slice_index_or entries b d).0
     → (slice_index_or entries a d).1 + (slice_index_or entries b d).1 < 2 ^ 64
 
--- entries that were added up in place go on so by one more
+-- one more entry is added up in place
 abbrev pub JoinsMore : Counts → ℕ → ℕ → Counts → ℕ → Type 0
 JoinsMore now last at new next = (old : Counts) → IsRising old → HasNoZero old → IsJoined old now last at → IsJoined old new next (at + 1)

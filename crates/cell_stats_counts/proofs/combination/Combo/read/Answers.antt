@@ -9,11 +9,11 @@ use Rattle.cell_stats_counts.specs.Combinations.{Combination}
 use Rattle.cell_stats_counts.specs.ComboReading.{cell_of_part, cells_of_parts, as_wide}
 use Rattle.cell_stats_counts.proofs.combination.Combo.read.Goals as goal
 
--- what stands behind the last part
+-- what is read past the last part
 abbrev behind : Bor (List ℕ)
 behind = record { ref_ptr = (0, 0); now = [] }
 
--- the parts from a place on: the one there, and those behind it
+-- the parts from a place on: the part there, and the parts after it
 rest_first : (items : List (Bor (List ℕ))) (i : ℕ) (d : Bor (List ℕ)) → i < length items
     → map (λ w. w.now) (drop i items) ≡ (get_or items i d).now ∷ map (λ w. w.now) (drop (i + 1) items)
 rest_first items i d within = rw (add-one, drop-cons items i d) refl
@@ -36,7 +36,7 @@ module _ (now : Combination) {found : Option Combination} {all : List (List ℕ)
         ∙ ap (λ o. option_map (λ cells. now ++ cells)
         (option_and_then (λ cell. option_map (λ cells. cell ∷ cells) (cells_of_parts parts)) o)) none
 
-    -- or its cell comes behind those before it
+    -- or its cell comes after the earlier ones
     more : (cell : CellValue) → cell_of_part part ≡ Some cell
         → found ≡ option_map (λ cells. (now ++ cell ∷ []) ++ cells) (cells_of_parts parts)
     more cell some = so_far ∙ ap (λ l. option_map (λ cells. now ++ cells) (cells_of_parts l)) first
