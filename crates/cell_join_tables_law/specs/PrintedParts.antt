@@ -25,8 +25,8 @@ text_of_part format skip picks part = record {
   fails = false;
 }
 
--- lines that can be read back: counts and no labels (r.stats manual, flags -c and -l), fields that can be distinguished, at
--- least one cell, and no line that is too long if a cell takes 11 bytes, or as many as the null text, and a count 20
+-- lines that can be read back: counts and no labels (r.stats manual, flags -c and -l), fields that can be distinguished,
+-- at least one cell, and no line that is too long if a cell takes 11 bytes, or as many as the null text, and a count 20
 pub record CanBeReadBack (format : FormatValue) (picks : List ℕ) : Type 0 where
   pub clear : IsClear format
   pub labels : format.labels ≡ false

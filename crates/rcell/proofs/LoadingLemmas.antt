@@ -26,7 +26,7 @@ pub differs : (t : Bool) → (t ≡ true → ⊥) → t ≡ false
 differs true apart = absurd (apart refl)
 differs false apart = refl
 
--- another region is refused
+-- another region is rejected
 pub added-other : (grid : ℕ) (shelf : ShelfValue) (name : List ℕ) (map : Grid) → place_of name shelf.names ≡ None → map.region ≢ shelf.region → shelf_with_map grid shelf name map (place_of name shelf.names) ≡ Err (GridRegion grid)
 added-other grid shelf name map free apart =
     let other : is_same_region map.region shelf.region ≡ false = differs _ (λ t. apart ((is_same_region-Decides map.region shelf.region).0 t)) in
@@ -38,19 +38,19 @@ added-same grid shelf name map free same =
     let same_test : is_same_region map.region shelf.region ≡ true = (is_same_region-Decides map.region shelf.region).1 same in
     rw (free, same_test) refl
 
--- a name that stands already is refused
+-- a name already on the shelf is rejected
 pub added-twice : (grid : ℕ) (shelf : ShelfValue) (name : List ℕ) (map : Grid) (o : Option ℕ) → IsSome o → shelf_with_map grid shelf name map o ≡ Err (GridTwice grid)
 added-twice grid shelf name map None some = cc
 added-twice grid shelf name map (Some place) some = refl
 
--- what the shelf refuses is the fault of the grid
+-- an error of the shelf becomes an error of the grid
 pub added-refused : (grid : ℕ) (shelf : ShelfValue) (name : List ℕ) (map : Grid) (fault : ShelfFault) → IsMapRefused shelf name map fault → IsOfInput (of_shelf grid fault)
     → shelf_with_map grid shelf name map (place_of name shelf.names) ≡ Err (of_shelf grid fault)
 added-refused grid shelf name map Exists reason input = added-twice grid shelf name map _ reason
 added-refused grid shelf name map OtherRegion reason input = added-other grid shelf name map reason.0 reason.1
 added-refused grid shelf name map Memory reason input = absurd input
 
--- it is the grid's, and told before execution
+-- the error belongs to the grid, and is reported before execution
 pub refused-whose : (grid : ℕ) (fault : ShelfFault) → IsGridFault grid (of_shelf grid fault)
 refused-whose grid Exists = record { early = tt; reported = λ count within. within; whose = refl }
 refused-whose grid OtherRegion = record { early = tt; reported = λ count within. within; whose = refl }
@@ -129,7 +129,7 @@ module _ {R : Type 0} (coming : R → Option Coming) (grid : ℕ) (shelf : Optio
       × (shelf_from grid shelf named ≡ shelf_from (grid + 1) (Some next) others))
   shelf_more gs next named is report one = more next named (rw is at report) one
 
-  -- a grid that is refused
+  -- the grid is rejected
   pub shelf_fails : (gs : List (List ℕ × R)) (f : RunFault) (named : List Named) → gs ≡ g ∷ rest → Report coming gs named → IsOfInput f
       → IfSome (coming g.1) (λ c. IsOfInput f → with_grid grid shelf g.0 (grid_of c) ≡ Err f) → shelf_from grid shelf named ≡ Err f
   shelf_fails gs f named is report input one = fails f named (rw is at report) input one
@@ -148,7 +148,7 @@ pub no_more : {X : Type 0} (xs : List X) → length xs ≡ 0 → xs ≡ []
 no_more [] e = refl
 no_more (x ∷ xs) e = absurd (omega arith)
 
--- a name that is found at a place does not stand before it
+-- a name does not occur before its place
 position_from-before : {K : Type 0} (t : K → Bool) (i : ℕ) (xs : List K) (p j : ℕ) → position_from t i xs ≡ Some p → i + j ≡ p → position_from t i (take j xs) ≡ None
 position_from-before t i [] p j e at = cc
 position_from-before t i (x ∷ xs) p zero e at = refl

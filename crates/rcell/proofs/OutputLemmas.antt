@@ -66,7 +66,7 @@ Executes-append [] second shelf between after one other x y =
 Executes-append (s ∷ ss) second shelf between after one other x y =
     (x.0, (x.1.0 ++ other, (x.1.1.0, (Executes-append ss second x.0 between after x.1.0 other x.1.1.1.0 y, ap (λ t. t ++ other) x.1.1.1.1 ∙ append_assoc (command_text shelf s.command) x.1.0 other))))
 
--- the same of the whole
+-- the outputs of two scripts, one executed after the other, are together the text
 abbrev pub Parts : (first second : List Statement) → ShelfValue → List ℕ → ShelfValue → Type 0
 Parts first second shelf text after = (between : ShelfValue) × ((one other : List ℕ) × (Executes shelf first one between × (Executes between second other after × (text ≡ one ++ other))))
 

@@ -1,6 +1,4 @@
--- The maps that statements make, and the shelf with one more.
--- What a run reads, and the faults of a run.
--- The shelf after each statement, output, runs, laws and fault lines.
+-- What a run reads, makes, writes and reports.
 pub mod Making
 pub mod Sources
 pub mod RunFaults

@@ -1,4 +1,4 @@
--- The shelf that grids give, in their order, or the first fault (profile).
+-- The shelf that grids give, in their order, or the first error (profile).
 use Rattle.std.specs.Prelude.{ℕ, ◌+◌, List, [], ◌∷◌, ◌++◌, Option, Some, None, Result, Ok, Err, if◌then◌else◌}
 use Rattle.cell_core.specs.Grid.{Grid}
 use Rattle.cell_core_values.specs.Name.{place_of}
@@ -14,12 +14,12 @@ use Rattle.rcell.specs.declared.run_fault.RunFault.TheVariants as faults
 abbrev pub shelf_of_one : List ℕ → Grid → ShelfValue
 shelf_of_one name map = record { region = map.region; names = name ∷ []; maps = map ∷ [] }
 
--- a name that stands already is reported before another region
+-- a name already on the shelf is reported before another region
 abbrev pub shelf_with_map : ℕ → ShelfValue → List ℕ → Grid → Option ℕ → Result ShelfValue RunFault
 shelf_with_map grid shelf name map (Some place) = Err (faults.GridTwice grid)
 shelf_with_map grid shelf name map None = if is_same_region map.region shelf.region then Ok (record shelf { names = shelf.names ++ name ∷ []; maps = shelf.maps ++ map ∷ [] }) else Err (faults.GridRegion grid)
 
--- the shelf with one more map, where there is a shelf
+-- the shelf with one more map; the first map makes the shelf
 abbrev pub shelf_placed : ℕ → Option ShelfValue → List ℕ → Grid → Result ShelfValue RunFault
 shelf_placed grid None name map = Ok (shelf_of_one name map)
 shelf_placed grid (Some shelf) name map = shelf_with_map grid shelf name map (place_of name shelf.names)
@@ -29,7 +29,7 @@ abbrev pub with_grid : ℕ → Option ShelfValue → List ℕ → Result Grid Gr
 with_grid grid shelf name (Ok map) = shelf_placed grid shelf name map
 with_grid grid shelf name (Err fault) = Err (faults.Grid grid fault)
 
--- what the grids that are left give, unless there was a fault
+-- the shelf after the remaining grids, unless there was an error
 abbrev pub then_grids : (ShelfValue → Result (Option ShelfValue) RunFault) → Result ShelfValue RunFault → Result (Option ShelfValue) RunFault
 then_grids rest (Ok shelf) = rest shelf
 then_grids rest (Err fault) = Err fault

@@ -26,7 +26,7 @@ stats_text shelf places options =
     if options.cells then cell_lines (format_of options) options.skip shelf.maps places shelf.region.rows shelf.region.cols
     else table_text (format_of options) shelf.maps places (printed_pairs options.after (table_of options.skip (combinations_of shelf places)))
 
--- r.out.ascii: the grid text of the map at a place, nothing where there is none
+-- r.out.ascii: the grid text of the map at a place, or nothing if there is no map
 abbrev pub out_ascii_text : ShelfValue → ℕ → List ℕ → List ℕ
 out_ascii_text shelf place null_text = option_map_or (grid_text null_text) (slice_get shelf.maps place) []
 

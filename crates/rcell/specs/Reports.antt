@@ -1,15 +1,15 @@
--- Where a fault of a run is reported, and by what text (profile).
+-- Where an error of a run is reported, and its text (profile).
 use Rattle.std.specs.Prelude.{ℕ, List, [], codes, slice_get, unwrap_or}
 use Rattle.rcell.specs.declared.run_fault.RunFault.{RunFault}
 use Rattle.rcell.specs.declared.run_fault.RunFault.TheVariants.{GridTwice, GridRegion, Grid, ScriptRead, ScriptSize, Script, Memory, Write}
 use Rattle.rcell.specs.declared.report.FaultText.{FaultText}
 use Rattle.rcell.specs.declared.report.FaultText.TheVariants as texts
 
--- the name of a grid by its place, nothing where there is no such grid
+-- the name of a grid by its place, or nothing if there is no such grid
 abbrev pub name_at_place : List (List ℕ) → ℕ → List ℕ
 name_at_place names grid = unwrap_or (slice_get names grid) []
 
--- what a fault belongs to: a grid's name, `script` or `output`
+-- the source of an error: a grid's name, `script` or `output`
 abbrev pub fault_source : List (List ℕ) → RunFault → List ℕ
 fault_source names (GridTwice grid) = name_at_place names grid
 fault_source names (GridRegion grid) = name_at_place names grid
@@ -20,7 +20,7 @@ fault_source names (Script fault) = codes "script"
 fault_source names (Memory line) = codes "script"
 fault_source names Write = codes "output"
 
--- the line of a fault, 0 where it belongs to none
+-- the line of an error, 0 if it belongs to none
 abbrev pub fault_line_number : RunFault → ℕ
 fault_line_number (GridTwice grid) = 0
 fault_line_number (GridRegion grid) = 0
@@ -31,7 +31,7 @@ fault_line_number (Script fault) = fault.line
 fault_line_number (Memory line) = line
 fault_line_number Write = 0
 
--- the text of a fault, after so many bytes were written
+-- the text of an error, after so many bytes were written
 abbrev pub text_of : ℕ → RunFault → FaultText
 text_of written (GridTwice grid) = texts.GridTwice
 text_of written (GridRegion grid) = texts.GridRegion
@@ -42,6 +42,6 @@ text_of written (Script fault) = texts.Script fault.kind
 text_of written (Memory line) = texts.Memory
 text_of written Write = texts.Write written
 
--- what the line of a fault tells, after so many bytes were written: where, at which line, and the text
+-- the parts of an error line, after so many bytes were written: source, line and text
 abbrev pub line_parts : List (List ℕ) → ℕ → RunFault → List ℕ × (ℕ × FaultText)
 line_parts names written fault = (fault_source names fault, (fault_line_number fault, text_of written fault))

@@ -23,7 +23,7 @@ use std::alloc::Global;
 /// What stops an execution.
 #[derive(Clone, Copy)]
 pub enum RunStop {
-    /// Memory was refused; the line is that of the statement.
+    /// Memory ran out at the statement of this line.
     Memory { line: u64 },
     /// A write failed.
     Write,
@@ -36,7 +36,7 @@ pub struct Stopped {
     pub written: u64,
 }
 
-// At a refused put, after so many bytes.
+// A put failed after so many bytes.
 fn stopped_by(written: u64) -> Stopped
     ensures { result ≡ record { stop = RunStop.Write; written = written } }
 {
@@ -94,12 +94,14 @@ fn execute_statement<W: Sink>(
     }
 }
 
-/// Executes statements in order. Answers the number of bytes that the sink took.
+/// Executes statements in order. Returns the number of bytes that the sink took.
 ///
 /// # Errors
 ///
-/// [`RunStop::Memory`] with the line of the first statement for which memory was refused, which has written nothing, or
-/// [`RunStop::Write`] where the sink failed; either with the number of bytes that the sink took.
+/// Each has the number of bytes that the sink took:
+///
+/// - [`RunStop::Memory`] if memory runs out, with the line of the statement, which has written nothing
+/// - [`RunStop::Write`] if the sink fails
 pub fn execute<W: Sink>(
     alloc: Global,
     shelf: &mut Shelf,

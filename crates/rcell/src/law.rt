@@ -1,4 +1,4 @@
-//! Laws of output, in the words of the subject.
+//! Laws of output.
 
 ghost use Rattle.rcell.specs.OutputLaw.{OneOutput, PartsJoin};
 ghost use Rattle.rcell.specs.StatsLaw.{CountsCoverTheRegion, TablesAreAppended};

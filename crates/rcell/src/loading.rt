@@ -17,7 +17,7 @@ use cell_core::shelf::{Shelf, ShelfFault};
 use cell_core::source::Source;
 use std::alloc::Global;
 
-// The fault of a grid that the shelf refuses.
+// The error of a grid that the shelf rejects.
 fn of_shelf(grid: usize, fault: ShelfFault) -> RunFault
     ensures { result ≡ of_shelf grid fault }
 {
@@ -84,13 +84,16 @@ fn shelf_with_grid<R: Source + Drop>(
     shelf_or_new(alloc, shelf, grid, name, map)
 }
 
-/// Reads the grids, each whole and in order, and puts them on a shelf.
+/// Reads the full text of each grid, in order, and puts the maps on a shelf.
 ///
 /// # Errors
 ///
-/// That of the first grid that has one: [`RunFault::Grid`] where its text is refused, then [`RunFault::GridTwice`] where
-/// its name stands already, then [`RunFault::GridRegion`] where its region is not the first grid's. Where memory was
-/// refused, [`RunFault::Grid`] of kind `Memory`, or [`RunFault::Memory`], both with line 0.
+/// The error of the first grid that has one:
+///
+/// - [`RunFault::Grid`] if its text is rejected, or, with kind `Memory` and line 0, if memory runs out
+/// - else [`RunFault::GridTwice`] if its name is on the shelf already
+/// - else [`RunFault::GridRegion`] if its region is not the first grid's
+/// - else [`RunFault::Memory`] with line 0 if memory runs out
 pub fn load<R: Source + Drop>(alloc: Global, grids: Vec<(Name, R)>) -> Result<Shelf, RunFault>
     requires { 0 < vec_len grids }
     ensures answer { (named : List Named) → Report R.coming grids.items named
@@ -117,7 +120,7 @@ pub fn load<R: Source + Drop>(alloc: Global, grids: Vec<(Name, R)>) -> Result<Sh
 ///
 /// # Errors
 ///
-/// [`Memory`] where memory was refused.
+/// [`Memory`] if memory runs out.
 pub fn shelf_names(alloc: Global, shelf: &Shelf) -> Result<Names, Memory>
     ensures names { IfOk result (λ names. names ≡ shelf.now.names) }
     ensures count { IfOk result (λ names. length names ≡ length shelf.now.maps) }

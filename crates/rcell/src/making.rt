@@ -38,7 +38,7 @@ fn put_last(alloc: Global, shelf: &mut Shelf, target: &Name, made: CellMap) -> R
 ///
 /// # Errors
 ///
-/// [`Memory`] where memory was refused: the shelf is unchanged.
+/// [`Memory`] if memory runs out: the shelf is unchanged.
 pub fn make_values(
     alloc: Global,
     shelf: &mut Shelf,
@@ -54,11 +54,11 @@ pub fn make_values(
     put_last(alloc, shelf, target, made)
 }
 
-/// r.reclass: makes the map of another by rules.
+/// r.reclass: makes a map from another one by rules.
 ///
 /// # Errors
 ///
-/// [`Memory`] where memory was refused: the shelf is unchanged.
+/// [`Memory`] if memory runs out: the shelf is unchanged.
 pub fn make_classes(
     alloc: Global,
     shelf: &mut Shelf,
@@ -75,11 +75,11 @@ pub fn make_classes(
     put_last(alloc, shelf, target, made)
 }
 
-/// r.clump: makes the map of the numbers of another's areas.
+/// r.clump: makes the map of the clump numbers of another one.
 ///
 /// # Errors
 ///
-/// [`Memory`] where memory was refused: the shelf is unchanged.
+/// [`Memory`] if memory runs out: the shelf is unchanged.
 pub fn make_numbers(
     alloc: Global,
     shelf: &mut Shelf,

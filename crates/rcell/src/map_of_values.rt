@@ -14,7 +14,7 @@ use cell_core::memory::Memory;
 use cell_core::shelf::Shelf;
 use std::alloc::Global;
 
-// The map that stands at a place of a list of places.
+// The map of the place at index `i`.
 fn map_at<'a>(shelf: &'a Shelf, places: &[usize], i: usize) -> &'a CellMap
     requires place { i < length places.now }
     requires within { AreMapPlaces shelf.now places.now }
@@ -105,7 +105,7 @@ fn evaluate_over(
 ///
 /// # Errors
 ///
-/// [`Memory`] where memory was refused.
+/// [`Memory`] if memory runs out.
 pub fn evaluate(alloc: Global, bound: &Bound, shelf: &Shelf) -> Result<CellMap, Memory>
     requires { top_of bound.now ≤ length shelf.now.maps }
     ensures { IfOk result (AreValues bound.now shelf.now) }

@@ -1,4 +1,4 @@
-//! What a run answers.
+//! The outcome of a run.
 
 ghost use Rattle.std.specs.Prelude.{◌≡◌};
 ghost use Rattle.rcell.specs.runs.Statuses.{grid_status, script_status, fault_status};
@@ -10,9 +10,9 @@ use rcell_script::script_fault::ScriptKind;
 /// What a run did.
 #[derive(Clone, Copy, Debug, PartialEq, Eq)]
 pub struct Outcome {
-    /// 0 where it is done, 1 where a grid or the script was refused, 3 when out of memory, 4 where a read or a write failed.
+    /// 0 if it is done, 1 if a grid or the script was rejected, 3 if memory ran out, 4 if a read or a write failed.
     pub status: u8,
-    /// The number of bytes that the writer took, or the greatest `u64` where it took more.
+    /// The number of bytes that the sink took, at most `u64::MAX`.
     pub written: u64,
     /// Why it is not done.
     pub fault: Option<RunFault>,
@@ -37,7 +37,7 @@ fn script_status(kind: ScriptKind) -> u8
     }
 }
 
-/// The exit status of a fault.
+/// The exit status of an error.
 pub fn status_of(fault: RunFault) -> u8
     ensures { result ≡ fault_status fault }
 {

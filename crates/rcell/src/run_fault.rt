@@ -1,4 +1,4 @@
-//! The faults of a run.
+//! The errors of a run.
 
 use cell_ascii::grid_fault::GridFault;
 use rcell_script_commands::script_fault::ScriptFault;
@@ -16,9 +16,9 @@ pub enum RunFault {
     ScriptRead,
     /// The script has over 1,048,576 bytes.
     ScriptSize,
-    /// The script was refused.
+    /// The script was rejected.
     Script(ScriptFault),
-    /// A growth was refused; the line is that of the statement in execution, 0 before execution.
+    /// Memory ran out, at the line of the statement in execution, or at 0 before execution.
     Memory { line: u64 },
     /// A write, or the flush at the end, failed.
     Write,

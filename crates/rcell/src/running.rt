@@ -57,10 +57,10 @@ fn read_statements<R: Source + Drop>(
     }
 }
 
-// Flushes the sink unless it refused a put, and answers. A flush that fails turns a run that is done into a failed write,
-// and changes no other answer.
+// Flushes the sink unless a put failed, and returns the outcome. A failed flush turns a finished run into a failed write,
+// and changes no other outcome.
 //
-// No clause of `run` sees that memory ran out. If the statements that are left write nothing, only this contract and a test
+// No clause of `run` sees that memory ran out. If the remaining statements write nothing, only this contract and a test
 // distinguish it from a failed write.
 fn finish_run<W: Sink>(executed: Result<u64, Stopped>, out: &mut W) -> Outcome
     ensures taken { W.taken out.new ≡ W.taken out.old }
@@ -85,7 +85,7 @@ fn finish_run<W: Sink>(executed: Result<u64, Stopped>, out: &mut W) -> Outcome
     }
 }
 
-// Executes the statements, and flushes the sink unless it refused a put.
+// Executes the statements, and flushes the sink unless a put failed.
 fn put_out<W: Sink>(alloc: Global, mut shelf: Shelf, script: &Script, out: &mut W) -> Outcome
     requires fits { Fits shelf.names script.now }
     requires numbered { All (λ t. 0 < t.line) script.now }
@@ -119,32 +119,32 @@ pub fn run<R: Source + Drop, W: Sink>(
     out: &mut W,
 ) -> Outcome
     requires { 0 < vec_len grids }
-    // Without a fault the sink has taken exactly the output, and its length is reported.
+    // Without an error the sink has taken exactly the output, and its length is reported.
     ensures done { OfTexts R.coming grids.items script (λ named text. IsNone result.fault
         → IsRunDone named text (W.taken out.old) (W.taken out.new) result.written) }
-    // A fault of the grids or of the script is the first that they have.
+    // An error of the grids or of the script is their first.
     ensures refused { OfTexts R.coming grids.items script
         (λ named text. IfSome result.fault (λ f. IsOfInput f → IsRefusal named text f)) }
-    // A run that is refused before execution leaves the sink as it was: nothing is put, and it is not flushed.
+    // A run that is rejected before execution leaves the sink as it was: nothing is put, and it is not flushed.
     ensures untouched { IfSome result.fault
         (λ f. IsBeforeExecution f → (out.new ≡ out.old) × (result.written ≡ 0)) }
-    // A run that stops out of memory has written the whole output of the statements before the one that it tells; one that
-    // stops at a failing sink has written a prefix of the output, and tells its length.
+    // A run that runs out of memory has written the full output of the statements before the one that it reports; one that
+    // stops at a failing sink has written a prefix of the output, and reports its length.
     ensures stopped { OfTexts R.coming grids.items script
         (λ named text. IfSome result.fault (λ f. IsInExecution f
         → IsRunStopped named text (W.taken out.old) (W.taken out.new) result.written f)) }
     ensures status { result.status ≡ status_after result.fault }
-    // A fault of a grid names one that was given, and being out of memory for a grid or for the script is reported at line 0.
+    // An error of a grid names a grid that was given; out of memory, for a grid or for the script, is reported at line 0.
     ensures reported { IfSome result.fault (NamesItsGrid (length grids.items)) }
     // Status 0 comes only where no call of the sink failed and it was flushed once, and, of a sink that had not failed
     // before, Write only where it failed.
     ensures sound { result.status ≡ 0 → W.faults out.new ≡ after_flush (W.faults out.old) false }
     ensures write { result.fault ≡ Some RunFault.Write → has_failed (W.faults out.new) ≡ true }
-    // Write where no put was refused, as where only the flush at the end failed: the sink took the whole output.
+    // If Write is reported and no put failed, as when only the flush at the end failed, the sink took the full output.
     ensures whole { OfTexts R.coming grids.items script
         (λ named text. result.fault ≡ Some RunFault.Write → (W.faults out.new).refused ≡ false
         → IsRunDone named text (W.taken out.old) (W.taken out.new) result.written) }
-    // A run that was not refused before execution flushes its sink once, unless that refused a put: this is reported as Write.
+    // A run that was not rejected before execution flushes its sink once, unless a put failed: this is reported as Write.
     ensures first { IfSome result.fault IsInExecution
         → Failing result.fault (W.faults out.old) (W.faults out.new) }
     // For every accepted script over grids of one region, where memory lasts and the sink takes everything,

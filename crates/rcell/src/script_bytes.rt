@@ -12,12 +12,13 @@ use std::alloc::Global;
 /// The most bytes of a script.
 const MOST_BYTES: usize = 1048576;
 
-/// Reads a script whole, up to one byte more than its limit.
+/// Reads a script to its end, up to one byte more than its limit.
 ///
 /// # Errors
 ///
-/// [`RunFault::ScriptSize`] where it has over 1,048,576 bytes, [`RunFault::ScriptRead`] where its reader fails before,
-/// or [`RunFault::Memory`] with line 0 where memory was refused.
+/// - [`RunFault::ScriptSize`] if it has over 1,048,576 bytes
+/// - [`RunFault::ScriptRead`] if its reader fails before
+/// - [`RunFault::Memory`] with line 0 if memory runs out
 pub fn read_script<R: Source + Drop>(alloc: Global, mut source: R) -> Result<Vec<u8>, RunFault>
     ensures answer { IfSome (R.coming source)
         (λ c. AnswersInput (λ text. text.items) result (script_text c)) }

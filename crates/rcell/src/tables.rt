@@ -29,7 +29,7 @@ fn format_of<'a>(options: &'a StatsOptions) -> Format<'a>
     )
 }
 
-// The combination after which the table goes on.
+// The combination after which the table continues.
 fn combination_before<'a>(options: &'a StatsOptions) -> Option<&'a Combo>
     ensures { option_map (λ k. k.now) result ≡ options.now.after }
 {
@@ -39,11 +39,11 @@ fn combination_before<'a>(options: &'a StatsOptions) -> Option<&'a Combo>
     }
 }
 
-/// Writes what r.stats asks for. All that it needs of memory it has before its first byte.
+/// Writes the output of r.stats. All its memory is taken before its first byte.
 ///
 /// # Errors
 ///
-/// `Memory`, where memory is refused: nothing is written then.
+/// `Memory` if memory runs out: nothing is written then.
 pub fn write_stats<W: Sink>(
     alloc: Global,
     shelf: &Shelf,

@@ -33,7 +33,7 @@ free_from start (x ∷ xs) name back distinct =
     let other : bytes_eq x name ≡ false = differs _ (λ t. apart ((bytes_eq-Decides x name).0 t)) in
     rw other (free_from (start + 1) xs name back (λ i j d lt within. distinct (suc i) (suc j) d (omega arith) (omega arith)))
 
--- among distinct names, one does not stand before its place
+-- if names are distinct, a name does not occur before its place
 free : (front : List (List ℕ)) (name : List ℕ) (back : List (List ℕ)) → AreDistinct (front ++ name ∷ back) → place_of name front ≡ None
 free front name back distinct = free_from 0 front name back distinct
 

@@ -1,4 +1,4 @@
--- The answer to an execution, and what the sink refused.
+-- The outcome of an execution, and the calls of the sink that failed.
 use Rattle.std.proofs.Common.{◌≡◌, ◌∙◌, ◌<◌, ◌||◌, ℕ, Bool, true, false, List, All, Option, Some, None, Result, Ok, Err, refl, sym, ap}
 use Rattle.std.specs.Prelude.{IsNone, IfOk, IfErr}
 use Rattle.std.proofs.lemmas.Bool.{true≢false}
@@ -63,13 +63,13 @@ module _ (shelf : ShelfValue) (statements : List Statement) (numbered : All (λ 
         first = (false, flush ∙ ap (λ (f : Faults). after_flush f true) puts);
       }
 
-  -- a run is answered
+  -- the outcome of an execution and a flush is the end of a run
   pub is_end : (executed : Result ℕ Stopped) (outcome : Outcome) → outcome ≡ run_ended executed fails → IfOk executed (λ written. IsDone shelf statements before now written)
       → IfErr executed (λ s. Stops shelf statements before now s.written s.stop) → between ≡ after_put old (stops_write executed) → new ≡ after_execution between executed fails
       → IsRunEnd shelf statements before now old new outcome
   is_end executed outcome answer done stops puts flush = rw answer (executed_ends executed done stops puts flush)
 
--- no call failed where there is no fault, and the sink was flushed once
+-- if there is no error, no call failed and the sink was flushed once
 pub sound : (fault : Option RunFault) (old new : Faults) → Failing fault old new → IsNone fault → new ≡ after_flush old false
 sound None old new failing none = failing
 sound (Some fault) old new failing none = not_none none

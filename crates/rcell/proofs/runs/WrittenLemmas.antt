@@ -15,7 +15,7 @@ use Rattle.rcell.specs.declared.outcome.Outcome.{Outcome}
 use Rattle.rcell.specs.declared.run_fault.RunFault.{RunFault}
 use Rattle.rcell.specs.declared.run_fault.RunFault.TheVariants.{GridTwice, GridRegion, Grid, ScriptRead, ScriptSize, Script, Memory, Write}
 
--- a fault before execution whose status is not that of memory is of the input
+-- an error before execution whose status is not 3, out of memory, is an error of the input
 pub input_unless_memory : (f : RunFault) → IsBeforeExecution f → fault_status f ≢ 3 → IsOfInput f
 input_unless_memory (GridTwice grid) early bad = tt
 input_unless_memory (GridRegion grid) early bad = tt
@@ -63,7 +63,7 @@ module _ (grids : List Named) (script : Coming) (loaded : ShelfValue) (is_loaded
       subst (λ (s : ShelfValue). Writes s statements before now failed outcome) one_shelf
       (subst (λ (ss : List Statement). Writes loaded ss before now failed outcome) (only statements reads) (written loaded found before now failed outcome done late status write))
 
-  -- what can be read is refused only when out of memory
+  -- a script that can be read is rejected only if memory runs out
   pub read_refused : (f : RunFault) → outcome.fault ≡ Some f → outcome.status ≡ fault_status f → IsBeforeExecution f → ((ss : List Statement) → ReadsScript loaded.names script ss → IsOfInput f → ⊥) → Writes shelf statements before now failed outcome
   read_refused f is status early none = λ memory good.
       absurd (none statements reads (input_unless_memory f early (λ three. memory (status ∙ three))))

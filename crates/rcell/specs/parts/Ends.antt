@@ -14,19 +14,19 @@ use Rattle.rcell.specs.runs.Endings.{RunStopsAt}
 use Rattle.rcell.specs.runs.Outcomes.{Failing, IsDone}
 use Rattle.rcell.specs.runs.Statuses.{fault_status, status_after}
 
--- the fault of what stopped an execution
+-- the error that stopped an execution
 abbrev pub fault_of_end : RunStop → RunFault
 fault_of_end (stops.Memory line) = faults.Memory line
 fault_of_end stops.Write = faults.Write
 
--- the answer to an execution, with a flush that fails or not: one that fails turns what is done into a failed write, and
--- changes no other answer
+-- the outcome of an execution and a flush that fails or not: a failed flush turns a finished run into a failed write, and
+-- changes no other outcome
 abbrev pub run_ended : Result ℕ Stopped → Bool → Outcome
 run_ended (Ok written) false = record { status = 0; written = written; fault = None }
 run_ended (Ok written) true = record { status = 4; written = written; fault = Some faults.Write }
 run_ended (Err stopped) fails = record { status = fault_status (fault_of_end stopped.stop); written = stopped.written; fault = Some (fault_of_end stopped.stop) }
 
--- the sink is flushed, but not after a refused put
+-- the sink is flushed, unless a put failed
 abbrev pub after_stop : Faults → RunStop → Bool → Faults
 after_stop old (stops.Memory line) fails = after_flush old fails
 after_stop old stops.Write fails = old
@@ -35,7 +35,7 @@ abbrev pub after_execution : Faults → Result ℕ Stopped → Bool → Faults
 after_execution old (Ok written) fails = after_flush old fails
 after_execution old (Err stopped) fails = after_stop old stopped.stop fails
 
--- a run is answered, and its sink flushed
+-- a run has its outcome, and its sink was flushed
 pub record Ends (executed : Result ℕ Stopped) (old new : Faults) (outcome : Outcome) : Type 0 where
   pub fails : Bool
   pub answer : outcome ≡ run_ended executed fails

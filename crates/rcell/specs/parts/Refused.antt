@@ -1,4 +1,4 @@
--- The fault of a grid that the shelf refuses.
+-- The error of a grid that the shelf rejects.
 use Rattle.std.specs.Prelude.{ℕ, ◌<◌}
 use Rattle.cell_core.specs.declared.shelf.ShelfFault.{ShelfFault}
 use Rattle.cell_core.specs.declared.shelf.ShelfFault.TheVariants as refusals
@@ -12,7 +12,7 @@ of_shelf grid refusals.Exists = faults.GridTwice grid
 of_shelf grid refusals.OtherRegion = faults.GridRegion grid
 of_shelf grid refusals.Memory = faults.Memory 0
 
--- a fault of this grid, told before execution
+-- an error of this grid, reported before execution
 pub record IsGridFault (grid : ℕ) (fault : RunFault) : Type 0 where
   pub early : IsBeforeExecution fault
   pub reported : (count : ℕ) → grid < count → NamesItsGrid count fault

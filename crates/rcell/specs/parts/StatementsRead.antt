@@ -1,4 +1,4 @@
--- What the reading of a script answers.
+-- The result of reading a script.
 use Rattle.std.specs.Prelude.{ℕ, ◌≡◌, List}
 use Rattle.cell_core_devices.specs.Device.{Coming}
 use Rattle.rcell_script.specs.declared.statement.Statement.{Statement}
@@ -10,7 +10,7 @@ pub record ReadsOnly (known : List (List ℕ)) (script : Coming) (statements : L
   pub reads : ReadsScript known script statements
   pub only : (others : List Statement) → ReadsScript known script others → statements ≡ others
 
--- the fault is the script's, which denotes no statements
+-- the error is the script's, and the script denotes no statements
 pub record RefusesScript (known : List (List ℕ)) (script : Coming) (fault : RunFault) : Type 0 where
   pub refusal : IsScriptRefusal known script fault
   pub none : (statements : List Statement) → ReadsScript known script statements → ⊥

@@ -9,11 +9,11 @@ use Rattle.cell_calc_binding.specs.Formula.{Formula}
 use Rattle.cell_calc_binding.specs.Reach.{up_of, down_of}
 use Rattle.cell_calc.specs.Window.{Window, IsWindowOf}
 
--- each place is that of a map of the shelf
+-- each place has a map on the shelf
 abbrev pub AreMapPlaces : ShelfValue → List ℕ → Type 0
 AreMapPlaces shelf places = All (λ place. place < length shelf.maps) places
 
--- a window of a map that stands at a row and reaches so far
+-- a window of a map, centred at a row, with so many rows above and below
 abbrev pub IsSet : (row up down : ℕ) → Option Window → Option Grid → Type 0
 IsSet row up down None m = ⊥
 IsSet row up down (Some w) None = ⊥
@@ -23,7 +23,7 @@ IsSet row up down (Some w) (Some m) = (w.centre ≡ row) × ((w.above ≡ up) ×
 abbrev pub AreSet : Formula → (count row : ℕ) → List Window → List Grid → Type 0
 AreSet f count row windows maps = (i : ℕ) → i < count → IsSet row (up_of i f) (down_of i f) (slice_get windows i) (slice_get maps i)
 
--- a map before others, where there is one
+-- the maps, after another one if it is given
 abbrev pub then_maps : Option Grid → List Grid → List Grid
 then_maps None maps = maps
 then_maps (Some m) maps = m ∷ maps

@@ -1,4 +1,4 @@
--- How a run ends: done, refused at the first fault of what it is given, or stopped in execution (the order of the faults is the profile's).
+-- How a run ends: done, rejected at the first error of its input (in the profile's order), or stopped in execution.
 use Rattle.std.specs.Prelude.{ℕ, ◌≡◌, List, Option, Some, None, Result, Ok, Err}
 use Rattle.cell_core_devices.specs.Device.{Coming}
 use Rattle.cell_core.specs.Shelf.{ShelfValue}
@@ -20,22 +20,22 @@ pub record ReadsScript (known : List (List ℕ)) (script : Coming) (statements :
   pub bytes : script_text script ≡ Ok text
   pub denoted : IsScript known text statements
 
--- the fault of a script's text, if it has one
+-- the error of a script's text, if it has one
 abbrev pub IsTextRefusal : List (List ℕ) → Result (List ℕ) RunFault → RunFault → Type 0
 IsTextRefusal known (Err first) fault = fault ≡ first
 IsTextRefusal known (Ok text) fault = (inner : ScriptFault) × (IsScriptFault known text inner × (fault ≡ Script inner))
 
--- the fault of a script: that of its bytes, else that of its lines
+-- the error of a script: of its bytes, or else of its lines
 abbrev pub IsScriptRefusal : List (List ℕ) → Coming → RunFault → Type 0
 IsScriptRefusal known script fault = IsTextRefusal known (script_text script) fault
 
--- the fault of the grids, else that of the script over their names
+-- the error of the grids, or else of the script over their names
 abbrev pub IsRefusalAfter : Coming → Result (Option ShelfValue) RunFault → RunFault → Type 0
 IsRefusalAfter script (Err first) fault = fault ≡ first
 IsRefusalAfter script (Ok None) fault = ⊥
 IsRefusalAfter script (Ok (Some shelf)) fault = IsScriptRefusal shelf.names script fault
 
--- the first fault of the grids and the script
+-- the first error of the grids and the script
 abbrev pub IsRefusal : List Named → Coming → RunFault → Type 0
 IsRefusal grids script fault = IsRefusalAfter script (shelf_of grids) fault
 

@@ -14,7 +14,7 @@ abbrev pub is_write : RunStop → Bool
 is_write (Memory line) = false
 is_write Write = true
 
--- whether the sink failed, by an answer
+-- whether the sink failed, by the result of an execution
 abbrev pub stops_write : {A : Type 0} → Result A Stopped → Bool
 stops_write (Ok x) = false
 stops_write (Err stopped) = is_write stopped.stop

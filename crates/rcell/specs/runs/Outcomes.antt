@@ -1,4 +1,4 @@
--- What a run of an accepted script answers: the whole output.
+-- The outcome of a run of an accepted script: the full output.
 use Rattle.std.specs.Prelude.{ℕ, ◌≡◌, ◌≢◌, Bool, true, false, List, length, Option, Some, None, if◌then◌else◌}
 use Rattle.cell_core_devices.specs.Blocks.{capped_count}
 use Rattle.cell_core_devices.specs.Device.{Faults, after_put, after_flush, append_known}
@@ -16,15 +16,16 @@ pub record IsDone (shelf : ShelfValue) (statements : List Statement) (before now
   pub taken : now ≡ append_known before text
   pub count : written ≡ capped_count (length text)
 
--- where memory lasts, as any status but 3 says, and the sink takes everything: status 0, no fault, and exactly the output of the statements is written
+-- unless memory runs out (status 3) or the sink fails: status 0, no error, and exactly the output is written
 abbrev pub Writes : ShelfValue → List Statement → Option (List ℕ) → Option (List ℕ) → Bool → Outcome → Type 0
 Writes shelf statements before now failed outcome =
     outcome.status ≢ 3 → failed ≡ false
     → (outcome.status ≡ 0) × ((outcome.fault ≡ None) × IsDone shelf statements before now outcome.written)
 
--- what became of the sink in an execution, by the fault. None: it was flushed once, and no call failed. Write: a put failed,
--- after which it is not flushed, or else it was flushed once, and that failed. Any other: no put failed, and it was flushed
--- once, whatever came of that
+-- what happened to the sink, by the error:
+-- None: it was flushed once, and no call failed
+-- Write: a put failed, and it was not flushed; or no put failed, and its only flush did
+-- any other: no put failed, and it was flushed once; the flush may have failed
 abbrev pub Failing : Option RunFault → Faults → Faults → Type 0
 Failing None old new = new ≡ after_flush old false
 Failing (Some Write) old new = (put : Bool) × (new ≡ (if put then after_put old true else after_flush old true))

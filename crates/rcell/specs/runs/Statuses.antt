@@ -18,7 +18,7 @@ abbrev pub script_status : ScriptKind → ℕ
 script_status script_kinds.Memory = 3
 script_status kind = 1
 
--- the exit status of a fault
+-- the exit status of an error
 abbrev pub fault_status : RunFault → ℕ
 fault_status (GridTwice grid) = 1
 fault_status (GridRegion grid) = 1

@@ -24,7 +24,7 @@ apart refused read = cc
 above : (line : ℕ) → line ≡ 0 → 0 < line → ⊥
 above line zero some = omega arith
 
--- a fault comes before execution or in it
+-- no error is both before and in execution
 not_both : {X : Type 0} (fault : RunFault) → IsBeforeExecution fault → IsInExecution fault → X
 not_both (GridTwice grid) early late = absurd late
 not_both (GridRegion grid) early late = absurd late
@@ -39,7 +39,7 @@ not_write : {X : Type 0} (fault : RunFault) → IsBeforeExecution fault → Some
 not_write Write early is = absurd early
 not_write fault early is = cc
 
--- a fault in execution is none of the input
+-- no error in execution is an error of the input
 not_input : {X : Type 0} (fault : RunFault) → IsInExecution fault → IsOfInput fault → X
 not_input (GridTwice grid) late input = absurd late
 not_input (GridRegion grid) late input = absurd late
@@ -79,7 +79,7 @@ not_zero (Script fault) zero = script_not_zero fault.kind zero
 not_zero (Memory line) zero = cc
 not_zero Write zero = cc
 
--- what holds without a fault holds at status 0
+-- a property of runs without an error holds at status 0
 when_zero : {status : ℕ} {P : Type 0} (fault : Option RunFault) → status ≡ status_after fault → (IsNone fault → P) → status ≡ 0 → P
 when_zero None is sound zero = sound refl
 when_zero (Some fault) is sound zero = not_zero fault (sym is ∙ zero)
