@@ -1,4 +1,4 @@
--- What clap finds among words of which the first has no hyphen in front.
+-- What clap finds among words of which the first does not begin with a hyphen.
 use Rattle.std.proofs.Common.{◌≡◌, ◌&&◌, ◌≤◌, nat_le, ◌∷◌, ◌++◌, ◌∙◌, ap, ap₂, sym, Bool, List, []}
 use Rattle.std.proofs.Common.{Some, None, true, false, not, refl, is_some, length, codes, drop, arith}
 use Rattle.std.specs.List.{fold, list_all}
@@ -131,7 +131,7 @@ words_asked program (own ∷ word ∷ second ∷ words) first rest good one othe
     ap (all_of (codes "REST")) are in
     cc
 
--- clap finds them where there are enough
+-- if there are enough words, clap finds them
 pub words_found : (program : Text) (words : List Text) → is_command (drop 1 words) ≡ true
     → (is_some (first_of (codes "FIRST") (matches_of (command_line program) words)) ≡ true)
     × (is_some (all_of (codes "REST") (matches_of (command_line program) words)) ≡ true)
@@ -187,7 +187,7 @@ module _ (program : Text) where
       (ap (λ w. turn_passes shape [] w second && walk_passes shape [] (walked rules [] w second) rest)
       (first_walked first plain) ∙ others)
 
-  -- two words or more, of which the first has no hyphen in front, are taken
+  -- two words or more are taken if the first does not begin with a hyphen
   pub words_taken : (words : List Text) → length words ≤ usize_max → is_command (drop 1 words) ≡ true
       → takes (command_line program) words ≡ true
   words_taken [] few good = apart good

@@ -117,7 +117,7 @@ fn clap_matches<'a, E: Copy>(
     }
 }
 
-/// The first word behind the program's own name, and the words behind it.
+/// The first word after the program's own name, and the words that follow it.
 ///
 /// # Errors
 ///

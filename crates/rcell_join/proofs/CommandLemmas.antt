@@ -63,7 +63,7 @@ hyphen_command (b ∷ rest) words hyphen =
     let is : b ≡ 45 = eqb-true b 45 (hyphen_of _ hyphen) in
     rw is refl
 
--- no word behind the program's own name, or two words or more of which the first has a hyphen in front
+-- no word after the program's own name, or two words or more of which the first begins with a hyphen
 pub no_command : (words : List (String Global)) → is_command (drop 1 (map string_bytes words)) ≡ false
     → (length words ≡ 2 → ⊥)
     → asked_of (drop 1 (map string_bytes words)) ≡ Err (refusals.Usage usages.AnyCommand)
@@ -73,7 +73,7 @@ no_command (own ∷ word ∷ []) few not_two = elim (not_two refl) [ ]
 no_command (own ∷ first ∷ word ∷ words) few not_two =
     hyphen_command (string_bytes first) (string_bytes word ∷ map string_bytes words) few
 
--- a word with a hyphen in front
+-- a word begins with a hyphen
 pub tiles_misused : (usage : Usage) (words : List Text) → has_hyphen_word (tile_paths words) ≡ true
     → joined_tiles usage words ≡ Err (refusals.Usage usage)
 tiles_misused usage words flagged = rw flagged refl

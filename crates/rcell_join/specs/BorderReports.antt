@@ -1,4 +1,4 @@
--- Where a fault of a map is reported of which no border is written, and with which exit status (profile).
+-- Where an error of a map without a border is reported, and its exit status (profile).
 use Rattle.std.specs.Prelude.{ℕ, List, codes}
 use Rattle.cell_join_borders.specs.declared.map_fault.MapFault.{MapFault}
 use Rattle.cell_join_borders.specs.declared.map_fault.MapFault.TheVariants.{Text, Memory, Write}

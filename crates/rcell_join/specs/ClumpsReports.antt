@@ -1,4 +1,4 @@
--- Where a fault of joining borders is reported, and with which exit status (profile).
+-- Where an error of joining borders is reported, and its exit status (profile).
 use Rattle.std.specs.Prelude.{ℕ, zero, suc, ◌-◌, Bool, true, false, List, [], codes, length, if◌then◌else◌}
 use Rattle.cell_cats_areas.specs.declared.clump.Joining.TheVariants.{Edges, EdgesAndCorners}
 use Rattle.cell_join_borders.specs.declared.border_fault.BorderFault.{BorderFault}
@@ -11,7 +11,7 @@ use Rattle.rcell_join.specs.KindStatuses.{grid_kind_status}
 use Rattle.rcell_join.specs.PlaceValues.{PlaceValue}
 use Rattle.rcell_join.specs.ReportPlaces.{on_line, path_at_place}
 
--- the line of a fault of a border, 0 if it belongs to none
+-- the line of an error of a border, 0 if it belongs to none
 abbrev pub border_line : BorderFault → ℕ
 border_line (border_faults.Text fault) = fault.line
 border_line fault = 0
@@ -29,7 +29,7 @@ begins_row (WestEast west east) (NorthSouth north south) = false
 begins_row (WestEast west east) below = true
 begins_row beside below = false
 
--- of two borders that do not fit the fault belongs to the later one
+-- if two borders do not fit, the error belongs to the later one
 abbrev pub clumps_place : List (List ℕ) → ClumpsFault → PlaceValue
 clumps_place paths (Border text fault) = on_line (path_at_place paths text) (border_line fault) (border_status fault)
 clumps_place paths (Connectivity text found) = on_line (path_at_place paths text) 0 1

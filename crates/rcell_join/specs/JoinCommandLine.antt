@@ -45,11 +45,11 @@ options_in words = filter is_option words
 abbrev pub paths_in : List (List ℕ) → List (List ℕ)
 paths_in words = filter (λ word. not (is_option word)) words
 
--- how tables are printed: with counts, with labels or without, and else as those of r.stats
+-- how tables are printed: with counts, with labels or without, and otherwise as r.stats prints them
 abbrev pub format_given : (labels : Bool) → Given → FormatValue
 format_given labels given = record { separator = unwrap_or given.separator (byte (codes " ")); null_text = unwrap_or given.table_null_text usual_null; labels = labels; counts = true }
 
--- a format by which fields can be told apart
+-- a format with which fields can be distinguished
 abbrev pub if_clear : FormatValue → Result FormatValue JoinRefusal
 if_clear format = if is_clear format then Ok format else Err refusals.BadOption
 
@@ -82,11 +82,11 @@ abbrev pub asked_of_tables : List (List ℕ) → Result FormatValue JoinRefusal 
 asked_of_tables [] reading = Err (refusals.Usage usages.Tables)
 asked_of_tables (table ∷ tables) reading = reading >>= λ format. Ok (Tables format (table ∷ tables))
 
--- what words behind `tables` ask for, beside the flag of labels, which is given or not
+-- the request of the words after `tables` without the flag of labels, by whether the flag was given
 abbrev pub asked_labelled : (labels : Bool) → List (List ℕ) → Result RequestValue JoinRefusal
 asked_labelled labels words = if has_hyphen_word words then Err (refusals.Usage usages.Tables) else asked_of_tables (paths_in words) (format_in labels words)
 
--- what words behind `tables` ask for: labels where the flag is one of them
+-- the request of the words after `tables`; the flag of labels may be one of them
 abbrev pub asked_tables : List (List ℕ) → Result RequestValue JoinRefusal
 asked_tables words = asked_labelled (contains_flag labels_flag words) (without_flag labels_flag words)
 
@@ -110,7 +110,7 @@ some_of usage joining (tile ∷ tiles) = Ok (joining, tile ∷ tiles)
 abbrev pub joined_tiles : Usage → List (List ℕ) → Result (Joining × List (List ℕ)) JoinRefusal
 joined_tiles usage words = if has_hyphen_word (tile_paths words) then Err (refusals.Usage usage) else some_of usage (joining_in words) (tile_paths words)
 
--- what words behind `border` ask for: the map of one tile; and behind `clumps`: the borders of one tile or more
+-- the request of the words after `border`, the map of one tile, and after `clumps`, the borders of one tile or more
 abbrev pub border_of : Joining → List (List ℕ) → Result RequestValue JoinRefusal
 border_of joining (cells ∷ []) = Ok (Border joining cells)
 border_of joining cells = Err (refusals.Usage usages.Border)
@@ -126,11 +126,11 @@ abbrev pub asked_of_sizes : List (List ℕ) → Result FormatValue JoinRefusal �
 asked_of_sizes (numbering ∷ table ∷ tables) reading = reading >>= λ format. Ok (Sizes format numbering (table ∷ tables))
 asked_of_sizes words reading = Err (refusals.Usage usages.Sizes)
 
--- what words behind `sizes` ask for
+-- the request of the words after `sizes`
 abbrev pub asked_sizes : List (List ℕ) → Result RequestValue JoinRefusal
 asked_sizes words = if has_hyphen_word words then Err (refusals.Usage usages.Sizes) else asked_of_sizes (paths_in words) (format_in false words)
 
--- what a command and the words behind it ask for
+-- the request of a command and the words after it
 abbrev pub command_of : List ℕ → List (List ℕ) → Result RequestValue JoinRefusal
 command_of command words =
     if bytes_eq command (codes "tables") then asked_tables words

@@ -10,7 +10,7 @@ join_refusal_status BadOption = 2
 join_refusal_status Memory = 3
 join_refusal_status (File file) = 4
 
--- what the opening of so many files may be refused for
+-- the errors of opening so many files
 abbrev pub IsOfJoinOpening : ℕ → JoinRefusal → Type 0
 IsOfJoinOpening files (Usage usage) = ⊥
 IsOfJoinOpening files BadOption = ⊥

@@ -1,4 +1,4 @@
--- What a fault belongs to, its line, and the exit status (profile).
+-- The source of an error, its line, and the exit status (profile).
 use Rattle.std.specs.Prelude.{ℕ, List}
 
 pub record PlaceValue : Type 0 where

@@ -1,4 +1,4 @@
--- Where a fault is reported, and with which exit status (profile).
+-- Where an error is reported, and its exit status (profile).
 use Rattle.std.specs.Prelude.{ℕ, List, [], Option, Some, None, codes, slice_get, unwrap_or}
 use Rattle.rcell_join.specs.JoinRefusals.{join_refusal_status}
 use Rattle.rcell_join.specs.declared.join_refusal.JoinRefusal.{JoinRefusal}
@@ -14,7 +14,7 @@ on_line source line status = record { source = source; line = line; status = sta
 abbrev pub path_at_place : List (List ℕ) → ℕ → List ℕ
 path_at_place paths place = unwrap_or (slice_get paths place) []
 
--- a refusal belongs to the command line or to a file
+-- an error before anything is joined belongs to the command line or to a file
 abbrev pub refusal_place : List (List ℕ) → JoinRefusal → PlaceValue
 refusal_place paths (Usage usage) = on_line (codes "arguments") 0 (join_refusal_status (Usage usage))
 refusal_place paths BadOption = on_line (codes "arguments") 0 (join_refusal_status BadOption)

@@ -1,4 +1,4 @@
--- Where a fault of adding up sizes is reported, and with which exit status (profile).
+-- Where an error of adding up sizes is reported, and its exit status (profile).
 use Rattle.std.specs.Prelude.{ℕ, List, codes}
 use Rattle.cell_join_sizes.specs.declared.size_fault.SizesFault.{SizesFault}
 use Rattle.cell_join_sizes.specs.declared.size_fault.SizesFault.TheVariants.{Areas, NumberBeyond, NumberLeftOut, NoTable, Table, OtherArea, TooGreat, TooLong, Memory, Write}

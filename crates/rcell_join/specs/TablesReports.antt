@@ -1,4 +1,4 @@
--- Where a fault of merging tables is reported, and with which exit status (profile).
+-- Where an error of merging tables is reported, and its exit status (profile).
 use Rattle.std.specs.Prelude.{ℕ, ◌≡◌, ◌≢◌, ◌==◌, List, [], ◌∷◌, ◌++◌, codes}
 use Rattle.std.specs.List.{slice_split}
 use Rattle.cell_join_tables.specs.declared.join_fault.JoinFault.{JoinFault}
@@ -31,7 +31,7 @@ last_field [] = []
 last_field (field ∷ []) = field
 last_field (field ∷ next ∷ fields) = last_field (next ∷ fields)
 
--- the fields of two lines are the same up to a category, and the fields behind it differ
+-- the fields of two lines are the same up to a category, and the next fields differ
 pub record AreTwoLabels (separator : ℕ) (line other category label other_label : List ℕ) : Type 0 where
   pub same : List (List ℕ)
   pub behind : List (List ℕ)

@@ -9,7 +9,7 @@ use cell_join_borders::map_border::BorderOutcome;
 use cell_join_borders::map_fault::MapFault;
 use std::fmt;
 
-/// What a fault of a map says, after so many bytes were written.
+/// The text of an error of a map, after so many bytes were written.
 #[derive(Clone, Copy, Debug)]
 pub struct MapText {
     pub fault: MapFault,
@@ -40,7 +40,7 @@ fn map_place<'a>(map: &'a str, fault: MapFault) -> Place<'a>
     }
 }
 
-/// What is reported of a map of which no border is written, by its path; None if there is no fault.
+/// The report of a map without a border, by its path; None if there is no error.
 pub fn border_report<'a>(outcome: BorderOutcome, map: &'a str) -> Option<Report<'a, MapText>>
     ensures reported { is_some result ≡ is_some outcome.fault }
     ensures place { IfSome result (λ reported. IfSome outcome.fault

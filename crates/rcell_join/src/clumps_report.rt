@@ -33,7 +33,7 @@ impl fmt::Display for Coordinate {
             return Ok(());
         }
         let mut buffer = Buffer::new();
-        // A 1 in front keeps the zeros behind the point.
+        // A leading 1 keeps the zeros after the point.
         let digits = buffer.format(UNIT + part);
         let digits = digits
             .strip_prefix('1')
@@ -111,7 +111,7 @@ fn write_border_fault<W: fmt::Write>(f: &mut fmt::Formatter<W>, fault: BorderFau
     }
 }
 
-/// What a fault of joining borders says, after so many bytes were written, and what the border is compared with.
+/// The text of an error of joining borders, after so many bytes were written, and what the border is compared with.
 #[derive(Debug, Drop)]
 pub struct ClumpsText<'a> {
     pub fault: ClumpsFault,
@@ -153,7 +153,7 @@ impl<'a> fmt::Display for ClumpsText<'a> {
     }
 }
 
-// The line of a fault of a border, 0 if it belongs to none.
+// The line of an error of a border, 0 if it belongs to none.
 fn border_line(fault: BorderFault) -> u64
     ensures { result ≡ border_line fault }
 {
@@ -163,7 +163,7 @@ fn border_line(fault: BorderFault) -> u64
     }
 }
 
-// The exit status of a fault of a border.
+// The exit status of an error of a border.
 fn border_status(fault: BorderFault) -> u8
     ensures { result ≡ border_status fault }
 {
@@ -193,7 +193,7 @@ fn clumps_place<'a>(paths: &[&'a str], fault: ClumpsFault) -> Place<'a>
     }
 }
 
-// What the border of a fault is compared with: another border, or for the first one the command.
+// What the rejected border is compared with: another border, or for the first one the command.
 fn clumps_other<'a>(paths: &[&'a str], fault: ClumpsFault) -> &'a str
     ensures { result.now ≡ clumps_other (map (λ path. path.now) paths.now) fault }
 {
@@ -222,7 +222,7 @@ fn clumps_other<'a>(paths: &[&'a str], fault: ClumpsFault) -> &'a str
     }
 }
 
-/// What is reported of borders that are not joined, by their paths; None if there is no fault.
+/// The report of borders that are not joined, by their paths; None if there is no error.
 pub fn clumps_report<'a>(
     outcome: ClumpsOutcome,
     paths: &[&'a str],

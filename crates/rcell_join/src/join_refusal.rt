@@ -5,7 +5,7 @@ ghost use Rattle.rcell_join.specs.JoinRefusals.{join_refusal_status};
 
 use thiserror::Error;
 
-/// The words that a command line should have had: those of a command, or any command.
+/// The usage of one command, or of all.
 #[derive(Clone, Copy, Debug, PartialEq, Eq, Error)]
 pub enum Usage {
     /// No command, or another one than these four.
@@ -34,7 +34,7 @@ pub enum JoinRefusal {
     /// An option that is given twice, or a bad separator or null text.
     #[error("bad option")]
     BadOption,
-    /// Memory was refused.
+    /// Memory ran out.
     #[error("no memory")]
     Memory,
     /// The file at this place, from 0, can't be opened.

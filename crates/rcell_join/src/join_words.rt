@@ -77,7 +77,7 @@ fn paths_in<'a>(alloc: Global, words: &[&'a str]) -> Result<Vec<&'a str>, JoinRe
     Ok(paths)
 }
 
-// The refusal for a fault of options.
+// The error of bad options.
 fn of_options(fault: OptionFault) -> JoinRefusal
     ensures memory { fault ≡ OptionFault.Memory → result ≡ JoinRefusal.Memory }
     ensures option { fault ≢ OptionFault.Memory → result ≡ JoinRefusal.BadOption }
@@ -150,7 +150,7 @@ fn without_flag<'a>(
     Ok(others)
 }
 
-// What words ask for behind `tables`, beside the flag of labels, which is given or not.
+// The request of the words after `tables` without the flag of labels, by whether the flag was given.
 fn asked_labelled<'a>(
     alloc: Global,
     labels: bool,
@@ -175,7 +175,7 @@ fn asked_labelled<'a>(
     }
 }
 
-// What the words behind `tables` ask for.
+// The request of the words after `tables`.
 fn asked_tables<'a>(alloc: Global, words: &[&'a str]) -> Result<JoinRequest<'a>, JoinRefusal>
     ensures { Answers JoinRefusal.Memory request_value result (asked_tables (texts words.now)) }
 {
@@ -198,7 +198,7 @@ fn joining_in(words: &[&str]) -> Joining
     }
 }
 
-// The paths of one tile or more behind a command, and which cells are adjacent.
+// The paths of one tile or more after a command, and which cells are adjacent.
 fn joined_tiles<'a>(
     alloc: Global,
     usage: Usage,
@@ -221,7 +221,7 @@ fn joined_tiles<'a>(
     Ok((joining, tiles))
 }
 
-// What the words behind `border` ask for.
+// The request of the words after `border`.
 fn asked_border<'a>(alloc: Global, words: &[&'a str]) -> Result<JoinRequest<'a>, JoinRefusal>
     ensures { Answers JoinRefusal.Memory request_value result (asked_border (texts words.now)) }
 {
@@ -235,7 +235,7 @@ fn asked_border<'a>(alloc: Global, words: &[&'a str]) -> Result<JoinRequest<'a>,
     }
 }
 
-// What the words behind `clumps` ask for.
+// The request of the words after `clumps`.
 fn asked_clumps<'a>(alloc: Global, words: &[&'a str]) -> Result<JoinRequest<'a>, JoinRefusal>
     ensures { Answers JoinRefusal.Memory request_value result (asked_clumps (texts words.now)) }
 {
@@ -245,7 +245,7 @@ fn asked_clumps<'a>(alloc: Global, words: &[&'a str]) -> Result<JoinRequest<'a>,
     }
 }
 
-// What the words behind `sizes` ask for.
+// The request of the words after `sizes`.
 fn asked_sizes<'a>(alloc: Global, words: &[&'a str]) -> Result<JoinRequest<'a>, JoinRefusal>
     ensures { Answers JoinRefusal.Memory request_value result (asked_sizes (texts words.now)) }
 {
@@ -270,7 +270,7 @@ fn asked_sizes<'a>(alloc: Global, words: &[&'a str]) -> Result<JoinRequest<'a>, 
     }
 }
 
-// What a command and the words behind it ask for.
+// The request of a command and the words after it.
 fn command_of<'a>(
     alloc: Global,
     command: &str,
@@ -296,9 +296,10 @@ fn command_of<'a>(
 ///
 /// # Errors
 ///
-/// [`JoinRefusal::Usage`] if no word follows it, the next one is no command, a word behind that begins with `-` and is not
-/// the flag `-l` of `tables` or `-d` of `border` or `clumps`, or there are fewer or more paths than the command takes;
-/// [`JoinRefusal::BadOption`]; [`JoinRefusal::Memory`].
+/// - [`JoinRefusal::Usage`] if no word follows it, the next one is no command, a later word begins with `-` and is not the
+///   flag `-l` of `tables` or `-d` of `border` or `clumps`, or the command takes fewer or more paths
+/// - [`JoinRefusal::BadOption`]
+/// - [`JoinRefusal::Memory`]
 pub fn read_join_words<'a>(
     alloc: Global,
     words: &'a [String],

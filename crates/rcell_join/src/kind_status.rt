@@ -7,7 +7,7 @@ use cell_ascii::grid_fault::GridKind;
 use cell_join_lines::areas_fault::AreasKind;
 use cell_join_lines::table_fault::TableKind;
 
-/// The status of a table's fault.
+/// The status of a table's error.
 pub fn table_kind_status(kind: TableKind) -> u8
     ensures { result ≡ table_kind_status kind }
 {
@@ -18,7 +18,7 @@ pub fn table_kind_status(kind: TableKind) -> u8
     }
 }
 
-/// The status of a grid's fault.
+/// The status of a grid's error.
 pub fn grid_kind_status(kind: GridKind) -> u8
     ensures { result ≡ grid_kind_status kind }
 {
@@ -29,7 +29,7 @@ pub fn grid_kind_status(kind: GridKind) -> u8
     }
 }
 
-/// The status of a numbering's fault.
+/// The status of a numbering's error.
 pub fn numbering_kind_status(kind: AreasKind) -> u8
     ensures { result ≡ numbering_kind_status kind }
 {

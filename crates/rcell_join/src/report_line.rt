@@ -9,8 +9,8 @@ use crate::shown::Shown;
 use std::fmt;
 use std::marker::Model;
 
-/// What a fault belongs to, its line, and the exit status (profile). The line is 0 if the fault belongs to none. The status is 1 if
-/// a text was refused, 2 for the command line, 3 if memory ran out, and 4 if a file could not be opened, read or written.
+/// The source of an error, its line, and the exit status (profile). The line is 0 if the error belongs to none. The status is
+/// 1 if a text was rejected, 2 for the command line, 3 if memory ran out, 4 if a file could not be opened, read or written.
 #[derive(Debug, Drop)]
 pub struct Place<'a> {
     pub source: &'a str,
@@ -84,7 +84,7 @@ fn refusal_place<'a>(paths: &[&'a str], refusal: JoinRefusal) -> Place<'a>
     }
 }
 
-/// What is reported of a refusal, by the paths of the files.
+/// The report of an error before anything is joined, by the paths of the files.
 pub fn refusal_report<'a>(refusal: JoinRefusal, paths: &[&'a str]) -> Report<'a, JoinRefusal>
     ensures place { result.place ≡ refusal_place (map (λ path. path.now) paths.now) refusal }
     ensures text { result.text ≡ refusal }
@@ -109,7 +109,7 @@ pub fn print_error<R: Eprint, T: fmt::Display + Drop>(rt: &R, report: Option<Rep
     }
 }
 
-/// Prints a refusal, and returns its exit status.
+/// Prints an error before anything is joined, and returns its exit status.
 pub fn print_refusal<R: Eprint>(rt: &R, refusal: JoinRefusal, paths: &[&str]) -> u8
     ensures { result ≡ join_refusal_status refusal }
 {

@@ -9,7 +9,7 @@ use cell_join_sizes::size_fault::SizesFault;
 use cell_join_sizes::table_sizes::SizesOutcome;
 use std::fmt;
 
-/// What a fault of adding up sizes says, after so many bytes were written.
+/// The text of an error of adding up sizes, after so many bytes were written.
 #[derive(Clone, Copy, Debug)]
 pub struct SizesText {
     pub fault: SizesFault,
@@ -64,7 +64,7 @@ fn sizes_place<'a>(numbering: &'a str, tables: &[&'a str], fault: SizesFault) ->
     }
 }
 
-/// What is reported of sizes that are not added up, by the paths of the numbering and of the tables; None if there is no fault.
+/// The report of sizes that are not added up, by the paths of the numbering and of the tables; None if there is no error.
 pub fn sizes_report<'a>(
     outcome: SizesOutcome,
     numbering: &'a str,

@@ -78,7 +78,7 @@ pub fn two_labels<'a>(separator: u8, line: &'a [u8], other: &'a [u8]) -> Option<
     None
 }
 
-// Writes the labels of two lines that differ first. A separator stands behind each field, so the last byte is one.
+// Writes the first two labels that differ. A separator follows each field, so the last byte is one.
 fn write_labels<W: fmt::Write>(f: &mut fmt::Formatter<W>, reported: &OtherLabel) -> fmt::Result {
     f.write_str("two labels for ")?;
     let line = reported.labelled.as_slice();
@@ -91,7 +91,7 @@ fn write_labels<W: fmt::Write>(f: &mut fmt::Formatter<W>, reported: &OtherLabel)
     }
 }
 
-/// What a fault of merging tables says, after so many bytes were written.
+/// The text of an error of merging tables, after so many bytes were written.
 #[derive(Debug, Drop)]
 pub struct TablesText {
     pub fault: LabelFault,
@@ -144,7 +144,7 @@ fn label_place<'a>(paths: &[&'a str], fault: &LabelFault) -> Place<'a>
     }
 }
 
-/// What is reported of tables that are not merged, by the paths of their texts; None if there is no fault.
+/// The report of tables that are not merged, by the paths of their texts; None if there is no error.
 pub fn tables_report<'a>(outcome: JoinOutcome, paths: &[&'a str]) -> Option<Report<'a, TablesText>>
     ensures reported { is_some result ≡ is_some outcome.fault }
     ensures place { IfSome result (λ reported. IfSome outcome.fault (λ fault. reported.place

@@ -1,4 +1,4 @@
--- Words of a command line, those of grids, and calls that gave no value.
+-- Words of a command line, words of grids, and calls that gave no value.
 use Rattle.std.proofs.Common.{Result, Ok, Err, MatchResult, if◌then◌else◌, Bor, Bool, List, ℕ, ◌≡◌, ◌||◌, ◌+◌, ◌<◌}
 use Rattle.std.proofs.Common.{◌∷◌, ◌++◌, [], ◌∙◌, ap, true, false, refl, not, nat_lt, length, drop, arith}
 use Rattle.std.specs.List.{slice_index_or}
@@ -19,7 +19,7 @@ from_not : (b c : Bool) → not b ≡ c → b ≡ not c
 from_not true c is = ap not is
 from_not false c is = ap not is
 
--- fewer than two words, or a first one with a hyphen in front
+-- fewer than two words, or the first begins with a hyphen
 pub too_few : (words : List Text) → is_command words ≡ false → is_misuse words ≡ true
 too_few [] bad = refl
 too_few (word ∷ []) bad = or_true (has_hyphen_word (word ∷ []))
@@ -27,7 +27,7 @@ too_few (first ∷ word ∷ words) bad =
     let flagged : begins_with_hyphen first ≡ true = from_not _ false bad in
     rw flagged refl
 
--- a later one with a hyphen in front
+-- a later word begins with a hyphen
 pub flagged : (first : Text) (rest : List Text) → has_hyphen_word rest ≡ true → is_misuse (first ∷ rest) ≡ true
 flagged first rest is =
     ap (λ some. (begins_with_hyphen first || some) || nat_lt (length (first ∷ rest)) 2) is
@@ -45,7 +45,7 @@ pub when_ok : {X : Type 0} (ok : Bool) {z : X} (x y : X) → true ≡ ok → z �
 when_ok true x y taken is = is
 when_ok false x y taken is = cc
 
--- what a failed call tells
+-- what a failed call reports
 pub made_reported : {T E F : Type 0} {Q : E → Type 0} {P : Type 0} (r : Result T E) (y : F)
     → MatchResult r (λ x. ◌≡◌ {A = Result T F} (Err y) (Ok x)) Q → ((e : E) → Q e → P) → P
 made_reported (Ok x) y is f = cc

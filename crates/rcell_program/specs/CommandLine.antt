@@ -12,11 +12,11 @@ abbrev pub grid_words : List (List ℕ) → List (List ℕ) → List (List ℕ)
 grid_words (name ∷ names) (path ∷ paths) = (name ++ byte (codes "=") ∷ path) ∷ grid_words names paths
 grid_words _ _ = []
 
--- NAME=PATH: a name stands before the first equals sign, and something after it
+-- NAME=PATH: a name before the first equals sign, and something after it
 abbrev pub is_grid_argument : List ℕ → Bool
 is_grid_argument word = is_name (before_first (λ b. b == byte (codes "=")) word) && nat_lt 0 (length (after_first (λ b. b == byte (codes "=")) word))
 
--- the place of the first of these words that is not NAME=PATH, if there is one, where they are counted from this place
+-- the place of the first of these words that is not NAME=PATH, if there is one; the words are counted from this place
 abbrev pub first_bad : ℕ → List (List ℕ) → Option ℕ
 first_bad place [] = None
 first_bad place (word ∷ words) = if is_grid_argument word then first_bad (place + 1) words else Some place
@@ -25,11 +25,11 @@ first_bad place (word ∷ words) = if is_grid_argument word then first_bad (plac
 abbrev pub is_misuse : List (List ℕ) → Bool
 is_misuse words = has_hyphen_word words || nat_lt (length words) 2
 
--- why these words, which follow the program's own name, are refused; None where they ask for a run
+-- why these words, which follow the program's own name, are rejected; None if they ask for a run
 abbrev pub refusal_of : List (List ℕ) → Option Refusal
 refusal_of words = if is_misuse words then Some Usage else option_map (λ place. GridWord place) (first_bad 2 (drop 1 words))
 
--- words are refused for this reason, or for none, unless memory ran out
+-- unless memory ran out, words are rejected for this reason, or accepted if there is none
 abbrev pub IsRefusedFor : {A : Type 0} → Option Refusal → Result A Refusal → Type 0
 IsRefusedFor reason (Ok request) = reason ≡ None
 IsRefusedFor reason (Err refusal) = refusal ≢ Memory → reason ≡ Some refusal

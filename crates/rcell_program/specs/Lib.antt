@@ -1,5 +1,4 @@
--- What a command line asks for, and the statuses of its refusals.
--- What the program tells where no run was started.
+-- The request of a command line, and what is reported if no run was started, with the exit status.
 pub mod CommandLine
 pub mod OpenedGrids
 pub mod Refusals

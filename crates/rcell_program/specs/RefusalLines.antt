@@ -4,7 +4,7 @@ use Rattle.rcell.specs.Reports.{name_at_place}
 use Rattle.rcell_program.specs.declared.refusal.Refusal.{Refusal}
 use Rattle.rcell_program.specs.declared.refusal.Refusal.TheVariants.{Usage, GridWord, Memory, ScriptFile, GridFile}
 
--- what a refusal belongs to: the command line, the script or a grid's name
+-- the source of an error: the command line, the script or a grid's name
 abbrev pub refusal_source : List (List ℕ) → Refusal → List ℕ
 refusal_source names Usage = codes "arguments"
 refusal_source names (GridWord place) = codes "arguments"

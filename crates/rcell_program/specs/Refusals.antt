@@ -11,7 +11,7 @@ refusal_status Memory = 3
 refusal_status ScriptFile = 4
 refusal_status (GridFile grid) = 4
 
--- what the opening of a script and of so many grids may be refused for
+-- the errors of opening a script and so many grids
 abbrev pub IsOfOpening : ℕ → Refusal → Type 0
 IsOfOpening grids Usage = grids ≡ 0
 IsOfOpening grids (GridWord place) = ⊥

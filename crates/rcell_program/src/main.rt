@@ -28,7 +28,7 @@ use std::io;
 use std::process::ExitCode;
 use std::rt::{Env, Files};
 
-// Reports a refusal on standard error, and returns its status. Where standard error takes nothing, the status still says it.
+// Reports why no run was started, and returns the status, also if standard error takes nothing.
 fn print_error<R: Eprint>(rt: &R, refusal: Refusal, names: &[Name]) -> u8 {
     let line = refusal_line(refusal, names);
     let _ = eprintln!(rt; "{line}");

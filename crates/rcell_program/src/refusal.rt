@@ -14,7 +14,7 @@ pub enum Refusal {
     /// The word at this place is not NAME=PATH; SCRIPT has place 1.
     #[error("bad grid argument")]
     GridWord { place: u64 },
-    /// Memory was refused.
+    /// Memory ran out.
     #[error("no memory")]
     Memory,
     /// The script can't be opened.

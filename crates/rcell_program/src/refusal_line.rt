@@ -31,7 +31,7 @@ fn refusal_line_number(refusal: Refusal) -> u64
     }
 }
 
-/// The line that reports a refusal, by the names of the grids.
+/// The line that reports why no run was started, by the names of the grids.
 pub fn refusal_line<'a>(refusal: Refusal, names: &'a [Name]) -> FaultLine<'a, Refusal>
     ensures source { result.source.now ≡ refusal_source names.now refusal }
     ensures line { result.line ≡ refusal_line_number refusal }

@@ -8,7 +8,7 @@ use Rattle.clap.specs.declared.builder.range.ValueRange.{ValueRange}
 use Rattle.clap.specs.declared.parser.matches.ArgMatches.{ArgMatches}
 use Rattle.rcell_command.specs.CommandWords.{is_command}
 
--- the first word; those behind it may begin with a hyphen
+-- the first word; words after it may begin with a hyphen
 abbrev pub first_rule : Rule
 first_rule = record (new_rule (codes "FIRST")) { required = true; action = Some Set; trailing_var_arg = true }
 
@@ -16,7 +16,7 @@ first_rule = record (new_rule (codes "FIRST")) { required = true; action = Some 
 abbrev pub any_number : ValueRange
 any_number = record { start_inclusive = 1; end_inclusive = usize_max }
 
--- the words behind the first
+-- the words after the first
 abbrev pub rest_rule : Rule
 rest_rule = record (new_rule (codes "REST")) {
   required = true;
@@ -28,8 +28,7 @@ rest_rule = record (new_rule (codes "REST")) {
 abbrev pub command_line : Text → App
 command_line program = with_rule (with_rule (new_app program) first_rule) rest_rule
 
--- words that are found are all words after the program's own name, in their order; and they are found where there are
--- enough
+-- clap finds all words after the program's own name, in their order, if there are enough
 pub record FindsAll (words : List Text) (matches : ArgMatches) : Type 0 where
   pub all : (first : Text) (rest : List Text) → is_command (drop 1 words) ≡ true
       → first_value (found_of matches) (codes "FIRST") ≡ Some first

@@ -8,7 +8,7 @@ use Rattle.rcell_program.specs.declared.refusal.Refusal.TheVariants.{GridWord}
 use Rattle.rcell_program.proofs.WordLemmas.{flagged, too_few, well_used}
 use Rattle.rcell_program.proofs.command_words.read_words.Goals as goal
 
--- why words are rejected that are a script and these grids, none with a hyphen in front
+-- if no word of a script and its grids begins with a hyphen, only a bad grid word is rejected
 used_well : (words : List Text) (script : Text) (grids : List Text) → words ≡ script ∷ grids → is_command words ≡ true
     → false ≡ has_hyphen_word grids → refusal_of words ≡ option_map (λ place. GridWord place) (first_bad 2 grids)
 used_well words script grids all good plain =

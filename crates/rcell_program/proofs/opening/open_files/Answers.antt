@@ -7,7 +7,7 @@ use Rattle.rcell_program.specs.declared.refusal.Refusal.{Refusal}
 use Rattle.rcell_program.specs.declared.refusal.Refusal.TheVariants.{Usage, GridWord, Memory, ScriptFile, GridFile}
 use Rattle.rcell_program.proofs.opening.open_files.Goals as goal
 
--- a refusal that is out of memory or that of the script is of an opening
+-- out of memory and the error of the script are errors of an opening
 of_script : (grids : ℕ) (refusal : Refusal) → (refusal ≢ Memory → refusal ≡ ScriptFile) → IsOfOpening grids refusal
 of_script grids Usage reported = let is : Usage ≡ ScriptFile = reported (λ same. cc) in cc
 of_script grids (GridWord place) reported = let is : GridWord place ≡ ScriptFile = reported (λ same. cc) in cc

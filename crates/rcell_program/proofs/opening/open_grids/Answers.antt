@@ -10,7 +10,7 @@ use Rattle.rcell_program.proofs.WordLemmas.{when_ok, made_reported}
 use borrow.Author.Count.{falls}
 use Rattle.rcell_program.proofs.opening.open_grids.Goals as goal
 
--- a refusal that is out of memory or one of a grid among these is of an opening
+-- out of memory and the error of one of these grids are errors of an opening
 of_grid : (grids grid : ℕ) (refusal : Refusal) → grid < grids → (refusal ≢ Memory → refusal ≡ GridFile grid) → IsOfOpening grids refusal
 of_grid grids grid Usage within reported = let is : Usage ≡ GridFile grid = reported (λ same. cc) in cc
 of_grid grids grid (GridWord place) within reported = let is : GridWord place ≡ GridFile grid = reported (λ same. cc) in cc
