@@ -1,4 +1,4 @@
--- A numbering that was written and tables that have sizes by it are refused for nothing but memory and the sink.
+-- A written numbering, and tables that have its sizes, are rejected only if memory runs out or the sink fails.
 use Rattle.std.proofs.Common.{◌≡◌, ℕ, ◌+◌, ◌-◌, ◌*◌, ◌<◌, ◌≤◌, ◌^◌, List, [], ◌∷◌, ◌++◌, length, map}
 use Rattle.std.proofs.Common.{Option, Some, None, refl, ap, sym, subst, arith, ◌⊎◌, inl, inr, length-append}
 use Rattle.std.specs.Prelude.{All, sum}

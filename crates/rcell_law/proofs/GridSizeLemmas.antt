@@ -1,4 +1,4 @@
--- Sizes added up by the numbering of a grid of tiles are those of the clumps of the full map, and there are such.
+-- Sizes added up with the numbering of a grid of tiles are the sizes of the clumps of the full map, and they exist.
 use Rattle.std.proofs.Common.{◌≡◌, ℕ, pos, ◌+◌, ◌<◌, ◌≤◌, List, [], ◌∷◌, length, flat_map, take}
 use Rattle.std.proofs.Common.{get_or, Some, refl}
 use Rattle.std.proofs.Common.{ap, sym, ◌∙◌, subst, arith}
@@ -192,7 +192,7 @@ module _ (j : Joining) (whole : Grid) (tiles : List (List NumberedTile)) (text :
       ∙ tile-sizes j whole n (omega (arith, one)) joined are-joined.joined
       ∙ ap (λ (l : List ℕ). size_of_area n l (flat_map sizes_of_tile joined)) numbers-joined
 
-  -- and each of the numbers is that of a clump of the whole
+  -- each of the numbers is the number of a clump of the full map
   pub numbers-few : (clumps : ℕ) → HasAreas j whole clumps
       → All (λ (n : ℕ). (0 < n) × (n ≤ clumps)) are.numbering.numbers
   numbers-few clumps has =

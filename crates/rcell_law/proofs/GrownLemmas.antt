@@ -1,4 +1,4 @@
--- Statements put maps of the shelf's region behind those that are there, under new names.
+-- Statements add maps of the shelf's region, under new names, after the maps on the shelf.
 use Rattle.std.proofs.Common.{◌≡◌, ℕ, ◌+◌, List, [], ◌∷◌, ◌++◌, length, Option, Some, None, refl, ap, sym}
 use Rattle.std.proofs.Common.{◌∙◌, subst, append_assoc, append-nil}
 use Rattle.std.specs.Prelude.{slice_get, All}
@@ -67,7 +67,7 @@ pub record IsOrdered (region : RegionValue) (shelf : ShelfValue) : Type 0 where
   pub distinct : AreDistinct shelf.names
   pub one_region : All (λ m. m.region ≡ region) shelf.maps
 
--- and a shelf has some more names and maps behind
+-- the same shelf with some more names and maps at its end
 pub record HasGrown (region : RegionValue) (shelf after : ShelfValue) : Type 0 where
   pub names : List (List ℕ)
   pub maps : List Grid

@@ -53,7 +53,7 @@ join-rows top (row ∷ tiles) widths (count ∷ counts) numbers =
 abbrev pub IsCounted : Joining → NumberedTile → ℕ → Type 0
 IsCounted j tile n = HasAreas j tile.map n
 
--- ---- their places are those of a grid of cuts
+-- ---- the places of the tiles are a grid of cuts
 
 abbrev between : ℕ × ℕ → ℕ × ℕ → Rectangle
 between h w = record { top = h.0; left = w.0; rows = h.1; cols = w.1 }
@@ -131,7 +131,7 @@ module _ (j : Joining) where
       (rows-numbers (top + row_height row) tiles widths counts (drop n numbers) sized.1 counted.1 rest)
       ∙ take-append-drop n numbers
 
--- ---- they are tiles of the whole, with the numbers of the whole
+-- ---- they are tiles of the full map, and have its numbers
 
 module _ (j : Joining) (whole : Grid) where
   -- a tile in a place, so many areas, and their numbers from a place on

@@ -32,7 +32,7 @@ most_len (c ∷ front) = by (c == 10) (most_len front)
     by true h = omega arith
     by false h = omega (arith, h)
 
--- ---- the lines, where there is fuel enough
+-- ---- the lines, if there is enough fuel
 
 -- the first of them
 lines_first : (n : ℕ) (bs : List ℕ) → 1 ≤ length bs → lines_from (suc n) bs ≡ take (line_len bs) bs ∷ lines_from n
@@ -94,7 +94,7 @@ lines_both (suc n) front back long =
     ∙ ap (λ (ls : List (List ℕ)). ls ++ lines_from (length back) back)
     (sym (lines_first n text (omega (arith, long_text))))
   where
-    -- behind the first line
+    -- after the first line
     rest : ((other : List ℕ) → length (other ++ 10 ∷ back) ≤ n → lines_from n (other ++ 10 ∷ back) ≡ lines_from n
         (other ++ 10 ∷ []) ++ lines_from (length back) back)
         → (len : ℕ) → 1 ≤ len → len ≤ length front + 1 → length (front ++ 10 ∷ back) ≡ length front + length (10 ∷ back)

@@ -1,4 +1,4 @@
--- The numbers of the areas of tiles are those of areas of the whole.
+-- The clump numbers of tiles are numbers of clumps of the full map.
 use Rattle.std.proofs.Common.{◌≡◌, ℕ, ◌+◌, ◌-◌, ◌<◌, ◌≤◌, List, [], ◌∷◌, get_or, sym, subst, arith}
 use Rattle.std.specs.Prelude.{All}
 use Rattle.std.proofs.lemmas.List.Concat.{flat_map-cons}

@@ -1,4 +1,4 @@
--- What a run reads without a fault is an accepted script over grids.
+-- What a run reads without an error is an accepted script over grids.
 use Rattle.std.proofs.Common.{◌≡◌, ℕ, ◌+◌, ◌<◌, ◌≤◌, Bool, true, false, cond, List, [], ◌∷◌, ◌++◌, length, Option, Some}
 use Rattle.std.proofs.Common.{None, Result, Ok, Err, refl, sym, ◌∙◌, subst, arith, append_assoc, append-nil}
 use Rattle.std.specs.Prelude.{All, nat_lt, if◌then◌else◌}
@@ -29,7 +29,7 @@ use Rattle.rcell.proofs.runs.AcceptedLemmas.{AllDenote, names_of}
 
 -- ---- one grid more
 
--- a grid was put behind those of a shelf
+-- a grid was put on a shelf, after its maps
 record IsPlaced (g : Named) (shelf after : ShelfValue) : Type 0 where
   map : Grid
   denotes : Denotes g.1 map
@@ -65,7 +65,7 @@ module _ (grid : ℕ) (shelf after : ShelfValue) (g : Named) where
 
 -- ---- all grids
 
--- grids were put behind those of a shelf
+-- grids were put on a shelf, after its maps
 record ArePlaced (gs : List Named) (shelf after : ShelfValue) : Type 0 where
   maps : List Grid
   denote : AllDenote gs maps
@@ -99,7 +99,7 @@ one-more g gs shelf after m denotes same rest = record {
   one_region = All-cons (λ m. m.region ≡ shelf.region) m rest.maps same rest.one_region;
 }
 
--- what the grids behind one give, of whatever shelf
+-- for any shelf: the remaining grids are put on it
 abbrev Rest : List Named → ℕ → ShelfValue → Type 0
 Rest gs grid after = (next : ShelfValue) → AreDistinct next.names → shelf_from grid (Some next) gs ≡ Ok (Some after)
     → ArePlaced gs next after

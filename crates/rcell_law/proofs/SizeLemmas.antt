@@ -55,7 +55,7 @@ use Rattle.rcell_law.proofs.TileLemmas.{all-tiles, numbers-are, tiles-numbered, 
 
 -- ---- the tables of tiles
 
--- texts of tables are read as those of tiles
+-- the texts are read as the tables of the tiles
 record AreRead (options : StatsOptions) (tiles : List NumberedTile) (texts : List Coming) : Type 0 where
   tables : List Pairs
   are : AllZip (IsTableOfTile options.skip) tiles tables
@@ -118,7 +118,7 @@ module _ (j : Joining) where
       All-cons (λ (k : ℕ). k < 2 ^ 31) n counts (omega (arith, few, most))
       (all-low tiles counts (All-tail (IsNumberedTile j) tile tiles numbered) have.1)
 
-  -- fewer than 2^31 tiles, and numbers of clumps of the whole
+  -- fewer than 2^31 tiles, and numbers of clumps of the full map
   in-range : (whole : Grid) (tiles : List (List NumberedTile)) (text : List ℕ)
       (reported : IsNumberingOfGrid j whole tiles text) → All (IsNumberedTile j) (all_tiles tiles)
       → length (all_tiles tiles) < 2 ^ 31 → (clumps : ℕ) → clumps < 2 ^ 64

@@ -35,7 +35,7 @@ ScriptsOfTilesNumber =
     → (runs : List (List (TileRun script place joining))) → AreTileRuns script names place joining runs
     → NumberTheGrid joining runs
 
--- the number in the full map for a cell of a tile's numbers: that of its clump, with as many clumps in the tiles before; null for null
+-- the number in the full map of a cell of a tile's numbers, with so many clumps in the tiles before; null for null
 abbrev pub number_in_whole : (numbers : List ℕ) (before : ℕ) → CellValue → CellValue
 number_in_whole numbers before None = None
 number_in_whole numbers before (Some (pos k)) = Some (pos (slice_index numbers (before + (k - 1))))
@@ -49,7 +49,7 @@ IsRenumbered numbered tiles counts numbers =
     → cell_at_position numbered (moved_position (tile_place (tile_heights tiles) (tile_widths tiles) r c) p)
     ≡ number_in_whole numbers (clumps_before counts r c) (cell_at_position tile.numbers p)
 
--- the numbering is that of the full map, and has for each cell of each tile the number that a map has for it
+-- the numbering is the full map's, and has for each cell of each tile the number that a map has for it
 pub record HasNumbersOf (numbered : Grid) (joining : Joining) (whole : Grid) (tiles : List (List NumberedTile))
     (text : List ℕ) : Type 0 where
   pub is : IsNumberingOfGrid joining whole tiles text

@@ -11,7 +11,7 @@ use Rattle.rcell.specs.Output.{Executes, IsOutput}
 use Rattle.rcell.specs.runs.Accepted.{IsAccepted}
 use Rattle.rcell_law.specs.ReadAgain.{bare, written_grids, PrintNoLabels}
 
--- the grids of the second run: those of the first, then the maps that it made, each as r.out.ascii writes it
+-- the grids of the second run: the first run's, then the maps that it made, each as r.out.ascii writes it
 abbrev pub second_grids : List ℕ → List Named → ShelfValue → List Named
 second_grids null_text grids between = grids ++ drop (length grids) (written_grids null_text between)
 

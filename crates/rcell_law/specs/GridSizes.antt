@@ -1,4 +1,4 @@
--- Sizes added up with the numbering of a grid of tiles are those of the clumps of the full map.
+-- Sizes added up with the numbering of a grid of tiles are the sizes of the clumps of the full map.
 use Rattle.std.specs.Prelude.{ℕ, ◌≡◌, ◌<◌, ◌≤◌, ◌*◌, List, map, All, Contains, None}
 use Rattle.std.specs.List.{AllZip}
 use Rattle.cell_core.specs.Grid.{Grid, IsFilled}

@@ -5,13 +5,13 @@ use Rattle.rcell_script.specs.ReadScripts.{IsScriptFault}
 use Rattle.rcell_script.specs.Scripts.{IsScript}
 use Rattle.rcell_script.specs.declared.statement.Statement.{Statement}
 
--- the text is a script of some statements, and has no fault
+-- the text is a script of some statements, and has no error
 abbrev pub IsGoodText : List (List ℕ) → List ℕ → Type 0
 IsGoodText known text =
     (statements : List Statement) × IsScript known text statements
     × ((fault : ScriptFault) → IsScriptFault known text fault → ⊥)
 
--- the text has a first fault, and is a script of no statements
+-- the text has a first error, and is a script of no statements
 abbrev pub IsBadText : List (List ℕ) → List ℕ → Type 0
 IsBadText known text =
     (fault : ScriptFault) × IsScriptFault known text fault

@@ -35,8 +35,7 @@ pub record CountsClumps (script : Coming) (names : List (List ℕ)) (place : ℕ
   pub clumps : clump.command ≡ Clump place target joining
   pub prints : PrintsTable stats (length names ∷ []) options
 
--- a run of a script over grids, of which that of a map stands at a place: it is done, and a sink that had taken nothing
--- took this text
+-- a run of a script over grids, one of them in this place: it is done, and a sink that had taken nothing took this text
 pub record MapRun (script : Coming) (place : ℕ) : Type 0 where
   pub grids : List Named
   pub text : List ℕ

@@ -35,7 +35,7 @@ pub record PartRun : Type 0 where
 abbrev pub part_of : PartRun → Part
 part_of run = record { place = run.place; maps = run.shelf.maps }
 
--- what it wrote, as a text to be joined: whole, and with no failure behind it
+-- what it wrote, as a text to be joined: complete, with no failure after it
 abbrev pub coming_of : PartRun → Coming
 coming_of run = record { bytes = run.text; fails = false }
 

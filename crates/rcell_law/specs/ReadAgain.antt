@@ -55,7 +55,7 @@ abbrev pub WrittenMapsAreGrids : Type 0
 WrittenMapsAreGrids = (null_text : List ℕ) (shelf : ShelfValue) → IsNullText null_text → IsShelf shelf
     → All (IsWritable null_text) shelf.maps → AreGrids (written_grids null_text shelf) (bare shelf)
 
--- labels change nothing but where they are printed
+-- labels change only the texts in which they are printed
 abbrev pub LabelsChangeNoOtherText : Type 0
 LabelsChangeNoOtherText = (shelf : ShelfValue) (statements : List Statement) → PrintNoLabels statements
     → (text : List ℕ) → IsOutput shelf statements text ↔ IsOutput (bare shelf) statements text

@@ -28,7 +28,7 @@ pub record ScriptRun (script : Coming) : Type 0 where
 abbrev pub part_run : {script : Coming} → ScriptRun script → PartRun
 part_run run = record { place = run.place; shelf = run.done.shelf; text = run.text }
 
--- its grids have the names of the whole, and are as large as the rectangle
+-- its grids have the names of the full map's grids, and the size of the rectangle
 pub record FitsPlace (script : Coming) (whole : ShelfValue) (run : ScriptRun script) : Type 0 where
   pub names : run.done.shelf.names ≡ whole.names
   pub rows : run.done.shelf.region.rows ≡ run.place.rows

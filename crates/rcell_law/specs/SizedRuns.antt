@@ -20,7 +20,7 @@ use Rattle.rcell.specs.Output.{IsOutput, format_of}
 use Rattle.rcell_law.specs.MapRuns.{CountsClumps, MapRun, NumbersClumps, run_texts}
 use Rattle.rcell_law.specs.TileRuns.{AreTileRuns, HasTiles, TileRun, all_runs, border_texts}
 
--- a run of a script that counts clumps, over grids of these names, in which the text of the map is that of a tile
+-- a run of a script that counts clumps, over grids of these names; the map's text is the tile's
 pub record CountsTile {script counting : Coming} {place : ℕ} {joining : Joining} (names : List (List ℕ))
     (tile : TileRun script place joining) (run : MapRun counting place) : Type 0 where
   pub named : run.done.shelf.names ≡ names

@@ -25,7 +25,7 @@ pub record TileRun (script : Coming) (place : ℕ) (joining : Joining) : Type 0 
 abbrev pub tile_of_run : {script : Coming} {place : ℕ} {joining : Joining} → TileRun script place joining → NumberedTile
 tile_of_run one = record { map = one.drawn.m; numbers = one.numbers }
 
--- those of rows of runs
+-- the tiles of rows of runs
 abbrev pub tiles_of_runs : {script : Coming} {place : ℕ} {joining : Joining} → List (List (TileRun script place joining)) → List (List NumberedTile)
 tiles_of_runs runs = map (λ row. map tile_of_run row) runs
 
@@ -43,7 +43,7 @@ pub record AreTileRuns (script : Coming) (names : List (List ℕ)) (place : ℕ)
   pub named : All (λ one. one.run.done.shelf.names ≡ names) (all_runs runs)
   pub make : AreTileRows (tile_regions (tiles_of_runs runs))
 
--- a map of whatever size whose rows are those of the tiles, side by side and one below the other
+-- a map of any size whose rows are the rows of the tiles, side by side and one below the other
 abbrev pub HasTiles : {script : Coming} {place : ℕ} {joining : Joining} → Grid → List (List (TileRun script place joining)) → Type 0
 HasTiles whole runs = whole.rows ≡ rows_of_tiles (tiles_of_runs runs)
 

@@ -61,7 +61,7 @@ pub fn scripts_of_tiles_number()
     one_script();
 }
 
-/// If the script was run over the full map too, its numbers there are those of the numbering.
+/// If the script was also run over the full map, its numbers there are the numbers of the numbering.
 pub fn one_run_has_these_numbers()
     ensures { OneRunHasTheseNumbers }
 {

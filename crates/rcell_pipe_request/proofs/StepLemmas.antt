@@ -37,7 +37,7 @@ steps-done step so_far count i c all past before =
     let same : steps step so_far (count - i) c ≡ Ok (so_far, c) = rw left refl in
     sym before ∙ same
 
--- what was known stays known, and the error of a step is that of all
+-- what was known stays known, and an error of one step is the error of all
 pub FieldFails-of : {X Y : Type 0} (stop : FieldStop) (now first : Bool) (one : FieldReading X) (all : FieldReading Y) → now ≡ first → (first ≡ true → (kind : ErrorKind) → one ≡ Err kind → all ≡ Err kind) → FieldFails stop now one → FieldFails stop first all
 FieldFails-of field_stops.Memory now first one all same on fails = tt
 FieldFails-of (field_stops.Error kind) now first one all same on fails = λ known. on known kind (fails (same ∙ known))

@@ -21,7 +21,7 @@ use Rattle.rcell_pipe_request.specs.declared.error.ErrorKind.TheVariants as kind
 use Rattle.cell_core_values.specs.Answers.{◌>>=◌}
 use Rattle.rcell_pipe_request.specs.RequestFields.{FieldReading, number_at, signed_at, text_at, steps}
 
--- the value, or an error where there is none
+-- the value, or an error if there is none
 abbrev pub wanted : {X : Type 0} → ErrorKind → Coming → Option X → FieldReading X
 wanted kind rest None = Err kind
 wanted kind rest (Some x) = Ok (x, rest)
@@ -66,7 +66,7 @@ abbrev pub is_new : Option ShelfValue → List ℕ → Bool
 is_new None name = true
 is_new (Some shelf) name = is_none (place_of name shelf.names)
 
--- whether a region is that of the maps before, if there are any
+-- whether a region is the region of the maps before, if there are any
 abbrev pub is_of_shelf : Option ShelfValue → RegionValue → Bool
 is_of_shelf None region = true
 is_of_shelf (Some shelf) region = is_same_region region shelf.region
@@ -83,7 +83,7 @@ new_name_at shelf c = do
   name ← map_name_at c
   if is_new shelf name.0 then Ok name else Err kinds.NameTwice
 
--- a region, which is that of the maps before
+-- the region of the maps before
 unfoldable pub same_region_at : Option ShelfValue → Coming → FieldReading RegionValue
 same_region_at shelf c = do
   region ← region_at c
@@ -125,7 +125,7 @@ pub record LabelValue : Type 0 where
 abbrev pub has_feed : List ℕ → Bool
 has_feed text = list_any (λ b. b == 10) text
 
--- what is no label: that of the least number of 32 bits, which is no category, or one with a line feed
+-- whether a label is bad: its number is -2^31, which is no category, or its text has a line feed
 abbrev pub is_bad_label : ℤ → List ℕ → Bool
 is_bad_label category text = int_eq category (negsuc 2147483647) || has_feed text
 
@@ -174,6 +174,6 @@ label_values labels = map label_value labels
 abbrev pub head_value : MapHead → HeadValue
 head_value head = record { name = head.name; region = head.region; format = head.format; labels = label_values head.labels.items }
 
--- whether a label is that of a category, and has no line feed
+-- whether a label belongs to a category, and has no line feed
 abbrev pub IsGoodLabel : Label → Type 0
 IsGoodLabel label = is_bad_label label.category label.text.items ≡ false

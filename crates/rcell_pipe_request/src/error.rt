@@ -10,7 +10,7 @@ use std::alloc::{AllocError, AllocFailed};
 /// What is wrong with a request.
 #[derive(Clone, Copy, Debug, PartialEq, Eq)]
 pub enum ErrorKind {
-    /// The first eight bytes are not those of this version.
+    /// The first eight bytes are not the magic bytes of this version.
     BadMagic,
     /// The request ends before it is complete.
     Short,
@@ -26,7 +26,7 @@ pub enum ErrorKind {
     BadNumber,
     /// The six numbers are not a region.
     BadRegion,
-    /// The region is not that of the first map.
+    /// The region is not the first map's.
     OtherRegion,
     /// There is no such type of cells.
     BadType,
@@ -34,7 +34,7 @@ pub enum ErrorKind {
     BadFlags,
     /// The type does not have the nodata value, or it is not 0 without flag 1.
     BadNodata,
-    /// A label is that of no category, or has a line feed.
+    /// A label belongs to no category, or has a line feed.
     BadLabel,
     /// A byte of a mask is neither 0 nor 1.
     BadMask,

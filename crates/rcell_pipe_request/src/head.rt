@@ -111,7 +111,7 @@ fn is_new(shelf: Option<&Shelf>, name: &Name) -> bool
     }
 }
 
-// Whether a region is that of the maps before, if there are any.
+// Whether a region is the region of the maps before, if there are any.
 fn is_of_shelf(shelf: Option<&Shelf>, region: Region) -> bool
     ensures { result ≡ is_of_shelf (option_map (λ s. s.now) shelf.entry) region }
 {
@@ -151,7 +151,7 @@ fn read_new_name<R: Source>(
     Ok(name)
 }
 
-// A region, which is that of the maps before.
+// The region of the maps before.
 #[tactic(auto, unfolding(crate::specs::Heads::same_region_at))]
 fn read_same_region<R: Source>(
     alloc: Global,

@@ -88,8 +88,8 @@ fn pack_hidden(nodata: Option<i64>, mask: &[u8], bytes: &mut [u8]) -> bool
     true
 }
 
-/// Packs a row of `u8` numbers into the bytes that stand for its cells, 255 for null. An empty mask hides nothing.
-/// Returns false, and leaves the row, if one of the cells is the category 255, for which no byte stands.
+/// Packs a row of `u8` numbers into the bytes of its cells, 255 for null. An empty mask hides nothing.
+/// Returns false, and leaves the row, if one of the cells is the category 255, which has no byte.
 pub fn pack_row(nodata: Option<i64>, mask: &[u8], bytes: &mut [u8]) -> bool
     ensures packed { result ≡ true → cells_of_bytes bytes.new
         ≡ raw_cells U8 nodata mask.now bytes.old (length bytes.old) }

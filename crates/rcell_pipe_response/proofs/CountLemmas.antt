@@ -4,7 +4,7 @@ use Rattle.cell_core_devices.specs.Device.{Faults, after_put}
 use Rattle.cell_core_devices.specs.Blocks.{BlockValue, Appended, Appends, capped_count}
 use Rattle.cell_ascii_writer.proofs.PutLemmas.{appended_put}
 
--- a sink that never refuses has refused nothing
+-- if no put has failed, this one has not
 never_failed : (start now : Faults) (failed : Bool) → now ≡ after_put start failed → now.refused ≡ false → failed ≡ false
 never_failed start now false is good = refl
 never_failed start now true is good = absurd cc

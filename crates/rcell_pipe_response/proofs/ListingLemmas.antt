@@ -1,4 +1,4 @@
--- What is written of a list that is taken from the front.
+-- What is written of a list, from its first element on.
 use Rattle.std.proofs.Common.{ℕ, List, [], ◌++◌, Option}
 use Rattle.cell_core_devices.specs.Device.{Faults}
 use Rattle.cell_core_devices.specs.Blocks.{BlockValue, Appends}

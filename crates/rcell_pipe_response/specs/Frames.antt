@@ -71,7 +71,7 @@ frame_text (Table t) = printed_lines t
 frame_text (Cells t) = printed_lines t
 frame_text (Map g) = frame_header g ++ null_line g.null_text ++ flat_map (row_text g.null_text) g.cells
 
--- the name of the map in a place, nothing where there is none
+-- the name of the map in a place, or nothing if there is no map
 abbrev pub name_in : ShelfValue → ℕ → List ℕ
 name_in shelf place = unwrap_or (slice_get shelf.names place) []
 
@@ -121,7 +121,7 @@ grid_frame line null_text name grid = record {
   cells = grid.rows;
 }
 
--- the frame of r.out.ascii, nothing where there is no map
+-- the frame of r.out.ascii, or nothing if there is no map
 abbrev pub map_frames : ShelfValue → ℕ → ℕ → List ℕ → Option Grid → List OutputFrame
 map_frames shelf line place null_text None = []
 map_frames shelf line place null_text (Some grid) = Map (grid_frame line null_text (name_in shelf place) grid) ∷ []

@@ -27,7 +27,7 @@ pub(crate) struct EdgeTexts {
     west: Vec<u8>,
 }
 
-// How many zeros stand at the end.
+// How many zeros are at the end.
 fn zeros_at_end(digits: &[u8]) -> usize
     ensures count { result ≡ prefix_len (λ b. b == byte (codes "0")) (reverse digits.now) }
     ensures within { result ≤ length digits.now }
@@ -42,7 +42,7 @@ fn without_zeros(digits: &[u8]) -> &[u8]
     &digits[..digits.len() - zeros_at_end(digits)]
 }
 
-// The eight digits of a part: those of its sum with 10^8, but for the 1 in front.
+// The eight digits of a part: the digits of its sum with 10^8, without the leading 1.
 #[tactic(auto, using(std::proofs::lemmas::Fmt::decimal_nonempty))]
 fn eight_digits(buffer: &mut Buffer, part: u64) -> &[u8]
     requires { part < 100000000 }

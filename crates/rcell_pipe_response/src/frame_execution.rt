@@ -24,7 +24,7 @@ use std::alloc::Global;
 /// What stops an execution.
 #[derive(Clone, Copy, Debug)]
 pub(crate) enum PipeStop {
-    /// Memory ran out; the line is that of the statement.
+    /// Memory ran out at the statement of this line.
     Memory { line: u64 },
     /// A write failed.
     Write,
