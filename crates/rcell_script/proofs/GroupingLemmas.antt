@@ -268,7 +268,7 @@ rest-of line known before (Some block) (l ∷ ls) statements (Ok more, e, rest) 
 
 -- ---- groups, as they are read
 
--- from some lines on, wherever they stand, statements are read
+-- lines that begin at any number are read as statements
 abbrev Reads : List (List ℕ) → List Statement → List ScriptLine → List Statement → Type 0
 Reads known before lines statements =
     (line : ℕ) (ls : List (List ℕ)) → lines ≡ numbered_lines line ls → All (λ l. length l ≤ 65535) ls → IsScriptReading line (progress known before None) ls (Ok statements)

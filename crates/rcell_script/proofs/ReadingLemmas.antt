@@ -31,7 +31,7 @@ pub Stands-more : (all : Result (List Statement) ScriptFault → Type 0) (read m
 Stands-more all read more lines i d h stands next r rest =
     stands r (subst (λ ls. IsScriptReading (i + 1) read ls r) (sym (cut lines i d h)) (Ok more, next, rest))
 
--- a line that has a fault
+-- a line has an error
 pub Stands-fault : (all : Result (List Statement) ScriptFault → Type 0) (read : Progress) (lines : List (Bor (List ℕ))) (i : ℕ) (d : Bor (List ℕ)) (fault : ScriptFault) → i < length lines
     → Stands all read lines i → IsNext (i + 1) read (get_or lines i d).now (Err fault) → all (Err fault)
 Stands-fault all read lines i d fault h stands next =
@@ -41,7 +41,7 @@ Stands-fault all read lines i d fault h stands next =
 pub Stands-start : (known : List (List ℕ)) (text : List ℕ) (lines : List (Bor (List ℕ))) → texts lines ≡ script_lines text → Stands (IsScriptReading 1 (start known) (script_lines text)) (start known) lines 0
 Stands-start known text lines e r given = subst (λ ls. IsScriptReading 1 (start known) ls r) e given
 
--- a line has a fault, which is that of the text
+-- the error of a line is the error of the text
 pub fault_of_line : (known : List (List ℕ)) (text : List ℕ) (read : Progress) (lines : List (Bor (List ℕ))) (i : ℕ) (d : Bor (List ℕ)) (fault : ScriptFault) → i < length lines
     → Stands (IsScriptReading 1 (start known) (script_lines text)) read lines i → IsNext (i + 1) read (get_or lines i d).now (Err fault) → IsScriptFault known text fault
 unfolding IsScriptFault
@@ -54,7 +54,7 @@ none_left lines i h = ap texts (drop_all i lines h)
 at_end-all : (all : Result (List Statement) ScriptFault → Type 0) (read : Progress) (lines : List (Bor (List ℕ))) (i : ℕ) → length lines ≤ i → Stands all read lines i → all (at_end read)
 at_end-all all read lines i h stands = stands (at_end read) (subst (λ ls. IsScriptReading (i + 1) read ls (at_end read)) (sym (none_left lines i h)) refl)
 
--- the statements at the end are those of the text
+-- the statements at the end are the statements of the text
 pub script_at_end : (known : List (List ℕ)) (text : List ℕ) (read : Progress) (lines : List (Bor (List ℕ))) (i : ℕ) (r : Result (List Statement) ScriptFault) → length lines ≤ i
     → Stands (IsScriptReading 1 (start known) (script_lines text)) read lines i → r ≡ at_end read → IfOk r (λ statements. IsScript known text statements)
 unfolding IsScript
@@ -62,7 +62,7 @@ script_at_end known text read lines i (Ok statements) h stands e =
     (read-grouped known text statements).0 (subst (IsScriptReading 1 (start known) (script_lines text)) (sym e) (at_end-all (IsScriptReading 1 (start known) (script_lines text)) read lines i h stands))
 script_at_end known text read lines i (Err fault) h stands e = record {}
 
--- a fault at the end is that of the text
+-- an error at the end is the error of the text
 pub fault_at_end : (known : List (List ℕ)) (text : List ℕ) (read : Progress) (lines : List (Bor (List ℕ))) (i : ℕ) (r : Result (List Statement) ScriptFault) → length lines ≤ i
     → Stands (IsScriptReading 1 (start known) (script_lines text)) read lines i → r ≡ at_end read → IfErr r (λ fault. fault.kind ≢ Memory → IsScriptFault known text fault)
 unfolding IsScriptFault

@@ -1,4 +1,4 @@
--- Each text is read to its end or to its first fault, where each line comes to something.
+-- Each text is read to its end or to its first error, if each line has a reading.
 use Rattle.std.proofs.Common.{ℕ, ◌+◌, List, [], ◌∷◌, Option, Some, None, Result, Ok, Err, refl}
 use Rattle.rcell_script_commands.specs.Commands.{IsHead}
 use Rattle.rcell_script_commands.specs.declared.script_fault.ScriptFault.{ScriptFault}

@@ -9,10 +9,10 @@ use Rattle.rcell_script.specs.declared.statement.Statement.{Statement}
 abbrev pub OneScript : Type 0
 OneScript = (known : List (List ℕ)) (text : List ℕ) (a b : List Statement) → IsScript known text a → IsScript known text b → a ≡ b
 
--- a script has no fault
+-- a script has no error
 abbrev pub NoFaultOfAScript : Type 0
 NoFaultOfAScript = (known : List (List ℕ)) (text : List ℕ) (a : List Statement) (fault : ScriptFault) → IsScript known text a → IsScriptFault known text fault → ⊥
 
--- a text is read as statements exactly where it is a script of them
+-- a text is read as statements exactly if it is a script of them
 abbrev pub ReadingDenotes : Type 0
 ReadingDenotes = (known : List (List ℕ)) (text : List ℕ) (statements : List Statement) → IsReadAs known text statements ↔ IsScript known text statements

@@ -1,4 +1,4 @@
--- Which texts are scripts, and of which statements, by lines that group into statements (profile; the commands are those of the GRASS manual).
+-- Which texts are scripts, and of which statements, by lines that group into statements (profile; commands: GRASS manual).
 use Rattle.std.specs.Prelude.{ℕ, List, ◌≤◌, [], ◌∷◌, ◌++◌, length, All}
 use Rattle.cell_cats.specs.Rule.{RuleValue}
 use Rattle.rcell_script.specs.KnownMaps.{known_after}
@@ -11,7 +11,7 @@ use Rattle.rcell_script_commands.specs.declared.command.Command.{Command}
 use Rattle.rcell_script_commands.specs.declared.command.Command.TheVariants.{Reclass}
 use Rattle.rcell_script.specs.declared.statement.Statement.{Statement}
 
--- lines group into statements over known maps: a command is a line, and an r.reclass its line, those of its rules and `end`; each map made is known after its statement
+-- how lines group into statements: one line a command, for r.reclass also rules and `end`; a map is known after its statement
 pub data Group : List (List ℕ) → List ScriptLine → List Statement → Type 0 where
   none : {known : List (List ℕ)} → Group known [] []
   skipped : {known : List (List ℕ)} {line : ScriptLine} {lines : List ScriptLine} {statements : List Statement}

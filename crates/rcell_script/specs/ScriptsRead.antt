@@ -1,4 +1,4 @@
--- The reading of a script line by line from the top, up to its end or its first fault (profile).
+-- The reading of a script line by line from the top, up to its end or its first error (profile).
 use Rattle.std.specs.Prelude.{ℕ, ◌≡◌, ◌+◌, List, [], ◌∷◌, ◌++◌, nat_lt, length, Option, Some, None, Result, Ok, Err, MatchResult, if◌then◌else◌}
 use Rattle.cell_cats.specs.Rule.{RuleValue}
 use Rattle.cell_cats.specs.RuleReading.{with_line}
@@ -23,7 +23,7 @@ use Rattle.rcell_script.specs.declared.statement.Statement.{Statement}
 abbrev pub start : List (List ℕ) → Progress
 start known = record { known = known; statements = []; pending = None }
 
--- a fault at a line
+-- an error at a line
 abbrev pub fault_at : ℕ → ScriptKind → ScriptFault
 fault_at line kind = record { kind = kind; line = line }
 
@@ -39,7 +39,7 @@ after_head line read (Ok Skipped) = Ok read
 after_head line read (Ok (Whole command)) = Ok (with_statement line command read)
 after_head line read (Ok (Opened place target)) = Ok (record read { pending = Some (record { line = line; place = place; target = target; rules = [] }) })
 
--- a rule, or its fault
+-- a rule, or its error
 abbrev pub as_rule : Result (LineKind × List RuleValue) RuleFault → Result (LineKind × List RuleValue) ScriptKind
 as_rule (Ok x) = Ok x
 as_rule (Err fault) = Err (of_rule fault)
@@ -67,7 +67,7 @@ IsNextTo (Some block) line read l next = next ≡ after_rule line (record read {
 abbrev pub IsNext : ℕ → Progress → List ℕ → Result Progress ScriptFault → Type 0
 IsNext line read l next = IsNextTo read.pending line read l next
 
--- at the end of the lines: rules that have no end are a fault at the line of r.reclass
+-- at the end of the lines: rules without an end are an error at the line of r.reclass
 abbrev pub at_end : Progress → Result (List Statement) ScriptFault
 at_end read = by read.pending
   where
@@ -75,7 +75,7 @@ at_end read = by read.pending
     by None = Ok read.statements
     by (Some block) = Err (fault_at block.line MissingEnd)
 
--- what the lines from `line` on come to: the statements, or the first fault
+-- the result of the lines from `line` on: the statements, or the first error
 abbrev pub IsScriptReading : ℕ → Progress → List (List ℕ) → Result (List Statement) ScriptFault → Type 0
 IsScriptReading line read [] result = at_end read ≡ result
 IsScriptReading line read (l ∷ ls) result =

@@ -11,7 +11,7 @@ pub fn one_script()
     one_assignment();
 }
 
-/// A text that is a script has no fault.
+/// A text that is a script has no error.
 pub fn no_fault_of_a_script()
     ensures { NoFaultOfAScript }
 {

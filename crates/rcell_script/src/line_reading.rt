@@ -36,13 +36,13 @@ pub(crate) struct Progress {
     pending: Option<OpenReclass>,
 }
 
-/// Memory was refused.
+/// Memory ran out.
 pub(crate) const NO_MEMORY: ScriptFault = ScriptFault {
     kind: ScriptKind::Memory,
     line: 0,
 };
 
-// A fault at a line; being out of memory is reported at line 0.
+// An error at a line; out of memory is reported at line 0.
 fn fault_at(line: u64, kind: ScriptKind) -> ScriptFault
     ensures other { kind ≢ ScriptKind.Memory → result ≡ record { kind = kind; line = line } }
     ensures kind { result.kind ≡ kind }
@@ -105,7 +105,7 @@ impl Progress {
     ///
     /// # Errors
     ///
-    /// [`Memory`] where memory was refused.
+    /// [`Memory`] if memory runs out.
     pub(crate) fn new(alloc: Global, known: &Names) -> Result<Progress, Memory>
         ensures { IfOk result (λ read. read ≡ start known.now) }
     {
@@ -192,7 +192,7 @@ impl Progress {
     ///
     /// # Errors
     ///
-    /// The fault of the line, with its number; [`ScriptKind::Memory`] with line 0 where memory was refused.
+    /// The error of the line, with its number; [`ScriptKind::Memory`] with line 0 if memory runs out.
     pub(crate) fn with_line(
         self,
         alloc: Global,

@@ -12,13 +12,15 @@ use cell_core::name::Names;
 use rcell_script_commands::script_fault::{ScriptFault, ScriptKind};
 use std::alloc::Global;
 
-/// The statements of a script over maps of these names: places are those of the names, then of the maps made, in order.
+/// The statements of a script over maps of these names. A place is an index among the names, then the maps made, in order.
 ///
 /// # Errors
 ///
-/// The first fault, line by line from the top, with the number of its line from 1: [`ScriptKind::LongLine`], then
-/// [`ScriptKind::UnknownCommand`], then the faults of the command and of its rules; [`ScriptKind::MissingEnd`] at the
-/// line of an r.reclass whose rules have no end. [`ScriptKind::Memory`] with line 0 where memory was refused.
+/// The first error, line by line from the top, with the number of its line from 1:
+///
+/// - [`ScriptKind::LongLine`], then [`ScriptKind::UnknownCommand`], then the errors of the command and of its rules
+/// - [`ScriptKind::MissingEnd`] at the line of an r.reclass whose rules have no end
+/// - [`ScriptKind::Memory`] with line 0 if memory runs out
 pub fn parse_script(alloc: Global, text: &[u8], known: &Names) -> Result<Script, ScriptFault>
     ensures ok { IfOk result (IsScript known.now text.now) }
     ensures fits { IfOk result (Fits known.now) }

@@ -7,7 +7,7 @@ pub use rcell_script_commands::command::{Command, Places, StatsOptions};
 use std::alloc::Global;
 use std::marker::Model;
 
-/// A command and the line on which it stands.
+/// A command and its line.
 #[derive(Drop)]
 pub struct Statement {
     pub line: u64,

@@ -28,7 +28,7 @@ assigned known line text a head e is of = inl (a, subst (λ t. IsAssignmentText 
 pub unassigned : (known : List (List ℕ)) (line text : List ℕ) (fault : CalcFault) → text ≡ assignment_text line → IsTextFault text fault → fault.kind ≢ calc.Memory → IsMapcalc known line (Err (Calc fault))
 unassigned known line text fault e is memory = inr (fault, subst (λ t. IsTextFault t fault) e is, memory, refl)
 
--- the fault of a first unknown map
+-- the error of a first unknown map
 pub unbound : (known : List (List ℕ)) (a : Assignment) (fault : CalcFault) → IsBindingFault known a.expr fault → fault.kind ≢ calc.Memory → mapcalc_of known a ≡ Err (Calc fault)
 unbound known a fault (inl memory) other = absurd (other (ap (λ (f : CalcFault). f.kind) memory))
 unbound known a fault (inr (kind, unknown)) other = rw unknown (ap (λ k. Err (Calc (record { kind = k; column = fault.column }))) (sym kind))

@@ -85,7 +85,7 @@ no_text-none (k ∷ ks) key t v h = by (λ rest. no_text-none ks key t v rest) (
     by others true false s e h = rw (s, e) refl
     by others false false s e h = rw s (others h)
 
--- the value for a key is that of the pair with its text
+-- the value for a key is the value that the pair gives to the key's text
 pair-value : (ks : List (List ℕ × OptionKey)) (key : OptionKey) (t v : List ℕ) → are_apart ks ≡ true
     → value_for key (pair_setting ks t v) ≡ pair_value (text_of key ks) t v
 pair-value [] key t v h = refl
@@ -119,7 +119,7 @@ option_texts form = map (λ k. k.0) (option_keys form)
 abbrev setting_of : Form → Option (List ℕ × List ℕ) → Option (OptionKey × List ℕ)
 setting_of form pair = option_and_then (λ pair. option_map (λ key. (key, pair.1)) (option_key_of form pair.0)) pair
 
--- the value that a word gives to the key of a text, where there is one
+-- the value that a word gives to the key of a text, if there is one
 abbrev slot_value : Option (List ℕ) → List ℕ → Option (List ℕ)
 slot_value None word = None
 slot_value (Some text) word = value_in text word
@@ -187,7 +187,7 @@ filter_map-none : (xs : List (List ℕ)) → filter_map nothing xs ≡ []
 filter_map-none [] = refl
 filter_map-none (x ∷ xs) = filter_map-none xs
 
--- the values that words give to the key of a text, where there is one
+-- the values that words give to the key of a text, if there is one
 abbrev pub slot_values : Option (List ℕ) → List (List ℕ) → List (List ℕ)
 slot_values None words = []
 slot_values (Some text) words = values_of text words

@@ -30,7 +30,7 @@ tag NullText = 4
 tag TableNullText = 5
 tag After = 6
 
--- the value of a setting, where it is one of this key
+-- the value of a setting, if it is one of this key
 abbrev pub value_for : OptionKey → Option (OptionKey × List ℕ) → Option (List ℕ)
 value_for key None = None
 value_for key (Some setting) = cond (tag key == tag setting.0) (Some setting.1) None
@@ -334,7 +334,7 @@ words-complete form (word ∷ words) old new each more =
     let rest = words-complete form words m.0 new (λ i d within. each (suc i) d (omega (arith, within))) m.2 in
     ap (λ r. r >>= (λ mid. with_words form mid words)) m.1 ∙ rest
 
--- the words that are read without a fault, and what they make
+-- words that are read without an error, and their options
 pub words-read : (form : Form) (words : List (List ℕ)) (given : Given) → options_of form words ≡ Ok given
     → All (IsWord form) words × More form words no_options given
 words-read form words given e = words-sound form words no_options given e

@@ -1,4 +1,4 @@
--- What a line is that is read without a fault, and what it spells.
+-- What a line that is read without an error is, and what it spells.
 use Rattle.std.proofs.Common.{◌≡◌, ℕ, ◌≤◌, Bool, true, false, cond, List, [], ◌∷◌, length, Option, Some, None, Result, Ok, Err, inl, inr, codes, refl, ap, sym, ◌∙◌, subst, rules}
 use Rattle.std.specs.Prelude.{◌⊎◌, ◌&&◌, ◌||◌, is_some, bytes_eq, unwrap_or}
 use Rattle.std.specs.Cmp.Lexicographic.{bytes_decides}
@@ -371,7 +371,7 @@ mapcalc-sound known line head [] is m h = cc
 mapcalc-sound known line head (w ∷ ws) is m (inr (fault, reported, other, e)) = cc
 mapcalc-sound known line head (w ∷ ws) is m (inl (a, assigned, e)) = search rules
 
--- what is read of a line without a fault is what it says
+-- a line that is read without an error says what was read
 pub head-says : (known : List (List ℕ)) (line : List ℕ) (head : Head) → IsHead known line (Ok head)
     → (length line ≤ 65535) × Says known line head
 head-says known line head h = search (rules, mapcalc-sound, words-sound, ltb-false)

@@ -1,4 +1,4 @@
--- Which line spells which command (the commands are those of the GRASS manual).
+-- Which line spells which command (GRASS manual: the commands).
 use Rattle.std.specs.Prelude.{ℕ, List}
 use Rattle.rcell_script_commands.specs.RClump.{SpellsClump}
 use Rattle.rcell_script_commands.specs.RMapcalc.{SpellsMapcalc}

@@ -1,4 +1,4 @@
--- What a line is: skipped, a command that its options ask for, the beginning of an r.reclass, or a fault (the order of the faults is the profile's).
+-- What a line is: skipped, a command, the beginning of an r.reclass, or an error (profile: the order of the errors).
 use Rattle.std.specs.Prelude.{ℕ, ◌≡◌, ◌≢◌, ◌⊎◌, List, Option, Some, None, Result, Ok, Err, length, if◌then◌else◌, unwrap_or, Bool, true, false, [], ◌∷◌, nat_lt, bytes_eq, codes}
 use Rattle.cell_ascii_meaning.specs.GridWords.{usual_null}
 use Rattle.cell_calc_binding.specs.Binding.{with_places}
@@ -63,7 +63,7 @@ clump_of known words = do
   maps ← from_to known given
   Ok (Clump maps.0 maps.1 (joining_of given.flags.corners))
 
--- the combination after which a table goes on, where one is given
+-- the combination after which a table continues, if one is given
 abbrev pub after_of : ℕ → Option (List ℕ) → Result (Option Combination) ScriptKind
 after_of width None = Ok None
 after_of width (Some text) = combined (combo_of width text)
@@ -124,7 +124,7 @@ abbrev pub head_of_words : List (List ℕ) → List (List ℕ) → Result Head S
 head_of_words known [] = Ok Skipped
 head_of_words known (w ∷ ws) = if is_comment w then Ok Skipped else head_named known w ws
 
--- the first word is that of an r.mapcalc
+-- the first word is r.mapcalc
 abbrev pub is_mapcalc : List (List ℕ) → Bool
 is_mapcalc [] = false
 is_mapcalc (w ∷ ws) = bytes_eq w (codes "r.mapcalc")

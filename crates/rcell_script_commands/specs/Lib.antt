@@ -1,5 +1,5 @@
--- The flags and keys of each command, which options words spell, and the maps that options name.
--- What one line of a script asks for: the options of a command, which lines spell it, and which faults a line has.
+-- One line of a script: the flags and keys of each command, the options and maps that its words give, which lines spell
+-- it, and which errors a line has.
 pub mod NullText
 pub mod Options
 pub mod OptionReading

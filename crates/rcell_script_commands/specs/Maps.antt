@@ -1,4 +1,4 @@
--- The maps that options name, over known ones (the order of the faults is the profile's).
+-- The maps that options name, over known ones (profile: the order of the errors).
 use Rattle.std.specs.Prelude.{ℕ, List, Option, Some, None, Result, Ok, Err, if◌then◌else◌}
 use Rattle.std.specs.Option.{ok_or}
 use Rattle.cell_core_values.specs.Answers.{◌>>=◌}

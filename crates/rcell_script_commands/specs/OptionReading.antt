@@ -1,4 +1,4 @@
--- The words after a command, read one after another: the options that they give, or the first fault (the order of the faults is the profile's).
+-- The words after a command, read in order: the options that they give, or the first error (profile: the order of the errors).
 use Rattle.std.specs.Prelude.{ℕ, Bool, false, ◌&&◌, ◌||◌, ◌==◌, nat_lt, List, [], ◌∷◌, map, length, Option, Some, None, is_some, Result, Ok, Err, if◌then◌else◌, bytes_eq, codes}
 use Rattle.std.specs.Borrow.{Bor}
 use Rattle.std.specs.List.{list_all}
@@ -17,7 +17,7 @@ use Rattle.rcell_script_commands.specs.declared.options.Form.TheVariants.{Clump,
 use Rattle.rcell_script_commands.specs.declared.options.OptionKey.{OptionKey}
 use Rattle.rcell_script_commands.specs.declared.options.OptionKey.TheVariants.{Input, Inputs, Output, Separator, NullText, TableNullText, After}
 
--- the answer is what the reading gives, unless memory ran out
+-- the result is what the reading gives, unless memory ran out
 abbrev pub GivesOption : {A : Type 0} → Result A OptionFault → Result A OptionFault → Type 0
 GivesOption answer reading = Answers Memory (λ x. x) answer reading
 
@@ -154,7 +154,7 @@ abbrev pub with_word : Form → Given → List ℕ → Result Given OptionFault
 with_word form given [] = Err BadOption
 with_word form given (b ∷ bs) = if b == byte (codes "-") then with_flags form given bs else with_pair form given (pair_of (b ∷ bs))
 
--- the options of all words, or the fault of the first word that has one
+-- the options of all words, or the error of the first word that has one
 abbrev pub with_words : Form → Given → List (List ℕ) → Result Given OptionFault
 with_words form given [] = Ok given
 with_words form given (w ∷ ws) = do

@@ -15,7 +15,7 @@ letters_in (b ∷ bs) = if b == byte (codes "-") then bs else []
 abbrev pub are_flags : List ℕ → List ℕ → Bool
 are_flags flags letters = not (length letters == 0) && list_all (is_one_of flags) letters
 
--- the value that a word gives to a key: what stands after the key and an equals sign
+-- the value that a word gives to a key: the text after the key and an equals sign
 abbrev pub value_in : List ℕ → List ℕ → Option (List ℕ)
 value_in key word = option_and_then (λ pair. if bytes_eq pair.0 key then Some pair.1 else None) (pair_of word)
 

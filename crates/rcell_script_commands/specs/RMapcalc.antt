@@ -10,12 +10,12 @@ use Rattle.cell_core_values.specs.Blanks.{is_blank, after_blanks}
 use Rattle.cell_core_values.specs.Words.{words_of}
 use Rattle.cell_calc_language.specs.declared.assignment.Assignment.{Assignment}
 
--- what stands after the first word of a text that begins with it
+-- the rest of a text that begins with a word, after that word
 abbrev pub text_after_command : List ℕ → List ℕ
 text_after_command [] = []
 text_after_command (b ∷ bs) = if is_blank b then b ∷ bs else text_after_command bs
 
--- what stands after the command of a line
+-- the text after the command of a line
 abbrev pub after_command : List ℕ → List ℕ
 after_command line = text_after_command (after_blanks line)
 

@@ -1,4 +1,4 @@
--- The faults of options, rules and combinations, as those of a script, and how a reading of a script tells them.
+-- The errors of options, rules and combinations as errors of a script, and how a reading of a script reports them.
 use Rattle.std.specs.Prelude.{◌≢◌, Result, Ok, Err}
 use Rattle.cell_cats.specs.declared.rules.RuleFault.{RuleFault}
 use Rattle.cell_cats.specs.declared.rules.RuleFault.TheVariants as rule
@@ -10,7 +10,7 @@ use Rattle.rcell_script_commands.specs.declared.script_fault.ScriptKind.{ScriptK
 use Rattle.rcell_script_commands.specs.declared.script_fault.ScriptKind.TheVariants.{BadOption, MissingOption, UnknownMap, MapExists, BadName, Rule, Combo, Memory}
 use Rattle.rcell_script_commands.specs.declared.script_fault.ScriptFault.{ScriptFault}
 
--- each fault of options is one of a script
+-- each error of options as an error of a script
 abbrev pub kind_of : OptionFault → ScriptKind
 kind_of option.BadOption = BadOption
 kind_of option.MissingOption = MissingOption
@@ -19,27 +19,27 @@ kind_of option.MapExists = MapExists
 kind_of option.BadName = BadName
 kind_of option.Memory = Memory
 
--- what options give, or the fault of a script
+-- what options give, or the error of a script
 abbrev pub in_script : {A : Type 0} → Result A OptionFault → Result A ScriptKind
 in_script (Ok x) = Ok x
 in_script (Err fault) = Err (kind_of fault)
 
--- a fault of a combination
+-- an error of a combination
 abbrev pub of_combo : ComboFault → ScriptKind
 of_combo combo.Memory = Memory
 of_combo fault = Combo fault
 
--- a fault of a rule
+-- an error of a rule
 abbrev pub of_rule : RuleFault → ScriptKind
 of_rule rule.Memory = Memory
 of_rule fault = Rule fault
 
--- what is answered is a reading, and so is a fault of another kind than that memory was refused
+-- the result is a reading, unless memory ran out
 abbrev pub Reads : {A : Type 0} → (Result A ScriptKind → Type 0) → Result A ScriptKind → Type 0
 Reads IsReading (Ok x) = IsReading (Ok x)
 Reads IsReading (Err kind) = kind ≢ Memory → IsReading (Err kind)
 
--- the same of a fault at a line
+-- the same for an error at a line
 abbrev pub ReadsLine : {A : Type 0} → (Result A ScriptFault → Type 0) → Result A ScriptFault → Type 0
 ReadsLine IsReading (Ok x) = IsReading (Ok x)
 ReadsLine IsReading (Err fault) = fault.kind ≢ Memory → IsReading (Err fault)

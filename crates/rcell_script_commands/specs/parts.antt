@@ -1,5 +1,4 @@
--- What only private functions and proofs speak of.
--- What only conversions of faults, private functions and proofs speak of.
+-- What only private functions, conversions of errors and proofs cite.
 pub mod Keys
 pub mod Faults
 pub mod CalcFaults

@@ -20,15 +20,15 @@ pub struct StatsOptions {
     pub counts: bool,
     /// Whether there is a line for each cell (`-1`).
     pub cells: bool,
-    /// What stands between the fields of a line.
+    /// The byte between the fields of a line.
     pub separator: u8,
     /// What stands for null.
     pub null_text: TableNullText,
-    /// The combination after which the table goes on, of as many cells as there are maps.
+    /// The combination after which the table continues, with one cell a map.
     pub after: Option<Combo>,
 }
 
-/// What a statement asks for. A place is that of a map on the shelf before the statement.
+/// What a statement asks for. A place is the index of a map on the shelf before the statement.
 #[derive(Drop)]
 pub enum Command {
     /// `r.mapcalc`: a map of the values of an expression.

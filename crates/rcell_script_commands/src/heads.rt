@@ -22,7 +22,7 @@ use std::alloc::Global;
 /// The most bytes of a line.
 pub const MOST_LINE: usize = 65535;
 
-/// What a line is that stands outside the rules of r.reclass.
+/// What a line outside the rules of r.reclass is.
 #[derive(Drop)]
 pub enum Head {
     /// Blanks or a comment.
@@ -82,7 +82,7 @@ fn head_of_words(alloc: Global, known: &Names, words: &[&[u8]]) -> Result<Head, 
     head_named(alloc, known, *name, others)
 }
 
-// Whether the first word is that of an r.mapcalc.
+// Whether the first word is r.mapcalc.
 fn is_mapcalc(words: &[&[u8]]) -> bool
     ensures { result ≡ is_mapcalc (texts words.now) }
 {
@@ -92,12 +92,12 @@ fn is_mapcalc(words: &[&[u8]]) -> bool
     }
 }
 
-/// What a line is that stands outside the rules of r.reclass, over known maps.
+/// What a line outside the rules of r.reclass is, over known maps.
 ///
 /// # Errors
 ///
-/// [`ScriptKind::LongLine`], then [`ScriptKind::UnknownCommand`], then the fault of the command;
-/// [`ScriptKind::Memory`] where memory was refused.
+/// [`ScriptKind::LongLine`], then [`ScriptKind::UnknownCommand`], then the error of the command;
+/// [`ScriptKind::Memory`] if memory runs out.
 pub fn head_of(alloc: Global, known: &Names, line: &[u8]) -> Result<Head, ScriptKind>
     ensures head { Reads (IsHead known.now line.now) result }
     ensures fits { IfOk result (FitsHead known.now) }

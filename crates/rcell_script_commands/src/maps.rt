@@ -13,7 +13,7 @@ use cell_core::name::{Name, Names};
 use std::alloc::Global;
 use std::marker::Model;
 
-/// Places of maps on a shelf, in order; a place may stand twice.
+/// Places of maps on a shelf, in order; a place may occur twice.
 #[derive(Drop)]
 pub struct Places {
     places: Vec<usize>,
@@ -105,8 +105,8 @@ fn is_torn(options: &Options) -> bool
 ///
 /// # Errors
 ///
-/// [`OptionFault::MissingOption`], then [`OptionFault::BadOption`] where flags do not go together, then
-/// [`OptionFault::UnknownMap`]; [`OptionFault::Memory`] where memory was refused.
+/// [`OptionFault::MissingOption`], then [`OptionFault::BadOption`] if flags do not go together, then
+/// [`OptionFault::UnknownMap`]; [`OptionFault::Memory`] if memory runs out.
 pub fn input_places(alloc: Global, known: &Names, options: &Options) -> Result<Places, OptionFault>
     ensures places { GivesOption result (input_places known.now options.now) }
     ensures within { IfOk result (λ places. All (λ place. place < length known.now) places) }

@@ -90,8 +90,7 @@ impl NullText {
     ///
     /// # Errors
     ///
-    /// [`OptionFault::BadOption`] exactly where it spells none, else [`OptionFault::Memory`] where
-    /// memory for a copy was refused.
+    /// [`OptionFault::BadOption`] exactly if it spells none; [`OptionFault::Memory`] if memory runs out.
     pub(crate) fn read(alloc: Global, value: &[u8]) -> Result<NullText, OptionFault>
         ensures { GivesOption result (null_text_of value.now) }
     {
@@ -102,11 +101,11 @@ impl NullText {
         Ok(NullText { bytes })
     }
 
-    /// An asterisk, which stands for null where no other text is given.
+    /// The null text if none is given: an asterisk.
     ///
     /// # Errors
     ///
-    /// [`Memory`] where memory for it was refused.
+    /// [`Memory`] if memory runs out.
     pub(crate) fn usual(alloc: Global) -> Result<NullText, Memory>
         ensures { IfOk result (λ text. text ≡ usual_null) }
     {
@@ -128,8 +127,7 @@ impl TableNullText {
     ///
     /// # Errors
     ///
-    /// [`OptionFault::BadOption`] exactly where it spells none, else [`OptionFault::Memory`] where
-    /// memory for a copy was refused.
+    /// [`OptionFault::BadOption`] exactly if it spells none; [`OptionFault::Memory`] if memory runs out.
     pub(crate) fn read(alloc: Global, value: &[u8]) -> Result<TableNullText, OptionFault>
         ensures { GivesOption result (table_null_text_of value.now) }
     {
@@ -140,11 +138,11 @@ impl TableNullText {
         Ok(TableNullText { bytes })
     }
 
-    /// An asterisk, which stands for null where no other text is given.
+    /// The null text if none is given: an asterisk.
     ///
     /// # Errors
     ///
-    /// [`Memory`] where memory for it was refused.
+    /// [`Memory`] if memory runs out.
     pub(crate) fn usual(alloc: Global) -> Result<TableNullText, Memory>
         ensures { IfOk result (λ text. text ≡ usual_null) }
     {

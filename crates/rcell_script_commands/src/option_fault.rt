@@ -18,7 +18,7 @@ pub enum OptionFault {
     MapExists,
     /// An input or output that is no name.
     BadName,
-    /// Memory was refused.
+    /// Memory ran out.
     Memory,
 }
 

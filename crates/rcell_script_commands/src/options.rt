@@ -327,11 +327,11 @@ impl Options {
         }
     }
 
-    /// What stands for null in a grid text, an asterisk where nothing was given.
+    /// The null text of a grid text, an asterisk if none was given.
     ///
     /// # Errors
     ///
-    /// [`Memory`] where memory for the asterisk was refused.
+    /// [`Memory`] if memory for the asterisk runs out.
     pub fn into_null_text(self, alloc: Global) -> Result<NullText, Memory>
         ensures { IfOk result (λ text. text ≡ unwrap_or self.null_text usual_null) }
     {
@@ -342,11 +342,11 @@ impl Options {
         }
     }
 
-    /// What stands for null in a table, an asterisk where nothing was given.
+    /// The null text of a table, an asterisk if none was given.
     ///
     /// # Errors
     ///
-    /// [`Memory`] where memory for the asterisk was refused.
+    /// [`Memory`] if memory for the asterisk runs out.
     pub fn into_table_null_text(self, alloc: Global) -> Result<TableNullText, Memory>
         ensures { IfOk result (λ text. text ≡ unwrap_or self.table_null_text usual_null) }
     {
@@ -442,7 +442,7 @@ impl Options {
 ///
 /// # Errors
 ///
-/// The fault of the first word that has one, [`OptionFault::Memory`] where memory was refused.
+/// The error of the first word that has one; [`OptionFault::Memory`] if memory runs out.
 pub fn options_of(alloc: Global, form: Form, words: &[&[u8]]) -> Result<Options, OptionFault>
     ensures { GivesOption result (options_of form (texts words.now)) }
 {

@@ -24,12 +24,12 @@ fn joining_of(corners: bool) -> Joining
     }
 }
 
-/// The areas that the words after r.clump ask for, over known maps.
+/// The clumps that the words after r.clump ask for, over known maps.
 ///
 /// # Errors
 ///
-/// The fault of the first word that has one, then [`OptionFault::MissingOption`], [`OptionFault::UnknownMap`] and
-/// [`OptionFault::MapExists`]; [`OptionFault::Memory`] where memory was refused.
+/// The error of the first word that has one, then [`OptionFault::MissingOption`], [`OptionFault::UnknownMap`] and
+/// [`OptionFault::MapExists`]; [`OptionFault::Memory`] if memory runs out.
 pub(crate) fn clump_of(
     alloc: Global,
     known: &Names,

@@ -31,7 +31,7 @@ fn after_word<'a>(text: &'a [u8]) -> &'a [u8]
     rest
 }
 
-// What stands after the command of a line.
+// The text after the command of a line.
 fn after_command<'a>(line: &'a [u8]) -> &'a [u8]
     ensures text { result.now ≡ after_command line.now }
     ensures shorter { length result.now ≤ length line.now }
@@ -68,8 +68,8 @@ fn mapcalc_with(alloc: Global, known: &Names, a: Assignment) -> Result<Head, Scr
 ///
 /// # Errors
 ///
-/// [`ScriptKind::Calc`] with the fault of the assignment, then of its first unknown map; columns count within the line.
-/// Then [`ScriptKind::MapExists`]; [`ScriptKind::Memory`] where memory was refused.
+/// [`ScriptKind::Calc`] with the error of the assignment, then of its first unknown map; columns count within the line.
+/// Then [`ScriptKind::MapExists`]; [`ScriptKind::Memory`] if memory runs out.
 #[tactic(auto, using(crate::proofs::MapcalcLemmas::assigned, crate::proofs::MapcalcLemmas::unassigned))]
 pub(crate) fn mapcalc_of(alloc: Global, known: &Names, line: &[u8]) -> Result<Head, ScriptKind>
     requires { length line.now ≤ 65535 }

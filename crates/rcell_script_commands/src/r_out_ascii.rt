@@ -16,8 +16,8 @@ use std::alloc::Global;
 ///
 /// # Errors
 ///
-/// The fault of the first word that has one, then [`OptionFault::MissingOption`] and [`OptionFault::UnknownMap`];
-/// [`OptionFault::Memory`] where memory was refused.
+/// The error of the first word that has one, then [`OptionFault::MissingOption`] and [`OptionFault::UnknownMap`];
+/// [`OptionFault::Memory`] if memory runs out.
 pub(crate) fn out_ascii_of(
     alloc: Global,
     known: &Names,

@@ -11,12 +11,12 @@ use crate::options::{Form, options_of};
 use cell_core::name::{Name, Names};
 use std::alloc::Global;
 
-/// The place of the map that the words after r.reclass name, over known maps, and the name of the one that is made.
+/// The place of the known map that the words after r.reclass name, and the name of the map to make.
 ///
 /// # Errors
 ///
-/// The fault of the first word that has one, then [`OptionFault::MissingOption`], [`OptionFault::UnknownMap`] and
-/// [`OptionFault::MapExists`]; [`OptionFault::Memory`] where memory was refused.
+/// The error of the first word that has one, then [`OptionFault::MissingOption`], [`OptionFault::UnknownMap`] and
+/// [`OptionFault::MapExists`]; [`OptionFault::Memory`] if memory runs out.
 pub(crate) fn reclass_of(
     alloc: Global,
     known: &Names,

@@ -31,7 +31,7 @@ fn skip_of(no_null: bool, no_all_null: bool) -> Skip
     }
 }
 
-// The combination after which a table goes on, where one is given.
+// The combination after which a table continues, if one is given.
 fn after_in_text(
     alloc: Global,
     width: usize,
@@ -74,8 +74,8 @@ fn printed_with(
 ///
 /// # Errors
 ///
-/// The fault of the first word that has one, then [`ScriptKind::MissingOption`], [`ScriptKind::BadOption`] where flags do
-/// not go together, [`ScriptKind::UnknownMap`] and [`ScriptKind::Combo`]; [`ScriptKind::Memory`] where memory was refused.
+/// The error of the first word that has one, then [`ScriptKind::MissingOption`], [`ScriptKind::BadOption`] if flags do not
+/// go together, [`ScriptKind::UnknownMap`] and [`ScriptKind::Combo`]; [`ScriptKind::Memory`] if memory runs out.
 #[tactic(auto, using(crate::proofs::FaultLemmas::reported))]
 pub(crate) fn stats_of(alloc: Global, known: &Names, words: &[&[u8]]) -> Result<Command, ScriptKind>
     ensures command { GivesScript result (stats_of known.now (texts words.now)) }

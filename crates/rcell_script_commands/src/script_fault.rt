@@ -44,7 +44,7 @@ pub enum ScriptKind {
     /// An input or output that is no name.
     #[error("bad name")]
     BadName,
-    /// Memory was refused.
+    /// Memory ran out.
     #[error("no memory")]
     Memory,
 }
@@ -135,7 +135,7 @@ fn text_of_combo(fault: ComboFault) -> &'static str {
     }
 }
 
-/// What is wrong, and the line, counted from 1; 0 where memory was refused.
+/// What is wrong, and the line, counted from 1; 0 if memory ran out.
 #[derive(Clone, Copy, Debug, PartialEq, Eq, Error)]
 #[error("{line}: {kind}")]
 pub struct ScriptFault {

@@ -43,7 +43,7 @@ enum Then<'a> {
     Turns([u8; 2]),
 }
 
-// Fills the bytes with two by turns, and tells whether the second is next.
+// Fills the bytes with two by turns, and returns whether the second is next.
 fn fill_by_turns(buf: &mut [u8], turns: [u8; 2], is_second: bool) -> bool
     ensures { length buf.new ≡ length buf.old }
 {
@@ -189,7 +189,7 @@ fn run_sources<'a, W: Sink>(
     Ok(run(alloc, script, grids, out))
 }
 
-// What a run over one grid, g, tells and puts out.
+// The outcome of a run over one grid, g, and its sink.
 fn ran<'a, R: AllocGlobal>(
     rt: &R,
     script: Unknown<'a>,
@@ -200,7 +200,7 @@ fn ran<'a, R: AllocGlobal>(
     Ok((outcome, out))
 }
 
-// The run is refused, and has put out nothing.
+// The run is rejected, and has written nothing.
 fn expect_refused<'a, R: Abort + AllocGlobal>(
     rt: &R,
     script: Unknown<'a>,
@@ -242,7 +242,7 @@ fn each_read_fails_in_turn(rt: HostRuntime) -> Result<(), Fail> {
     Ok(())
 }
 
-// A source that fails once would go on if it were asked again.
+// A source that fails once would continue if it were asked again.
 #[test]
 fn each_read_fails_once(rt: HostRuntime) -> Result<(), Fail> {
     let mut line = 1u64;
@@ -435,7 +435,7 @@ const BAD_CELL: &[(&[u8], &[u8])] = &[(
     b"north: 1\nsouth: 0\neast: 1\nwest: 0\nrows: 1\ncols: 1\nx\n",
 )];
 
-// A run that is refused with a status.
+// A run that is rejected with a status.
 #[derive(Clone, Copy)]
 struct Refusal<'a> {
     grids: &'a [(&'a [u8], &'a [u8])],
@@ -471,7 +471,7 @@ impl<'a> Refusal<'a> {
     }
 }
 
-// The run is refused with a status, and its sink is not called, whether or not its flush would fail.
+// The run is rejected with a status, and its sink is not called, whether or not its flush would fail.
 fn expect_no_call<'a, R: Abort + AllocGlobal>(rt: &R, refusal: Refusal<'a>) -> Result<(), Fail> {
     for flush_fails in [false, true] {
         let mut out = Counting::new(200, flush_fails);
@@ -510,7 +510,7 @@ fn counted<R: AllocGlobal>(rt: &R, flush_fails: bool) -> Result<(Outcome, Flushe
     Ok((outcome, out.flushes))
 }
 
-// How many bytes are out where memory is refused at a line of the script.
+// How many bytes are written if memory runs out at a line of the script.
 fn written_before(line: u64) -> u64 {
     if line < 2 {
         0
@@ -521,8 +521,8 @@ fn written_before(line: u64) -> u64 {
     }
 }
 
-// What a run tells that is out of memory, and how often it is flushed: once in a statement, as one that is done, and not
-// before.
+// A run out of memory reports the bytes of the statements before. It is flushed once if it ran out in a statement, like a
+// finished run, and never if it ran out before.
 fn expect_out_of_memory<R: Abort>(rt: &R, outcome: Outcome, flushes: Flushes) {
     let line = match outcome.fault {
         Some(RunFault::Memory { line }) => line,

@@ -1,4 +1,4 @@
-//! Which fault of a script is reported, and where.
+//! Which error of a script is reported, and where.
 
 use crate::assertions::assert_same;
 use cell_calc_language::calc_fault::{CalcFault, CalcKind};
@@ -18,7 +18,7 @@ pub(crate) fn one_grid(alloc: Global) -> Result<Names, Fail> {
     Ok(known)
 }
 
-// Scripts, and the kind and the line of the first fault of each.
+// Scripts, and the kind and the line of the first error of each.
 const FAULTS: [(&str, ScriptKind, u64); 31] = [
     (
         "r.stats -c input=g\n# note\nr.clump input=h output=c",
@@ -115,7 +115,7 @@ fn reports_the_first_fault(rt: HostRuntime) -> Result<(), Fail> {
     Ok(())
 }
 
-// Scripts of an assignment, and the kind and the column of the fault of its expression.
+// Scripts of an assignment, and the kind and the column of the error of its expression.
 const EXPRESSIONS: [(&str, CalcKind, u32); 6] = [
     ("r.mapcalc x = 2147483648", CalcKind::BadNumber, 15),
     ("r.mapcalc x = h", CalcKind::UnknownMap, 15),
@@ -125,7 +125,7 @@ const EXPRESSIONS: [(&str, CalcKind, u32); 6] = [
     ("r.mapcalc x = 1 + ", CalcKind::Expected, 19),
 ];
 
-// Scripts of assignments, and the kind and the line of the fault of each.
+// Scripts of assignments, and the kind and the line of the error of each.
 const ASSIGNMENTS: [(&str, ScriptKind, u64); 3] = [
     ("r.mapcalc x = 1\nr.mapcalc x = 2", ScriptKind::MapExists, 2),
     ("r.mapcalc g = g", ScriptKind::MapExists, 1),

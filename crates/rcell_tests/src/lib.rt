@@ -1,5 +1,4 @@
-//! Tests of scripts.
-//! Tests of whole runs over memory, and of fault lines.
+//! Tests of scripts, of full runs over memory, and of error lines.
 #![tactic(auto)]
 
 #[cfg(test)]

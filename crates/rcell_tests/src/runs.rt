@@ -1,4 +1,4 @@
-//! Whole runs over memory: what is put out, how many bytes, the status and the fault.
+//! Full runs over memory: what is written, how many bytes, the status and the error.
 
 use crate::assertions::assert_same;
 use cell_ascii::grid_fault::{GridFault, GridKind};
@@ -88,7 +88,7 @@ fn expect_text<R: Abort + AllocGlobal>(
     expect_run(rt, grids, script, sink(rt.alloc(), 1000)?, wanted, text)
 }
 
-// A run is refused, and has put out nothing.
+// A run is rejected, and has written nothing.
 fn expect_refused<R: Abort + AllocGlobal>(
     rt: &R,
     grids: &[(&[u8], &[u8])],
@@ -241,7 +241,7 @@ fn refuses_grids_before_it_writes(rt: HostRuntime) -> Result<(), Fail> {
     Ok(())
 }
 
-// Scripts, and the kind and the line of the fault of each.
+// Scripts, and the kind and the line of the error of each.
 const BAD_SCRIPTS: [(&[u8], ScriptKind, u64); 7] = [
     (b"r.stats -c -1 input=g", ScriptKind::BadOption, 1),
     (b"r.stats -c\n", ScriptKind::MissingOption, 1),
@@ -281,7 +281,7 @@ fn reports_what_a_failing_device_took(rt: HostRuntime) -> Result<(), Fail> {
     expect_failed_write(&rt, script, unflushed, TABLE)
 }
 
-// What a run over one grid, g, tells, and how many bytes it puts out; the source of the script or the grid may fail at its end.
+// The outcome of a run over one grid, g, and how many bytes it writes. The sources may fail at their ends.
 fn run_one(
     alloc: Global,
     script: MemorySource,
@@ -337,7 +337,7 @@ fn two_thousand_maps(alloc: Global) -> Result<Vec<u8>, Fail> {
     Ok(script)
 }
 
-// There is no limit on the number of maps but that of the script's length.
+// Only the length of the script limits the number of maps.
 #[test]
 fn makes_two_thousand_maps(rt: HostRuntime) -> Result<(), Fail> {
     let mut script = two_thousand_maps(rt.alloc())?;

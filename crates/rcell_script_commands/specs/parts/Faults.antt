@@ -1,10 +1,10 @@
--- The faults of names, as those of options.
+-- The errors of names as errors of options.
 use Rattle.cell_core_values.specs.declared.name.NameFault.{NameFault}
 use Rattle.cell_core_values.specs.declared.name.NameFault.TheVariants as name
 use Rattle.rcell_script_commands.specs.declared.option_fault.OptionFault.{OptionFault}
 use Rattle.rcell_script_commands.specs.declared.option_fault.OptionFault.TheVariants.{BadName, Memory}
 
--- a fault of a name, as one of options
+-- an error of a name as an error of options
 abbrev pub of_name : NameFault → OptionFault
 of_name name.BadName = BadName
 of_name name.Memory = Memory

@@ -1,9 +1,9 @@
--- What a reader answers, beside what it is to read.
+-- What a reader returns, next to what it has to read.
 use Rattle.std.specs.Prelude.{Result}
 use Rattle.cell_core_values.specs.Answers.{Answers}
 use Rattle.rcell_script_commands.specs.declared.script_fault.ScriptKind.{ScriptKind}
 use Rattle.rcell_script_commands.specs.declared.script_fault.ScriptKind.TheVariants.{Memory}
 
--- the answer is what the reading gives, unless memory ran out
+-- the result is what the reading gives, unless memory ran out
 abbrev pub GivesScript : {A : Type 0} → Result A ScriptKind → Result A ScriptKind → Type 0
 GivesScript answer reading = Answers Memory (λ x. x) answer reading
