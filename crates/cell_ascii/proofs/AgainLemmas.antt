@@ -9,7 +9,7 @@ use Rattle.cell_ascii_meaning.specs.CellTexts.{cell_from, at_of}
 use Rattle.cell_ascii.specs.BufferedCells.{HoldsCell, HoldsCells, HoldsFront, ComesAgain}
 use Rattle.cell_ascii.proofs.BufferedRowLemmas.{HoldsCells-more}
 
--- lists that are alike in front are alike in each part of it
+-- lists with the same first items have the same part of these
 alike_part : (all i m : ℕ) (xs ys : List ℕ) → take all xs ≡ take all ys → i + m ≤ all → take m (drop i xs) ≡ take m (drop i ys)
 alike_part all i m xs ys e within =
     sym (drop-take i m xs)
@@ -42,7 +42,7 @@ joined-rest n m bs c within =
     (sym (append_assoc (drop n (take m bs)) (drop m bs) c.bytes)
     ∙ ap (λ (l : List ℕ). l ++ c.bytes) (sym (drop-append-le n (take m bs) (drop m bs) within) ∙ ap (drop n) (take-append-drop m bs)))
 
--- what the front holds is held
+-- a cell is held if the first bytes hold it
 pub front_holds : (h : HeaderValue) (bs : List ℕ) (v : CellValue) (n : ℕ) → n ≤ length bs → HoldsFront h bs v n → HoldsCell h bs v n
 front_holds h bs v n within front = λ line run room c.
     let m = n + 1 in

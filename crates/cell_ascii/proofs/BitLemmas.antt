@@ -157,7 +157,7 @@ module _ (bs : List ℕ) (buffered : 64 ≤ length bs) (at : ℕ) where
       let within : k < length (take 64 bs) = omega (arith, inside some, wide) in
       rw (lowest some) (inside some, next_blank (take 64 bs) at within)
 
-  -- and the others are those behind it
+  -- and the other bits are the blanks after it
   next_ends : 0 < ends → bit_and ends (ends - 1) ≡ mask_l (cleared_front (count_trailing_zeros 64 ends + 1) (blanks bs))
   next_ends some =
       let k = unset (cleared_front at (blanks bs)) in
@@ -218,7 +218,7 @@ mask-take (suc k) (m ∷ ms) =
 pub below : (bits n : ℕ) → n < 64 → count_ones (bit_and bits (1 * 2 ^ n % 18446744073709551616 - 1)) ≡ count_ones (bits % 2 ^ n)
 below bits n within = ap (λ (k : ℕ). count_ones (bit_and bits (k - 1))) (one_shl n 64 within) ∙ ap count_ones (and_mask bits n)
 
--- so many line feeds stand before a place
+-- so many line feeds come before a place
 pub feeds_before : (n : ℕ) (bs : List ℕ) → n ≤ 64 → count_ones (mask_l (feeds bs) % 2 ^ n) ≡ newlines (take n bs)
 feeds_before n bs few =
     ap count_ones (mask-take n (feeds bs) ∙ ap mask_l (take-map is_line_feed n (take 64 bs) ∙ ap (map is_line_feed) (take-take n 64 bs few)))

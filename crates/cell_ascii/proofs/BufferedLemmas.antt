@@ -26,7 +26,7 @@ no_space b e = by (is_space b) e
     by true e = cc
     by false e = refl
 
--- a word that ends, whatever stood in front
+-- a word that ends, whatever part of it was read before
 pub word_ahead : (line : ℕ) (front word : List ℕ) (e : ℕ) (bs : List ℕ) (f : Bool) → list_all is_word_byte word ≡ true → length front + length word ≤ 64 → is_space e ≡ true
     → word_from line front (record { bytes = word ++ e ∷ bs; fails = f }) ≡ Ok (front ++ word, record { bytes = e ∷ bs; fails = f })
 word_ahead line front [] e bs f w short space =
@@ -40,7 +40,7 @@ word_ahead line front (b ∷ word) e bs f w short space =
     ∙ word_ahead line (front ++ b ∷ []) word e bs f parts.1 longer space
     ∙ ap (λ (x : List ℕ). Ok (x, record { bytes = e ∷ bs; fails = f })) (append_assoc front (b ∷ []) word)
 
--- behind a space
+-- a word after a space
 reads_word : (h : HeaderValue) (a : ℕ) (word : List ℕ) (e : ℕ) (bs : List ℕ) (f : Bool) (v : CellValue)
     → list_all is_word_byte (a ∷ word) ≡ true → length word < 64 → is_space e ≡ true → cell_of_word h (a ∷ word) ≡ Ok v
     → (line run : ℕ) → run < 1048576
@@ -81,7 +81,7 @@ digits_number b bs e =
 cut_at : (xs : List ℕ) (i : ℕ) → i < length xs → xs ≡ take i xs ++ slice_index_or xs i 0 ∷ drop (i + 1) xs
 cut_at xs i l = let e : drop i xs ≡ slice_index_or xs i 0 ∷ drop (i + 1) xs = rw add-one (drop-cons xs i 0 l) in sym (take-append-drop i xs) ∙ ap (λ (ys : List ℕ). take i xs ++ ys) e
 
--- a word behind a space, up to a place
+-- a word after a space, up to a place
 holds_whole : (bs rest : List ℕ) (n : ℕ) → bs ≡ 32 ∷ rest → 0 < n → n ≤ 64 → n < length rest → list_all is_word_byte (take n rest) ≡ true → is_space (slice_index_or rest n 0) ≡ true
     → (h : HeaderValue) (v : CellValue) → cell_of_word h (buffered_word bs (n + 1)) ≡ Ok v → HoldsCell h bs v (n + 1)
 holds_whole bs [] n e some most l word space = absurd (omega arith)
@@ -98,7 +98,7 @@ holds_whole bs (a ∷ rest) (suc n) e some most l word space = λ h v cell line 
     let same : cell_of_word h (a ∷ take n rest) ≡ Ok v = rw (e, minus) at cell in
     rw (e, count, whole, left) (reads_word h a (take n rest) byte more c.fails v word short space same line run room)
 
--- the same, whatever stands behind the byte that ends it
+-- the same, whatever comes after the byte that ends it
 pub holds_word : (bs rest : List ℕ) (n : ℕ) → bs ≡ 32 ∷ rest → 0 < n → n ≤ 64 → n < length rest → list_all is_word_byte (take n rest) ≡ true → is_space (slice_index_or rest n 0) ≡ true → HoldsWord bs (n + 1)
 holds_word bs rest n e some most l word space = λ h v cell.
     let front = take (n + 1) rest in
@@ -114,11 +114,11 @@ holds_word bs rest n e some most l word space = λ h v cell.
     let same : buffered_word (take (n + 1 + 1) bs) (n + 1) ≡ buffered_word bs (n + 1) = ap after cut ∙ ap (λ (k : ℕ). take k front) minus ∙ same_word ∙ sym (ap (λ (k : ℕ). take k rest) minus) ∙ sym (ap after e) in
     holds_whole (take (n + 1 + 1) bs) front n cut some most within (ap (list_all is_word_byte) same_word ∙ word) (ap is_space same_byte ∙ space) h v (ap (cell_of_word h) same ∙ cell)
 
--- digits behind a space
+-- digits after a space
 pub holds_positive : (bs rest : List ℕ) (value n : ℕ) → bs ≡ 32 ∷ rest → IsNumeral rest value n → HoldsWord bs (n + 1)
 holds_positive bs rest value n e is = holds_word bs rest n e is.some (omega (arith, is.few)) is.within (digits_word (take n rest) is.digits) is.ends
 
--- digits behind a space and a minus
+-- digits after a space and a minus
 pub holds_negative : (bs rest : List ℕ) (value n : ℕ) → bs ≡ 32 ∷ 45 ∷ rest → IsNumeral rest value n → HoldsWord bs (n + 2)
 holds_negative bs rest value n e is =
     let next : n + 1 ≡ suc n = omega arith in
@@ -141,7 +141,7 @@ positive bs (b ∷ rest) value (suc n) e is =
     let count : suc n + 1 - 1 ≡ suc n = omega arith in
     rw (e, count) (digits_number b (take n rest) is.digits ∙ ap (λ (m : ℕ). Some (pos m)) (sym is.sum))
 
--- and that of digits behind a minus
+-- and the number of digits after a minus
 pub negative : (bs rest : List ℕ) (value n : ℕ) → bs ≡ 32 ∷ 45 ∷ rest → IsNumeral rest value n → whole_number (buffered_word bs (n + 2)) ≡ Some (neg_ℤ (pos value))
 negative bs rest value n e is =
     let count : n + 2 - 1 ≡ suc n = omega arith in

@@ -68,7 +68,7 @@ module _ (i k : ℕ) (row part old : List CellValue) (within : i ≤ length row)
       ∙ ap (λ (l : List CellValue). length (take i row ++ l)) (append-nil part)
       ∙ omega (arith, length-append (take i row) part, length-front, size)
 
--- of a row whose front was lent, the cells behind those that were read stay
+-- if the start of a row was lent, the cells after those that were read stay
 pub lent_rest : (k end : ℕ) (part row : List CellValue) → k ≤ length (take end row) → length part ≡ length (take end row) → drop k part ≡ drop k (take end row)
     → drop k (part ++ drop end row) ≡ drop k row
 lent_rest k end part row few size rest =

@@ -76,7 +76,7 @@ number_faults line m (Some n) = by (is_in_range n) (is_in_range (n *ℤ m))
     by true false = tt
     by false high = tt
 
--- what is wrong with a word is a fault of the text
+-- what is wrong with a word is an error of the text
 pub cell_faults : (h : HeaderValue) (word : List ℕ) (line : ℕ) → IfErr (at_line line (cell_of_word h word)) (λ f. IsOfText f.kind)
 cell_faults h word line = by (bytes_eq word h.null_text)
   where
@@ -84,7 +84,7 @@ cell_faults h word line = by (bytes_eq word h.null_text)
     by true = tt
     by false = number_faults line h.multiplier (whole_number word)
 
--- what was read so far stands in front
+-- a reading after the items that were read so far
 abbrev pub with_front : {X : Type 0} → List X → Reading (List X) → Reading (List X)
 with_front front (Ok x) = Ok (front ++ x.0, x.1)
 with_front front (Err f) = Err f
@@ -138,6 +138,6 @@ module _ {X : Type 0} (one : At → Reading X) (F : Coming → Reading (List X))
       → option_map F a ≡ option_map (λ c. with_front (front ++ x ∷ []) (many one (n - (i + 1)) (there c))) d
   more_read x there e = next ∙ then_map (with_next one (n - (i + 1)) front) (λ c. one (here c)) (λ c. Ok (x, there c)) b d e
 
-  -- a fault comes next
+  -- an error comes next
   pub more_fails : (f : GridFault) → option_map (λ c. one (here c)) b ≡ option_map (λ c. Err f) d → option_map F a ≡ option_map (λ c. Err f) d
   more_fails f e = next ∙ then_map (with_next one (n - (i + 1)) front) (λ c. one (here c)) (λ c. Err f) b d e

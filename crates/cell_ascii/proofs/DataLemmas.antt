@@ -1,4 +1,4 @@
--- The whole data, from its rows and its end, and the whole text, from its header and its data.
+-- The data, from its rows and its end, and the text, from its header and its data.
 use Rattle.std.proofs.Common.{◌≡◌, ℕ, ℤ, ◌-◌, ◌<◌, List, Option, Some, None, Result, Ok, Err, Bool, false, refl, ap, sym, subst, ◌∙◌}
 use Rattle.std.specs.Option.{option_map, IfSome}
 use Rattle.cell_core_devices.specs.Device.{Coming}
@@ -43,7 +43,7 @@ module _ (h : HeaderValue) (here : Coming → At) where
   pub data_fails : (a : Option Coming) (f : GridFault) → IfSome a (λ c. rows_from h (here c) ≡ Err f) → IfSome a (λ c. data_from h (here c) ≡ Err f)
   data_fails a f e = implied (λ c. rows_from h (here c) ≡ Err f) (λ c. data_from h (here c) ≡ Err f) a (λ c o. ap then_end o) e
 
-  -- all rows were read, and the end answers
+  -- all rows were read, and the end gives its result
   pub data_ends : (there : Coming → At) (a b : Option Coming) (all : List (List CellValue)) (end : Result (Unit {0}) GridFault) (v : Result (List (List CellValue)) GridFault)
       → 0 < h.region.cols → 0 < h.region.rows → IfSome a (λ c. IsPlaceOf (here c)) → option_map (λ c. rows_from h (here c)) a ≡ option_map (λ d. Ok (all, there d)) b
       → IfSome b (λ d. fault_of_reading end ≡ end_fault (there d)) → (end >>= (λ _. Ok all)) ≡ v → IfSome a (λ c. data_from h (here c) ≡ v)
@@ -93,17 +93,17 @@ module _ (p s : ReaderValue) (a : Option Coming) (opened : option_map header_of_
   pub whole_read : IfSome s.coming (λ d. fault_of_reading {X = Unit {0}} (Ok tt) ≡ end_fault (reader_place s d)) → IfSome a (λ c. grid_of c ≡ Ok m)
   whole_read reported = text_map p a p.coming opened m (is.region, is.labels) (ends (Ok tt) (Ok m.rows) reported refl)
 
-  -- behind the rows a fault
+  -- an error after the rows
   pub end_fails : (f : GridFault) → IfSome s.coming (λ d. fault_of_reading {X = Unit {0}} (Err f) ≡ end_fault (reader_place s d)) → IfSome a (λ c. grid_of c ≡ Err f)
   end_fails f reported = text_fails p a p.coming opened f (ends (Err f) (Err f) reported refl)
 
--- a fault of the header is the text's
+-- an error of the header is an error of the text
 header_faults : (a : Option Coming) (f : GridFault) → IfSome a (λ c. header_of_text c ≡ Err f) → IfSome a (λ c. grid_of c ≡ Err f)
 unfolding grid_of
 header_faults None f h = tt
 header_faults (Some x) f h = rw h refl
 
--- a fault that the opening tells is the text's
+-- an error that the opening reports is the error of the text
 pub opening_fails : (a : Option Coming) (f : GridFault) → IfSome a (λ c. opening_fault c ≡ Some f) → IfSome a (λ c. grid_of c ≡ Err f)
 opening_fails a f reported = header_faults a f (implied (λ c. opening_fault c ≡ Some f) (λ c. header_of_text c ≡ Err f) a (λ c. (opening_agrees c f).1) reported)
 
@@ -114,12 +114,12 @@ pub open_fails : (keys : KeyValues) (word : List ℕ) (line : ℕ) (waiting : Bo
 open_fails keys word line waiting a b f e bad =
     known (header_from 10 no_keys 1 0) (header_seen (Ok waiting) keys word line) a b (Err f) e (λ c. rw (← bad) refl)
 
--- where each of the six keys stood, the header is judged by their region
+-- if each of the six keys was given, the header is judged by their region
 all_given : (k : KeyValues) (north south east west : ℤ) (rows cols : ℕ) → k.north ≡ Some north → k.south ≡ Some south → k.east ≡ Some east → k.west ≡ Some west → k.rows ≡ Some rows → k.cols ≡ Some cols
     → header_of_keys k (region_fault (record { north = north; south = south; east = east; west = west; rows = rows; cols = cols })) ≡ header_of k
 all_given k north south east west rows cols n s e w r c = rw (n, s, e, w, r, c) refl
 
--- what holds of the faults of all keys together
+-- what holds of the errors of all keys together
 module _ (P : GridKind → Type 0) (missing : P MissingKey) (region : (f : RegionFault) → P (Region f))
     (k : KeyValues) where
   judged_has : (r : Result RegionValue RegionFault) (kind : GridKind) → header_of_keys k r ≡ Err kind → P kind
@@ -147,7 +147,7 @@ module _ (P : GridKind → Type 0) (missing : P MissingKey) (region : (f : Regio
       by (Ok h) is o = cc
       by (Err kind) is o = let p : kind ≡ f.kind = cc in subst P p (keys_have k.north k.south k.east k.west k.rows k.cols kind refl refl refl refl refl refl is)
 
--- keys that give no header are a fault of the text, and not of its source
+-- if the keys give no header, that is an error of the text, and not of its source
 pub header_kind : (k : KeyValues) (line : ℕ) (f : GridFault) → Err f ≡ at_line line (header_of k) → IsOfText f.kind
 header_kind = header_has IsOfText tt (λ f. tt)
 

@@ -129,7 +129,7 @@ bytes_masked a b c d f g i j A B C D F G I J =
     and_block 8 n1 0x0f_0f0f_0f0f_0f0f a 15 A (omega arith) in
     ap nibbles all ∙ h0 ∙ omega (arith, h1, h2, h3, h4, h5, h6)
 
--- a byte that counts: a digit, or a 0 in front of them
+-- a byte that counts: a digit, or a leading 0
 record Counts (x : ℕ) : Type 0 where
   byte : x < 256
   low : nibble x ≡ x - 48

@@ -8,7 +8,7 @@ use Rattle.cell_ascii_meaning.specs.declared.grid_fault.GridFault.{GridFault}
 use Rattle.cell_ascii_reading.proofs.MapLemmas.{then_map, map_same}
 
 module _ {X : Type 0} (one : At → Reading X) where
-  -- one more behind some
+  -- one more after some
   abbrev pub snoc : List X → X × At → Reading (List X)
   snoc xs x = Ok (xs ++ x.0 ∷ [], x.1)
 
@@ -52,7 +52,7 @@ module _ {X : Type 0} (one : At → Reading X) where
       let o : suc k + m ≡ suc (k + m) = omega arith in
       ap (λ (j : ℕ). many one j at) o ∙ many_snoc (k + m) at ∙ ap (λ (r : Reading (List X)). r >>= with_last) (still_fails k m at f e)
 
-  -- a fault behind some is that of all
+  -- an error after some is the error of all
   pub many_cut : (i n : ℕ) (at mid : At) (xs : List X) (f : GridFault) → i < n → many one i at ≡ Ok (xs, mid) → one mid ≡ Err f → many one n at ≡ Err f
   many_cut i n at mid xs f lower e o =
       let parts : n ≡ n - (i + 1) + (i + 1) = omega arith in

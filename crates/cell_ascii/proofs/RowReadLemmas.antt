@@ -38,12 +38,12 @@ row_cut h here mid (Some c) (Some m) (Some z) i f old row lower kept e o =
     let stop : cell_from h (mid m) ≡ Err f = cc in
     record { count = i; fewer = lower; rest = mid m; cells = cells; stop = stop; kept = kept }
 
--- the fault of the whole row
+-- the error of the row
 pub cut_fails : (h : HeaderValue) (at : At) (f : GridFault) (old row : List CellValue) → IsCutRow h at f old row → many (cell_from h) (length old) at ≡ Err f
 cut_fails h at f old row cut = many_cut (cell_from h) cut.count (length old) at cut.rest (take cut.count row) f cut.fewer cut.cells cut.stop
 
 module _ (h : HeaderValue) (here : Coming → At) (Q : Coming → Type 0) (a : Option Coming) (placed : IfSome a (λ c. IsPlaceOf (here c) × Q c)) where
-  -- a row that was read tells no fault
+  -- a row that was read reports no error
   pub row_reported : (n : ℕ) (there : Coming → At) (b : Option Coming) (row : List CellValue) → option_map (λ c. many (cell_from h) n (here c)) a ≡ option_map (λ d. Ok (row, there d)) b
       → IfSome a (λ c. None ≡ cells_fault h n (here c))
   row_reported n there b row e = by a b placed e
@@ -54,7 +54,7 @@ module _ (h : HeaderValue) (here : Coming → At) (Q : Coming → Type 0) (a : O
       by (Some c) None placed e = cc
       by (Some c) (Some d) placed e = let o : many (cell_from h) n (here c) ≡ Ok (row, there d) = cc in sym (ap fault_in o) ∙ cells_reported h n (here c) placed.0
 
-  -- and one that was cut off its fault
+  -- and one that was cut off reports its error
   pub cut_reported : (f : GridFault) (old row : List CellValue) → IfSome a (λ c. IsCutRow h (here c) f old row) → IfSome a (λ c. Some f ≡ cells_fault h (length old) (here c))
   cut_reported f old row cut = by a placed cut
     where
@@ -62,7 +62,7 @@ module _ (h : HeaderValue) (here : Coming → At) (Q : Coming → Type 0) (a : O
       by None placed cut = tt
       by (Some c) placed cut = sym (ap fault_in (cut_fails h (here c) f old row cut)) ∙ cells_reported h (length old) (here c) placed.0
 
-  -- behind a row is a place where no token waits
+  -- after a row is a place where no token waits
   pub row_placed : (n left : ℕ) (there : Coming → At) (b : Option Coming) (row : List CellValue) → 0 < n → option_map (λ c. many (cell_from h) n (here c)) a ≡ option_map (λ d. Ok (row, there d)) b
       → IfSome b (λ d. IsPlaceOf (there d) × (left ≡ 0 → (there d).pending ≡ None))
   row_placed n left there b row some e = by a b placed e
@@ -89,7 +89,7 @@ same_fault : {X : Type 0} (r : Result X GridFault) → fault_of_reading r ≡ fa
 same_fault (Ok x) = refl
 same_fault (Err f) = refl
 
--- what the end answers is what it tells
+-- the result of the end is what the end reports
 pub end_answers : (here : Coming → At) (left : ℕ) (a b : Option Coming) (r : Result (Unit {0}) GridFault) → left ≡ 0
     → IfSome a (λ c. IsPlaceOf (here c) × (left ≡ 0 → (here c).pending ≡ None))
     → option_map (λ c. end_of (grid_start (here c).line (here c).run (here c).coming)) a ≡ option_map (always r) b → IfSome a (λ c. fault_of_reading r ≡ end_fault (here c))
@@ -99,7 +99,7 @@ end_answers here left (Some c) (Some d) r none placed e =
     let o : end_of (grid_start (here c).line (here c).run (here c).coming) ≡ r = cc in
     same_fault r ∙ sym (ap fault_in o) ∙ end_reported (here c) (placed.1 none) placed.0.low
 
--- and what it tells is what it answers
+-- and what the end reports is its result
 pub end_is : (at : At) (r : Result (Unit {0}) GridFault) → IsPlaceOf at → at.pending ≡ None → fault_of_reading r ≡ end_fault at → end_of (grid_start at.line at.run at.coming) ≡ r
 end_is at r is none reported = by (end_of (grid_start at.line at.run at.coming)) r (end_reported at none is.low ∙ sym reported ∙ same_fault r)
   where
@@ -110,7 +110,7 @@ end_is at r is none reported = by (end_of (grid_start at.line at.run at.coming))
     by (Err f) (Err g) e = cc
 
 module _ (h : HeaderValue) (cols : ℕ) (some : 0 < cols) where
-  -- behind rows is a place, and no token waits behind the last
+  -- after rows is a place, and no token waits after the last row
   pub rows_kept : (n : ℕ) (at : At) (x : List (List CellValue) × At) → IsPlaceOf at → many (many (cell_from h) cols) n at ≡ Ok x → IsPlaceOf x.1 × (0 < n → x.1.pending ≡ None)
   rows_kept zero at x is e = (let p : at ≡ x.1 = cc in subst IsPlaceOf p is, λ none. absurd (omega arith))
   rows_kept (suc n) at x is e = by (many (many (cell_from h) cols) n at) (rows_kept n at) (sym (many_snoc (many (cell_from h) cols) n at) ∙ e)
@@ -131,6 +131,6 @@ module _ (h : HeaderValue) (cols : ℕ) (some : 0 < cols) where
 pub lines_fit : (line rows cols : ℕ) → line < 2 ^ 62 → rows ≤ 65535 → cols ≤ 65535 → line + (rows * cols + 1) * 1048577 < 2 ^ 63
 lines_fit line rows cols low high wide = let most : rows * cols ≤ 65535 * 65535 = mul-le-mul high wide in omega arith
 
--- and those behind a row
+-- and so do the lines after a row
 pub rows_fit : (line more rows left cols : ℕ) → left + 1 ≡ rows → more ≤ line + cols * 1048577 → line + (rows * cols + 1) * 1048577 < 2 ^ 63 → more + (left * cols + 1) * 1048577 < 2 ^ 63
 rows_fit line more rows left cols one low fits = let e : rows * cols ≡ left * cols + cols = (let o : rows ≡ left + 1 = omega arith in rw o (omega arith)) in omega arith

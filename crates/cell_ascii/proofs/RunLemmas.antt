@@ -1,4 +1,4 @@
--- Blanks one behind another as bits, and one added to the lowest of them.
+-- A run of blanks as bits, and one added to the lowest of them.
 use Rattle.std.proofs.Common.{◌≡◌, ℕ, zero, suc, ◌+◌, ◌-◌, ◌*◌, ◌%◌, ◌^◌, ◌<◌, ◌≤◌, cond, Bool, true, false}
 use Rattle.std.proofs.Common.{List, [], ◌∷◌, map, length, take, drop, get_or, length-take, length-drop}
 use Rattle.std.proofs.Common.{refl, ap, ap₂, sym, ◌∙◌, arith}
@@ -56,7 +56,7 @@ front-length zero (false ∷ ms) le = ap suc (ap length (take_all (length ms) ms
 front-length (suc n) [] le = absurd (omega arith)
 front-length (suc n) (m ∷ ms) le = ap suc (front-length n ms (omega arith))
 
--- its lowest is behind the run
+-- its lowest bit is after the run
 front-lowest : (at : ℕ) (ms : List Bool) → at ≤ length ms → unset (front at ms) ≡ at + run (drop at ms)
 front-lowest zero [] le = refl
 front-lowest zero (true ∷ ms) le = omega (arith, front-lowest zero ms (omega arith))
@@ -74,7 +74,7 @@ next-bit a b c m n r low high =
     two true = omega arith
     two false = omega arith
 
--- the lanes behind the run stay
+-- the lanes after the run stay
 front-others : (at : ℕ) (ms : List Bool) → at ≤ length ms
     → bit_and (mask_l (cleared_front at ms)) (mask_l (front at ms)) ≡ mask_l (cleared_front (at + run (drop at ms)) ms)
 front-others zero [] le = and_self 0
@@ -123,7 +123,7 @@ all-blanks (x ∷ xs) = by (is_space x) refl (all-blanks xs)
         ap (λ (n : ℕ). list_all is_space (take n (x ∷ xs))) one ∙ rw (e, is) refl
     by false e is = refl
 
--- from a blank to behind the last of those that follow it
+-- from a blank to the place after the last blank that follows it
 pub behind-blanks : (bs : List ℕ) (ends at bit : ℕ) → at < 64 → bit ≡ 2 ^ at → IsAtBlank bs ends at
     → IsBehindBlanks bs at (count_trailing_zeros 64 ((ends + bit) % 2 ^ 64), bit_and ends ((ends + bit) % 2 ^ 64))
 behind-blanks bs ends at bit few power is =

@@ -41,7 +41,7 @@ gap_passed line run (b ∷ gap) rest f blank room =
     ∙ gap_passed (line + cond (b == 10) 1 0) (run + 1) gap rest f parts.1 more
     ∙ ap₂ (λ (l : ℕ) (r : ℕ). grid_start l r (record { bytes = rest; fails = f })) lines count
 
--- a word behind them
+-- a word after them
 reads_next : (h : HeaderValue) (gap word : List ℕ) (e : ℕ) (bs : List ℕ) (f : Bool) (v : CellValue)
     → list_all is_space gap ≡ true → length gap ≤ 64 → 0 < length word → length word ≤ 64 → list_all is_word_byte word ≡ true → is_space e ≡ true → cell_of_word h word ≡ Ok v
     → (line : ℕ) → cell_from h (at_of line 0 (record { bytes = gap ++ (word ++ e ∷ bs); fails = f })) ≡ Ok (v, at_of (line + newlines gap) 0 (record { bytes = e ∷ bs; fails = f }))
@@ -117,7 +117,7 @@ module _ (h : HeaderValue) (bs : List ℕ) where
       let same : line ≡ line + 0 = omega arith in
       buffered line 0 low c ∙ ap₂ (λ (l : ℕ) (r : ℕ). Ok (cells, at_of l r (before_coming (drop n bs) c))) same (run-none count)
 
--- no line feed stands in a word
+-- a word has no line feed
 word_feeds : (word : List ℕ) → list_all is_word_byte word ≡ true → newlines word ≡ 0
 word_feeds [] w = refl
 word_feeds (b ∷ word) w =
@@ -137,7 +137,7 @@ list-all-append : (xs ys : List ℕ) → list_all is_space xs ≡ true → list_
 list-all-append [] ys e f = f
 list-all-append (x ∷ xs) ys e f = let parts = both (is_space x) (list_all is_space xs) e in rw (parts.0, list-all-append xs ys parts.1 f) refl
 
--- a gap, and the blanks behind it
+-- a gap, and the blanks after it
 pub gap-more : (bs : List ℕ) (last at behind : ℕ) → last ≤ at → at ≤ behind
     → list_all is_space (take (at - last) (drop last bs)) ≡ true → list_all is_space (take (behind - at) (drop at bs)) ≡ true
     → list_all is_space (take (behind - last) (drop last bs)) ≡ true
@@ -201,7 +201,7 @@ newlines-few (b ∷ bs) (suc n) = omega (arith, at_most (b == 10), newlines-appe
     at_most true = omega arith
     at_most false = omega arith
 
--- cells that were read into the lent front of a row
+-- cells that were read into the lent start of a row
 pub lent_cells : (h : HeaderValue) (bs : List ℕ) (end : ℕ) (part row : List CellValue) (read : ℕ × ℕ × ℕ)
     → length part ≡ length (take end row) → AreCellsRead h bs (take end row) part read
     → AreCellsRead h bs row (part ++ drop end row) read

@@ -9,7 +9,7 @@ use Rattle.cell_ascii_meaning.specs.EdgeNumbers.{is_digit, value_of_digits}
 use Rattle.cell_ascii_meaning.specs.Header.{HeaderValue}
 use Rattle.cell_ascii_meaning.specs.CellTexts.{cell_from, cell_of_word, at_of, many}
 
--- whatever comes behind these bytes, the next cell is this one and takes the first n of them
+-- whatever comes after these bytes, the next cell is this one and takes the first n of them
 abbrev pub HoldsCell : HeaderValue → List ℕ → CellValue → ℕ → Type 0
 HoldsCell h bs v n = (line run : ℕ) → run < 1048576 → (c : Coming)
     → cell_from h (at_of line run (before_coming bs c)) ≡ Ok (v, at_of line 0 (before_coming (drop n bs) c))
@@ -23,7 +23,7 @@ abbrev pub run_after : ℕ → ℕ → ℕ
 run_after run zero = run
 run_after run (suc count) = 0
 
--- whatever comes behind these bytes, the next cells are these, so many of them, and take the first n bytes
+-- whatever comes after these bytes, the next cells are these, so many of them, and take the first n bytes
 abbrev pub HoldsCells : HeaderValue → List ℕ → List CellValue → ℕ → ℕ → Type 0
 HoldsCells h bs cells count n = (line run : ℕ) → run < 1048576 → (c : Coming)
     → many (cell_from h) count (at_of line run (before_coming bs c)) ≡ Ok (cells, at_of line (run_after run count) (before_coming (drop n bs) c))
@@ -45,6 +45,6 @@ pub record IsNumeral (bs : List ℕ) (value n : ℕ) : Type 0 where
   pub sum : value ≡ value_of_digits (take n bs)
   pub ends : is_space (slice_index_or bs n 0) ≡ true
 
--- the first n bytes and the one behind them come again so many times, each time where the n bytes before end
+-- the first n bytes and the byte after them come again so many times, each time n bytes later
 abbrev pub ComesAgain : List ℕ → ℕ → ℕ → Type 0
 ComesAgain bs n times = (i : ℕ) → i ≤ times → take (n + 1) (drop (i * n) bs) ≡ take (n + 1) bs

@@ -1,4 +1,4 @@
--- An open grid reader, and what its calls answer.
+-- An open grid reader, and what its calls return.
 use Rattle.std.specs.Prelude.{ℕ, ◌≡◌, ◌≢◌, ◌<◌, Bool, true, false, List, length, take, drop, Option, Some, None, Result, Ok, Err, IfErr, IfSome}
 use Rattle.std.specs.Option.{option_map}
 use Rattle.cell_core_devices.specs.Asking.{Heard}
@@ -12,9 +12,9 @@ use Rattle.cell_ascii_reading.specs.Scan.{FailsInText}
 use Rattle.cell_ascii_meaning.specs.declared.grid_fault.GridKind.TheVariants.{Memory, Failed}
 use Rattle.cell_ascii_meaning.specs.declared.grid_fault.GridFault.{GridFault}
 
--- what the header says, how many rows are still to come, a first token of the data that is not yet judged, the line,
--- the length of the run of blanks and line feeds, whether it has failed, the bytes to come where they are known, and what
--- was heard of the source
+-- the header, how many rows are still to come, a first token of the data that is not yet judged, the line, the length
+-- of the run of blanks and line feeds, whether the reader has failed, the bytes to come if they are known, and what was
+-- heard of the source
 pub record ReaderValue : Type 0 where
   pub header : HeaderValue
   pub rows_left : ℕ
@@ -33,30 +33,30 @@ reader_place r c = record { pending = r.pending; line = r.line; run = r.run; com
 abbrev pub opened_in : ReaderValue → Coming → OpenedText
 opened_in r c = record { header = r.header; at = reader_place r c }
 
--- a reader that read the header of a text, and nothing behind its first token
+-- a reader that has read the header of a text, and nothing after the first token of the data
 abbrev pub IsOpened : Option Coming → ReaderValue → Type 0
 IsOpened text r = option_map header_of_text text ≡ option_map (λ c. Ok (opened_in r c)) r.coming
 
--- the fault of a reading: out of memory is reported at line 0, and that an earlier call was refused never
+-- the error of a reading: running out of memory is reported at line 0, and `Failed` is not reported
 pub record IsOfReading (f : GridFault) : Type 0 where
   pub memory : f.kind ≡ Memory → f.line ≡ 0
   pub kinds : f.kind ≢ Failed
 
--- what is answered is what the reading gives, and a fault that of the reading, unless memory ran out
+-- a result is what the reading gives, and an error is the error of the reading, unless memory ran out
 abbrev pub AnswersGrid : {A : Type 0} → Result A GridFault → Result A GridFault → Type 0
 AnswersGrid (Ok x) reading = reading ≡ Ok x
 AnswersGrid (Err f) reading = f.kind ≢ Memory → reading ≡ Err f
 
--- the fault of an answer
+-- the error of a result
 abbrev pub fault_of_reading : {X : Type 0} → Result X GridFault → Option GridFault
 fault_of_reading (Ok x) = None
 fault_of_reading (Err f) = Some f
 
--- a reader that refused answers this from then on
+-- a reader that failed returns this error from then on
 abbrev pub reader_has_failed : GridFault
 reader_has_failed = grid_fault Failed 0
 
--- a row that was cut off: the cells that were read of it stand in front, and behind them what stood there
+-- a row that was cut off: it begins with the cells that were read, and its other cells are unchanged
 pub record IsCutRow (h : HeaderValue) (at : At) (f : GridFault) (old new : List CellValue) : Type 0 where
   pub count : ℕ
   pub fewer : count < length old
@@ -65,13 +65,13 @@ pub record IsCutRow (h : HeaderValue) (at : At) (f : GridFault) (old new : List 
   pub stop : cell_from h rest ≡ Err f
   pub kept : drop count new ≡ drop count old
 
--- a row whose old cells stand behind some front that is not the whole
+-- a row of which only some cells at the start have changed
 pub record IsChangedInFront (old new : List CellValue) : Type 0 where
   pub count : ℕ
   pub fewer : count < length old
   pub kept : drop count new ≡ drop count old
 
--- what the end of a text answers: its fault, and the same one from a first refusal on
+-- the result at the end of a text: its error, or `Failed` if the reader failed before
 pub record ReportsEnd (r : ReaderValue) (answer : Result (Unit {0}) GridFault) : Type 0 where
   pub failed : r.failed ≡ true → answer ≡ Err reader_has_failed
   pub reported : r.failed ≡ false → IfSome r.coming (λ c. fault_of_reading answer ≡ end_fault (reader_place r c))

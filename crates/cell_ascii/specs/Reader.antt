@@ -1,4 +1,4 @@
--- What a reader is at, and what its calls answer.
+-- The place of a reader, and what its calls return.
 use Rattle.std.specs.Prelude.{ℕ, ◌≡◌, ◌+◌, ◌*◌, ◌^◌, ◌<◌, Bool, false, List, [], Option, Some, None, Result, Ok, Err, IfSome, if◌then◌else◌}
 use Rattle.cell_core_devices.specs.Device.{Coming}
 use Rattle.cell_core.specs.Grid.{CellValue}
@@ -28,7 +28,7 @@ at_place p c = record { pending = p.pending; line = p.line; run = p.run; coming 
 abbrev pub opened_at : ReaderPlace → Coming → OpenedText
 opened_at p c = record { header = p.header; at = at_place p c }
 
--- the same of a scanner behind the header and the first word of the data, if there is one
+-- the same for a scanner after the header and the first word of the data, if there is one
 abbrev pub opened_by : HeaderValue × Bool → Scan → Coming → OpenedText
 opened_by (header, waiting) s c =
     record { header = header; at = record { pending = (if waiting then Some s.word else None); line = s.line; run = 0; coming = c } }
@@ -39,12 +39,12 @@ token_read (Begins line c) = word_from line [] c >>= (λ w. Ok (line, w))
 token_read (Ends line) = Err (grid_fault TooFew line)
 token_read (Stops f) = Err f
 
--- what an answer says of the next word, with its line
+-- what a result says of the next word, with its line
 abbrev pub token_seen : Result (Unit {0}) GridFault → ℕ → List ℕ → Coming → Result (ℕ × (List ℕ × Coming)) GridFault
 token_seen (Ok u) line word c = Ok (line, (word, c))
 token_seen (Err f) line word c = Err f
 
--- what an answer says of a reading
+-- what a result says of a reading
 abbrev pub reading_seen : {X : Type 0} → Result X GridFault → ReaderPlace → Coming → Reading X
 reading_seen (Ok x) p c = Ok (x, at_place p c)
 reading_seen (Err f) p c = Err f
@@ -58,7 +58,7 @@ abbrev pub reader_at : ReaderPlace → ℕ → Bool → ReaderValue
 reader_at p rows_left failed =
     record { header = p.header; rows_left = rows_left; pending = p.pending; line = p.line; run = p.run; failed = failed; coming = bytes_to_come p.ahead; heard = p.ahead.heard }
 
--- a place of the text, where no token waits behind the last row
+-- a place of the text, with no token waiting after the last row
 abbrev pub IsPlaced : ReaderValue → Type 0
 IsPlaced r = IfSome r.coming (λ c. IsPlaceOf (reader_place r c) × (r.rows_left ≡ 0 → r.pending ≡ None))
 

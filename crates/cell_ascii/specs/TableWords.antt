@@ -37,12 +37,13 @@ cleared_front zero ms = ms
 cleared_front (suc n) [] = []
 cleared_front (suc n) (m ∷ ms) = false ∷ cleared_front n ms
 
--- whatever comes behind these bytes, the next cells are these, so many of them, and take the first n bytes and so many lines
+-- whatever comes after these bytes, the next cells are these, so many of them, and take the first n bytes and so many lines
 abbrev pub HoldsLines : HeaderValue → List ℕ → List CellValue → ℕ → ℕ → ℕ → Type 0
 HoldsLines h bs cells count n lines = (line : ℕ) (c : Coming)
     → many (cell_from h) count (at_of line 0 (before_coming bs c)) ≡ Ok (cells, at_of (line + lines) 0 (before_coming (drop n bs) c))
 
--- the front of a row has the next cells of these bytes: so many, which take so many bytes and so many lines; the others stay
+-- a row begins with the next cells of these bytes: so many, which take so many bytes and so many lines; its other cells
+-- stay
 pub record AreCellsRead (h : HeaderValue) (bs : List ℕ) (old new : List CellValue) (read : ℕ × ℕ × ℕ) : Type 0 where
   pub cells : HoldsLines h bs (take read.0 new) read.0 read.1 read.2
   pub count : read.0 ≤ length old

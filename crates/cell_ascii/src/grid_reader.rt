@@ -43,7 +43,7 @@ const HAS_FAILED: GridFault = GridFault {
     line: 0,
 };
 
-// A grid text behind its header, read cell by cell.
+// A grid text after its header, read cell by cell.
 #[derive(Drop)]
 struct CellReader<R: Source> {
     scanner: Scanner<R>,
@@ -91,8 +91,7 @@ fn header_at(keys: HeaderKeys, line: u64) -> Result<Header, GridFault>
     keys.into_header().map_err(|kind| GridFault { kind, line })
 }
 
-// Reads the header of a text, of which nothing was read before, and the first word behind it. Answers what the header says, and
-// whether there was such a word.
+// Reads the header of an unread text and the first word after it. Returns the header, and whether there was such a word.
 fn read_opening<R: Source>(scanner: &mut Scanner<R>) -> Result<(Header, bool), GridFault>
     requires start { (scanner.old.line ≡ 1) × (scanner.old.run ≡ 0) }
     ensures opened { IfOk result (λ r. IsBehindHeader r scanner.old scanner.new) }
@@ -124,7 +123,7 @@ fn cell_here<R: Source>(header: &Header, scanner: &Scanner<R>) -> Result<Cell, G
 }
 
 impl<R: Source> CellReader<R> {
-    // Reads the header, and the first word behind it.
+    // Reads the header and the first word after it.
     fn open(alloc: Global, source: R) -> Result<CellReader<R>, GridFault>
     where
         R: Drop,
@@ -157,7 +156,7 @@ impl<R: Source> CellReader<R> {
         self.words.header().region()
     }
 
-    // Reads the cells whose bytes are held into the front of a row, and returns how many they are.
+    // Reads the cells whose bytes are held into the start of a row, and returns their number.
     #[tactic(auto, using(crate::proofs::WordLemmas::lines_buffered))]
     fn buffered_cells(&mut self, row: &mut [Cell]) -> usize
         requires room { self.old.line + length row.old * 64 < 2 ^ 64 }
@@ -253,10 +252,10 @@ fn read_row<R: Source>(cells: &mut CellReader<R>, row: &mut [Cell]) -> Result<()
 
 /// A grid text whose header was read, and whose cells are read row by row from the north.
 ///
-/// The contracts of its calls are about what it keeps, and the contract of [`read_map`] is about the full text. Both follow from
-/// one table of the places of errors.
+/// The contracts of its calls are about what it keeps, and the contract of [`read_map`] is about the full text. Both
+/// follow from one table of the places of errors.
 ///
-/// After a refusal it answers `Failed`, with line 0, from then on.
+/// After an error it returns `Failed`, with line 0, from then on.
 #[derive(Drop)]
 pub struct GridReader<R: Source> {
     cells: CellReader<R>,
@@ -281,7 +280,7 @@ impl<R: Source> GridReader<R> {
     ///
     /// # Errors
     ///
-    /// The first fault up to there with its line, or `Memory` with line 0 where memory is refused.
+    /// The first error up to there with its line, or `Memory` with line 0 if memory runs out.
     pub fn open(alloc: Global, source: R) -> Result<GridReader<R>, GridFault>
     where
         R: Drop,
@@ -291,7 +290,7 @@ impl<R: Source> GridReader<R> {
         ensures fault { IfErr result (λ f. f.kind ≢ GridKind.Memory
             → IfSome (R.coming source) (λ c. opening_fault c ≡ Some f)) }
         ensures kinds { IfErr result IsOfReading }
-        // The source is asked only while it goes on, and an `Err` of it is reported as Read: so far none was.
+        // A source is asked only while it continues, and its `Err` is reported as Read: so far it gave none.
         ensures heard { IfOk result (λ r. r.heard ≡ heard_first (R.asked source)) }
     {
         let cells = CellReader::open(alloc, source)?;
@@ -317,14 +316,13 @@ impl<R: Source> GridReader<R> {
         self.rows_left
     }
 
-    /// Reads the next row into a slice of as many cells as the region has columns, from west to
-    /// east. Answers whether one was left; else the slice is unchanged. Takes no memory.
+    /// Reads the next row into a slice of as many cells as the region has columns, from west to east. Returns whether a
+    /// row was left; else the slice is unchanged. Takes no memory.
     ///
     /// # Errors
     ///
-    /// The first fault up to the end of the row, with its line: the cells read before it stand in
-    /// the front of the slice, the others are unchanged. `Failed`, with line 0, where an earlier
-    /// call was refused: the slice is unchanged.
+    /// The first error up to the end of the row, with its line: the slice begins with the cells read before it, and its
+    /// other cells are unchanged. `Failed`, with line 0, if an earlier call failed: the slice is unchanged.
     pub fn next_row(&mut self, row: &mut [Cell]) -> Result<bool, GridFault>
         requires width { length row.old ≡ self.old.header.region.cols }
         ensures failed { self.old.failed ≡ true
@@ -350,7 +348,7 @@ impl<R: Source> GridReader<R> {
         ensures fails { self.new.failed ≡ (self.old.failed || is_err result) }
         ensures memory { IfErr result (λ f. f.kind ≢ GridKind.Memory) }
         ensures kinds { self.old.failed ≡ false → FailsInText result }
-        // The source is asked only while it goes on, and an `Err` of it is reported as Read.
+        // A source is asked only while it continues, and its `Err` is reported as Read.
         ensures heard { self.old.failed ≡ false
             → self.new.heard ≡ hears (reports_read result) self.old.heard }
     {
@@ -372,13 +370,11 @@ impl<R: Source> GridReader<R> {
         }
     }
 
-    /// Reads to the end of the text behind the last row: nothing but blanks and line feeds is
-    /// left. Takes no memory.
+    /// Reads to the end of the text after the last row: only blanks and line feeds may be left. Takes no memory.
     ///
     /// # Errors
     ///
-    /// The first fault from there on, with its line, or `Failed`, with line 0, where an earlier
-    /// call was refused.
+    /// The first error from there on, with its line, or `Failed`, with line 0, if an earlier call failed.
     pub fn finish(self) -> Result<(), GridFault>
     where
         R: Drop,
@@ -389,7 +385,7 @@ impl<R: Source> GridReader<R> {
         reader.end()
     }
 
-    // Reads to the end of the text behind the last row. It has failed from then on.
+    // Reads to the end of the text after the last row. The reader has failed from then on.
     fn end(&mut self) -> Result<(), GridFault>
         requires done { self.old.failed ≡ false → self.old.rows_left ≡ 0 }
         ensures end { ReportsEnd self.old result }
@@ -434,7 +430,7 @@ fn read_whole<R: Source>(alloc: Global, reader: &mut GridReader<R>) -> Result<Ce
     ensures reading { (text : Option Coming) → IsOpened text reader.old
         → IfSome text (λ c. AnswersGrid result (grid_of c)) }
     ensures kinds { IfErr result IsOfReading }
-    // The source is asked only while it goes on, and an `Err` of it is reported as Read.
+    // A source is asked only while it continues, and its `Err` is reported as Read.
     ensures heard { reader.new.heard ≡ hears (reports_read result) reader.old.heard }
 {
     let map = match read_rows(alloc, reader) {
@@ -451,7 +447,7 @@ fn read_whole<R: Source>(alloc: Global, reader: &mut GridReader<R>) -> Result<Ce
 ///
 /// # Errors
 ///
-/// The text's first fault with its line, or `Memory` with line 0 where memory is refused.
+/// The text's first error with its line, or `Memory` with line 0 if memory runs out.
 pub fn read_map<R: Source + Drop>(alloc: Global, source: R) -> Result<CellMap, GridFault>
     ensures map { IfOk result (λ m. IfSome (R.coming source) (λ c. Denotes c m)) }
     ensures fault { IfErr result (λ f. f.kind ≢ GridKind.Memory

@@ -29,10 +29,10 @@ const MOST_CREDIT: usize = 8;
 
 const COST_OF_A_WORD: usize = 2;
 
-// So many ways are tried where none finds a cell.
+// So many ways are tried if none finds a cell.
 const MOST_TRIES: usize = 3;
 
-// One to three digits and a byte that ends them, at the front of four bytes, and how many digits there are.
+// One to three digits, then a byte that ends them, at the start of four bytes, and how many digits there are.
 #[inline(always)]
 #[tactic(auto, using(crate::proofs::BufferedLemmas::short_one, crate::proofs::BufferedLemmas::short_two, crate::proofs::BufferedLemmas::short_three))]
 fn short_digits(a: u8, b: u8, c: u8, d: u8) -> Option<(u32, usize)>
@@ -79,15 +79,15 @@ fn more_digits(bytes: &[u8]) -> Option<(u32, usize)>
     None
 }
 
-// The number of digits behind a minus.
+// The number of digits after a minus.
 pub(crate) fn negative(value: u32) -> i64
     ensures { result ≡ neg_ℤ (pos value) }
 {
     -(value as i64)
 }
 
-// A space, a number of one to three digits and a byte that ends it, and how many bytes stand before that one. It looks at the
-// length once, so that there have to be as many bytes as the longest form takes.
+// A space, a number of one to three digits and a byte that ends it, and how many bytes come before that byte. The
+// length is compared once, so as many bytes are needed as the longest form has.
 #[inline(always)]
 fn short_number_in(buffered: &[u8]) -> Option<(i64, usize)>
     ensures word { IfSome result (λ r. HoldsWord buffered.now r.1) }
@@ -122,7 +122,7 @@ fn number_in(buffered: &[u8]) -> Option<(i64, usize)>
     Some((value as i64, n + 1))
 }
 
-// A space, a word and a byte that ends it, and how many bytes stand before that one.
+// A space, a word and a byte that ends it, and how many bytes come before that byte.
 fn word_in(buffered: &[u8]) -> Option<usize>
     ensures word { IfSome result (λ n. HoldsWord buffered.now n) }
     ensures within { IfSome result (λ n. (0 < n) × (n ≤ length buffered.now)) }
@@ -142,7 +142,7 @@ fn word_in(buffered: &[u8]) -> Option<usize>
     None
 }
 
-// The cell of the number that stands before the byte at place n, and that place.
+// The cell of the number that ends before place n, and that place.
 #[inline(always)]
 fn buffered_number_cell(
     buffered: &[u8],
@@ -162,7 +162,7 @@ fn buffered_number_cell(
     }
 }
 
-// The same as `buffered_cell`, where no short number stands.
+// The same as `buffered_cell`, if there is no short number.
 #[inline(never)]
 fn other_cell_in(buffered: &[u8], header: &Header) -> Option<(Cell, usize)>
     ensures cell { IfSome result (λ r. HoldsFront header.now buffered.now r.0 r.1) }
@@ -179,7 +179,7 @@ fn other_cell_in(buffered: &[u8], header: &Header) -> Option<(Cell, usize)>
 }
 
 // The cell of a space and a word that ends among the bytes held, and how many of them it takes.
-// None where another form stands, or a word that is no cell.
+// None for another form, or a word that is no cell.
 #[inline(always)]
 fn buffered_cell(buffered: &[u8], header: &Header) -> Option<(Cell, usize)>
     ensures cell { IfSome result (λ r. HoldsFront header.now buffered.now r.0 r.1) }
@@ -191,7 +191,7 @@ fn buffered_cell(buffered: &[u8], header: &Header) -> Option<(Cell, usize)>
     }
 }
 
-// How many bytes two slices have in common at their front, of the first 16.
+// How many of the first 16 bytes of two slices are equal, up to the first that differ.
 #[inline(always)]
 fn front_alike(a: &[u8], b: &[u8]) -> usize
     requires left { 16 ≤ length a.now }
@@ -209,7 +209,7 @@ fn front_alike(a: &[u8], b: &[u8]) -> usize
     }
 }
 
-// How many bytes from place n on are those that stand n places before them. Of the last bytes held it may leave out some.
+// How many bytes from place n on equal the bytes n places before them. It may leave out some of the last bytes held.
 #[inline(always)]
 fn bytes_again(buffered: &[u8], n: usize) -> usize
     requires { n ≤ length buffered.now }
@@ -244,7 +244,7 @@ fn quotient(a: usize, n: usize) -> usize
     }
 }
 
-// How often the first n bytes and the one behind them come again, as far as that is seen.
+// How often the first n bytes and the byte after them come again, as far as that is seen.
 #[inline(always)]
 fn times_again(buffered: &[u8], n: usize) -> usize
     requires some { 0 < n }
@@ -268,7 +268,7 @@ fn fill_cells(row: &mut [Cell], at: usize, count: usize, cell: Cell)
     row[at..at + count].fill(cell);
 }
 
-// What is left of the credit for repeated words behind a word that came so many times more.
+// What is left of the credit for repeated words after a word that came again so many times.
 #[inline(always)]
 fn next_credit(credit: usize, more: usize) -> usize {
     credit
@@ -349,10 +349,11 @@ fn cells_by(
     (found.0, found.1, 0)
 }
 
-/// The cells whose words are held one after another, apart by blanks and line feeds, up to the length of a row: they fill the
-/// front of the row. Returns how many they are, how many bytes they take, and how many of these are line feeds.
+/// The cells whose words are held one after another, apart by blanks and line feeds, up to the length of a row: they
+/// fill the start of the row. Returns how many they are, how many bytes they take, and how many of these are line
+/// feeds.
 ///
-/// Each way says the same of the cells, so nothing is proved of the pace.
+/// Each way gives the same cells, so nothing is proved of the pace.
 pub fn cells_in(
     buffered: &[u8],
     words: &mut WordTable,

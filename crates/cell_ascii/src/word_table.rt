@@ -87,7 +87,7 @@ fn next_bits(bits: u64) -> u64
     bits & (bits - 1)
 }
 
-// The place behind the blanks that stand from a place on, one behind another, and the bits of those behind that.
+// The place after a run of blanks that begins at a place, and the bits of the blanks after that.
 //
 // Bits for both ends of each word were faster for right-aligned columns, and slower for single blanks.
 #[inline(always)]
@@ -95,7 +95,7 @@ fn pass_blanks(ends: u64, at: usize) -> (usize, u64)
     requires { at < 64 }
     ensures { (bytes : List ℕ) → IsAtBlank bytes ends at → IsBehindBlanks bytes at result }
 {
-    // What is added carries through the bits of the blanks, and sets the one behind them.
+    // The sum carries through the bits of the run, and sets the bit after it.
     let carried = ends.wrapping_add(1 << at);
     (carried.trailing_zeros() as usize, ends & carried)
 }
@@ -121,7 +121,7 @@ fn word_place(key: u64) -> usize
     (key.wrapping_mul(0x9E37_79B9_7F4A_7C15) >> (64 - PLACE_BITS)) as usize
 }
 
-// How many of the first eight bytes are digits, one behind another. Where all are, it may be more.
+// How many digits the first eight bytes begin with. If all are digits, it may be more.
 #[inline(always)]
 fn digits_at(bytes: &[u8]) -> usize
     requires { 8 ≤ length bytes.now }
@@ -180,7 +180,7 @@ fn value_of(bytes: &[u8], size: usize) -> Option<u32>
     Some(digits_value(bytes, size) as u32)
 }
 
-// The number that a word of one to nine digits is, behind a minus or not.
+// The number that a word of one to nine digits is, with or without a minus.
 #[inline(always)]
 fn word_number(bytes: &[u8], size: usize) -> Option<i64>
     requires some { 0 < size }
@@ -193,7 +193,7 @@ fn word_number(bytes: &[u8], size: usize) -> Option<i64>
     Some(value_of(bytes, size)? as i64)
 }
 
-// The cell of the number that a word of one to nine digits is, behind a minus or not.
+// The cell of the number that a word of one to nine digits is, with or without a minus.
 #[inline(always)]
 fn number_cell(bytes: &[u8], size: usize, header: &Header) -> Option<Cell>
     requires some { 0 < size }
@@ -361,10 +361,10 @@ impl Model for WordTable {
     ghost invariant = { λ t. (length t.entries.items ≡ 4096) × All (IsEntry t.header) t.entries.items };
 }
 
-// The cells whose words are held one after another, apart by blanks and line feeds, up to the length of a row: they fill its
-// front. Returns how many they are, how many bytes they take, and how many of these are line feeds. It leaves the last bytes
-// held out, words of 64 bytes and more, and a word that is no cell with all behind it. Words that are not kept are counted as
-// missed.
+// The cells whose words are held one after another, apart by blanks and line feeds, up to the length of a row: they
+// fill the start of the row. Returns how many they are, how many bytes they take, and how many of these are line feeds.
+// It leaves out the last bytes held, words of 64 bytes and more, and a word that is no cell with all that follows.
+// Words that are not kept are counted as missed.
 #[inline(never)]
 fn table_cells_in<const SOUGHT: bool>(
     buffered: &[u8],
@@ -415,9 +415,10 @@ impl WordTable {
         &self.header
     }
 
-    /// The cells whose words are held one after another, apart by blanks and line feeds, up to the length of a row: they fill
-    /// its front. Returns how many they are, how many bytes they take, and how many of these are line feeds. Words that were
-    /// not read before, as far as is known, are counted as missed. Numbers are looked up only where SOUGHT says so.
+    /// The cells whose words are held one after another, apart by blanks and line feeds, up to the length of a row:
+    /// they fill the start of the row. Returns how many they are, how many bytes they take, and how many of these are
+    /// line feeds. Words that are not known from earlier are counted as missed. Numbers are looked up only if SOUGHT
+    /// says so.
     pub fn cells_in<const SOUGHT: bool>(
         &mut self,
         buffered: &[u8],

@@ -11,7 +11,7 @@ use Rattle.cell_ascii_meaning.specs.declared.grid_fault.GridFault.{GridFault}
 use Rattle.cell_ascii_meaning.proofs.TokenLemmas.{coming}
 use Rattle.cell_ascii_law.proofs.LexemeLemmas.{Lines, first_line, rest_lines, put, lex, before_word, next_word}
 
--- what was read, without the fault
+-- what was read, without the error
 abbrev pub accepted : {X : Type 0} → Result X GridFault → Option X
 accepted (Ok x) = Some x
 accepted (Err e) = None
@@ -43,7 +43,7 @@ bind_assoc (Err e) F G = refl
 abbrev pub Taking : Type 0 → Type 0
 Taking X = List (List ℕ) → Option (X × List (List ℕ))
 
--- what comes of a thing taken and the words behind it
+-- what comes of a thing taken and the words after it
 abbrev pub then_words : {X Y : Type 0} → (X → List (List ℕ) → Option Y) → Option (X × List (List ℕ)) → Option Y
 then_words G o = option_and_then (λ x. G x.0 x.1) o
 
@@ -73,7 +73,7 @@ take_grid h words = then_words (take_end h) (take_many (take_many (take_cell h) 
 abbrev pub Agree : {X : Type 0} → (X → At → Result Grid GridFault) → (X → List (List ℕ) → Option Grid) → Type 0
 Agree {X} F G = (x : X) (line run : ℕ) (bs : List ℕ) (f : Bool) → run ≤ 1048576 → accepted (F x (at_of line run (coming bs f))) ≡ option_and_then (λ ls. G x (all_words ls)) (lex run [] bs f)
 
--- at one place, a reading goes on as the taking of the words does
+-- at one place, a reading continues as the taking of the words does
 abbrev pub Follows : {X : Type 0} → (Lines → List (List ℕ)) → At → Option Lines → (At → Reading X) → Taking X → Type 0
 Follows {X} words at o one takes = (F : X → At → Result Grid GridFault) (G : X → List (List ℕ) → Option Grid) → Agree F G
     → accepted (one at >>= (λ x. F x.0 x.1)) ≡ option_and_then (λ ls. then_words G (takes (words ls))) o
@@ -82,7 +82,7 @@ Follows {X} words at o one takes = (F : X → At → Result Grid GridFault) (G :
 abbrev pub Keeps : {X : Type 0} → (At → Reading X) → Taking X → Type 0
 Keeps one takes = (line run : ℕ) (bs : List ℕ) (f : Bool) → run ≤ 1048576 → Follows all_words (at_of line run (coming bs f)) (lex run [] bs f) one takes
 
--- one more in front of many
+-- one more before many
 abbrev with_one : {X : Type 0} → X → Reading (List X) → Reading (List X)
 with_one x r = r >>= (λ y. Ok (x ∷ y.0, y.1))
 
@@ -151,7 +151,7 @@ end_agrees : (h : HeaderValue) → Agree (read_end h) (take_end h)
 end_agrees h rows line run bs f low = before_word (λ ls. take_end h rows (all_words ls)) (λ ls. refl) (λ s. accepted (end_of s >>= (λ _. Ok (whole_grid h rows)))) (λ e. refl) (λ l. refl)
     (λ l b cs g word. no_word (λ ls. take_end h rows (all_words ls)) (λ x xs ls. refl) b cs g word) bs f line run low
 
--- the reading of the whole data
+-- reading all the data
 abbrev pub read_grid : HeaderValue → At → Result Grid GridFault
 read_grid h at = data_from h at >>= (λ rows. Ok (whole_grid h rows))
 

@@ -26,7 +26,7 @@ at_header (Err kind) words = None
 abbrev pub take_data : KeyValues → List (List ℕ) → Option Grid
 take_data keys words = at_header (header_of keys) words
 
--- the keys with that of a header line, which has one value
+-- the keys with the key of a header line, which has one value
 abbrev pub with_values : KeyValues → Option HeaderKey → List (List ℕ) → Result KeyValues GridKind
 with_values keys key [] = Err BadHeader
 with_values keys key (value ∷ []) = with_header_key keys key value
@@ -75,7 +75,7 @@ module _ (keys : KeyValues) (line : ℕ) where
       by (Ok h) e = let good = sides h.region (header_given keys h e).good in grid_none h good.0 good.1 line
       by (Err kind) e = refl
 
--- what ends the blanks behind a colon with no value behind it
+-- the value after a colon that ends its word, by what ends the blanks
 abbrev pub value_at : ℕ → Gap → Result (List ℕ × Coming) GridFault
 value_at line (Word d) = word_from line [] d
 value_at line (Feed run d) = Err (record { kind = BadHeader; line = line })
@@ -91,7 +91,7 @@ value_is line c = by (gap_of line 0 c) refl
     by Last e = rw e
     by (Fault f) e = rw e
 
--- A header line behind its first word, where `rest` reads the lines behind it.
+-- A header line after its first word; `rest` reads the lines after it.
 module _ (rest : KeyValues → ℕ → ℕ → Coming → Result OpenedText GridFault) (line : ℕ) (keys : KeyValues)
     (key : Option HeaderKey)
     (follows : (more : KeyValues) → open_keys more < open_keys keys → (l run : ℕ) (bs : List ℕ) (f : Bool) → run ≤ 1048576 → accepted (rest more l run (coming bs f) >>= read_opened) ≡ option_and_then (take_text more) (lex run [] bs f)) where

@@ -1,4 +1,4 @@
--- The header that is read of a text is that of its header lines, whatever stands behind them.
+-- The header that is read of a text is the header of its header lines, whatever comes after them.
 use Rattle.std.proofs.Common.{◌≡◌, ℕ, zero, suc, ◌+◌, ◌<◌, ◌≤◌, List, [], ◌∷◌, ◌++◌, Option, Some, None, ◌==◌, Bool, true, false, cond, length, refl, ap, sym, ◌∙◌, arith, if◌then◌else◌, length-append, Result, Ok, Err, subst, ◌⊎◌, inl, inr}
 use Rattle.std.specs.List.{filter, before_first, after_first}
 use Rattle.std.proofs.lemmas.Bool.{cases_Bool, cases_lt}
@@ -23,7 +23,7 @@ use Rattle.cell_ascii_law.proofs.TextLawLemmas.{with_lines, text_parts, header_r
 none_some : {X A : Type 0} (x : X) → None ≡ Some x → A
 none_some x e = let h : ⊥ = cc in absurd h
 
--- a space in front of a text
+-- a space before a text
 lines_after : (b : ℕ) (bs : List ℕ) → is_space b ≡ true → line_words (b ∷ bs) ≡ opening (b == 10) (line_words bs)
 lines_after b bs space = lines_space [] b bs tt space
 
@@ -150,7 +150,7 @@ opened_said keys line pending c = by (header_of keys)
     by (Ok h) = refl
     by (Err kind) = refl
 
--- A header line behind its first word, where `rest` reads the lines behind it.
+-- A header line after its first word; `rest` reads the lines after it.
 module _ (h : HeaderValue) (rest : KeyValues → ℕ → ℕ → Coming → Result OpenedText GridFault) (line : ℕ)
     (keys : KeyValues)
     (key : Option HeaderKey)
@@ -247,7 +247,7 @@ header_said h (suc fuel) keys line run bs f low e =
             from_word h (take_lines keys) l (said_word rest keys l) (λ e. refl)
             (λ x xs ds k. first l x xs ds k (has_colon (x ∷ xs))) b cs g word
 
--- the header that the lines give is that of their header lines
+-- the header that the lines give is the header of their header lines
 lines_say : (ls : Lines) (h : HeaderValue) → take_lines no_keys ls ≡ Some h → IsHeader (header_lines ls) h
 lines_say ls h e = by (with_lines no_keys (header_lines ls)) refl (sym (text_parts take_header ls no_keys) ∙ e)
   where

@@ -51,7 +51,7 @@ abbrev pub open_one : {X : Type 0} → Option X → ℕ
 open_one None = 1
 open_one (Some x) = 0
 
--- how many keys did not stand yet
+-- how many keys are not given yet
 abbrev pub open_keys : KeyValues → ℕ
 open_keys k = open_one k.north + open_one k.south + open_one k.east + open_one k.west + open_one k.rows + open_one k.cols + open_one k.null + open_one (stood k.kind) + open_one k.multiplier
 
@@ -176,7 +176,7 @@ pub key_known : (a : KeyValues) (key : Option HeaderKey) (value : List ℕ) (k :
 key_known a None value k e = cc
 key_known a (Some q) value k e = (q, refl, key_given a q value k e)
 
--- a key that did not stand is taken, where its value gives a number
+-- a key that was not given is taken if its value gives a number
 pub key_taken : (a : KeyValues) (q : HeaderKey) (value : List ℕ) → held a q ≡ None → is_some (number_of q value) ≡ true → (k : KeyValues) × (with_header_key a (Some q) value ≡ Ok k)
 key_taken a q value = by q
   where
@@ -213,7 +213,7 @@ key_taken a q value = by q
     by CellType e s = typed a.kind (is_int value) e s
     by Multiplier e s = takes a.multiplier (whole_in_range value) (λ x. record a { multiplier = Some x }) (free Number a.multiplier e) (wrapped Number (whole_in_range value) s)
 
--- the keys are those of a header, whose region is a good one
+-- the keys are the keys of a header with a good region
 pub record IsHeaderOf (k : KeyValues) (h : HeaderValue) : Type 0 where
   pub north : k.north ≡ Some h.region.north
   pub south : k.south ≡ Some h.region.south

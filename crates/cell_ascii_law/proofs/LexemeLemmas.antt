@@ -25,7 +25,7 @@ abbrev pub rest_lines : Lines → Lines
 rest_lines [] = []
 rest_lines (l ∷ ls) = ls
 
--- a word in front of the first line
+-- a word before the first line
 abbrev pub put : List ℕ → Lines → Lines
 put w ls = (w ∷ first_line ls) ∷ rest_lines ls
 

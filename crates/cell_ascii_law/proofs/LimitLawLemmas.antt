@@ -120,7 +120,7 @@ words_short text ws e short = subst (λ (vs : List (List ℕ)). All (λ w. lengt
 pub one_more : (t : List ℕ) (b : ℕ) (bs : List ℕ) → (t ++ b ∷ []) ++ bs ≡ t ++ b ∷ bs
 one_more t b bs = append_assoc t (b ∷ []) bs
 
--- a word that goes on has at most 64 bytes so far
+-- a word that continues has at most 64 bytes so far
 token_short : (bs t : List ℕ) → IsFree is_space t → AreShort (t ++ bs) → length t ≤ 64
 token_short [] t free short = first_short t [] (words_short (t ++ []) (as_word t ++ []) (words_alone t free ∙ sym (append-nil (as_word t))) short)
 token_short (b ∷ bs) t free short = by (token_short bs (t ++ b ∷ [])) (cases_Bool (is_space b))
@@ -129,7 +129,7 @@ token_short (b ∷ bs) t free short = by (token_short bs (t ++ b ∷ [])) (cases
     by on (inl space) = first_short t (grid_words_of bs) (words_short (t ++ b ∷ bs) (as_word t ++ grid_words_of bs) (words_space t b bs free space) short)
     by on (inr word) = let h = on (free_more is_space t b free word) (subst AreShort (sym (one_more t b bs)) short) in omega (arith, length-append t (b ∷ []))
 
--- No more than 1048576 spaces in a row, where `run` of them stand before.
+-- At most 1048576 spaces in a row, after `run` of them.
 pub record AreGaps (run : ℕ) (bs : List ℕ) : Type 0 where
   pub here : (gap back : List ℕ) → bs ≡ gap ++ back → list_all is_space gap ≡ true → run + length gap ≤ 1048576
   pub later : (front gap back : List ℕ) → bs ≡ front ++ (gap ++ back) → list_all is_space gap ≡ true → length gap ≤ 1048576
@@ -246,7 +246,7 @@ lexes (b ∷ bs) run t free short are = by (lexes bs (run + 1) []) (lexes bs 0 (
         let h = token_short bs (t ++ b ∷ []) free' s in
         lex-word run t b bs false word (omega (arith, length-append t (b ∷ []))) ∙ inside free' s (word_gaps run b bs are) ∙ ap (λ (l : List ℕ). Some (line_words l)) (one_more t b bs)
 
--- the lines of a text have words exactly where it is within the limits and ends
+-- the words of a text are read line by line exactly if it is within the limits and ends
 pub limits_are : (bs : List ℕ) (f : Bool) (ls : Lines) → lex 0 [] bs f ≡ Some ls → (f ≡ false) × IsWithinLimits bs × (ls ≡ line_words bs)
 limits_are bs f ls e = let g = lexed bs f 0 [] tt (omega arith) (omega arith) ls e in (g.ends, record { words = g.words; gaps = λ front gap back e s. g.gaps.later front gap back e s }, g.lines)
 

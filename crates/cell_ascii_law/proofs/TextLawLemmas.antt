@@ -141,7 +141,7 @@ line_first l ls q e = ap (λ (t : Bool). cond t (Some l) (line_of q ls)) (has_it
 line_later : (l : List (List ℕ)) (ls : Lines) (p : HeaderKey) → has_key p l ≡ false → line_of p (l ∷ ls) ≡ line_of p ls
 line_later l ls p e = ap (λ (t : Bool). cond t (Some l) (line_of p ls)) e
 
--- no line has a key exactly where it is not found
+-- if a key is not found, no line has it
 none_found : (t : List ℕ) (p : HeaderKey) → t ≡ name_of p → (ls : Lines) → line_of p ls ≡ None → AllByRecursion (λ y. bytes_eq t y ≡ false) (map key_text ls)
 none_found t p is [] e = tt
 none_found t p is (l ∷ ls) e = by (cases_Bool (has_key p l)) (none_found t p is ls)
@@ -154,7 +154,7 @@ not_found : (t : List ℕ) (p : HeaderKey) → t ≡ name_of p → (ls : Lines) 
 not_found t p is [] all = refl
 not_found t p is (l ∷ ls) all = line_later l ls p (ap (λ (u : List ℕ). bytes_eq u (key_text l)) (sym is) ∙ all.0) ∙ not_found t p is ls all.1
 
--- What the keys of the header lines are, beside those that stood before.
+-- What header lines add to the keys that were given before them.
 pub record IsTaken (a k : KeyValues) (ls : Lines) : Type 0 where
   pub one_value : All (λ l. length (line_values l) ≡ 1) ls
   pub known : All (λ l. IsSome (header_key_of (key_text l))) ls
@@ -254,7 +254,7 @@ lines_taken (l ∷ ls) a k e = by (with_line a l) refl (lines_taken ls) e
         let q = key_known a (header_key_of (key_text l)) v.0 b v.2 in
         taken_more a b l ls q.0 v.0 q.1 v.1 q.2 k (on b k e)
 
--- What header lines need to be taken, beside the keys that stood before.
+-- What header lines need to be taken after the keys that were given before.
 record IsReady (a : KeyValues) (ls : Lines) : Type 0 where
   one_value : All (λ l. length (line_values l) ≡ 1) ls
   known : All (λ l. IsSome (header_key_of (key_text l))) ls
@@ -348,7 +348,7 @@ module _ {X : Type 0} (wrap : X → Value) (same : (x y : X) → wrap x ≡ wrap
       by None s e = cc
       by (Some y) s e = ap Some e
 
--- header lines whose keys are those of a header are that header
+-- header lines with the keys of a header are that header
 pub header_read : (ls : Lines) (k : KeyValues) (h : HeaderValue) → with_lines no_keys ls ≡ Ok k → IsHeaderOf k h
     → IsHeader ls h
 header_read ls k h e is = record {

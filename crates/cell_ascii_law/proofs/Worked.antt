@@ -1,4 +1,4 @@
--- Worked texts: what each denotes, or the fault that it tells.
+-- Worked texts: the map that each denotes, or its error.
 use Rattle.std.proofs.Common.{◌≡◌, Bool, true, false, ℕ, List, [], ◌∷◌, ◌++◌, Option, Some, None, refl, Ok, pos, negsuc}
 use Rattle.std.specs.Prelude.{codes}
 use Rattle.std.specs.List.{flat_map}
@@ -118,7 +118,7 @@ row_read = refl
 row_denoted : Denotes (record { bytes = row_of (codes "3") (codes "-9 9 -2"); fails = false }) row
 row_denoted = (reading_agrees (record { bytes = row_of (codes "3") (codes "-9 9 -2"); fails = false }) row).0 row_read
 
--- an asterisk and one, where neither stands
+-- without a null text and a multiplier: an asterisk and 1
 abbrev plain_text : List ℕ
 plain_text = 10 ∷ codes "north: 2.5" ++ 13 ∷ 10 ∷ codes "south:0" ++ 10 ∷ 32 ∷ 10 ∷ codes " east:1" ++ 10 ∷ codes "west: -1" ++ 10 ∷ codes "rows: 2" ++ 10 ∷ codes "cols:2" ++ 10 ∷ codes " 1 * -7" ++ 10 ∷ 10 ∷ codes "+4" ++ 10 ∷ []
 

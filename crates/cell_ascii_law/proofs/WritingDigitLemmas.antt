@@ -27,7 +27,7 @@ pub record IsNumeralOf (n : ℕ) (ds : List ℕ) : Type 0 where
 pub numeral : (n : ℕ) → n < 2 ^ 64 → IsNumeralOf n (decimal n)
 numeral n low = record { digits = digits_decimal own n low; value = digits_value-decimal own n low; some = decimal_nonempty n low }
 
--- digits behind a number
+-- digits after a number
 value_behind : (n : ℕ) (ds : List ℕ) → value_after n ds ≡ n * 10 ^ length ds + value_of_digits ds
 value_behind n [] = let e : value_after n [] ≡ n = refl in let z : value_of_digits [] ≡ 0 = refl in let o : 10 ^ 0 ≡ 1 = refl in e ∙ omega arith
 value_behind n (d ∷ ds) =
@@ -36,7 +36,7 @@ value_behind n (d ∷ ds) =
     let weight : n * 10 ^ length (d ∷ ds) ≡ n * (10 ^ length ds * 10) = ap (λ w. n * w) (pow-suc 10 (length ds)) in
     omega arith
 
--- Eight digits behind a one.
+-- Eight digits after a one.
 first_digit : (d : ℕ) (ds : List ℕ) (part : ℕ) → part < 100000000 → length (d ∷ ds) ≤ 9 → IsNumeralOf (100000000 + part) (d ∷ ds) → (length ds ≡ 8) × IsNumeralOf part ds
 first_digit d ds part low short is = by (cases_lt (length ds) 8)
   where

@@ -39,7 +39,7 @@ leads_both {keys = keys} a b = record {
   reads = λ ls. ap (take_text keys) (append_assoc a.new b.new ls) ∙ a.reads (b.new ++ ls) ∙ b.reads ls;
 }
 
--- a name in front of a colon is that of a key
+-- the name before a colon is the name of a key
 record IsKeyName (q : HeaderKey) (name : List ℕ) : Type 0 where
   token : IsToken (name ++ codes ":")
   colon : has_colon (name ++ codes ":") ≡ true

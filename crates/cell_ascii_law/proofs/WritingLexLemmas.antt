@@ -20,7 +20,7 @@ not_space b e = by (is_space b) e
     by true e = cc
     by false e = refl
 
--- the lines of what is to come, behind at most one blank or line feed
+-- the lines of what is to come, after at most one blank or line feed
 abbrev pub Lexes : List ℕ → Lines → Type 0
 Lexes bs ls = (run : ℕ) → run ≤ 1 → lex run [] bs false ≡ Some ls
 
@@ -56,7 +56,7 @@ module _ (w : List ℕ) (is : IsToken w) (bs : List ℕ) (ls : Lines) (on : Lexe
   pub fed : Lexes (w ++ 10 ∷ bs) ((w ∷ []) ∷ ls)
   fed run low = token_first (10 ∷ bs) run w is ∙ lex-space 0 w 10 bs false refl (omega arith) ∙ ap (option_map (λ l. put_token w (opening true l))) (on 1 (omega arith)) ∙ ap Some (put_is w ([] ∷ ls) is.some)
 
--- a text adds lines to those of what follows it
+-- a text adds lines to the lines of what follows it
 pub record Adds (text : List ℕ) (new : Lines) : Type 0 where
   pub to : (bs : List ℕ) (ls : Lines) → Lexes bs ls → Lexes (text ++ bs) (new ++ ls)
 

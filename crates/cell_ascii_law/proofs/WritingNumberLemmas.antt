@@ -11,7 +11,7 @@ use Rattle.cell_ascii_meaning.specs.EdgeNumbers.{is_point, is_digit, value_of_di
 use Rattle.cell_ascii_meaning.specs.Writing.{without_zeros, fraction_text, units_text, coordinate_text}
 use Rattle.cell_ascii_law.proofs.WritingDigitLemmas.{IsNumeralOf, numeral, eight, IsFraction, fraction}
 
--- A sign in front, or none.
+-- A leading sign, or none.
 digit_is : (d c : ℕ) → is_digit d ≡ true → c < 48 → (d == c) ≡ false
 digit_is d c digit low = grind (arith, nat_tests)
 
@@ -82,7 +82,7 @@ units_of whole part w p is short frac =
     let c : nat_le 1 (length whole + length part) ≡ true = grind (arith, nat_tests) in
     rw (is.digits, frac.digits, a, b, c) (λ i. Some (is.value i * 100000000 + frac.value i))
 
--- the point and what is behind it
+-- the point and what comes after it
 record IsTail (part : ℕ) (tail : List ℕ) : Type 0 where
   first : prefix_len (λ b. not (is_point b)) tail ≡ 0
   rest : IsFraction part (drop 1 tail)

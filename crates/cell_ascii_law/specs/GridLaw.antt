@@ -1,4 +1,4 @@
--- What the reading of a grid text answers: the map that the text denotes, and the header that it has.
+-- What reading a grid text gives: the map that the text denotes, and the header that it has.
 use Rattle.std.specs.Prelude.{◌≡◌, ◌↔◌, Ok}
 use Rattle.cell_core_devices.specs.Device.{Coming}
 use Rattle.cell_core.specs.Grid.{Grid}

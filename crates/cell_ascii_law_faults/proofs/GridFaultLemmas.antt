@@ -1,4 +1,4 @@
--- The law of the faults of a grid text.
+-- The law of the errors of a grid text.
 use Rattle.std.proofs.Common.{◌≡◌, ◌↔◌, Bool, true, false, [], Option, Some, refl, ap, sym, ◌∙◌, arith, Result, Ok, Err, ◌⊎◌, inl, inr}
 use Rattle.cell_core_devices.specs.Device.{Coming}
 use Rattle.cell_core.specs.Grid.{Grid}
@@ -18,12 +18,12 @@ use Rattle.cell_ascii_law_faults.proofs.PlaceWordLemmas.{table_of}
 use Rattle.cell_ascii_law.proofs.HeaderLawLemmas.{read_opened}
 use Rattle.cell_ascii_law.proofs.GridLawLemmas.{reading_agrees}
 
--- what is reported of a text is what its reading tells
+-- the error that is reported of a text is the error of its reading
 reported_is : (w : Bool) (c : Coming)
     → fault_after w (header_of_text c) ≡ first_reported (table_of w) [] c.bytes c.fails
 reported_is w c = header_is w 10 no_keys (omega arith) [] (refl, refl) 1 0 c.bytes c.fails (omega arith) ∙ sym (first_is (table_of w) c.bytes [] c.fails)
 
--- the fault that is read is that of the first place that tells one
+-- the error that is read is the error of the first place that reports one
 fault_is : (c : Coming) → fault_in (grid_of c) ≡ text_fault c
 unfolding grid_of
 fault_is c = by (header_of_text c) ∙ reported_is true c
@@ -40,7 +40,7 @@ opening_is c = by (header_of_text c) ∙ reported_is false c
     by (Ok o) = refl
     by (Err e) = refl
 
--- a reading answers the fault that is reported of it
+-- a reading gives the error that is reported of it
 is_reported : {X : Type 0} (r : Result X GridFault) (o : Option GridFault) → fault_in r ≡ o → (f : GridFault) → (r ≡ Err f) ↔ (o ≡ Some f)
 is_reported {X} r o reported f = (λ e. sym reported ∙ ap fault_in e, λ e. by r (reported ∙ e))
   where

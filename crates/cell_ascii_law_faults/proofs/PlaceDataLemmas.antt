@@ -172,7 +172,7 @@ module _ (h : HeaderValue) (n : ℕ) (ls : Lines) (ws : List (List ℕ)) (is : I
             begun = inr (e.0, later);
           }
 
--- What the table tells in the data.
+-- What the table reports in the data.
 pub and_never : (t : Bool) → (t && false) ≡ false
 and_never true = refl
 and_never false = refl
@@ -242,7 +242,7 @@ module _ (h : HeaderValue) (x : ℕ) (xs : List ℕ) where
   a_cell (w ∷ ws) v some e End ends = rw e
   a_cell (w ∷ ws) v some e Fails ends = cc
 
--- The fault of a reading.
+-- The error of a reading.
 abbrev pub fault_in : {X : Type 0} → Result X GridFault → Option GridFault
 fault_in (Ok x) = None
 fault_in (Err e) = Some e
@@ -264,7 +264,7 @@ module _ (h : HeaderValue) where
   abbrev cells : ℕ
   cells = h.region.rows * h.region.cols
 
-  -- what is reported in the data, at a place where no word goes on
+  -- what is reported in the data, at a place where no word continues
   reported_there : (n : ℕ) (ls : Lines) (ws : List (List ℕ)) → IsData h n ls ws → (line gap : ℕ) (place : FaultPlace)
       → reports whole_table (at_seen line gap ls ws []) place ≡ option_map (λ kind. grid_fault kind line) (data_reported gap [] h (data_words (ls ++ ws ∷ [])) place)
   reported_there n ls ws is line gap place = ap (option_map (λ kind. grid_fault kind line)) (reported_in_data h gap [] (in_header_line ls ws) ls ws (header_in (ls ++ ws ∷ [])) (data_words (ls ++ ws ∷ [])) (outside h n ls ws is) is.header place)
@@ -276,7 +276,7 @@ module _ (h : HeaderValue) where
       let now : List (List ℕ) = ws ++ (x ∷ xs) ∷ [] in
       ap (option_map (λ kind. grid_fault kind line)) (reported_in_data h 0 (x ∷ xs) (in_header_line ls now) ls now (header_in (ls ++ now ∷ [])) (data_words (ls ++ now ∷ [])) (outside h n ls now is) is.header place)
 
-  -- from any place with n words in the data, F tells what the places tell
+  -- from any place with n words in the data, F gives what the places report
   abbrev Goes : {X : Type 0} → ℕ → (X → At → Result Grid GridFault) → Type 0
   Goes {X} n F = (x : X) (line gap : ℕ) (bs : List ℕ) (f : Bool) (ls : Lines) (ws : List (List ℕ)) → gap ≤ 1048576 → IsData h n ls ws → fault_in (F x (at_of line gap (coming bs f))) ≡ scan whole_table (at_seen line gap ls ws []) bs f
 
@@ -393,7 +393,7 @@ module _ (h : HeaderValue) where
       at : At
       at = record { pending = Some (x ∷ xs); line = line; run = 0; coming = coming bs f }
 
--- Behind the first token of the data the opening of a text tells nothing.
+-- After the first token of the data the opening of a text reports nothing.
 module _ (gap : ℕ) (inside : Bool) (ls : Lines) (line : List (List ℕ)) (header : Result HeaderValue GridKind) (words : List (List ℕ)) where
   behind_silent : (token : List ℕ) → is_opening words token ≡ false → (place : FaultPlace) → opening_table gap token inside ls line header words place ≡ None
   behind_silent token e place = ap (λ (t : Bool). if t then header_rows gap token inside ls line header words place else None) e
@@ -452,7 +452,7 @@ module _ (h : HeaderValue) where
       by on (inl space) (inl feed) = next (at_seen (line + 1) (gap + 1) (ls ++ with_token ws t ∷ []) [] []) (step_feed s b feed) (on m.0 (line + 1) (gap + 1) (ls ++ with_token ws t ∷ []) [] [] (fed h m.0 ls (with_token ws t) m.2) m.1)
       by on (inl space) (inr blank) = next (at_seen line (gap + 1) ls (with_token ws t) []) (step_blank s b space blank) (on m.0 line (gap + 1) ls (with_token ws t) [] m.2 m.1)
 
-  -- the opening of a text tells nothing from the end of the first word of its data on
+  -- the opening of a text reports nothing from the end of the first word of its data on
   pub opening_first : (line : ℕ) (ls : Lines) (x : ℕ) (xs bs : List ℕ) (f : Bool) → IsAfterWord bs f → IsData h 1 ls ((x ∷ xs) ∷ []) → scan opening_table (at_seen line 0 ls [] (x ∷ xs)) bs f ≡ None
   opening_first line ls x xs bs f after is = by bs f after
     where

@@ -27,7 +27,7 @@ use Rattle.cell_ascii_law_faults.proofs.PlaceWordLemmas.{table_of, judged, one_r
 use Rattle.cell_ascii_law_faults.proofs.PlaceDataLemmas.{heads, has_data, heads_before, words_before, heads_more, heads_data, words_data, words_more, has_data-append, and_never, fault_in, IsData, data_first, opening_first}
 use Rattle.cell_ascii_law_faults.proofs.PlaceKeyLemmas.{keys_taken, line_reported, no_value_reported, lines_more}
 
--- What the table tells in the header, where the words before a place are any.
+-- What the table reports in the header, whatever the words before a place are.
 no_cells : (header : Result HeaderValue GridKind) (token : List ℕ) → cell_fault header [] token ≡ None
 no_cells (Ok h) token = refl
 no_cells (Err kind) token = refl
@@ -46,7 +46,7 @@ judged_one true words v x xs one = refl
 judged_one false words v x xs one = ap (λ (ws : List (List ℕ)). is_opening ws (x ∷ xs)) one
 
 module _ (gap : ℕ) (inside : Bool) (ls : Lines) (line : List (List ℕ)) (header : Result HeaderValue GridKind) (words : List (List ℕ)) where
-  -- the first byte of a word, where no value stands
+  -- the first byte of a word, if there is no value
   first_silent : (w : Bool) (b : ℕ) → words ≡ [] → is_space b ≡ false → line_values line ≡ [] → has_all header words ≡ false → table_of w gap [] inside ls line header words (Byte b) ≡ None
   first_silent w b nil word none few = by w inside (judged_none w words [] nil)
     where
@@ -170,7 +170,7 @@ no_cell_left : (h : HeaderValue) (line : ℕ)
 unfolding cell_from
 no_cell_left h line = ap (after_start h) (start-ends line 0 (omega arith))
 
--- What a reading of the header tells, and behind it that of the data where the text is read as a whole.
+-- The error of reading the header, and after it the error of reading the data, if all of the text is read.
 abbrev after_by : Bool → Option GridFault → Option GridFault
 after_by true o = o
 after_by false o = None
@@ -245,17 +245,17 @@ module _ (whole : Bool) where
             let s = sides h.region (header_given keys h e).good in
             opens whole h s.0 s.1 (record { header = header_now ∙ e; count = ap length words_now; begun = inr (no, word) })
 
-  -- A header line behind its first word, where `rest` reads the lines behind it.
   -- where a line begins, after lines whose keys were taken
   abbrev pub IsStart : KeyValues → Lines → List (List ℕ) → Type 0
   IsStart keys ls [] = (has_data ls ≡ false) × (with_lines no_keys (heads ls) ≡ Ok keys)
   IsStart keys ls (w ∷ ws) = ⊥
 
-  -- from the beginning of a line on, the reading tells what the places tell
+  -- from the beginning of a line on, the reading gives what the places report
   abbrev Follows : (KeyValues → ℕ → ℕ → Coming → Result OpenedText GridFault) → KeyValues → Type 0
   Follows rest keys = (more : KeyValues) → open_keys more < open_keys keys → (ls : Lines) → IsStart more ls [] → (line run : ℕ) (bs : List ℕ) (f : Bool) → run ≤ 1048576
       → fault_after whole (rest more line run (coming bs f)) ≡ scan (table_of whole) (at_seen line run ls [] []) bs f
 
+  -- A header line after its first word; `rest` reads the lines after it.
   module _ (rest : KeyValues → ℕ → ℕ → Coming → Result OpenedText GridFault) (line : ℕ) (keys : KeyValues) (ls : Lines) (no : has_data ls ≡ false) (taken : with_lines no_keys (heads ls) ≡ Ok keys) (follows : Follows rest keys) where
     abbrev closed : LineEnd → Result KeyValues GridKind → Option GridFault
     closed end r = fault_after whole (((at_line line r >>= (λ more. Ok (more, end))) >>= after_line rest line))
@@ -390,7 +390,7 @@ module _ (whole : Bool) where
       judge ms [] start = judged_none whole (data_words (ms ++ [] ∷ [])) [] (words_blank ms start.0)
       judge ms (v ∷ vs) start = absurd start
 
-      -- a first word that goes on may yet get its colon
+      -- a first word that continues may yet get its colon
       judge_first : (ms : Lines) → has_data ms ≡ false → (x : ℕ) (xs : List ℕ) → judged whole (data_words (ms ++ ((x ∷ xs) ∷ []) ∷ [])) (x ∷ xs) ≡ true
       judge_first ms clear x xs = by (cases_Bool (has_colon (x ∷ xs)))
         where

@@ -16,7 +16,7 @@ use Rattle.cell_ascii_meaning.specs.declared.grid_fault.GridFault.{GridFault}
 use Rattle.cell_ascii_meaning.proofs.TokenLemmas.{coming, start-ends, start-fails, start-begins, start-stuck, start-more}
 use Rattle.cell_ascii_meaning.proofs.TokenLemmas.{word-ends, word-fails, word-stops, word-long, word-more}
 
--- a place where no token waits and no run stands before
+-- a place where no token waits and no run comes before
 abbrev IsFresh : At → Type 0
 IsFresh at = IsPlaceOf at × (at.pending ≡ None)
 

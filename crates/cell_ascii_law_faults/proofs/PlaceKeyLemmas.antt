@@ -1,4 +1,4 @@
--- What the header lines before a place give their keys, and what the next one tells.
+-- What the header lines before a place give their keys, and the error of the next line.
 use Rattle.std.proofs.Common.{◌≡◌, ℕ, List, [], ◌∷◌, ◌++◌, Option, Some, None, Bool, true, false, cond, is_some, refl, ap, sym, ◌∙◌, Result, Ok, Err, ◌||◌, if◌then◌else◌}
 use Rattle.std.specs.Prelude.{codes, bytes_eq}
 use Rattle.std.specs.Option.{option_map, option_and_then}
@@ -59,7 +59,7 @@ some_found p (x ∷ xs) = by (p x) (some_found p xs)
     by true on = refl
     by false on = on
 
--- a key stands already where an earlier line has it
+-- a key was given before if an earlier line has it
 twice_is : (hs : Lines) (k : KeyValues) (l : List (List ℕ)) (q : HeaderKey) → with_lines no_keys hs ≡ Ok k → header_key_of (key_text l) ≡ Some q → has_key_of l hs ≡ is_some (held k q)
 twice_is hs k l q e is = ap (λ (t : List ℕ). list_any (λ m. bytes_eq t (key_text m)) hs) (name_is (key_text l) q is) ∙ sym (some_found (has_key q) hs) ∙ sym ((lines_taken hs no_keys k e).stands q (none_held q))
 
@@ -90,7 +90,7 @@ key_reported a v CellType = by a.kind (is_int v)
     by false false = refl
 key_reported a v Multiplier = sym (given_reported Number a.multiplier (whole_in_range v) (λ x. record a { multiplier = Some x }))
 
--- what the end of a line with one value tells is why its key is not taken
+-- the error at the end of a line with one value is why its key is not taken
 pub line_reported : (hs : Lines) (k : KeyValues) (l : List (List ℕ)) (v : List ℕ) → with_lines no_keys hs ≡ Ok k → line_values l ≡ v ∷ [] → line_fault (has_key_of l hs) (header_key_of (key_text l)) (line_values l) ≡ why_not (with_header_key k (header_key_of (key_text l)) v)
 line_reported hs k l v e one = ap (line_fault (has_key_of l hs) (header_key_of (key_text l))) one ∙ by (header_key_of (key_text l)) refl
   where
@@ -98,7 +98,7 @@ line_reported hs k l v e one = ap (line_fault (has_key_of l hs) (header_key_of (
     by None is = refl
     by (Some q) is = ap (λ (t : Bool). line_fault t (Some q) (v ∷ [])) (twice_is hs k l q e is) ∙ key_reported k v q
 
--- a line without a value tells so
+-- a line without a value has an error
 pub no_value_reported : (t : Bool) (o : Option HeaderKey) → line_fault t o [] ≡ Some BadHeader
 no_value_reported t None = refl
 no_value_reported t (Some q) = refl

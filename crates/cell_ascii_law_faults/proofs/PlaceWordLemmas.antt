@@ -1,4 +1,4 @@
--- The words of a text, and what stands between them, against the places that they pass.
+-- The words of a text, and what comes between them, against the places that they pass.
 use Rattle.std.proofs.Common.{◌≡◌, ℕ, ◌+◌, ◌<◌, ◌≤◌, List, [], ◌∷◌, ◌++◌, Option, Some, None, ◌==◌, Bool, true, false, cond, length, refl, ap, sym, ◌∙◌, arith, length-append, Result, Ok, Err, ◌⊎◌, inl, inr}
 use Rattle.std.specs.Option.{option_map}
 use Rattle.std.proofs.lemmas.Bool.{cases_Bool, cases_lt}
@@ -21,7 +21,7 @@ abbrev pub table_of : Bool → Table
 table_of true = whole_table
 table_of false = opening_table
 
--- places at which the table tells anything
+-- places at which the table reports anything
 abbrev pub judged : Bool → List (List ℕ) → List ℕ → Bool
 judged true words token = true
 judged false words token = is_opening words token
@@ -40,7 +40,7 @@ abbrev pub IsAfterWord : List ℕ → Bool → Type 0
 IsAfterWord [] f = f ≡ false
 IsAfterWord (b ∷ bs) f = is_space b ≡ true
 
--- What the table tells at one byte, where the words before it are any.
+-- What the table reports at one byte, whatever the words before it are.
 module _ (gap : ℕ) (inside : Bool) (ls : Lines) (line : List (List ℕ)) (header : Result HeaderValue GridKind) (words : List (List ℕ)) (b : ℕ) where
   blank_silent : (w : Bool) → judged w words [] ≡ true → is_space b ≡ true → (b == 10) ≡ false → gap < 1048576 → table_of w gap [] inside ls line header words (Byte b) ≡ None
   blank_silent true j space blank room = let t : (gap == 1048576) ≡ false = grind (arith, nat_tests) in rw (space, blank, t)
@@ -177,7 +177,7 @@ module _ (whole : Bool) where
             ∙ sym (one_silent s (at_seen line (gap + 1) ls ws []) b bs f
             (ap (option_map (λ kind. grid_fault kind line)) (blank_silent gap (in_header_line ls ws) ls ws (header_in (ls ++ ws ∷ [])) (data_words (ls ++ ws ∷ [])) b whole judge space blank room)) (step_blank s b space blank))
 
-  -- After a word whose end tells (table_of whole) nothing of it, it counts among the words.
+  -- After a word whose end has no error in `table_of whole`, it counts among the words.
   module _ (line : ℕ) (ls : Lines) (ws : List (List ℕ)) (x : ℕ) (xs : List ℕ) where
     abbrev pub going : Seen
     going = at_seen line 0 ls ws (x ∷ xs)

@@ -1,4 +1,4 @@
--- The reading of cells and of the end, from any place behind the header, against the places that it passes.
+-- The reading of cells and of the end, from any place after the header, against the places that it passes.
 use Rattle.std.proofs.Common.{◌≡◌, ℕ, zero, suc, ◌+◌, ◌<◌, ◌≤◌, List, [], ◌∷◌, ◌++◌, Option, Some, None, ◌==◌, Bool, true, false, cond, not, length, refl, ap, sym, ◌∙◌, arith, length-append, Result, Ok, Err, ◌⊎◌, inl, inr, if◌then◌else◌, subst}
 use Rattle.std.specs.Prelude.{nat_lt}
 use Rattle.std.specs.Option.{option_map, unwrap_or}
@@ -36,7 +36,7 @@ step_space s b space = λ i. row_step_by (space i) s b
 step_word : (s : RowSeen) (b : ℕ) → is_space b ≡ false → row_step s b ≡ row_step_by false s b
 step_word s b word = λ i. row_step_by (word i) s b
 
--- What a table tells between words, and within one.
+-- What a table reports between words, and within one.
 record IsBetween (table : RowTable) (ws : List (List ℕ)) : Type 0 where
   blank : (gap b : ℕ) → is_space b ≡ true → gap < 1048576 → table gap [] ws (Byte b) ≡ None
   full : (gap b : ℕ) → is_space b ≡ true → gap ≡ 1048576 → table gap [] ws (Byte b) ≡ Some ReaderStuck
@@ -99,7 +99,7 @@ module _ (table : RowTable) (ws : List (List ℕ)) (within : IsWithin table ws) 
   next_word gap b bs f word silent = ap k (word-more line [] (omega arith) b bs f word) ∙ in_word bs f b [] (omega arith)
       ∙ sym (one_silent table (row_seen line gap ws []) (row_seen line 0 ws (b ∷ [])) b bs f (ap (on_line line) silent) (step_word (row_seen line gap ws []) b word))
 
--- After a word whose end tells nothing of it, it counts among the words.
+-- After a word whose end has no error, it counts among the words.
 module _ (table : RowTable) (ws : List (List ℕ)) (line x : ℕ) (xs : List ℕ) where
   settled : ((place : FaultPlace) → ends_token place ≡ true → table 0 (x ∷ xs) (ws ++ (x ∷ xs) ∷ []) place ≡ table 0 [] (ws ++ (x ∷ xs) ∷ []) place) → (bs : List ℕ) (f : Bool) → IsAfterWord bs f
       → row_scan table (row_seen line 0 ws (x ∷ xs)) bs f ≡ row_scan table (row_seen line 0 (ws ++ (x ∷ xs) ∷ []) []) bs f
@@ -158,7 +158,7 @@ module _ (h : HeaderValue) (count : ℕ) where
     early : (gap : ℕ) → table gap [] ws End ≡ Some TooFew
     early gap = judged gap [] ws End inside ∙ (let t : nat_lt (length ws) count ≡ true = grind (arith, nat_tests) in rw t)
 
-  -- behind the last cell nothing is reported
+  -- after the last cell nothing is reported
   over : (ws : List (List ℕ)) (t : List ℕ) → count ≤ length ws → is_within count (with_token ws t) t ≡ false
   over ws [] all = let u : nat_lt (length ws) count ≡ false = grind (arith, nat_tests) in rw u
   over ws (x ∷ xs) all =
@@ -230,7 +230,7 @@ module _ (h : HeaderValue) (count : ℕ) where
   more_fault v (Ok z) = refl
   more_fault v (Err e) = refl
 
-  -- from n cells on, the next m tell what the places tell
+  -- from n cells on, the next m give what the places report
   abbrev Reports : ℕ → List (List ℕ) → Type 0
   Reports m ws = (bs : List ℕ) (f : Bool) (line gap : ℕ) → gap ≤ 1048576 → fault_in (many (cell_from h) m (at_of line gap (coming bs f))) ≡ row_scan table (row_seen line gap ws []) bs f
 
@@ -280,7 +280,7 @@ after_word_is [] true e = cc
 after_word_is [] false e = refl
 after_word_is (b ∷ bs) f e = e
 
--- what the next cells tell from a place
+-- what the next cells give from a place
 pub cells_reported : (h : HeaderValue) (count : ℕ) (at : At) → IsPlaceOf at → fault_in (many (cell_from h) count at) ≡ cells_fault h count at
 cells_reported h count at is = by at.pending is
   where
@@ -293,7 +293,7 @@ cells_reported h count at is = by at.pending is
         ∙ (λ i. row_scan (cells_table h count) (row_seen at.line (sym is.fresh i) [] (x ∷ xs)) at.coming.bytes at.coming.fails)
         ∙ sym (first_is (cells_table h count) (record at { pending = Some (x ∷ xs) }) (free_word (x ∷ xs) is.whole))
 
--- and what the end tells
+-- and what the end gives
 end_between : IsBetween end_table []
 end_between = record {
   blank = λ gap b space room. (let t : (gap == 1048576) ≡ false = grind (arith, nat_tests) in rw (space, t));

@@ -14,7 +14,7 @@ use Rattle.cell_ascii_meaning.proofs.TokenLemmas.{no_feed}
 use Rattle.cell_ascii_law.proofs.LimitLawLemmas.{IsFree, free_more, split_made, onto, split_free, as_word, words_alone, words_space}
 use Rattle.cell_ascii_law_faults.proofs.SeenLemmas.{with_token, gap_more, last_onto}
 
--- the words that ended, and the token that goes on
+-- the words that ended, and the token that continues
 abbrev pub Counted : Type 0
 Counted = List (List ℕ) × List ℕ
 
@@ -78,7 +78,7 @@ row_step_by false s b = row_seen s.line 0 s.words (s.token ++ b ∷ [])
 abbrev pub row_step : RowSeen → ℕ → RowSeen
 row_step s b = row_step_by (is_space b) s b
 
--- the first fault that is reported from here on
+-- the first error that is reported from here on
 abbrev pub row_scan : RowTable → RowSeen → List ℕ → Bool → Option GridFault
 row_scan table s [] false = row_reports table s End
 row_scan table s [] true = row_reports table s Fails
@@ -141,7 +141,7 @@ module _ (table : RowTable) (at : At) (free : IsFree is_space (unwrap_or at.pend
   behind_is [] before true = behind_reported before Fails
   behind_is (b ∷ bs) before fails = λ i. behind_reported before (Byte b) i or (behind_is bs (before ++ b ∷ []) fails ∙ ap (λ (s : RowSeen). row_scan table s bs fails) (behind_more before b)) i
 
-  -- the first fault behind a place is that from its record on
+  -- the first error after a place is the first error from its record on
   pub first_is : first_behind table at [] at.coming.bytes at.coming.fails ≡ row_scan table (row_seen at.line at.run [] (unwrap_or at.pending [])) at.coming.bytes at.coming.fails
   first_is = behind_is at.coming.bytes [] at.coming.fails ∙ (λ i. row_scan table (row_seen (line i) (run i) [] (unwrap_or at.pending [])) at.coming.bytes at.coming.fails)
     where

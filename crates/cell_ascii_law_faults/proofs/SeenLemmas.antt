@@ -13,12 +13,12 @@ use Rattle.cell_ascii_meaning.proofs.TokenLemmas.{no_feed}
 use Rattle.cell_ascii_law.proofs.LexemeLemmas.{Lines, put_token, opening}
 use Rattle.cell_ascii_law.proofs.LimitLawLemmas.{IsFree, free_more, IsMade, split_made, onto, split_free, lines_alone, lines_space}
 
--- the words of a line with the token that goes on
+-- the words of a line with the token that continues
 abbrev pub with_token : List (List ℕ) → List ℕ → List (List ℕ)
 with_token words [] = words
 with_token words (x ∷ xs) = words ++ (x ∷ xs) ∷ []
 
--- the words of each line before, the ended words of this one, and the token that goes on
+-- the words of each earlier line, the ended words of this one, and the token that continues
 pub record Tracked : Type 0 where
   pub earlier : Lines
   pub words : List (List ℕ)
@@ -38,7 +38,7 @@ track_by true true x b = tracked_at (lines_at x) [] []
 abbrev pub track : Tracked → ℕ → Tracked
 track x b = track_by (is_space b) (b == 10) x b
 
--- words in front of the first line
+-- words before the first line
 abbrev join : List (List ℕ) → Lines → Lines
 join ws [] = ws ∷ []
 join ws (l ∷ ls) = (ws ++ l) ∷ ls
@@ -161,7 +161,7 @@ step_by true true s b = at_seen (s.line + 1) (s.gap + 1) (all_lines s) [] []
 abbrev pub step : Seen → ℕ → Seen
 step s b = step_by (is_space b) (b == 10) s b
 
--- the first fault that is reported from here on
+-- the first error that is reported from here on
 abbrev pub scan : Table → Seen → List ℕ → Bool → Option GridFault
 scan table s [] false = reports table s End
 scan table s [] true = reports table s Fails
@@ -205,7 +205,7 @@ seen_more before b = (λ i. parts (line_more before b i) (gap_more before b i) (
     by (inl space) (inr blank) = (λ i. parts (line_of_place before + cond (blank i) 1 0) (cond (space i) (1 + gap_of_place before) 0) (track_by (space i) (blank i) (tracked before) b))
         ∙ (λ i. parts (same i) (wider i) (track_by true false (tracked before) b)) ∙ (λ i. step_by (sym space i) (sym blank i) (seen before) b)
 
--- the first fault after some bytes is that from their record on
+-- the first error after some bytes is the first error from their record on
 pub first_is : (table : Table) (bs before : List ℕ) (fails : Bool) → first_reported table before bs fails ≡ scan table (seen before) bs fails
 first_is table [] before false = reported_is table before End
 first_is table [] before true = reported_is table before Fails

@@ -1,2 +1,2 @@
--- What the laws of the faults of grid texts state.
+-- Laws of the errors of grid texts.
 pub mod FaultLaw

@@ -1,27 +1,26 @@
-//! Which fault the reading of a grid text tells.
+//! Which error the reading of a grid text gives.
 
 ghost use Rattle.cell_ascii_law_faults.specs.FaultLaw.{CellsAgree, CellsKeepPlaces, EndAgrees, FaultsAgree, OpeningAgrees, OpeningKeepsPlaces, GridTextsAreJudged};
 
-/// The reading of a text gives a fault exactly where the first byte or end that tells one
-/// tells that fault, with its line.
+/// Reading a text gives an error exactly if it is the error, with its line, of the first byte or end that reports one.
 pub fn reading_faults()
     ensures { FaultsAgree }
 {}
 
-/// The header of a text, up to the end of the first token of the data, is read with a fault
-/// exactly where a place up to there tells that fault, those about cells left out.
+/// Reading the header of a text, up to the end of the first token of the data, gives an error exactly if it is the
+/// first that a place up to there reports, errors about cells left out.
 pub fn opening_faults()
     ensures { OpeningAgrees }
 {}
 
-/// From a place behind the header on, the next cells are read with a fault exactly where a place
-/// up to the end of the last of them tells that fault.
+/// Reading the next cells from a place after the header gives an error exactly if it is the first that a place up to
+/// the end of the last cell reports.
 pub fn cells_faults()
     ensures { CellsAgree }
 {}
 
-/// Behind the last cell the end is read with a fault exactly where a place up to the first byte of
-/// a token tells that fault.
+/// Reading the end after the last cell gives an error exactly if it is the first that a place up to the first byte of a
+/// token reports.
 pub fn end_faults()
     ensures { EndAgrees }
 {}
@@ -32,7 +31,7 @@ pub fn places_are_kept()
     ensures cells { CellsKeepPlaces }
 {}
 
-/// A text denotes one map and tells no fault, or tells one fault and denotes no map.
+/// A text denotes one map and has no error, or has one error and denotes no map.
 pub fn grid_texts_are_judged()
     ensures { GridTextsAreJudged }
 {}

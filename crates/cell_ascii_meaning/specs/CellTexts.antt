@@ -9,7 +9,7 @@ use Rattle.cell_ascii_meaning.specs.declared.grid_fault.GridKind.{GridKind}
 use Rattle.cell_ascii_meaning.specs.declared.grid_fault.GridKind.TheVariants.{TooFew, TooMany}
 use Rattle.cell_ascii_meaning.specs.declared.grid_fault.GridFault.{GridFault}
 
--- what was read, and where that left the text; or the first fault
+-- what was read, and the place after it; or the first error
 abbrev pub Reading : Type 0 → Type 0
 Reading X = Result (X × At) GridFault
 
@@ -17,12 +17,12 @@ Reading X = Result (X × At) GridFault
 abbrev pub at_of : ℕ → ℕ → Coming → At
 at_of line run c = record { pending = None; line = line; run = run; coming = c }
 
--- a cell and the place behind it, or why the word is no cell, told at its line
+-- a cell and the place after it, or why the word is no cell, at its line
 abbrev pub after_cell : ℕ → Coming → Result CellValue GridKind → Reading CellValue
 after_cell line c (Ok v) = Ok (v, at_of line 0 c)
 after_cell line c (Err kind) = Err (grid_fault kind line)
 
--- the cell of a word that begins at a line, or the first fault of the word or of the cell
+-- the cell of a word that begins at a line, or the first error of the word or of the cell
 abbrev pub cell_after_word : HeaderValue → ℕ → Result (List ℕ × Coming) GridFault → Reading CellValue
 cell_after_word h line (Ok x) = after_cell line x.1 (cell_of_word h x.0)
 cell_after_word h line (Err f) = Err f
@@ -57,7 +57,7 @@ abbrev pub data_from : HeaderValue → At → Result (List (List CellValue)) Gri
 data_from h at =
     many (many (cell_from h) h.region.cols) h.region.rows at >>= (λ x. end_of (grid_start x.1.line x.1.run x.1.coming) >>= (λ _. Ok x.0))
 
--- the map that a text denotes, or the first fault; it goes forward over the bytes to come, as each call of a reader has to
+-- the map that a text denotes, or the first error; it goes forward over the bytes to come, as each call of a reader has to
 unfoldable pub grid_of : Coming → Result Grid GridFault
 grid_of c =
     header_of_text c >>= (λ o. data_from o.header o.at >>= (λ rows. Ok (record { region = o.header.region; rows = rows; labels = no_labels })))

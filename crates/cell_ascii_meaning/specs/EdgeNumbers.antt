@@ -6,7 +6,7 @@ use Rattle.cell_core_values.specs.Letters.{byte}
 pub use Rattle.cell_core_values.specs.Digits.{is_digit, value_of_digits, digits_of}
 pub use Rattle.cell_core_values.specs.WholeNumbers.{signed_number, whole_number, is_in_range, whole_in_range}
 
--- at most ten digits, and at most eight behind the point, one at least in all, in units of 10^-8
+-- at most ten digits, and at most eight after the point, at least one in all, in units of 10^-8
 abbrev pub in_units : List ℕ → List ℕ → Option ℕ
 in_units whole part =
     if (list_all is_digit whole && list_all is_digit part) && ((nat_le (length whole) 10 && nat_le (length part) 8) && nat_le 1 (length whole + length part))

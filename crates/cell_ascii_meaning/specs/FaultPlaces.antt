@@ -1,4 +1,5 @@
--- Which fault of a grid text is reported (profile): each byte, the end and a failing read are places, and the fault is that of the first place that tells one.
+-- The error of a grid text (profile): each byte, the end and a failing read are places, and the first place with an
+-- error is reported.
 use Rattle.std.specs.Prelude.{ℕ, ◌+◌, ◌*◌, Bool, true, false, ◌&&◌, ◌||◌, ◌==◌, not, nat_lt, nat_le, is_some, List, [], ◌∷◌, ◌++◌, length, Option, Some, None, Result, Ok, Err, if◌then◌else◌, bytes_eq, codes}
 use Rattle.std.specs.List.{slice_split, suffix_len, list_any}
 use Rattle.std.specs.Option.{option_map, option_and_then}
@@ -16,7 +17,7 @@ use Rattle.cell_ascii_meaning.specs.declared.grid_fault.GridKind.{GridKind}
 use Rattle.cell_ascii_meaning.specs.declared.grid_fault.GridKind.TheVariants.{BadHeader, TwiceKey, BadNumber, BadType, LongToken, ReaderStuck, TooFew, TooMany, Read}
 use Rattle.cell_ascii_meaning.specs.declared.grid_fault.GridFault.{GridFault}
 
--- what stands at a place
+-- what is at a place
 pub data FaultPlace : Type 0 where
   Byte : ℕ → FaultPlace
   End : FaultPlace
@@ -45,7 +46,7 @@ abbrev pub is_empty : {X : Type 0} → List X → Bool
 is_empty [] = true
 is_empty (x ∷ xs) = false
 
--- the last of some lists, empty where there is none
+-- the last of some lists, empty if there are no lists
 abbrev pub last_token : {X : Type 0} → List (List X) → List X
 last_token [] = []
 last_token (p ∷ []) = p
@@ -67,24 +68,24 @@ line_of_place before = 1 + newlines before
 abbrev pub gap_of_place : List ℕ → ℕ
 gap_of_place before = suffix_len is_space before
 
--- the token that the byte before belongs to; empty after a blank or line feed, and at the front
+-- the token that the byte before belongs to; empty after a blank or line feed, and at the start
 abbrev pub token_at_place : List ℕ → List ℕ
 token_at_place before = last_token (slice_split is_space before)
 
--- The rows of the table. `earlier` are the words of each line before that of the place, `line` the words of its own line so far.
+-- The rows of the table. `earlier` has the words of each earlier line, `line` the words so far of the line of the place.
 
--- a fault that is reported where something holds
+-- an error that is reported if something holds
 abbrev pub when : Bool → GridKind → Option GridKind
 when true kind = Some kind
 when false kind = None
 
--- a fault that is reported where something is missing
+-- an error that is reported if something is missing
 abbrev pub unless : {X : Type 0} → Option X → GridKind → Option GridKind
 unless (Some x) kind = None
 unless None kind = Some kind
 
 infixr 20 ◌or◌
--- the first of two that tells something
+-- the first of two, if there is one, else the second
 abbrev pub ◌or◌ : {X : Type 0} → Option X → Option X → Option X
 (Some x) or other = Some x
 None or other = other
@@ -161,7 +162,7 @@ keys_of lines = record {
 abbrev pub header_in : List (List (List ℕ)) → Result HeaderValue GridKind
 header_in lines = header_of (keys_of (header_lines lines))
 
--- the fault of an answer
+-- the error of a result
 abbrev pub why_not : {X : Type 0} → Result X GridKind → Option GridKind
 why_not (Ok x) = None
 why_not (Err kind) = Some kind
@@ -209,11 +210,12 @@ read_fails (Byte b) = None
 read_fails End = None
 read_fails Fails = Some Read
 
--- what a table tells of a place: after a gap and a token that goes on, inside a header line or not, after the words of each line before, those of its own line, the header, and the words of the data
+-- the error of a place, after a gap and a token that may continue, inside a header line or not, after the words of each
+-- earlier line, the words of its own line, the header, and the words of the data
 abbrev pub Table : Type 0
 Table = ℕ → List ℕ → Bool → List (List (List ℕ)) → List (List ℕ) → Result HeaderValue GridKind → List (List ℕ) → FaultPlace → Option GridKind
 
--- The table: a place that stands in several rows is judged by them from the top.
+-- The table: a place that is in several rows is judged by them from the top.
 abbrev pub whole_table : Table
 whole_table gap token inside earlier line header words place =
     long_token token place
@@ -240,7 +242,7 @@ header_rows gap token inside earlier line header words place =
     or header_ends header words token place
     or read_fails place
 
--- what the opening of a text tells, and nothing behind the first token of the data
+-- the errors of the opening of a text, and none after the first token of the data
 abbrev pub opening_table : Table
 opening_table gap token inside earlier line header words place = if is_opening words token then header_rows gap token inside earlier line header words place else None
 
@@ -248,21 +250,21 @@ opening_table gap token inside earlier line header words place = if is_opening w
 abbrev pub kind_at : Table → ℕ → List ℕ → List (List (List ℕ)) → List (List ℕ) → List (List (List ℕ)) → FaultPlace → Option GridKind
 kind_at table gap token earlier line lines place = table gap token (in_header_line earlier line) earlier line (header_in lines) (data_words lines) place
 
--- what a place tells, after the bytes before it; a token holds no line feed, so the line where it begins is that of its end
+-- the error of a place after the bytes before it; a token has no line feed, so it begins in the line in which it ends
 abbrev pub reported_fault : Table → List ℕ → FaultPlace → Option GridFault
 reported_fault table before place = option_map (λ kind. grid_fault kind (line_of_place before))
     (kind_at table (gap_of_place before) (token_at_place before) (front_of (line_words before)) (last_token (line_words before)) (line_words before) place)
 
--- the first fault that is reported, where some bytes were passed and the rest comes
+-- the first error that is reported after some bytes, in the rest of the text
 abbrev pub first_reported : Table → List ℕ → List ℕ → Bool → Option GridFault
 first_reported table before [] false = reported_fault table before End
 first_reported table before [] true = reported_fault table before Fails
 first_reported table before (b ∷ bs) fails = reported_fault table before (Byte b) or first_reported table (before ++ b ∷ []) bs fails
 
--- the fault of a text
+-- the error of a text
 abbrev pub text_fault : Coming → Option GridFault
 text_fault c = first_reported whole_table [] c.bytes c.fails
 
--- the fault of a text up to the end of the first token of its data, where no cell is judged
+-- the error of a text up to the end of the first token of its data, in which no cell is judged
 abbrev pub opening_fault : Coming → Option GridFault
 opening_fault c = first_reported opening_table [] c.bytes c.fails

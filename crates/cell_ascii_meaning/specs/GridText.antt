@@ -40,12 +40,12 @@ header_lines lines = filter is_header_line (take_while (λ l. not (is_data_line 
 abbrev pub data_words : List (List (List ℕ)) → List (List ℕ)
 data_words lines = flat_map (λ l. l) (drop (prefix_len (λ l. not (is_data_line l)) lines) lines)
 
--- what stands before the first colon of a header line
+-- what comes before the first colon of a header line
 abbrev pub key_text : List (List ℕ) → List ℕ
 key_text [] = []
 key_text (word ∷ words) = before_first is_colon word
 
--- the words that stand behind it
+-- the words that come after it
 abbrev pub line_values : List (List ℕ) → List (List ℕ)
 line_values [] = []
 line_values (word ∷ words) = filter is_word (after_first is_colon word ∷ words)
@@ -63,7 +63,7 @@ read_or read usual (Some value) = read value
 abbrev pub null_text : List ℕ → Option (List ℕ)
 null_text value = if has_colon value then None else Some value
 
--- a type is that of whole numbers
+-- the only type is the type of whole numbers
 abbrev pub int_type : List ℕ → Option (Unit {0})
 int_type value = if is_int value then Some tt else None
 
@@ -90,7 +90,7 @@ pub record DenoteCells (h : HeaderValue) (words : List (List ℕ)) (grid : Grid)
   pub each : (r c : ℕ) → r < h.region.rows → c < h.region.cols
       → option_map (cell_of_word h) (slice_get words (r * h.region.cols + c)) ≡ Some (Ok (cell_at grid r c))
 
--- no word has over 64 bytes, and no more than 1048576 blanks and line feeds stand in a row
+-- no word has over 64 bytes, and no run of blanks and line feeds is longer than 1048576 bytes
 pub record IsWithinLimits (text : List ℕ) : Type 0 where
   pub words : All (λ w. length w ≤ 64) (grid_words_of text)
   pub gaps : (front gap back : List ℕ) → text ≡ front ++ (gap ++ back) → IsTrue (list_all is_space gap) → length gap ≤ 1048576

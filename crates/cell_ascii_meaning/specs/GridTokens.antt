@@ -1,4 +1,4 @@
--- Words of a grid text: what stands before the next word, and the word (profile: blanks, line feeds and their limits).
+-- Words of a grid text: what comes before the next word, and the word (profile: blanks, line feeds and their limits).
 pub use Rattle.cell_ascii_meaning.specs.GridWords.{is_line_feed, is_space}
 use Rattle.std.specs.Prelude.{ℕ, ◌+◌, ◌-◌, Bool, true, false, ◌==◌, not, nat_lt, List, [], ◌∷◌, ◌++◌, length, take, drop, count_by, Result, Ok, Err, if◌then◌else◌}
 use Rattle.std.specs.List.{prefix_len}
@@ -15,11 +15,11 @@ is_word_byte b = not (is_space b)
 abbrev pub newlines : List ℕ → ℕ
 newlines bs = count_by is_line_feed bs
 
--- a fault at a line
+-- an error at a line
 abbrev pub grid_fault : GridKind → ℕ → GridFault
 grid_fault kind line = record { kind = kind; line = line }
 
--- where the next word begins, with what comes from there on; the end; or a fault before either
+-- where the next word begins, with what comes from there on; the end; or an error before either
 pub data Start : Type 0 where
   Begins : ℕ → Coming → Start
   Ends : ℕ → Start
@@ -44,7 +44,7 @@ word_end line word [] true = Err (grid_fault Read line)
 word_end line word [] false = Ok (word, record { bytes = []; fails = false })
 word_end line word (b ∷ bs) fails = Ok (word, record { bytes = b ∷ bs; fails = fails })
 
--- the word that goes on after `front`, and what comes after it
+-- the word that continues after `front`, and what comes after it
 unfoldable pub word_from : ℕ → List ℕ → Coming → Result (List ℕ × Coming) GridFault
 word_from line front c =
     let more = prefix_len is_word_byte c.bytes in

@@ -24,7 +24,7 @@ is_colon b = b == byte (codes ":")
 abbrev pub has_colon : List ℕ → Bool
 has_colon text = list_any is_colon text
 
--- the only type is that of whole numbers
+-- the only type is the type of whole numbers
 abbrev pub is_int : List ℕ → Bool
 is_int value = bytes_eq value (codes "int")
 
@@ -48,6 +48,6 @@ cell_of_number multiplier None = Err BadCell
 cell_of_number multiplier (Some n) =
     if is_in_range n then (if is_in_range (n *ℤ multiplier) then Ok (Some (n *ℤ multiplier)) else Err CellRange) else Err CellRange
 
--- the cell that a word denotes: null where it is the null text, else a number
+-- the cell that a word denotes: null if it is the null text, else a number
 abbrev pub cell_of_word : HeaderValue → List ℕ → Result CellValue GridKind
 cell_of_word h word = if bytes_eq word h.null_text then Ok None else cell_of_number h.multiplier (whole_number word)

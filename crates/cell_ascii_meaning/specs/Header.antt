@@ -15,7 +15,7 @@ use Rattle.cell_ascii_meaning.specs.declared.grid_fault.GridKind.{GridKind}
 use Rattle.cell_ascii_meaning.specs.declared.grid_fault.GridKind.TheVariants.{BadHeader, TwiceKey, MissingKey, BadNumber, BadType, Region, Read, ReaderStuck}
 use Rattle.cell_ascii_meaning.specs.declared.grid_fault.GridFault.{GridFault}
 
--- the keys that stood so far, each with its value; of the type only that it stood
+-- the keys given so far, each with its value; for the type only whether it was given
 pub record KeyValues : Type 0 where
   pub north : Option ℤ
   pub south : Option ℤ
@@ -27,7 +27,7 @@ pub record KeyValues : Type 0 where
   pub kind : Bool
   pub multiplier : Option ℤ
 
--- no key stood so far
+-- no key is given so far
 abbrev pub no_keys : KeyValues
 no_keys = record { north = None; south = None; east = None; west = None; rows = None; cols = None; null = None; kind = false; multiplier = None }
 
@@ -67,14 +67,14 @@ header_of keys = all keys.north keys.south keys.east keys.west keys.rows keys.co
 abbrev pub is_grid_blank : ℕ → Bool
 is_grid_blank b = is_space b && not (is_line_feed b)
 
--- what ends the blanks within a line: a word, a line feed with the run that it ends, the end of the text, or a fault
+-- what ends the blanks within a line: a word, a line feed with the run that it ends, the end of the text, or an error
 pub data Gap : Type 0 where
   Word : Coming → Gap
   Feed : ℕ → Coming → Gap
   Last : Gap
   Fault : GridFault → Gap
 
--- what stands behind the blanks, where a run of blanks has gone on for `run` bytes
+-- what comes after the blanks, if the run of blanks has `run` bytes so far
 abbrev pub gap_at : ℕ → ℕ → List ℕ → Bool → Gap
 gap_at line run [] true = Fault (grid_fault Read line)
 gap_at line run [] false = Last
@@ -89,7 +89,7 @@ gap_of line run c =
     if nat_lt 1048576 (run + gap) then Fault (grid_fault ReaderStuck line)
     else gap_at line (run + gap) (drop gap c.bytes) c.fails
 
--- the value of a header line: what stands behind the colon, else the next word of the line
+-- the value of a header line: what comes after the colon, else the next word of the line
 abbrev pub value_from : ℕ → List ℕ → Coming → Result (List ℕ × Coming) GridFault
 value_from line (b ∷ bs) c = Ok (b ∷ bs, c)
 value_from line [] c = after (gap_of line 0 c)
@@ -104,19 +104,19 @@ value_from line [] c = after (gap_of line 0 c)
 abbrev pub LineEnd : Type 0
 LineEnd = Option (ℕ × Coming)
 
--- behind the value stands no other word
+-- no other word comes after the value
 abbrev pub line_end : ℕ → Gap → Result LineEnd GridFault
 line_end line (Word d) = Err (grid_fault BadHeader line)
 line_end line (Feed run d) = Ok (Some (run, d))
 line_end line Last = Ok None
 line_end line (Fault f) = Err f
 
--- a fault of a line has the line's number
+-- an error of a line has the line's number
 abbrev pub at_line : {X : Type 0} → ℕ → Result X GridKind → Result X GridFault
 at_line line (Ok x) = Ok x
 at_line line (Err kind) = Err (grid_fault kind line)
 
--- a header line behind its first word: the keys with its own, and where it ends
+-- a header line after its first word: the keys with its own, and where it ends
 abbrev pub key_line : ℕ → KeyValues → List ℕ → Coming → Result (KeyValues × LineEnd) GridFault
 key_line line keys word c =
     value_from line (after_first is_colon word) c
@@ -140,12 +140,12 @@ pub record OpenedText : Type 0 where
 abbrev pub header_ended : Coming
 header_ended = record { bytes = []; fails = false }
 
--- the header of the keys and where the data begins, or why they give no header, told at the line
+-- the header of the keys and where the data begins, or why they give no header, at the line
 abbrev pub opened_text : KeyValues → ℕ → Option (List ℕ) → Coming → Result OpenedText GridFault
 opened_text keys line pending c =
     at_line line (header_of keys) >>= (λ h. Ok (record { header = h; at = record { pending = pending; line = line; run = 0; coming = c } }))
 
--- after a header line: `rest` reads the lines behind it
+-- after a header line: `rest` reads the lines after it
 abbrev pub after_line : (KeyValues → ℕ → ℕ → Coming → Result OpenedText GridFault) → ℕ → KeyValues × LineEnd → Result OpenedText GridFault
 after_line rest line (keys, None) = opened_text keys line None header_ended
 after_line rest line (keys, Some (run, c)) = rest keys (line + 1) run c

@@ -1,10 +1,10 @@
--- Kinds of faults.
+-- Kinds of errors.
 use Rattle.std.specs.Prelude.{⊤, Bool, true, false, Result, Ok, Err}
 use Rattle.cell_ascii_meaning.specs.declared.grid_fault.GridFault.{GridFault}
 use Rattle.cell_ascii_meaning.specs.declared.grid_fault.GridKind.{GridKind}
 use Rattle.cell_ascii_meaning.specs.declared.grid_fault.GridKind.TheVariants.{Read, Memory, Failed}
 
--- a fault of the text or of its source: not being out of memory, nor that of a reader that failed before
+-- an error of the text or of its source: neither running out of memory, nor an earlier error of the reader
 abbrev pub IsOfText : GridKind → Type 0
 IsOfText Memory = ⊥
 IsOfText Failed = ⊥
@@ -15,7 +15,7 @@ abbrev pub is_read : GridKind → Bool
 is_read Read = true
 is_read _ = false
 
--- whether an answer tells that an `Err` of the source was heard
+-- whether a result reports that an `Err` of the source was heard
 abbrev pub reports_read : {X : Type 0} → Result X GridFault → Bool
 reports_read (Ok x) = false
 reports_read (Err f) = is_read f.kind

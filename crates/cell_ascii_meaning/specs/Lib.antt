@@ -1,4 +1,4 @@
--- Grid texts: what they mean, which fault they tell, how they are read forward, what is written.
+-- Grid texts: what they mean, which error they have, how they are read forward, what is written.
 pub mod GridWords
 pub mod GridTokens
 pub mod EdgeNumbers

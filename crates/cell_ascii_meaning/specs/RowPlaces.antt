@@ -1,4 +1,5 @@
--- Which fault the rest of a text tells, read row by row behind its header (profile): the rows of the table of places that are about the data.
+-- The error of the rest of a text that is read row by row after its header (profile): the rows of the table of places
+-- that are about the data.
 use Rattle.std.specs.Prelude.{ℕ, ◌+◌, ◌≡◌, ◌≤◌, Bool, true, false, ◌&&◌, ◌||◌, ◌==◌, not, nat_lt, List, [], ◌∷◌, ◌++◌, length, Option, None, Ok, if◌then◌else◌, IsTrue, IfSome}
 use Rattle.std.specs.List.{list_all}
 use Rattle.std.specs.Option.{option_map, unwrap_or}
@@ -11,7 +12,7 @@ use Rattle.cell_ascii_meaning.specs.declared.grid_fault.GridKind.{GridKind}
 use Rattle.cell_ascii_meaning.specs.declared.grid_fault.GridKind.TheVariants.{TooFew, TooMany}
 use Rattle.cell_ascii_meaning.specs.declared.grid_fault.GridFault.{GridFault}
 
--- what a table tells of a place: after a gap and a token that goes on, among so many words
+-- the error of a place, after a gap and a token that may continue, among so many words
 abbrev pub RowTable : Type 0
 RowTable = ℕ → List ℕ → List (List ℕ) → FaultPlace → Option GridKind
 
@@ -40,34 +41,34 @@ cell_rows h count gap token words place =
 abbrev pub is_within : ℕ → List (List ℕ) → List ℕ → Bool
 is_within count words token = nat_lt (length words) count || (is_word token && length words == count)
 
--- what the next cells tell, and nothing behind them
+-- the errors of the next cells, and none after them
 abbrev pub cells_table : HeaderValue → ℕ → RowTable
 cells_table h count gap token words place = if is_within count words token then cell_rows h count gap token words place else None
 
--- what is reported behind the last cell
+-- what is reported after the last cell
 abbrev pub end_table : RowTable
 end_table gap token words place = stuck gap place or token_begins token place or read_fails place
 
--- the number of blanks and line feeds in a row that end just here, where a run of them stood before
+-- the number of blanks and line feeds in a row that end just here, after a run of them before the bytes
 abbrev pub run_of : ℕ → List ℕ → ℕ
 run_of run before = if list_all is_space before then run + length before else gap_of_place before
 
--- what a place behind another tells, after the bytes between; a token that waits stands before them
+-- the error of a place after another one and the bytes between them; a token that waits comes before these bytes
 abbrev pub reported_behind : RowTable → At → List ℕ → FaultPlace → Option GridFault
 reported_behind table at before place = option_map (λ kind. grid_fault kind (at.line + newlines before))
     (table (run_of at.run before) (token_at_place (unwrap_or at.pending [] ++ before)) (grid_words_of (unwrap_or at.pending [] ++ before)) place)
 
--- the first fault that is reported behind a place
+-- the first error that is reported after a place
 abbrev pub first_behind : RowTable → At → List ℕ → List ℕ → Bool → Option GridFault
 first_behind table at before [] false = reported_behind table at before End
 first_behind table at before [] true = reported_behind table at before Fails
 first_behind table at before (b ∷ bs) fails = reported_behind table at before (Byte b) or first_behind table at (before ++ b ∷ []) bs fails
 
--- the fault of the next cells
+-- the error of the next cells
 abbrev pub cells_fault : HeaderValue → ℕ → At → Option GridFault
 cells_fault h count at = first_behind (cells_table h count) at [] at.coming.bytes at.coming.fails
 
--- the fault of the end
+-- the error of the end
 abbrev pub end_fault : At → Option GridFault
 end_fault at = first_behind end_table at [] at.coming.bytes at.coming.fails
 

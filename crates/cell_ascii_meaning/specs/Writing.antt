@@ -12,7 +12,7 @@ use Rattle.cell_ascii_meaning.specs.Header.{has_colon, usual_null}
 abbrev pub without_zeros : List ℕ → List ℕ
 without_zeros digits = take (length digits - prefix_len (λ b. b == byte (codes "0")) (reverse digits)) digits
 
--- a part of 10^8 as a point and its eight digits, without the zeros at their end; nothing where it is 0
+-- a part of 10^8 as a point and its eight digits, without the zeros at their end; nothing if it is 0
 abbrev pub fraction_text : ℕ → List ℕ
 fraction_text part = if part == 0 then [] else byte (codes ".") ∷ without_zeros (drop 1 (decimal (100000000 + part)))
 
@@ -20,7 +20,7 @@ fraction_text part = if part == 0 then [] else byte (codes ".") ∷ without_zero
 abbrev pub units_text : ℕ → List ℕ
 units_text n = decimal (n / 100000000) ++ fraction_text (n % 100000000)
 
--- a coordinate: its sign where it is negative, its whole part, and its fraction where that is not 0
+-- a coordinate: its sign if it is negative, its whole part, and its fraction if that is not 0
 abbrev pub coordinate_text : ℤ → List ℕ
 coordinate_text (pos n) = units_text n
 coordinate_text (negsuc n) = byte (codes "-") ∷ units_text (suc n)

@@ -9,10 +9,10 @@ pub enum GridKind {
     /// An unknown key, no value, or more than one, or a null text with a colon.
     #[error("bad header line")]
     BadHeader,
-    /// A key that stood before.
+    /// A key that was given before.
     #[error("key given twice")]
     TwiceKey,
-    /// The header ends without one of the six keys that must stand.
+    /// The header ends without one of the six required keys.
     #[error("missing key")]
     MissingKey,
     /// A value that is no number of its kind.
@@ -39,10 +39,10 @@ pub enum GridKind {
     /// The text cannot be read on.
     #[error("read failed")]
     Read,
-    /// A growth was refused.
+    /// Memory ran out.
     #[error("no memory")]
     Memory,
-    /// An earlier call of the reader was refused.
+    /// An earlier call of the reader failed.
     #[error("reader failed")]
     Failed,
     /// More than 1,048,576 blanks and line feeds in a row.

@@ -1,7 +1,7 @@
 //! Which text is which grid, and which error an invalid text has. Definitions alone: nothing here
 //! reads a byte.
 //!
-//! The format is that of the GRASS manual (r.in.ascii, r.out.ascii); limits and the order of errors
+//! The format follows the GRASS manual (r.in.ascii, r.out.ascii); limits and the order of errors
 //! are our own choice (profile). `Denotes` says of a source and a map that the source ends without
 //! an error, its header lines give the region of the map, and the words after them are its cells,
 //! row by row from the north.

@@ -41,7 +41,7 @@ whole_below bs e h = let p : 10 ^ length bs ≤ 10 ^ 10 = pow-le-pow_right (omeg
 split_power : (k : ℕ) → k ≤ 8 → 10 ^ k * 10 ^ (8 - k) ≡ 100000000
 split_power k h = let sum : k + (8 - k) ≡ 8 = omega arith in sym (pow-add 10 k (8 - k)) ∙ ap (λ (n : ℕ). 10 ^ n) sum
 
--- what stands behind the point is below one
+-- the digits after the point are worth less than one
 pub part_below : (bs : List ℕ) → list_all is_digit bs ≡ true → length bs ≤ 8 → value_of_digits bs * 10 ^ (8 - length bs) < 100000000
 part_below bs e h =
     let q = 10 ^ (8 - length bs) in

@@ -1,4 +1,4 @@
--- The header of six keys that all stood.
+-- The header of six keys that were all given.
 use Rattle.std.proofs.Common.{◌≡◌, Some, Ok, Err, Result, refl}
 use Rattle.cell_core_values.specs.Region.{RegionValue, region_fault}
 use Rattle.cell_core_values.specs.declared.region.RegionFault.{RegionFault}

@@ -20,12 +20,12 @@ use Rattle.cell_ascii_reading.specs.declared.scanner.Next.TheVariants.{Word as N
 use Rattle.cell_ascii_reading.proofs.MapLemmas.{then_map, map_same}
 use Rattle.cell_ascii_reading.proofs.ComingLemmas.{at_end}
 
--- what stands behind the colon is the value
+-- what comes after the colon is the value
 pub value_here : (line : ℕ) (bs : List ℕ) (c : Coming) → 0 < length bs → value_from line bs c ≡ Ok (bs, c)
 value_here line [] c h = absurd (omega arith)
 value_here line (b ∷ bs) c h = refl
 
--- what the end of the blanks makes of a value that does not stand in the word
+-- the value after a colon that ends its word, by what ends the blanks
 abbrev after_blanks : ℕ → Gap → Result (List ℕ × Coming) GridFault
 after_blanks line (Word d) = word_from line [] d
 after_blanks line (FeedGap run d) = Err (grid_fault BadHeader line)
@@ -98,7 +98,7 @@ refused_with : (kind : GridKind) (line run : ℕ) (e : Ending) (c : Coming)
 refused_with kind line run Feed c = refl
 refused_with kind line run Text c = refl
 
--- one whose key or value is refused
+-- a line whose key or value is rejected
 pub key_refused : (line : ℕ) (keys : KeyValues) (word w : List ℕ) (at run : ℕ) (e : Ending) (more : KeyValues)
     (kind : GridKind)
     (a b d : Option Coming)
@@ -136,7 +136,7 @@ later p x xs e = ap (λ (t : Bool). cond (not t) (1 + position_or_len p xs) 0) e
 none_later : (p : ℕ → Bool) (x : ℕ) (xs : List ℕ) → p x ≡ true → position_or_len p (x ∷ xs) ≡ 0
 none_later p x xs e = ap (λ (t : Bool). cond (not t) (1 + position_or_len p xs) 0) e
 
--- a word has a colon where one stands before its end
+-- a word has a colon if the first colon comes before its end
 pub any_within : (p : ℕ → Bool) (xs : List ℕ) → position_or_len p xs < length xs → list_any p xs ≡ true
 any_within p [] h = absurd (omega arith)
 any_within p (x ∷ xs) h = by (any_within p xs) (p x) refl
@@ -192,7 +192,7 @@ module _ (keys : KeyValues) (line run l : ℕ) (word : List ℕ) (a b d : Option
         → option_map (λ c. line_read keys (grid_start line run c)) a ≡ option_map (λ c. Err f) e
     line_fails f h = line_ends (Err f) h
 
--- a line of the header, and then what is read behind it
+-- a line of the header, and then what is read after it
 abbrev go_on : (KeyValues → ℕ → ℕ → Coming → Result OpenedText GridFault) → Result AfterLine GridFault
     → Result OpenedText GridFault
 go_on rest (Ok (More keys line run c)) = rest keys line run c
@@ -243,7 +243,7 @@ module _ (F : Coming → Result OpenedText GridFault) (a b d : Option Coming) (i
       ∙ map_same (header_from (suc (10 - (i + 1))) keys line run) (λ c. go_on (λ k l r x. header_from (10 - (i + 1)) k l r x) (line_read keys (grid_start line run c))) b (header_more (10 - (i + 1)) keys line run)
       ∙ then_map (go_on (λ k l r x. header_from (10 - (i + 1)) k l r x)) (λ c. line_read keys (grid_start line run c)) seen b d h
 
-  -- the keys after the line, and the lines behind it
+  -- the keys after the line, and the lines after it
   pub header_goes : (more : KeyValues) (l r : ℕ) → option_map (λ c. line_read keys (grid_start line run c)) b ≡ option_map (λ c. Ok (More more l r c)) d
       → option_map F a ≡ option_map (header_from (10 - (i + 1)) more l r) d
   header_goes more l r h = one_line (λ c. Ok (More more l r c)) h

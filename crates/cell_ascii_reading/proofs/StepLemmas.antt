@@ -1,4 +1,4 @@
--- What a step over blanks and line feeds tells of the next word, of the rest of the line, and of the line and the run.
+-- What a step over blanks and line feeds shows of the next word, of the rest of the line, and of the line and the run.
 use Rattle.std.proofs.Common.{◌≡◌, ℕ, ◌+◌, ◌-◌, ◌<◌, ◌≤◌, ◌==◌, List, [], ◌∷◌, Option, Some, None, Bool, true, false, Result, Ok, Err, nat_lt, refl, ap, ◌∙◌, arith}
 use Rattle.std.specs.Option.{option_map}
 use Rattle.std.proofs.lemmas.Bool.Decides.{nat_tests}
@@ -52,7 +52,7 @@ agrees_after F K H G same None (Some d) e = cc
 agrees_after F K H G same (Some c) None e = cc
 agrees_after F K H G same (Some c) (Some d) e = let inner : F c ≡ K d = cc in ap Some (same c ∙ ap G inner)
 
--- what a step with what is to come behind it says of the next word, and of the rest of the line
+-- what a step and the bytes after it say of the next word, and of the rest of the line
 abbrev start_after : ℕ → ℕ → Result ScanStep GridFault × Coming → Start
 start_after line run p = start_step p.0 (line_step p.0 line) (run_step p.0 run) p.1
 
@@ -98,7 +98,7 @@ lines_by (Ok Word) line run = omega arith
 lines_by (Ok End) line run = omega arith
 lines_by (Err f) line run = omega arith
 
--- what a step from one place to another tells
+-- what a step from one place to another shows
 pub record Reports (r : Result ScanStep GridFault) (s t : Scan) : Type 0 where
   pub starts : Agrees (grid_start s.line s.run) s.ahead (start_step r t.line t.run) t.ahead
   pub gap : Agrees (gap_of s.line s.run) s.ahead (gap_step r t.line t.run) t.ahead

@@ -1,10 +1,10 @@
--- What a buffered source still gives: the bytes held, and then those of the source.
+-- What a buffered source still gives: the bytes held, and then the bytes of the source.
 use Rattle.std.specs.Prelude.{ℕ, ◌≡◌, Bool, List, [], ◌++◌, Option, IfSome}
 use Rattle.std.specs.Option.{option_map}
 use Rattle.cell_core_devices.specs.Asking.{Heard}
 use Rattle.cell_core_devices.specs.Device.{Coming}
 
--- the bytes that a buffer holds, what its source still gives, where that is known, whether it has told its end, and what
+-- the bytes that a buffer holds, what its source still gives, if that is known, whether the source has ended, and what
 -- was heard of it
 pub record Ahead : Type 0 where
   pub buffered : List ℕ
@@ -16,7 +16,7 @@ pub record Ahead : Type 0 where
 abbrev pub before_coming : List ℕ → Coming → Coming
 before_coming bs c = record { bytes = bs ++ c.bytes; fails = c.fails }
 
--- all that is to come, where it is known
+-- all that is to come, if it is known
 abbrev pub bytes_to_come : Ahead → Option Coming
 bytes_to_come a = option_map (before_coming a.buffered) a.rest
 
@@ -24,6 +24,6 @@ bytes_to_come a = option_map (before_coming a.buffered) a.rest
 abbrev pub IsAtEnd : Bool → Option Coming → Type 0
 IsAtEnd fails known = IfSome known (λ c. (c.bytes ≡ []) × (c.fails ≡ fails))
 
--- what one says of the bytes that were to come is what the other says of those that are
+-- two functions agree: one on the bytes that were to come, the other on the bytes that are
 abbrev pub Agrees : {A : Type 0} → (Coming → A) → Ahead → (Coming → A) → Ahead → Type 0
 Agrees before old after new = option_map before (bytes_to_come old) ≡ option_map after (bytes_to_come new)

@@ -6,21 +6,21 @@ use Rattle.cell_ascii_meaning.specs.Header.{HeaderValue, has_colon, is_int, usua
 use Rattle.cell_ascii_meaning.specs.declared.grid_fault.GridKind.{GridKind}
 use Rattle.cell_ascii_meaning.specs.declared.grid_fault.GridKind.TheVariants.{BadHeader, TwiceKey, BadNumber, BadType, Region}
 
--- its value, where it did not stand before and is a number
+-- its value, if it was not given before and is a number
 abbrev pub given_value : {X : Type 0} → Option X → Option X → Result X GridKind
 given_value (Some old) value = Err TwiceKey
 given_value None None = Err BadNumber
 given_value None (Some x) = Ok x
 
--- a null text, where none stood before and it has no colon
+-- a null text, if none was given before and it has no colon
 abbrev pub given_null : Option (List ℕ) → List ℕ → Result (List ℕ) GridKind
 given_null old text = if has_colon text then Err BadHeader else given_value old (Some text)
 
--- that the type stands now, where it did not stand before and is that of whole numbers
+-- that the type is given now, if it was not given before and is the type of whole numbers
 abbrev pub given_type : Bool → List ℕ → Result Bool GridKind
 given_type old text = if old then Err TwiceKey else (if is_int text then Ok true else Err BadType)
 
--- the header over a region, where there is one
+-- the header over a region, if there is one
 abbrev pub keys_judged : Result RegionValue RegionFault → Option (List ℕ) → Option ℤ → Result HeaderValue GridKind
 keys_judged (Ok region) null multiplier = Ok (record { region = region; null_text = unwrap_or null usual_null; multiplier = unwrap_or multiplier usual_multiplier })
 keys_judged (Err f) null multiplier = Err (Region f)

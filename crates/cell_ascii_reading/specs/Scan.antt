@@ -1,4 +1,4 @@
--- What a scanner is at, and what its calls answer.
+-- The state of a scanner, and what its calls return.
 use Rattle.std.specs.Prelude.{ℕ, ◌≡◌, ◌+◌, Bool, true, false, List, Result, Ok, Err, IfErr}
 use Rattle.cell_core_devices.specs.Asking.{hears}
 use Rattle.cell_core_devices.specs.Device.{Coming}
@@ -19,13 +19,13 @@ pub record Scan : Type 0 where
   pub word : List ℕ
   pub ahead : Ahead
 
--- what an answer says of the next word: that it begins, that the text ends, or a fault
+-- what a result says of the next word: that it begins, that the text ends, or an error
 abbrev pub start_seen : Result Next GridFault → ℕ → Coming → Start
 start_seen (Ok NextWord) line c = Begins line c
 start_seen (Ok NextEnd) line c = Ends line
 start_seen (Err f) line c = Stops f
 
--- what an answer says of the rest of a line
+-- what a result says of the rest of a line
 abbrev pub gap_seen : Result InLine GridFault → ℕ → Coming → Gap
 gap_seen (Ok LineWord) run c = Word c
 gap_seen (Ok LineFeed) run c = Feed run c
@@ -39,21 +39,21 @@ line_count_seen (Ok LineFeed) line = line + 1
 line_count_seen (Ok LineEnd) line = line
 line_count_seen (Err f) line = line
 
--- what an answer says of a word
+-- what a result says of a word
 abbrev pub word_seen : Result (Unit {0}) GridFault → List ℕ → Coming → Result (List ℕ × Coming) GridFault
 word_seen (Ok u) word c = Ok (word, c)
 word_seen (Err f) word c = Err f
 
--- what a part of a word says of the whole
+-- what a part of a word says of the full word
 abbrev pub part_seen : Result Bool GridFault → ℕ → List ℕ → Coming → Result (List ℕ × Coming) GridFault
 part_seen (Ok true) line word c = word_from line word c
 part_seen (Ok false) line word c = Ok (word, c)
 part_seen (Err f) line word c = Err f
 
--- an answer is a fault of the text or of its source only
+-- the errors of a result are errors of the text or of its source
 abbrev pub FailsInText : {A : Type 0} → Result A GridFault → Type 0
 FailsInText answer = IfErr answer (λ f. IsOfText f.kind)
 
--- what an answer tells of the source is what was heard of it
+-- what was heard of the source is what a result reports
 abbrev pub Hears : {A : Type 0} → Result A GridFault → Ahead → Ahead → Type 0
 Hears answer old new = new.heard ≡ hears (reports_read answer) old.heard

@@ -104,7 +104,7 @@ impl Header {
         }
     }
 
-    // Whether the word of a number is the null text. The texts are compared only where the numbers do not tell.
+    // Whether the word of a number is the null text. The texts are compared only if the numbers do not decide it.
     #[inline(always)]
     fn spells_null(&self, word: &[u8], number: i64) -> bool
         requires { whole_number word.now ≡ Some number }

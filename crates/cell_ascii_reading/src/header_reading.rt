@@ -86,7 +86,7 @@ fn end_line<R: Source>(scanner: &mut Scanner<R>) -> Result<Ending, GridFault>
     }
 }
 
-// Reads a header line behind its first word, whose first colon is at this place.
+// Reads a header line after its first word, whose first colon is at this place.
 fn read_key<R: Source>(
     scanner: &mut Scanner<R>,
     keys: &mut HeaderKeys,

@@ -48,7 +48,7 @@ impl<R: Source> Input<R> {
     ///
     /// # Errors
     ///
-    /// `Memory`, where memory is refused.
+    /// `Memory` if memory runs out.
     pub fn new(alloc: Global, source: R) -> Result<Input<R>, Memory>
     where
         R: Drop,
@@ -70,8 +70,8 @@ impl<R: Source> Input<R> {
         })
     }
 
-    /// The next byte, or `None` at the end. The source is not asked again behind its end, nor after an `Err`, which is
-    /// told from then on.
+    /// The next byte, or `None` at the end. The source is not asked again after its end, nor after an `Err`, which is
+    /// returned from then on.
     pub fn peek(&mut self) -> Result<Option<u8>, DeviceFault>
         ensures same { bytes_to_come self.new ≡ bytes_to_come self.old }
         ensures byte { IfOk result (λ o. IfSome o (λ b. slice_get self.new.buffered 0 ≡ Some b)) }

@@ -1,4 +1,4 @@
-//! The keys of a header that stood so far.
+//! The keys of a header that were given so far.
 
 ghost use Rattle.std.specs.Prelude.{◌≡◌, ◌≤◌, length, Ok, Err, OnOk, IfErr, Option};
 ghost use Rattle.cell_ascii_meaning.specs.Header.{no_keys, with_header_key, header_of};
@@ -13,7 +13,7 @@ use cell_core::region::{Region, RegionFault};
 use cell_core_values::whole_numbers;
 use std::marker::Model;
 
-/// The keys that stood so far, each with its value.
+/// The keys given so far, each with its value.
 #[derive(Drop)]
 pub struct HeaderKeys {
     north: Option<i64>,
@@ -60,7 +60,7 @@ fn given_null(old: &Option<HeaderNull>, text: &[u8]) -> Result<HeaderNull, GridK
     }
 }
 
-// The type is given once, and is that of whole numbers.
+// The type is given once, and is the type of whole numbers.
 fn given_type(old: bool, text: &[u8]) -> Result<bool, GridKind>
     ensures { result ≡ given_type old text.now }
 {
@@ -73,7 +73,7 @@ fn given_type(old: bool, text: &[u8]) -> Result<bool, GridKind>
     Ok(true)
 }
 
-// The header over a region, where there is one.
+// The header over a region, if there is one.
 fn header_of_region(
     region: Result<Region, RegionFault>,
     null: Option<HeaderNull>,

@@ -70,7 +70,7 @@ impl<R: Source> Scanner<R> {
     ghost use Rattle.cell_ascii_reading.specs.parts.ScanSteps.{IsStep};
     ghost use Rattle.cell_ascii_reading.specs.Scan.{start_seen, gap_seen, line_count_seen, word_seen, part_seen};
 
-    // The next byte, or `None` at the end. A device that fails is a fault at the line.
+    // The next byte, or `None` at the end. A device that fails is an error at the line.
     #[inline(always)]
     fn peek(&mut self) -> Result<Option<u8>, GridFault>
         ensures same { bytes_to_come self.new.ahead ≡ bytes_to_come self.old.ahead }
@@ -260,7 +260,7 @@ impl<R: Source> Scanner<R> {
         self.input.pass(n);
     }
 
-    /// The line at which the scanner stands, from 1.
+    /// The line that the scanner is at, from 1.
     pub fn line(&self) -> u64
         ensures { result ≡ self.now.line }
     {
@@ -279,7 +279,7 @@ impl<R: Source> Scanner<R> {
     ///
     /// # Errors
     ///
-    /// `Memory`, where memory is refused.
+    /// `Memory` if memory runs out.
     pub fn new(alloc: Global, source: R) -> Result<Scanner<R>, Memory>
     where
         R: Drop,

@@ -35,7 +35,7 @@ each_is (x ∷ xs) = ap (λ l. grid_words_of x.now ∷ l) (each_is xs)
 pub text_lines : (xs : List (Bor (List ℕ))) (text : List ℕ) → texts xs ≡ lines_of text → words_of_each xs ≡ line_words text
 text_lines xs text e = each_is xs ∙ ap (map grid_words_of) e
 
--- the lines before the data, and those behind
+-- the lines before the data, and the lines after them
 pub lines_before : (xs : List (Bor (List ℕ))) (n : ℕ) → n ≡ prefix_len (λ l. not (is_data_line l)) (words_of_each xs) → filter is_header_line (words_of_each (take n xs)) ≡ header_lines (words_of_each xs)
 lines_before xs n e = ap (filter is_header_line) (sym (take-map (λ line. grid_words_of line.now) n xs) ∙ ap (λ k. take k (words_of_each xs)) e)
 

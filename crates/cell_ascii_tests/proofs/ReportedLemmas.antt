@@ -1,4 +1,4 @@
--- What a place tells, from what is known of the bytes before it.
+-- What a place reports, from what is known of the bytes before it.
 use Rattle.std.proofs.Common.{◌≡◌, ℕ, Bool, List, ap, ◌∙◌, Bor, Option, Result}
 use Rattle.std.specs.Option.{option_map}
 use Rattle.cell_ascii_meaning.specs.GridTokens.{grid_fault}

@@ -1,4 +1,4 @@
-//! The reader beside the definitions' own program, over texts that small edits make of good ones.
+//! The reader compared with the definitions' own program, over texts that small edits make of good ones.
 
 ghost use Rattle.std.specs.Prelude.{◌<◌};
 
@@ -27,7 +27,7 @@ const WIDE: &[u8] =
 
 const LONG: &[u8] = b"11111111111111111111111111111111111111111111111111111111111111111";
 
-// What stands in the place of a token.
+// What replaces a token.
 const OTHERS: [&[u8]; 6] = [LONG, b"x", b"x:", b"2147483648", b"-9", b"*"];
 
 fn read<R: AllocGlobal>(
@@ -65,7 +65,7 @@ fn expect_map<R: Abort + AllocGlobal>(rt: &R, map: &CellMap, text: &[u8]) -> Res
     Ok(())
 }
 
-// The answer is the map that the definitions give, or the fault that they tell.
+// The result is the map that the definitions give, or the error that they report.
 pub(crate) fn expect<R: Abort + AllocGlobal>(
     rt: &R,
     answer: Result<CellMap, GridFault>,
@@ -84,7 +84,7 @@ pub(crate) fn expect<R: Abort + AllocGlobal>(
     }
 }
 
-// Adds the kind of a fault, where it was not yet told.
+// Adds the kind of an error that was not yet reported.
 fn note(kinds: &mut Vec<GridKind>, reported: Option<GridFault>) -> Result<(), Memory> {
     if let Some(fault) = reported {
         if !kinds.contains(&fault.kind) {
@@ -94,7 +94,7 @@ fn note(kinds: &mut Vec<GridKind>, reported: Option<GridFault>) -> Result<(), Me
     Ok(())
 }
 
-// The reader answers what the definitions say, in pieces of each size.
+// The reader returns what the definitions say, in pieces of each size.
 fn agrees<R: Abort + AllocGlobal>(
     rt: &R,
     kinds: &mut Vec<GridKind>,
@@ -227,7 +227,7 @@ fn agrees_by_lines<R: Abort + AllocGlobal>(
     agrees_swapped(rt, kinds, &lines)
 }
 
-// Edits a text byte by byte, token by token and line by line. Answers the kinds of fault that were told.
+// Edits a text byte by byte, token by token and line by line. Returns the kinds of error that were reported.
 fn agrees_edited<R: Abort + AllocGlobal>(rt: &R, text: &[u8]) -> Result<Vec<GridKind>, Fail> {
     let mut kinds = Vec::new(rt.alloc());
     agrees(rt, &mut kinds, text, false)?;
@@ -250,7 +250,7 @@ fn wide_grid_edited(rt: HostRuntime) -> Result<(), Fail> {
     Ok(())
 }
 
-// All faults of a text but the gap of over a million blanks.
+// All errors of a text but the gap of over a million blanks.
 #[test]
 fn all_keys_edited(rt: HostRuntime) -> Result<(), Fail> {
     let kinds = agrees_edited(&rt, WHOLE)?;

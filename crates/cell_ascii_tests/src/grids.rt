@@ -49,7 +49,7 @@ fn read<R: AllocGlobal>(rt: &R, text: &[u8]) -> Result<Result<CellMap, GridFault
     Ok(read_map(rt.alloc(), MemorySource::new(bytes, 7, false)))
 }
 
-// The map of a text without a fault.
+// The map of a text without an error.
 fn read_good<R: AllocGlobal>(rt: &R, text: &[u8]) -> Result<CellMap, Fail> {
     Ok(read(rt, text)??)
 }
@@ -75,7 +75,7 @@ fn expect_faults<R: Abort + AllocGlobal>(
     Ok(())
 }
 
-// The category of a cell of a map; None where it is null or outside.
+// The category of a cell of a map; None if it is null or outside.
 fn category(map: &CellMap, row: u32, col: u32) -> Option<i32> {
     let region = map.region();
     if row < region.rows() && col < region.cols() {
@@ -91,7 +91,7 @@ fn expect_categories<R: Abort>(rt: &R, map: &CellMap, cells: &[(u32, u32, Option
     }
 }
 
-// What is written of a map with this null text, by pieces of a size: it has the length that the call answers.
+// What is written of a map with this null text, by pieces of a size: it has the length that the call returns.
 fn written<R: Abort + AllocGlobal>(
     rt: &R,
     map: &CellMap,
@@ -106,7 +106,7 @@ fn written<R: Abort + AllocGlobal>(
     Ok(sink.bytes().to_vec(rt.alloc())?)
 }
 
-// A text with further bytes behind it, all alike.
+// A text followed by more bytes, all equal.
 fn followed_by<R: AllocGlobal>(rt: &R, text: &[u8], byte: u8, count: u32) -> Result<Vec<u8>, Fail> {
     let mut bytes = text.to_vec(rt.alloc())?;
     for _ in 0..count {
@@ -124,7 +124,7 @@ fn reads_a_grid(rt: HostRuntime) -> Result<(), Fail> {
     Ok(())
 }
 
-// Texts with a fault of the header, and its line.
+// Texts with an error of the header, and its line.
 const HEADER_FAULTS: [(&[u8], GridKind, u64); 8] = [
     (b"", GridKind::MissingKey, 1),
     (b"north: 3 4\n", GridKind::BadHeader, 1),
@@ -153,7 +153,7 @@ fn reports_faults_of_a_header(rt: HostRuntime) -> Result<(), Fail> {
     expect_faults(&rt, &HEADER_FAULTS)
 }
 
-// Texts with a fault of the region.
+// Texts with an error of the region.
 const REGION_FAULTS: [(&[u8], GridKind, u64); 3] = [
     (
         b"north: 3\nsouth: 0\neast: 4\nwest: 0\nrows: -1\ncols: 4\n1 1 2 *\n1 2 2 2\n3 3 1 1\n",
@@ -276,7 +276,7 @@ fn reads_null_and_multiplier(rt: HostRuntime) -> Result<(), Fail> {
     expect_faults(&rt, &NULL_FAULTS)
 }
 
-// Texts that further bytes, all alike, turn into faults: the byte, their number and the fault that they have then.
+// Texts that become invalid by further equal bytes: the byte, their number and the error that they then have.
 const LIMITS: [(&[u8], u8, u32, Option<GridFault>); 5] = [
     (GRID, b' ', 1048575, None),
     (

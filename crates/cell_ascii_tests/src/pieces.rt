@@ -1,4 +1,4 @@
-//! Texts whose bytes come in pieces of many sizes, so that each place of a text stands once at the end of a piece and of a
+//! Texts whose bytes come in pieces of many sizes, so that each place of a text is once at the end of a piece and of a
 //! block of the reader.
 
 ghost use Rattle.std.specs.Prelude.{◌<◌};
@@ -25,7 +25,7 @@ const TEXTS: [&[u8]; 9] = [
     b"north: 1\nsouth: 0\neast: 3\nwest: 0\nrows: 2\ncols: 3\n1 2 3\n4 5 6 7\n",
 ];
 
-// A text with so many spaces in front, in pieces of a size.
+// A text after so many spaces, in pieces of a size.
 fn read_behind<R: AllocGlobal>(
     rt: &R,
     spaces: usize,

@@ -80,7 +80,7 @@ fn reads_rows_to_the_end(rt: HostRuntime) -> Result<(), Fail> {
     Ok(())
 }
 
-// A source of one byte a call that fails at a place, and else goes on for ever. It counts its calls.
+// A source of one byte a call that fails at a place, and else continues for ever. It counts its calls.
 #[derive(Drop)]
 struct Counting<'a> {
     text: &'a [u8],

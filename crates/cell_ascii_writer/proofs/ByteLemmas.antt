@@ -9,7 +9,7 @@ use Rattle.std.proofs.Math.Seq.{take-append-add}
 use Rattle.cell_ascii_writer.specs.Fields.{low_bytes}
 use lib.Lanes.{number_l, digits_l, put_chunk}
 
--- the lower digits are those of the lower bits
+-- the lower bits have the lower digits
 pub digits-mod : (size all n : ℕ) → size ≤ all → digits_l 256 size (n % 2 ^ (8 * all)) ≡ digits_l 256 size n
 digits-mod zero all n le = refl
 digits-mod (suc size) zero n le = absurd (omega arith)
@@ -33,7 +33,7 @@ digits-number (suc size) (suc all) (b ∷ bytes) le held below =
     let rest : (b + 256 * n) / 256 ≡ n = omega arith in
     ap₂ (λ (d : ℕ) (l : List ℕ). d ∷ l) first (ap (digits_l 256 size) rest ∙ digits-number size all bytes (omega arith) (omega arith) (λ k few. below (suc k) (omega arith)))
 
--- a text at the front of bytes that are loaded as a number
+-- a text at the start of bytes that are loaded as a number
 pub loaded : (field text : List ℕ) → 8 ≤ length field → length text ≤ 7 → ((k : ℕ) → get_or text k 0 < 256) → take (length text + 1) field ≡ 32 ∷ text
     → low_bytes (number_l 256 (take 8 field) % 18446744073709551616) (length text + 1) ≡ 32 ∷ text
 loaded field text held few below is =

@@ -5,7 +5,7 @@ use Rattle.cell_core_devices.specs.Device.{Faults, after_put, append_known}
 use Rattle.cell_core_devices.specs.Blocks.{capped_count, BlockValue, Appended, fault_if}
 use Rattle.cell_core_devices.specs.declared.sink.WriteFault.{WriteFault}
 
--- a text that is shorter than the greatest count: it was put, or its first bytes were
+-- a text that is shorter than the largest count: it was put, or its first bytes were
 module _ {before now : Option (List ℕ)} {start faults : Faults} {text : List ℕ} {block : BlockValue} (p : Appended before start text now faults block) where
   put_ends : block.failed ≡ false → block.held ≡ [] → p.front ≡ text
   put_ends good none = sym (append-nil p.front) ∙ ap (λ (l : List ℕ). p.front ++ l) (sym none ∙ rw good at p.held) ∙ p.whole
@@ -16,7 +16,7 @@ module _ {before now : Option (List ℕ)} {start faults : Faults} {text : List �
       let front = put_ends good none in
       (p.taken ∙ ap (append_known before) front, (p.count ∙ ap (λ (l : List ℕ). capped_count (length l)) front, rw good at p.fails))
 
-  -- a put was refused: what the sink took is reported, and is not all
+  -- a put failed: what the sink took is reported, and is not all
   pub appended_cut : block.failed ≡ true → length text < 18446744073709551615
       → (now ≡ append_known before (take block.written text)) × ((block.written < length text) × (faults ≡ after_put start true))
   appended_cut failed short =

@@ -17,7 +17,7 @@ pub record IsFieldOf (null_text : List ℕ) (cell : CellValue) (bytes size : ℕ
   pub few : size ≤ 8
   pub text : low_bytes bytes size ≡ byte (codes " ") ∷ cell_text null_text cell
 
--- an entry is free, or it holds those of its cell
+-- an entry is free, or it holds the bytes of its cell
 abbrev pub IsField : List ℕ → Field → Type 0
 IsField null_text field = 0 < field.size → IsFieldOf null_text field.cell field.bytes field.size
 

@@ -19,12 +19,12 @@ const PLACE_BITS: u32 = 10;
 // The most bytes of a text whose field is kept.
 const MOST_KEPT: usize = 7;
 
-// The least and the greatest category with so many bytes.
+// The smallest and the largest category with so many bytes.
 const LEAST_KEPT: i32 = -999_999;
 
 const GREATEST_KEPT: i32 = 9_999_999;
 
-// A space and the text of a cell, as the lowest bytes of a number, and how many these are. It is free where they are none.
+// A space and the text of a cell, as the lowest bytes of a number, and how many these are. It is free if there are none.
 #[derive(Clone, Copy)]
 pub(crate) struct Field {
     pub(crate) bytes: u64,
@@ -106,7 +106,7 @@ fn made_field(cell: Cell, null_text: &[u8]) -> Option<(u64, u32)>
     Some(field_with(text))
 }
 
-// Makes the field of a cell, and keeps it in the place of another, or answers None where its text is long.
+// Makes the field of a cell, and keeps it in the place of another, or returns None if its text is long.
 pub(crate) fn new_field(cell: Cell, null_text: &[u8], fields: &mut [Field]) -> Option<(u64, u32)>
     requires room { length fields.old ≡ 1024 }
     requires known { All (IsField null_text.now) fields.old }
@@ -118,7 +118,7 @@ pub(crate) fn new_field(cell: Cell, null_text: &[u8], fields: &mut [Field]) -> O
     Some((bytes, size))
 }
 
-// The field that is kept at the place of a cell, which may be that of another, or free.
+// The field that is kept at the place of a cell. It may be free, or the field of another cell.
 #[inline(always)]
 pub(crate) fn field_at(cell: Cell, null_text: &[u8], fields: &[Field]) -> Field
     requires room { length fields.now ≡ 1024 }

@@ -34,7 +34,7 @@ const LINE: usize = 1024;
 // The most bytes of a field that is kept.
 const MOST_FIELD: usize = 8;
 
-// How many zeros stand at the end.
+// How many zeros are at the end.
 fn zeros_at_end(digits: &[u8]) -> usize
     ensures count { result ≡ prefix_len (λ b. b == byte (codes "0")) (reverse digits.now) }
     ensures within { result ≤ length digits.now }
@@ -50,7 +50,7 @@ fn without_zeros(digits: &[u8]) -> &[u8]
     &digits[..digits.len() - zeros_at_end(digits)]
 }
 
-// The eight digits of a part: those of its sum with 10^8, but for the 1 in front.
+// The eight digits of a part: the digits of its sum with 10^8, without the leading 1.
 #[tactic(auto, using(std::proofs::lemmas::Fmt::decimal_nonempty))]
 fn eight_digits(buffer: &mut Buffer, part: u64) -> &[u8]
     requires { part < 100000000 }
@@ -61,7 +61,7 @@ fn eight_digits(buffer: &mut Buffer, part: u64) -> &[u8]
     &digits[1..]
 }
 
-// Writes a point and the eight digits of a part, without the zeros at their end, or nothing where it is 0.
+// Writes a point and the eight digits of a part, without the zeros at their end, or nothing if it is 0.
 fn write_fraction<W: Sink>(out: &mut W, block: &mut OutputBlock, part: u64)
     requires { part < 100000000 }
     ensures { Appends W.taken W.faults out.old block.old (fraction_text part) out.new block.new }
@@ -180,7 +180,7 @@ fn write_times<W: Sink>(out: &mut W, block: &mut OutputBlock, text: &[u8], count
     write_copies(out, block, &bytes[..text.len() + 1], count);
 }
 
-// Writes a space and the cell of a run, as often as it stands there, straight into the block. Its text is made once.
+// Writes a space and the cell of a run, for each cell of it, straight into the block. Its text is made once.
 fn write_long_run<W: Sink>(
     out: &mut W,
     block: &mut OutputBlock,
@@ -207,7 +207,7 @@ fn push_line<W: Sink>(out: &mut W, block: &mut OutputBlock, line: &[u8], end: us
     block.push(out, &line[..end]);
 }
 
-// The same where no field has room behind them. Returns where the bytes end that are left.
+// Pushes the line if it has no room for a field. Returns where the bytes end that are left.
 #[inline(always)]
 fn make_room<W: Sink>(out: &mut W, block: &mut OutputBlock, line: &[u8], end: usize) -> usize
     requires room { length line.now ≡ 1024 }
@@ -251,7 +251,7 @@ fn write_field<W: Sink>(
     end
 }
 
-// Writes a space and the cell of a run, as often as it stands there, in the same way, where its field is not kept.
+// Writes a space and the cell of a run, for each cell of it, in the same way, if its field is not kept.
 #[inline(never)]
 fn write_new_run<W: Sink>(
     out: &mut W,
@@ -300,7 +300,7 @@ fn write_run<W: Sink>(
     write_new_run(out, block, fields, line, start, run, null_text)
 }
 
-// Writes a space and a cell for each cell of the runs, behind the bytes of a line that are still to be pushed.
+// Writes a space and a cell for each cell of the runs, after the bytes of a line that are still to be pushed.
 fn write_runs<W: Sink>(
     out: &mut W,
     block: &mut OutputBlock,
@@ -386,10 +386,10 @@ fn write_rows<W: Sink>(out: &mut W, block: &mut OutputBlock, map: &CellMap, null
 
 /// Writes the grid text of a map through a block.
 ///
-/// These are the six lines of the region, the line of the null text where that is not `*`, and a
-/// line for each row, with one space between the cells (r.out.ascii manual). A coordinate is
-/// printed exactly, a category in decimal, and null as the null text: 1 to 64 bytes, none of them
-/// a blank, a line feed or a colon (profile). Takes no memory. After a refused put nothing more is written.
+/// It has the six lines of the region, the line of the null text if that is not `*`, and a line for each row, with one
+/// space between the cells (r.out.ascii manual). A coordinate is printed exactly, a category in decimal, and null as
+/// the null text: 1 to 64 bytes, none of them a blank, a line feed or a colon (profile). Takes no memory. After a
+/// failed put nothing more is written.
 pub fn write_grid<W: Sink>(out: &mut W, block: &mut OutputBlock, map: &CellMap, null_text: &[u8])
     requires { length null_text.now ≤ 64 }
     ensures { Appends W.taken W.faults out.old block.old (grid_text null_text.now map.now)
@@ -411,11 +411,11 @@ fn region_is_short(region: Region)
     let _ = region.rows();
 }
 
-/// Writes the grid text of a map to a sink, and answers its number of bytes. Each put carries a few KiB. Takes no memory.
+/// Writes the grid text of a map to a sink, and returns its number of bytes. Each put carries a few KiB. Takes no memory.
 ///
 /// # Errors
 ///
-/// [`WriteFault`] where the sink fails: exactly the first `written` bytes of the text went out, and not all of it.
+/// [`WriteFault`] if the sink fails: exactly the first `written` bytes of the text went out, and not all of it.
 pub fn write_map<W: Sink>(map: &CellMap, null_text: &[u8], out: &mut W) -> Result<u64, WriteFault>
     requires null { IsNullText null_text.now }
     ensures ok { OnOk result

@@ -1,17 +1,17 @@
--- Blanks one behind another, by the bits of those from a place on.
+-- Blanks in a row, by the bits of the blanks from a place on.
 use Rattle.std.specs.Prelude.{ℕ, ◌-◌, ◌≡◌, ◌<◌, ◌≤◌, true, List, drop, take, length, slice_index_or}
 use Rattle.std.specs.List.{list_all}
 use Rattle.std.specs.Simd.Lanes.{mask_l}
 use Rattle.cell_ascii_meaning.specs.GridTokens.{is_space}
 use Rattle.cell_ascii.specs.TableWords.{blanks, cleared_front}
 
--- a blank stands at the place
+-- the byte at the place is a blank
 pub record IsAtBlank (bs : List ℕ) (ends at : ℕ) : Type 0 where
   pub buffered : 64 ≤ length bs
   pub bits : ends ≡ mask_l (cleared_front at (blanks bs))
   pub blank : is_space (slice_index_or bs at 0) ≡ true
 
--- all from a place to the one behind them are blanks
+-- all bytes from one place to another are blanks, and the bits of the blanks after them are known
 pub record IsBehindBlanks (bs : List ℕ) (at : ℕ) (behind : ℕ × ℕ) : Type 0 where
   pub some : at < behind.0
   pub few : behind.0 ≤ 64

@@ -1,4 +1,4 @@
--- A reader behind the header, before its first row, and behind its last.
+-- A reader after the header, before its first row, and after its last.
 use Rattle.std.specs.Prelude.{◌≡◌, ◌<◌, ◌^◌, false, Bool, Option, Ok}
 use Rattle.std.specs.Option.{option_map}
 use Rattle.cell_core.specs.Grid.{Grid, no_labels}
@@ -14,7 +14,7 @@ use Rattle.cell_ascii.specs.Reader.{ReaderPlace, opened_at, opened_by, rows_from
 abbrev pub IsUnread : ReaderValue → Type 0
 IsUnread r = (r.rows_left ≡ r.header.region.rows) × ((r.failed ≡ false) × (r.heard.failed ≡ false))
 
--- a scanner went from the start of a text behind its header, and the first word behind that
+-- a scanner went from the start of a text past its header and the first word after it
 pub record IsBehindHeader (header : HeaderValue × Bool) (old new : Scan) : Type 0 where
   pub reading : Agrees header_of_text old.ahead (λ c. Ok (opened_by header new c)) new.ahead
   pub line : new.line < 2 ^ 62

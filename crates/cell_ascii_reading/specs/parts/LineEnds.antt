@@ -1,4 +1,4 @@
--- Where a scanner stands at the value of a header line, and behind the line.
+-- A scanner at the value of a header line, and after the line.
 use Rattle.std.specs.Prelude.{ℕ, ◌≡◌, ◌≤◌, ◌+◌, false, length}
 use Rattle.cell_ascii_reading.specs.Ahead.{bytes_to_come, IsAtEnd}
 use Rattle.cell_ascii_reading.specs.Scan.{Scan}
@@ -11,12 +11,12 @@ pub record IsAtValue (at here : ℕ) (s : Scan) : Type 0 where
   pub run : s.run ≡ 0
   pub within : at ≤ length s.word
 
--- the line behind one that has ended
+-- the line after one that has ended
 abbrev pub line_behind : Ending → ℕ → ℕ
 line_behind Feed line = line + 1
 line_behind Text line = line
 
--- nothing comes behind a line that ends with the text
+-- nothing comes after a line that ends with the text
 abbrev pub LineEndsSo : Ending → Scan → Type 0
 LineEndsSo Feed s = Unit {0}
 LineEndsSo Text s = IsAtEnd false (bytes_to_come s.ahead)

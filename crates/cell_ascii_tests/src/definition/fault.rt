@@ -1,4 +1,4 @@
-//! The first fault that the places of a text tell.
+//! The first error that the places of a text report.
 
 ghost use Rattle.std.specs.Prelude.{◌≡◌, [], IfOk};
 ghost use Rattle.cell_ascii_meaning.specs.FaultPlaces.{front_of, reported_fault, whole_table, text_fault};
@@ -20,7 +20,7 @@ fn earlier_lines<'b, 'a>(lines: &'b [&'a [u8]]) -> &'b [&'a [u8]]
     &lines[..lines.len().saturating_sub(1)]
 }
 
-/// What a place tells, after the bytes before it.
+/// What a place reports, after the bytes before it.
 pub(crate) fn reported(
     alloc: Global,
     before: &[u8],
@@ -46,7 +46,7 @@ pub(crate) fn reported(
     }
 }
 
-/// The first fault that a text tells, where the source ends behind it or fails there; None where no place tells one.
+/// The first error of a text, after which the source ends or fails; None if no place reports one.
 pub(crate) fn text_fault(
     alloc: Global,
     text: &[u8],

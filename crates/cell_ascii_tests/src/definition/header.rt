@@ -1,4 +1,4 @@
-//! The header that the lines of a text give, and the words of the data behind it.
+//! The header that the lines of a text give, and the words of the data after it.
 
 ghost use Rattle.std.specs.Prelude.{◌≡◌, ◌≤◌, length, not, is_some, codes, IfOk, Ok};
 ghost use Rattle.std.specs.List.{prefix_len, filter, flat_map, list_any, before_first, after_first};
@@ -60,7 +60,7 @@ pub(crate) fn is_header_line(words: &[&[u8]]) -> bool
     }
 }
 
-// How many lines stand before the first line of the data.
+// How many lines come before the first line of the data.
 fn lines_before_data(alloc: Global, lines: &[&[u8]]) -> Result<usize, Memory>
     ensures count { IfOk result (λ n. n
         ≡ prefix_len (λ l. not (is_data_line l)) (words_of_each lines.now)) }
@@ -117,7 +117,7 @@ pub(crate) fn data_words<'a>(alloc: Global, lines: &[&'a [u8]]) -> Result<Vec<&'
     all_words(alloc, &lines[count..])
 }
 
-/// What stands before the first colon of a header line.
+/// What comes before the first colon of a header line.
 pub(crate) fn key_text<'a>(words: &[&'a [u8]]) -> &'a [u8]
     ensures { result.now ≡ key_text (texts words.now) }
 {
@@ -127,7 +127,7 @@ pub(crate) fn key_text<'a>(words: &[&'a [u8]]) -> &'a [u8]
     }
 }
 
-/// The words that stand behind it.
+/// The words that come after it.
 pub(crate) fn values<'a>(alloc: Global, words: &[&'a [u8]]) -> Result<Vec<&'a [u8]>, Memory>
     ensures { IfOk result (λ found. texts found.items ≡ line_values (texts words.now)) }
 {
@@ -167,7 +167,7 @@ pub(crate) fn null_text<'a>(value: &'a [u8]) -> Option<&'a [u8]>
     if has_colon(value) { None } else { Some(value) }
 }
 
-/// The only type is that of whole numbers.
+/// The only type is the type of whole numbers.
 pub(crate) fn int_type(value: &[u8]) -> Option<()>
     ensures { result ≡ int_type value.now }
 {

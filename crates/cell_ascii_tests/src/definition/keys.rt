@@ -127,7 +127,7 @@ pub(crate) fn keys_of<'a>(alloc: Global, lines: &[&'a [u8]]) -> Result<Keys<'a>,
     })
 }
 
-// The header over a region, where there is one.
+// The header over a region, if there is one.
 fn judged<'a>(
     region: Result<Region, RegionFault>,
     null: Option<&'a [u8]>,

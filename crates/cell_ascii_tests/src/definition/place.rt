@@ -1,4 +1,4 @@
-//! What stands at a place.
+//! What is at a place.
 
 ghost use Rattle.std.specs.Prelude.{◌≡◌};
 ghost use Rattle.cell_ascii_meaning.specs.FaultPlaces.{ends_token, ends_line, is_end_of_words};

@@ -1,4 +1,4 @@
-//! The table that tells the fault of a place, row by row.
+//! The table of the error of each place, row by row.
 
 ghost use Rattle.std.specs.Prelude.{◌≡◌, ◌||◌, length, IfOk};
 ghost use Rattle.std.specs.List.{list_any};
@@ -26,7 +26,7 @@ fn when(reported: bool, kind: GridKind) -> Option<GridKind>
     if reported { Some(kind) } else { None }
 }
 
-// The first of two that tells something.
+// The first of two, if there is one, else the second.
 fn first(one: Option<GridKind>, other: Option<GridKind>) -> Option<GridKind>
     ensures { result ≡ (one or other) }
 {
@@ -323,7 +323,7 @@ pub(crate) fn read_fails(place: Place) -> Option<GridKind>
     }
 }
 
-/// The table: a place that stands in several rows is judged by them from the top.
+/// The table: a place that is in several rows is judged by them from the top.
 pub(crate) fn whole_table(
     alloc: Global,
     gap: usize,

@@ -66,7 +66,7 @@ pub(crate) fn lines_of<'a>(alloc: Global, text: &'a [u8]) -> Result<Vec<&'a [u8]
     text.split(|b| *b == b'\n').collect(alloc)
 }
 
-/// The number of the line that a place behind these bytes stands in, from 1.
+/// The number of the line of the place after these bytes, from 1.
 pub(crate) fn line_of(before: &[u8]) -> u64
     ensures { result ≡ line_of_place before.now }
 {
@@ -80,7 +80,7 @@ pub(crate) fn gap_of(before: &[u8]) -> usize
     before.iter().rev().take_while(|b| is_space(**b)).count()
 }
 
-/// The last of some slices; empty where there is none.
+/// The last of some slices; empty if there are none.
 pub(crate) fn last_of<'a>(slices: &[&'a [u8]]) -> &'a [u8]
     ensures { result.now ≡ last_token (texts slices.now) }
 {
@@ -90,7 +90,7 @@ pub(crate) fn last_of<'a>(slices: &[&'a [u8]]) -> &'a [u8]
     }
 }
 
-/// The token that the last byte belongs to; empty after a blank or line feed, and at the front.
+/// The token that the last byte belongs to; empty after a blank or line feed, and at the start.
 pub(crate) fn token_of<'a>(alloc: Global, before: &'a [u8]) -> Result<&'a [u8], Memory>
     ensures { IfOk result (λ token. token.now ≡ token_at_place before.now) }
 {

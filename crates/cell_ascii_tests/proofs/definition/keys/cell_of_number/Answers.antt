@@ -10,7 +10,7 @@ use Rattle.cell_ascii_meaning.specs.declared.grid_fault.GridKind.TheVariants.{Ce
 use Rattle.cell_ascii_reading.proofs.NumberLemmas.{number_small}
 use Rattle.cell_ascii_tests.proofs.definition.keys.cell_of_number.Goals as goal
 
--- a cell where there is one, else the fault of the range
+-- a cell if there is one, else the error of the range
 or_range : (b : Bool) (cell : CellValue) → ok_or (if b then Some cell else None) CellRange ≡ (if b then Ok cell else Err CellRange)
 or_range true cell = refl
 or_range false cell = refl
