@@ -3,9 +3,9 @@
 
     bench/helpers.py [--cells N] [--rounds N]
 
-rcell-aaigrid compared with cat, to a file and through pipes, also on noise; rcell-tif and rcell from a GeoTIFF to its table beside
-r.in.gdal and r.stats of GRASS, where these are installed (their time is taken within a session, without its start). Each table
-must be the same. The last line is 'N passed, M failed': passed is what keeps to its bound, five times cat and twice GRASS.
+rcell-aaigrid is compared with cat, to a file and through pipes, also on noise; rcell-tif and rcell, from a GeoTIFF to its table,
+with r.in.gdal and r.stats of GRASS, if these are installed (timed within a session, without its start). The tables must be the
+same. The last line is 'N passed, M failed'; a time passes within five times cat, or twice GRASS.
 """
 import argparse
 import json

@@ -1,5 +1,5 @@
 #!/usr/bin/env python3
-"""Prints tables of the instructions that rcell and both yardsticks take for a cell, function by function, with their page faults, and
+"""Prints tables of the instructions that rcell and both yardsticks take for a cell, function by function, with `page_faults`, and
 of the instructions of rcell-pipe.
 
 instructions.py [--program PATH] [--pipe PATH] [--only rcell|rcell-pipe] [--write]; they are counted by callgrind, so valgrind has

@@ -49,7 +49,7 @@ class Cost:
 
 
 def cost_of(commands: list[list[str]], output: str = "/dev/null") -> Cost:
-    """What a pipe of commands costs; all must end well. Memory comes from `time`, since a process that Python starts begins with its own."""
+    """Return the cost of a pipe of commands, which must all succeed. `time` measures memory: a child of Python begins with Python's."""
     running: list[subprocess.Popen[bytes]] = []
     with open(output, "wb") as file, tempfile.TemporaryDirectory() as told:
         for place, words in enumerate(commands):

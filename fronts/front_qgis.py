@@ -21,7 +21,7 @@ from cases import ANSWERS, Case, cases, copied  # noqa: E402  (the path above ha
 from osgeo import gdal  # noqa: E402
 from qgis.core import NULL, QgsApplication, QgsProcessingException, QgsRasterLayer, QgsVectorLayer  # noqa: E402
 
-# QGIS has one kind of error; which of ours it was is known by the text, as fronts/README.md lists it.
+# QGIS has one kind of error; the text identifies ours (fronts/README.md lists them).
 KINDS = [
     ("other crs", r"its coordinate reference system is |it has no coordinate reference system"),
     ("other region", r"not of the region of |shifted by |cells of "),

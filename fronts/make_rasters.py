@@ -127,7 +127,7 @@ def write_polygons() -> None:
 
 
 def write_legends() -> None:
-    """Legends of the cover: one that is right and one class short, one with a class twice, and those of which no label may be guessed."""
+    """Write legends of the cover: right but one class short, with a class twice, and with labels that may not be guessed."""
     (ROOM / "legend.csv").write_text('value,label,colour\n1,"wood, wet",#228b22\n2,Wiese \u00fc,#9acd32\n', encoding="utf-8")
     (ROOM / "twice.csv").write_text("value,label\n1,wood\n2,meadow\n1,town\n", encoding="utf-8")
     (ROOM / "latin.csv").write_text("value,label\n1,wood\n2,Gr\u00fcnland\n3,town\n", encoding="latin-1")
@@ -146,7 +146,7 @@ def write_masked(name: str, cells: object) -> None:
 
 
 def write_other_masks() -> None:
-    """Null is told by a mask of the band, not of the file, and by a nodata value for all bands of the file."""
+    """Write rasters whose null comes from a mask of the band, not of the file, and from a nodata value for all bands of the file."""
     cover = np.asarray(COVER)
     write_by_gdal("band_mask", [np.where(cover == NULL, 1, cover)], gdal.GDT_Byte)
     file = gdal.Open(str(ROOM / "band_mask.tif"), gdal.GA_Update)

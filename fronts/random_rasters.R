@@ -1,4 +1,4 @@
-# Answers each line, which has maps of one call, by a line and by the cells of each map in turn; see random_rasters.py.
+# Reads lines, each the maps of one call, and prints for each a line and the cells of each map in turn; see random_rasters.py.
 
 suppressMessages(library(rcell))
 options(warn = -1)

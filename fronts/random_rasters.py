@@ -325,7 +325,7 @@ def parsed(asked: Asked, text: bytes) -> list[Any]:
 
 
 def work(answer: Callable[[Asked], Answer]) -> None:
-    """Answers each line by a line, and by the cells of each map in turn if there are any."""
+    """Read lines, and print for each a line and the cells of each map in turn, if there are any."""
     for line in sys.stdin:
         rows, cols, again, *paths = line.rstrip("\n").split("\t")
         asked = Asked(int(rows), int(cols), int(again), paths)

@@ -67,7 +67,7 @@ COMMANDS = {
 
 
 def found_by(front: str) -> tuple[dict[str, list[str]], str]:
-    """What a package gives for each case, and what it printed besides."""
+    """Return the results of a package by case, and its other output."""
     ran = subprocess.run(COMMANDS[front], env=environment(), capture_output=True, encoding="utf-8", errors="replace")
     found: dict[str, list[str]] = {}
     name = ""

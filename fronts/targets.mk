@@ -1,5 +1,5 @@
 # make fronts    installs what the packages need of Debian, builds, checks and tests R (and QGIS if it is there); then the table of cases
-# make fronts-cases  runs the table of cases of fronts/ on the packages that are installed
+# make fronts-cases  runs the table of cases on the packages that are installed
 
 .PHONY: fronts fronts-cases
 

@@ -57,7 +57,7 @@ def files(programs: dict[str, pathlib.Path]) -> dict[str, tuple[bytes, int]]:
             if path.name == "metadata.txt":
                 content = re.sub(rb"(?m)^version=.*$", b"version=" + version.encode(), content)
             found[path.relative_to(HERE).as_posix()] = content, 0o644
-    # Modules shared with the package for Python are copied next to core/front/__init__.py.
+    # Modules shared with the package for Python are copied next to `core/front/__init__.py`.
     for name in said_by("git", "ls-files", "python/src/rcell_front").splitlines():
         if not name.endswith("__init__.py"):
             found[f"rcell/core/front/{pathlib.PurePath(name).name}"] = (REPOSITORY / name).read_bytes(), 0o644

@@ -146,7 +146,7 @@ def run_cases(room, tally, is_written):
 
 
 def tallied(test, programs, rcell):
-    """What a test finds, in a folder of its own."""
+    """Run a test in a folder of its own and return its tally."""
     tally = Tally()
     with tempfile.TemporaryDirectory(prefix="rcell-helpers-") as path:
         test(Room(os.path.realpath(path), programs, rcell), tally)

@@ -210,7 +210,7 @@ def test_paths(room, tally):
 
 
 def late(room, given, *words):
-    """What a helper does with pipes that do not wait: its input comes late and in two parts, and its output is read at the end."""
+    """Run a helper on pipes that do not wait: its input comes late and in two parts, and its output is read at the end."""
     (reads, given_to), (taken_from, writes) = os.pipe(), os.pipe()
     fcntl.fcntl(writes, SET_PIPE_SIZE, PIPE_SIZE)
     for end in (reads, writes):

@@ -219,7 +219,7 @@ done
 
 
 def grass_maps(path: Path, folder: Path, asked: Collection[str] = ALL) -> None:
-    """The same maps with GRASS's modules, as GeoTIFF in the folder, where `answers` compares them with the maps of tiles."""
+    """Make the same maps with GRASS, as GeoTIFF in the folder; `answers` compares them with the maps of tiles."""
     subprocess.run(["grass", "--tmp-location", "XY", "--exec", "sh", "-c", GRASS], cwd=folder, check=True, stdout=subprocess.DEVNULL,
                    stderr=subprocess.DEVNULL, env={**os.environ, "LC": str(path), "SUM": SUM, "ASKED": " ".join(asked)})
 

@@ -3,7 +3,7 @@
 
     ten.py (rcell|numpy) FOLDER
 
-Behind the seconds is a sum of the result: of the counts of a table, in ascending order, or of the cells of a map. Python begins before
+A sum of the result follows the seconds: of the counts of a table, in ascending order, or of the cells of a map. Python begins before
 the clock does. `speed.py` runs it with the package of this commit and with an earlier one, which lacks some tasks.
 """
 

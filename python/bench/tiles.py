@@ -3,12 +3,12 @@
 
     tiles.py [--side N] [--folder F] [--workers W] [--task T ...] [--write] [PART ...]
 
-PART is one of answers, arrays, grass, shapes, workers, memory, joining; without one they are all but grass. Made is a land cover map of
-N x N cells, 4,096 where N is not given; in a folder F that is named, it stays, and so do the maps that the part grass makes, which
-answers then compares with the maps of tiles (20,000 x 20,000 cells take about ten minutes of a processor in GRASS, half an hour in tiles,
-and 10 GB). T is one of what these two make: table, edges, corners, total, modes, sizes; all if none is given. With --write each
-part's table takes its place in bench/RESULTS.md. Seconds are of the processors, of the workers, of what they run and of this process;
-only `workers` prints the seconds of the clock, which say something if nothing else runs.
+PART is one of `answers`, `arrays`, `grass`, `shapes`, `workers`, `memory`, `joining`; without one all but `grass` run. The map is land
+cover of N x N cells, 4,096 if N is not given. A folder F keeps it, and also the maps that `grass` makes, which `answers` then compares
+with the maps of tiles (20,000 x 20,000 cells take about ten minutes of a processor in GRASS, half an hour in tiles, and 10 GB). T is
+one of the results of these two: table, edges, corners, total, modes, sizes; all if none is given. With --write each part's table takes
+its place in bench/RESULTS.md. Seconds are processor time of the workers, of their programs and of this process; only `workers` prints
+seconds of the clock, which mean something if nothing else runs.
 """
 
 from __future__ import annotations
@@ -193,7 +193,7 @@ def _worked(mosaic: rcell.tiles.Mosaic, count: int, work: Work, out: Path, kille
 
 
 def of_memory(given: Settings) -> list[str]:
-    """What a worker takes at its peak, compared with the formula."""
+    """Compare the peak memory of a worker with the formula."""
     loud, quiet, out = given.folder / "noise.tif", given.folder / "quiet.tif", given.folder / "memory.tif"
     noise(loud, MEMORY_SIDE)
     land_cover(quiet, MEMORY_SIDE)
@@ -230,7 +230,7 @@ def areas_of(path: Path) -> float:
 
 
 def of_joining(given: Settings) -> list[str]:
-    """What it costs to join clumps as tiles get more, and what rcell-join is given."""
+    """Measure the cost of joining clumps as the number of tiles grows, and the size of the borders."""
     with rcell.tiles.open(lc=str(given.path)) as mosaic:
         sheet, run = mosaic.sheet, ClumpRun(mosaic.sheet, mosaic._files["lc"], False)
     rows = ["From the borders of tiles, as texts, to the numbers of the full map: rcell-join clumps, and this process, which reads what it prints.", "",

@@ -51,7 +51,7 @@ def by_session(text: str, names: dict[str, Any]) -> str:
 
 
 def printed_by(source: str, names: dict[str, Any]) -> str:
-    """What a statement prints; an error as a session shows it, without the places where it went through."""
+    """Run a statement and return its output; an error is shown as in a session, without its stack."""
     out = io.StringIO()
     with contextlib.redirect_stdout(out), warnings.catch_warnings():
         warnings.simplefilter("ignore")

@@ -37,7 +37,7 @@ def has(algorithm: str) -> bool:
 
 
 class Log(QgsProcessingFeedback):
-    """What a run prints."""
+    """The messages of a run."""
 
     def __init__(self) -> None:
         super().__init__(False)

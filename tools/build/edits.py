@@ -110,7 +110,7 @@ def changed_copy(crate, edits, room):
 
 
 def verdicts(crate, edits, kept):
-    """What a check says of each function of the crate with these edits."""
+    """Check the crate with these edits; return the verdict on each function, and the output."""
     with tempfile.TemporaryDirectory(prefix="rcell-edits-") as room:
         changed_copy(crate, edits, room)
         ran = subprocess.run([*crate.command("check"), "--incremental", kept], cwd=room, stdin=subprocess.DEVNULL, stdout=subprocess.PIPE,

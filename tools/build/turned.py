@@ -45,7 +45,7 @@ class Turned:
 
 
 def turned_of(path):
-    """What a file says to turn."""
+    """Read a turned definition from its file."""
     lines = [line.split(": ", 1) for line in path.read_text(encoding="utf-8").splitlines() if line and not line.startswith("#")]
     words = {key: text for key, text in lines if key not in ("old", "new")}
     texts = [text for key, text in lines if key in ("old", "new")]

@@ -36,7 +36,7 @@ FONT = re.compile(r"\\f.|^\.[A-Z]+ |\"", re.MULTILINE)
 
 
 class Named:
-    """What a text names of a command: the letters of its flags, and its keys."""
+    """The letters of the flags, and the keys, that a text names of a command."""
 
     def __init__(self, flags, keys):
         self.flags, self.keys = set(flags), set(keys)
@@ -135,7 +135,7 @@ class Tried:
             file.write(GRID)
 
     def refusal(self, line):
-        """What the program says of a script of one line (and a rule, if it is r.reclass), without `rcell: script:`."""
+        """Return the error of a script of one line (and a rule, if it is r.reclass), without `rcell: script:`."""
         script = f"{line}\n1 = 1\nend\n" if line.startswith("r.reclass ") else f"{line}\n"
         with open(f"{self.folder}/script", "w", encoding="ascii") as file:
             file.write(script)

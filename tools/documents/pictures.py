@@ -46,7 +46,7 @@ def grid(text):
 
 
 def rcell(program, script, folder=ISLANDS, grid_word="country=archipelago.txt"):
-    """What a script prints; one of several lines is given to the program as its standard input."""
+    """Run a script and return its output; a script of several lines goes through standard input."""
     words = [program, "/dev/stdin" if "\n" in script else script, grid_word]
     return subprocess.run(words, cwd=folder, check=True, capture_output=True, text=True, input=script).stdout
 

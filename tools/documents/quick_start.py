@@ -63,7 +63,7 @@ def path_without_python(room):
 
 
 def session(script, here, path, root):
-    """What a session of sh prints in the folder."""
+    """Run a session of sh in the folder and return its output."""
     words = ["sh", "-c", script]
     if root:
         words = ["chroot", root, "/bin/sh", "-c", f"cd {shlex.quote('/' + os.path.relpath(here, root))} && {script}"]

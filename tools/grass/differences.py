@@ -147,7 +147,7 @@ def commands_of_grass(script, room):
 
 
 def by_grass(row, room):
-    """The result of GRASS in a location of its own: its output, `refused`, or `no end` if it does not end."""
+    """The result of GRASS in a location of its own: its output, `refused` or `no end`."""
     subprocess.run(["rm", "-rf", f"{room}/here"], check=True)
     subprocess.run(["grass", "-e", "-c", "XY", f"{room}/here"], check=True, capture_output=True)
     grids, commands = grids_of(row), ["set -e"]

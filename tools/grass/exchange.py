@@ -58,12 +58,12 @@ WRITES, WRITES_NUMBER = b"r.out.ascii input=g\n", b"r.out.ascii input=g null_val
 
 
 def environment():
-    """That of a user after `make install`: the program, the helpers and r.rcell are on the path."""
+    """The environment of a user after `make install`: the program, the helpers and r.rcell are on the path."""
     return {**os.environ, "PATH": f"{ROOT}/bin:{ROOT}/helpers:/usr/bin:/bin", "LC_ALL": "C.UTF-8"}
 
 
 def ran(words, room):
-    """What a program writes, or its message if it was rejected."""
+    """Run a program and return its output, or its message if it failed."""
     done = subprocess.run(words, cwd=room, capture_output=True, env=environment())
     return done.stdout if done.returncode == 0 else done.stderr
 

@@ -93,7 +93,7 @@ class Reading:
         return [*it.lines[:starts[0]], *(line for part in kept for line in part)] if kept else it.lines
 
     def cited_by(self, key, stops):
-        """What a definition cites, in the order of its words."""
+        """The keys that a definition cites, in the order of its words."""
         it, found = self.definitions[key], {}
         for word in sources.words_of(sources.without_comment("\n".join(self.lines_without(key, stops)))):
             found.update({resolved: None for target in self.targets_of(it, word) if (resolved := self.resolve(target)) not in (None, key)})

@@ -77,7 +77,7 @@ class Definition:
 
 @dataclass
 class Imports:
-    """What a file imports: names with the module and the name that they stand for, and modules under names."""
+    """The imports of a file: names with the module and the name that they stand for, and modules under names."""
 
     names: dict[str, tuple[str, str]] = field(default_factory=dict)
     modules: dict[str, str] = field(default_factory=dict)

@@ -85,7 +85,7 @@ def run_to(output, case, folder, restore_signals=True, **more):
 
 
 def run(case, folder, **more):
-    """What the program gives for the words of the case."""
+    """Run the program with the words of the case and return its result."""
     output = output_to(read(f"{case}/output").decode().strip())
     answer = run_to(output, case, folder, **more)
     if output is not subprocess.PIPE:
@@ -107,9 +107,9 @@ def refusal(wanted, got):
 
 
 def refused_in_turn(case, folder, shim, room, wanted):
-    """Refuses growth 1, 2, .. until a run asks for fewer. Answers how many there were, or what went wrong.
+    """Deny growth 1, 2, .. until a run asks for fewer. Return how many there were, and what went wrong, or ''.
 
-    Where the standard library asks once more for what it was denied, the run does all its work.
+    If the standard library asks again for a denied growth, the run does all its work.
     """
     count, found = f"{room}/count", set()
     for at in range(1, 100000):
@@ -146,7 +146,7 @@ def run_limited(case, folder, size):
 
 
 def limited_in_turn(case, folder, wanted):
-    """Lets the output be a file that takes 0, 1, .. bytes. Answers how many there were, or what went wrong."""
+    """Run the case with an output that takes 0, 1, .. bytes. Return how many sizes there were, and what went wrong, or ''."""
     sizes = range(len(wanted.output) if len(wanted.output) <= LONGEST_LIMITED else 0)
     for size in sizes:
         got = run_limited(case, folder, size)

@@ -432,7 +432,7 @@ def contents(folder: bytes, path: bytes, source: bytes) -> Given:
 
 
 def program(words: list[bytes], folder: bytes = b"") -> Answer:
-    """What the program gives for its words; paths are in the folder."""
+    """Return the result of the program for its words; paths are in the folder."""
     try:
         if len(words) < 2 or any(word.startswith(b"-") or not is_utf8(word) for word in words):
             raise Refused(b"arguments", 0, "usage: rcell SCRIPT NAME=PATH...", 2)

@@ -279,7 +279,7 @@ class Judge:
                 "command": WORD.search(line).group(), "groups": groups, **groups}
 
     def passed(self, block, found, match):
-        """Return the block with a stand-in for what is marked, or None if no stand-in leads further."""
+        """Return the block with a replacement for the marked words, or None if no replacement gets further."""
         mark, best = re.compile(r"(?P<key>[^=\s]*)[^\n]*").fullmatch(block.text, *span_of(match)), None
         for template in STAND_INS if mark and found.text != "unknown command" else ():
             after = block.changed(mark, template, vars(self))

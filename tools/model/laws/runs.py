@@ -79,7 +79,7 @@ def made(seed, categories=9, side=1000):
 
 
 def shown_on():
-    """What a law of one map is shown on: names, each with its map."""
+    """The maps on which a law of one map is shown, by name."""
     return {"land-cover": land_cover(), "islands": islands(), "a made map": made(1)}
 
 
@@ -100,7 +100,7 @@ class Runs:
         return self.paths[id(grid)][0]
 
     def output(self, script, **grids):
-        """What the program writes, where it takes the script over these maps."""
+        """Run the program with a script over these maps and return its output."""
         path = os.path.join(self.room, "script")
         pathlib.Path(path).write_text(script + "\n", encoding="ascii")
         words = [f"{name}={self.path_of(grid)}" for name, grid in grids.items()]

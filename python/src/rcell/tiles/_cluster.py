@@ -66,7 +66,7 @@ class ClusterFailed(RcellError, RuntimeError):
 
 @dataclass(frozen=True)
 class Room:
-    """What a cluster has: how many tasks at a time, and the bytes that one may take."""
+    """The room of a cluster: how many tasks run at a time, and the bytes that one may take."""
 
     tasks: int
     memory: int

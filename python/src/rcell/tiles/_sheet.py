@@ -93,7 +93,7 @@ class MapFile:
 
     @property
     def bytes(self) -> int:
-        """What a cell takes while it is read: cells of more than two bytes are checked, with masks, and copied to int32."""
+        """The memory of a cell while it is read: cells of more than two bytes are checked, with masks, and copied to int32."""
         size = np.dtype(self.layer.dtype).itemsize
         masks = self.layer.has_mask + (self.layer.alpha is not None)
         return size + masks if size <= 2 else size + 4 + 3 + masks

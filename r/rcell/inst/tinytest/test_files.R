@@ -17,7 +17,7 @@ expect_equivalent(values(found, mat = FALSE), values(rcell_grid(rules, "kind", l
 expect_equal(sort(unique(values(found, mat = FALSE))), c(1, 100000))
 expect_identical(sort(list.files(room, all.files = TRUE, no.. = TRUE)), c("kind.tif", "kind.tif.aux.xml"))
 
-# Great numbers stay what they are.
+# Large numbers stay unchanged.
 rcell_grid("r.mapcalc x = 16777216 + lc", "x", lc = lc, filename = file("great.tif"))
 expect_equal(values(rast(file("great.tif")), mat = FALSE), values(lc, mat = FALSE) + 16777216)
 
