@@ -5,7 +5,7 @@
 \title{Tables, Patches and Overlays of Land Cover by the Proved Program rcell}
 \description{
 The composition of maps, cross tables, change between years, patches with sizes and perimeters, statistics by zone, majorities,
-alignment, adjacency matrices, reclassifications and map algebra of rasters of whole numbers. Rasters of \pkg{terra} go in; data frames and rasters of \pkg{terra} come out; every number is counted by the
+alignment, adjacency matrices, reclassifications and map algebra of rasters of whole numbers. Rasters of \pkg{terra} go in; data frames and rasters of \pkg{terra} come out; all cells are counted by the
 program rcell, which is proved from the bytes of its input to the bytes of its output. What the package adds is tested and not
 proved: that the cells of a raster become the bytes of the same cells, that the bytes that come back are read as they are meant, and
 that labels, areas and percentages are joined to the right rows.
