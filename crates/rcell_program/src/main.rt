@@ -1,7 +1,7 @@
 //! The program `rcell`: runs a script over grids in files, `rcell SCRIPT NAME=PATH...`.
 //!
 //! The work is done by `rcell::run`. Here is what only a process has, in the order of work:
-//! - `command_words`: `read_words`, arguments to a `Request`
+//! - `command_words`: `read_words`, arguments to a `RunRequest`
 //! - `opening`: `open_files`, its script and grids
 //! - `refusal`, `refusal_line`: why no run was started, and the error line; status 2 for arguments,
 //!   3 if memory runs out, 4 for a file (profile)
