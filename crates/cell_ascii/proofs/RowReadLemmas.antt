@@ -1,4 +1,4 @@
--- What a row that was read, or was cut off, says of the text.
+-- Rows that were read or cut off, as readings of the text.
 use Rattle.std.proofs.Common.{◌≡◌, ℕ, zero, suc, ◌+◌, ◌*◌, ◌^◌, ◌<◌, ◌≤◌, List, [], ◌∷◌, ◌++◌, Option, Some, None, Result, Ok, Err, length, take, drop, refl, ap, sym, ◌∙◌, arith, subst, mul-le-mul}
 use Rattle.std.specs.Option.{option_map, IfSome}
 use Rattle.cell_core_devices.specs.Device.{Coming}

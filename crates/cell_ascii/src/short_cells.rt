@@ -268,7 +268,7 @@ fn fill_cells(row: &mut [Cell], at: usize, count: usize, cell: Cell)
     row[at..at + count].fill(cell);
 }
 
-// What is left of the credit for repeated words after a word that came again so many times.
+// The credit that is left after a word that came again so many times.
 #[inline(always)]
 fn next_credit(credit: usize, more: usize) -> usize {
     credit

@@ -35,7 +35,7 @@ held k Null = option_map Text k.null
 held k CellType = option_map (λ _. Text []) (stood k.kind)
 held k Multiplier = option_map Number k.multiplier
 
--- what a value gives a key
+-- the value that a word gives a key
 abbrev pub number_of : HeaderKey → List ℕ → Option Value
 number_of North value = option_map Number (coordinate value)
 number_of South value = option_map Number (coordinate value)

@@ -305,7 +305,7 @@ lines_ready (l ∷ ls) a are = by (held a q.0) refl (lines_ready ls)
         let rest = on b.0 (ready_more a b.0 l ls q.0 v.0 q.1 v.1 (key_given a q.0 v.0 b.0 b.1) are) in
         (rest.0, line_then a b.0 rest.0 l ls ((λ i. with_values a (q.1 i) (v.1 i)) ∙ b.1) rest.1)
 
--- What a value gives, without its kind.
+-- Values of one kind are equal if their contents are.
 pub same_number : (x y : ℤ) → Number x ≡ Number y → x ≡ y
 same_number x y e = cc
 

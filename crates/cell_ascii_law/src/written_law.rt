@@ -1,9 +1,9 @@
-//! What a written grid text denotes.
+//! The map that a written grid text denotes.
 
 ghost use Rattle.cell_ascii_law.specs.WrittenLaw.{WritingIsRead};
 
-/// What is written of a map (a region that is accepted, its rows filled with nulls and categories in range, and a good
-/// null text) denotes the same region and rows, where no cell's decimal text equals the null text.
+/// The text written of a map denotes the same region and rows, if the region is accepted, the rows are filled with
+/// nulls and categories in range, the null text is a good one, and no cell's decimal text equals it.
 pub fn written_denotes()
     ensures { WritingIsRead }
 {}

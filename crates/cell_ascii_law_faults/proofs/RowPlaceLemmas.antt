@@ -36,7 +36,7 @@ step_space s b space = λ i. row_step_by (space i) s b
 step_word : (s : RowSeen) (b : ℕ) → is_space b ≡ false → row_step s b ≡ row_step_by false s b
 step_word s b word = λ i. row_step_by (word i) s b
 
--- What a table reports between words, and within one.
+-- The reports of a table between words, and within one.
 record IsBetween (table : RowTable) (ws : List (List ℕ)) : Type 0 where
   blank : (gap b : ℕ) → is_space b ≡ true → gap < 1048576 → table gap [] ws (Byte b) ≡ None
   full : (gap b : ℕ) → is_space b ≡ true → gap ≡ 1048576 → table gap [] ws (Byte b) ≡ Some ReaderStuck

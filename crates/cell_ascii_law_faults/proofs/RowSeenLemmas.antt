@@ -1,4 +1,4 @@
--- What a place of the data knows of the bytes before it, as one record, and how one more byte changes it.
+-- A record of the bytes before a place of the data, and how one more byte changes it.
 use Rattle.std.proofs.Common.{◌≡◌, ℕ, ◌+◌, fold, List, [], ◌∷◌, ◌++◌, Option, ◌==◌, ◌&&◌, Bool, true, false, cond, length, refl, ap, sym, ◌∙◌, arith, append-nil, append_assoc, length-append, ◌⊎◌, inl, inr, if◌then◌else◌}
 use Rattle.std.specs.List.{slice_split, onto_first, list_all}
 use Rattle.std.specs.Option.{option_map, unwrap_or}

@@ -1,4 +1,4 @@
--- What a place knows of the bytes before it, as one record, and how one more byte changes it.
+-- A record of the bytes before a place, and how one more byte changes it.
 use Rattle.std.proofs.Common.{◌≡◌, ℕ, ◌+◌, fold, List, [], ◌∷◌, ◌++◌, Option, ◌==◌, Bool, true, false, cond, map, refl, ap, sym, ◌∙◌, arith, append-nil, append_assoc, ◌⊎◌, inl, inr}
 use Rattle.std.specs.List.{slice_split, onto_first, prefix_len}
 use Rattle.std.specs.Option.{option_map}

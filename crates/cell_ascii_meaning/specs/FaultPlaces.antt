@@ -58,7 +58,7 @@ front_of [] = []
 front_of (p ∷ []) = []
 front_of (p ∷ q ∷ ps) = p ∷ front_of (q ∷ ps)
 
--- What a place knows of the bytes before it.
+-- The line, the gap and the token at a place, from the bytes before it.
 
 -- the line, from 1
 abbrev pub line_of_place : List ℕ → ℕ

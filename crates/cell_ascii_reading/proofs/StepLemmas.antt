@@ -1,4 +1,4 @@
--- What a step over blanks and line feeds shows of the next word, of the rest of the line, and of the line and the run.
+-- Steps over blanks and line feeds, and what they show of the next word, the rest of the line, the line and the run.
 use Rattle.std.proofs.Common.{◌≡◌, ℕ, ◌+◌, ◌-◌, ◌<◌, ◌≤◌, ◌==◌, List, [], ◌∷◌, Option, Some, None, Bool, true, false, Result, Ok, Err, nat_lt, refl, ap, ◌∙◌, arith}
 use Rattle.std.specs.Option.{option_map}
 use Rattle.std.proofs.lemmas.Bool.Decides.{nat_tests}

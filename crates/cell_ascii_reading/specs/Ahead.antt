@@ -1,4 +1,4 @@
--- What a buffered source still gives: the bytes held, and then the bytes of the source.
+-- The bytes that a buffered source still gives: the bytes held, and then the bytes of the source.
 use Rattle.std.specs.Prelude.{ℕ, ◌≡◌, Bool, List, [], ◌++◌, Option, IfSome}
 use Rattle.std.specs.Option.{option_map}
 use Rattle.cell_core_devices.specs.Asking.{Heard}

@@ -1,4 +1,4 @@
--- What a key that is given comes to.
+-- Keys that are given, or why they are rejected.
 use Rattle.std.specs.Prelude.{ℕ, ℤ, Bool, unwrap_or, true, List, Option, Some, None, Result, Ok, Err, if◌then◌else◌}
 use Rattle.cell_core_values.specs.Region.{RegionValue}
 use Rattle.cell_core_values.specs.declared.region.RegionFault.{RegionFault}

@@ -25,7 +25,7 @@ pub enum Ending {
     Text,
 }
 
-/// What a line came to: a key, the first word of the data, or the end of the text.
+/// The result of a line: a key, the first word of the data, or the end of the text.
 #[derive(Clone, Copy)]
 pub enum HeaderLine {
     Key,

@@ -42,7 +42,7 @@ pub fn is_space(b: u8) -> bool
     b == b' ' || b == b'\t' || b == b'\r' || b == b'\n'
 }
 
-// What a step came to.
+// The result of a step.
 #[derive(Clone, Copy)]
 enum ScanStep {
     Blank,

@@ -1,4 +1,4 @@
--- What the program holds, as the definitions speak of it.
+-- The values of the program, in terms of the definitions.
 use Rattle.std.specs.Prelude.{ℕ, List, map}
 use denote.Ref.{Bor}
 use Rattle.cell_ascii_meaning.specs.GridText.{grid_words_of}

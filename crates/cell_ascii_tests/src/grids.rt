@@ -91,7 +91,7 @@ fn expect_categories<R: Abort>(rt: &R, map: &CellMap, cells: &[(u32, u32, Option
     }
 }
 
-// What is written of a map with this null text, by pieces of a size: it has the length that the call returns.
+// The text of a map with this null text, by pieces of a size: it has the length that the call returns.
 fn written<R: Abort + AllocGlobal>(
     rt: &R,
     map: &CellMap,

@@ -8,8 +8,7 @@
 //!   evaluate or plan expressions may use them
 //! - `law`: a list of tokens is at most one expression
 //!
-//! What an expression is: specs/Grammar.antt. How it is read, with one token ahead:
-//! specs/TokensRead.antt.
+//! specs/Grammar.antt defines expressions, and specs/TokensRead.antt how they are read, with one token ahead.
 #![tactic(auto)]
 
 pub mod calc_fault;

@@ -1,4 +1,4 @@
--- What an expression reads from a part of maps is what it reads from the whole.
+-- An expression reads the same cells from a part of maps as from the full maps.
 use Rattle.std.proofs.Common.{◌≡◌, ℕ, zero, suc, ℤ, pos, negsuc, ◌+◌, ◌-◌, ◌<◌, ◌≤◌, ◌+ℤ◌, max, List, [], ◌∷◌, take, drop, length, get_or, Some, None, Bool, true, false, ◌||◌, cond, eqb, eq-eqb, refl, ap, sym, ◌∙◌, arith, inl, inr, ⊎_elim, ◌⊎◌}
 use Rattle.std.specs.Prelude.{All, slice_get}
 use Rattle.std.proofs.Math.IntN.{sub_ℕ}

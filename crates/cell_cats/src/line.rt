@@ -115,7 +115,7 @@ fn ranges_of(alloc: Global, items: &[(&[u8], &[u8])]) -> Result<Vec<(i32, i32)>,
     Ok(ranges)
 }
 
-// What a word gives.
+// The output that a word gives.
 fn output_of(word: &[u8]) -> Option<Output>
     ensures { result ≡ output_of word.now }
 {

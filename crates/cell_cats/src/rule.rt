@@ -8,7 +8,7 @@ ghost use Rattle.cell_cats.specs.Rule.{is_in_ends, lists, is_star_rule, outcome,
 use cell_core::cell::Cell;
 use std::marker::Model;
 
-/// What a rule gives to a category.
+/// The output of a rule.
 #[derive(Clone, Copy, Debug)]
 pub enum Output {
     /// The category itself.
@@ -18,7 +18,7 @@ pub enum Output {
 }
 
 impl Output {
-    /// What it makes of a cell that is not null.
+    /// The new category of a cell that is not null.
     pub fn of(self, cell: Cell) -> Cell
         ensures { IfSome cell (λ x. result ≡ outcome x (Some self)) }
     {
@@ -93,7 +93,7 @@ impl Rule {
         self.listed.is_none()
     }
 
-    /// What it gives to a category.
+    /// The output for its categories.
     pub fn output(&self) -> Output
         ensures { result ≡ self.now.output }
     {

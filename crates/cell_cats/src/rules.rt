@@ -14,7 +14,7 @@ use cell_core_values::blanks::trimmed_text;
 use std::alloc::{AllocError, AllocFailed, Global};
 use std::marker::Model;
 
-/// What a good line is.
+/// The kinds of good lines.
 #[derive(Clone, Copy, Debug, PartialEq, Eq)]
 pub enum LineKind {
     /// A rule.

@@ -1,4 +1,4 @@
--- What a path by edges joins, one by edges and corners joins.
+-- Cells that a path by edges joins are joined by edges and corners.
 use Rattle.std.proofs.Common.{◌≡◌, ℕ, pos, ◌≤◌, [], ◌∷◌, List, Some, None, sym, ◌∙◌, arith, subst, inl, ⊎_elim}
 use Rattle.cell_core.specs.Grid.{Grid, CellValue}
 use Rattle.cell_cats_areas.specs.declared.clump.Joining.TheVariants.{Edges, EdgesAndCorners}

@@ -4,7 +4,7 @@ ghost use Rattle.std.specs.Prelude.{◌≤◌, IfOk};
 
 use std::io::{self, ErrorKind, Read, Write};
 
-/// What a device does at a call.
+/// The behaviour of a device at a call.
 #[derive(Clone, Copy)]
 pub enum Step {
     /// It fails.

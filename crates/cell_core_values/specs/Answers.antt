@@ -1,4 +1,4 @@
--- What a function returns that reads a text and may run out of memory.
+-- Results of functions that read a text and may run out of memory.
 use Rattle.std.specs.Prelude.{Result, Ok, Err, ◌≡◌, ◌≢◌}
 
 -- what is returned, seen by `view`, is what the reading gives, and an error is the reading's error, unless memory ran out

@@ -1,4 +1,4 @@
--- What is written of cells, one after another: stretch after stretch, row after row.
+-- The text of cells one after another: stretch after stretch, row after row.
 use Rattle.std.proofs.Common.{◌≡◌, ℕ, zero, suc, ◌+◌, ◌-◌, ◌<◌, ◌≤◌, List, [], ◌∷◌, ◌++◌, length, map, drop, replicate}
 use Rattle.std.proofs.Common.{All, Fits, w32, true, false, not, ap, sym, ◌∙◌, arith}
 use Rattle.std.proofs.Common.{append_assoc, append-nil, zero-add, add-zero}

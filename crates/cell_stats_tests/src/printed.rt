@@ -19,7 +19,7 @@ use std::test::Fail;
 // The areas of the first worked map.
 const AREAS: [i32; 12] = [1, 1, 2, NULL, 1, 2, 2, 2, 3, 3, 4, 4];
 
-// What a sink of so much room takes of the table, and whether it failed.
+// The part of the table that a sink of so much room takes, and whether the sink failed.
 fn table_in_room(
     alloc: Global,
     shelf: &Shelf,
@@ -297,7 +297,7 @@ fn sink_without_room(rt: HostRuntime) -> Result<(), Fail> {
     Ok(())
 }
 
-// What a sink of so much room takes of the cells, by blocks; the block puts nothing more then.
+// The cells that a sink of so much room takes, by blocks; then the block puts nothing more.
 fn expect_cells_cut<R: Abort + AllocGlobal>(
     rt: &R,
     shelf: &Shelf,

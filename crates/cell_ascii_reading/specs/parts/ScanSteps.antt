@@ -1,4 +1,4 @@
--- What a step over blanks and line feeds comes to, and what it says of the next word, and of the line.
+-- Steps over blanks and line feeds: their results, and what they say of the next word and of the line.
 use Rattle.std.specs.Prelude.{ℕ, ◌≡◌, ◌≤◌, ◌+◌, Bool, true, false, ◌==◌, nat_lt, List, [], ◌∷◌, Result, Ok, Err}
 use Rattle.cell_core_devices.specs.Device.{Coming}
 use Rattle.cell_ascii_meaning.specs.GridTokens.{Start, Begins, Ends, Stops, grid_start, grid_fault, is_space}
@@ -42,7 +42,7 @@ abbrev pub EndsReported : Result ScanStep GridFault → Ahead → Type 0
 EndsReported (Ok End) ahead = IsAtEnd false (bytes_to_come ahead)
 EndsReported _ ahead = Unit {0}
 
--- a scanner made a step: what it came to goes by the bytes to come, and only the line, the run and these changed
+-- a scanner made a step: its result is the step over the bytes to come, and only the line, the run and these changed
 pub record IsStep (step : Result ScanStep GridFault) (old new : Scan) : Type 0 where
   pub value : Agrees (step_of old.line old.run) old.ahead (λ c. (step, c)) new.ahead
   pub scan : new ≡ record old { line = line_step step old.line; run = run_step step old.run; ahead = new.ahead }

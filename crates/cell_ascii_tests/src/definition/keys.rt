@@ -43,7 +43,7 @@ impl<'a> Model for Keys<'a> {
     ghost view = { λ k. record { north = k.north; south = k.south; east = k.east; west = k.west; rows = k.rows; cols = k.cols; null = option_copied k.null; kind = k.kind; multiplier = k.multiplier } };
 }
 
-/// What a header says of the cells.
+/// A header: the region, the null text and the multiplier.
 #[derive(Drop)]
 pub(crate) struct Header<'a> {
     region: Region,
