@@ -8,7 +8,7 @@ number a file, which may only fall. The documents and messages for users have no
 lengths and have no sentence in common (pages.py).
 
 With --write the files are written as the findings are, which is for the commit that takes findings away; a file that would grow
-is left as it is. --words prints how many retired words the docstrings and comments of each file have. The last line is 'N passed, M failed'.
+is left as it is. --words prints the retired words of docstrings and comments. The last line is 'N passed, M failed'.
 """
 import argparse
 import pathlib
@@ -42,7 +42,10 @@ def faults_of(rule, findings, allowed):
     """What is wrong with findings and exceptions: a list of lines."""
     if rule in rules.COUNTED:
         found, listed = as_counts(findings), as_counts(allowed)
-        more = [f"{key}: {number}, and at most {listed.get(key, 0)} are listed" for key, number in found.items() if number > listed.get(key, 0)]
+        grown = [key for key, number in found.items() if number > listed.get(key, 0)]
+        more = [f"{key}: {found[key]}, and at most {listed.get(key, 0)} are listed" for key in grown]
+        if rule == rules.words.__name__:
+            more += [place for key in grown for place in prose.retired_by_file()[key]]
         fewer = [f"{key}: {found.get(key, 0)}, fewer than the {number} listed (lower the list: make lint WRITE=1)"
                  for key, number in listed.items() if found.get(key, 0) < number]
         return more + fewer
@@ -80,12 +83,10 @@ def python_faults():
 
 
 def prose_faults():
-    """What is wrong with the English of the documents; the retired words elsewhere are printed, and are no error."""
+    """What is wrong with the English of the documents."""
     faults = prose.faults() + pages.faults()
     for fault in faults:
         print(f"prose: {fault}")
-    counts = ", ".join(f"{folder} {count}" for folder, count in prose.counts_by_folder().most_common())
-    print(f"prose: retired words in docstrings and comments: {counts}")
     if pending := prose.pending_counts():
         print("prose: pages not written anew yet: " + ", ".join(f"{name} {count}" for name, count in pending.items()))
     return faults
@@ -95,10 +96,10 @@ def main():
     parser = argparse.ArgumentParser(prog="lint", description=__doc__.splitlines()[0])
     parser.add_argument("--write", action="store_true", help="write the findings as the exceptions, where there are no more")
     parser.add_argument("rules", nargs="*", metavar="RULE", help=", ".join(rules.ALL))
-    parser.add_argument("--words", action="store_true", help="print how many retired words docstrings and comments have, by file")
+    parser.add_argument("--words", action="store_true", help="print the retired words of docstrings and comments")
     words = parser.parse_args()
     if words.words:
-        print("".join(f"{count:>6} {name}\n" for name, count in prose.counts_by_file().most_common() if count), end="")
+        print("".join(f"{place}\n" for found in prose.retired_by_file().values() for place in found), end="")
         return 0
     failed = 0
     for rule in words.rules or rules.ALL:

@@ -1,8 +1,8 @@
 """The English of the documents: retired words (retired.txt), and the lengths of sentences.
 
-A document for users has no retired word, nor has a message of the helpers and of rcell_front. In a page for users a sentence has at most 18 words on average, at most 10 % of the
-sentences have more than 25, and at most 1 % more than 45. In docstrings and comments retired words are only counted, by folder
-and by file.
+A document for users has no retired word, nor has a message of the helpers and of rcell_front, a docstring or a comment. In a
+page for users a sentence has at most 18 words on average, at most 10 % of the sentences have more than 25, and at most 1 % more
+than 45.
 """
 import ast
 import functools
@@ -12,7 +12,6 @@ import pathlib
 import re
 import subprocess
 import tokenize
-from collections import Counter
 
 ROOT = pathlib.Path(__file__).resolve().parent.parent.parent
 MEAN_WORDS, LONG, MOST_LONG, VERY_LONG, MOST_VERY_LONG = 18, 25, 0.10, 45, 0.01
@@ -31,6 +30,9 @@ PHRASES = re.compile(
     r"\b(is|are|was) told\b|\btells?\b|\banswers (a|an|the|all|which|one)\b|\bwhat (no|the) [a-z]+ (names|refuses|has|gives|makes)\b"
     r"|\bthe (least|greatest) of\b|\bof the whole\b|\b(by|behind) (awk|GDAL|it)\b|\bwhere (there is|it is|none|one|no|memory|nothing)\b"
     r"|\bstands? (in|for|on|beside|behind|alone)\b", re.IGNORECASE)
+# Code in docstrings and comments: what backticks enclose, paths, options, targets of make; keys of tables, and of parameters.
+CODE = re.compile(r"`[^`]*`|[\w.*]*/[\w./*]*|(?<=[\s[])--[\w-]+|^# make [\w-]+|\b\w+\.py\b|^[\w, ]+ : |^\w+  ")
+DOCUMENTED = (ast.Module, ast.ClassDef, ast.FunctionDef, ast.AsyncFunctionDef)
 COMMENT_OF = {".rt": "//", ".antt": "--", ".sh": "#", ".mk": "#", ".R": "#", ".c": "//", ".cpp": "//", ".h": "//"}
 
 
@@ -135,33 +137,42 @@ def faults():
     return found
 
 
+def comments_of_python(text):
+    """The lines of the docstrings and comments of a Python file, by their numbers."""
+    lines, found = text.split("\n"), {}
+    for node in ast.walk(ast.parse(text)):
+        if isinstance(node, DOCUMENTED) and ast.get_docstring(node) is not None:
+            places = range(node.body[0].lineno, (node.body[0].end_lineno or 0) + 1)
+            found.update({number: re.sub(r'^r?"""|"""$', "", lines[number - 1].strip()) for number in places})
+    for token in tokenize.generate_tokens(io.StringIO(text).readline):
+        if token.type == tokenize.COMMENT:
+            found[token.start[0]] = token.string
+    return found
+
+
 def comments_of(name):
-    """The docstrings and comments of a source file, as one text."""
+    """The lines of the docstrings and comments of a source file, by their numbers."""
     text = (ROOT / name).read_text(encoding="utf-8", errors="replace")
     if name.endswith(".py"):
-        try:
-            docs = [ast.get_docstring(node) or "" for node in ast.walk(ast.parse(text))
-                    if isinstance(node, (ast.Module, ast.ClassDef, ast.FunctionDef, ast.AsyncFunctionDef))]
-            marks = [token.string for token in tokenize.generate_tokens(io.StringIO(text).readline) if token.type == tokenize.COMMENT]
-        except (SyntaxError, tokenize.TokenError):
-            return ""
-        return "\n".join([*docs, *marks])
+        return comments_of_python(text)
     mark = COMMENT_OF[pathlib.Path(name).suffix]
-    return "\n".join(line for line in text.split("\n") if line.strip().startswith(mark))
+    return {number: line.strip() for number, line in enumerate(text.split("\n"), 1) if line.strip().startswith(mark)}
 
 
-def counts_by_file():
-    """How many retired words the docstrings and comments of each file have."""
-    return Counter({name: sum(1 for _ in retired_in(comments_of(name))) for name in tracked()
-                    if name.endswith(".py") or pathlib.Path(name).suffix in COMMENT_OF})
+def retired_in_comments(name):
+    """Yield each retired word of the docstrings and comments of a file, with its file and line; code is left out."""
+    is_code = False
+    for number, line in sorted(comments_of(name).items()):
+        is_code ^= "```" in line
+        for _, word, instead in retired_in("" if is_code else CODE.sub("CODE ", line)):
+            yield f"{name}:{number}: '{word}' is retired: {instead}"
 
 
-def counts_by_folder():
-    """How many retired words the docstrings and comments of each folder have."""
-    counts = Counter()
-    for name, count in counts_by_file().items():
-        counts[name.partition("/")[0]] += count
-    return counts
+@functools.cache
+def retired_by_file():
+    """The retired words of docstrings and comments, by file."""
+    found = {name: list(retired_in_comments(name)) for name in tracked() if pathlib.Path(name).suffix in {".py", *COMMENT_OF}}
+    return {name: words for name, words in found.items() if words}
 
 
 def pending_counts():

@@ -5,6 +5,7 @@ import subprocess
 from collections import Counter, defaultdict
 
 import licences as licences_of_files
+import prose
 import sources
 
 CLAUSE_COLUMNS, LONGEST_CLAUSE, PROOF_COLUMNS = 100, 120, 120
@@ -219,6 +220,11 @@ def symbolic_links():
     return [line.split("\t")[1] for line in listed.splitlines() if line.startswith("120000 ")]
 
 
+def words():
+    """Retired words in docstrings and comments, by file."""
+    return counted({name: len(found) for name, found in prose.retired_by_file().items()})
+
+
 ALL = {it.__name__: it for it in (wide_clauses, widest_clauses, wide_proofs, crate_limits, undocumented, names, uncited, dead_lemmas, parts, steps,
-                                  unused_edges, examples, symbolic_links, licences_of_files.licences)}
-COUNTED = {"wide_clauses", "widest_clauses", "wide_proofs"}
+                                  unused_edges, examples, symbolic_links, licences_of_files.licences, words)}
+COUNTED = {"wide_clauses", "widest_clauses", "wide_proofs", "words"}

@@ -102,7 +102,7 @@ class BadMap(Refused, ValueError):
     row, col : int, optional
         The first cell that is wrong, from 1 at the top left.
     value : number, optional
-        What it has.
+        The value of that cell.
 
     Examples
     --------
@@ -265,7 +265,7 @@ class MissingLibrary(RcellError, ImportError):
     extra : str
         The extra of the wheel that installs it.
     purpose : str
-        What it is needed for.
+        The task that needs it.
 
     Examples
     --------
