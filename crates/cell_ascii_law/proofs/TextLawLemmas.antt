@@ -141,7 +141,7 @@ line_first l ls q e = ap (λ (t : Bool). cond t (Some l) (line_of q ls)) (has_it
 line_later : (l : List (List ℕ)) (ls : Lines) (p : HeaderKey) → has_key p l ≡ false → line_of p (l ∷ ls) ≡ line_of p ls
 line_later l ls p e = ap (λ (t : Bool). cond t (Some l) (line_of p ls)) e
 
--- if a key is not found, no line has it
+-- no line has a key exactly if the key is not found
 none_found : (t : List ℕ) (p : HeaderKey) → t ≡ name_of p → (ls : Lines) → line_of p ls ≡ None → AllByRecursion (λ y. bytes_eq t y ≡ false) (map key_text ls)
 none_found t p is [] e = tt
 none_found t p is (l ∷ ls) e = by (cases_Bool (has_key p l)) (none_found t p is ls)

@@ -18,7 +18,7 @@ pub enum Output {
 }
 
 impl Output {
-    /// The new category of a cell that is not null.
+    /// The new cell in place of a cell that is not null.
     pub fn of(self, cell: Cell) -> Cell
         ensures { IfSome cell (λ x. result ≡ outcome x (Some self)) }
     {

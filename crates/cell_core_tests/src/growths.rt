@@ -1,7 +1,7 @@
 //! Calls that run out of memory leave their object unchanged, and succeed when they are made again.
 //!
 //! Every growth succeeds in a normal run. tools/hostile makes the growths fail in turn, one in each run, and checks
-//! that calls are made again in some of the runs.
+//! that each call is made again in some of the runs.
 
 ghost use Rattle.std.specs.Prelude.{◌≡◌, length};
 

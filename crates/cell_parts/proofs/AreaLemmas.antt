@@ -54,7 +54,7 @@ adjacent-back r Edges p q h = edge-back r p q h
 adjacent-back r EdgesAndCorners p q (inl h) = inl (edge-back r p q h)
 adjacent-back r EdgesAndCorners p q (inr h) = inr (neighbours-back r.top _ _ h.0, neighbours-back r.left _ _ h.1)
 
--- ---- paths of a tile, in the whole
+-- ---- paths of a tile, in the full map
 
 pub is-some : (c : CellValue) (v : ℤ) → c ≡ Some v → IsSome c
 is-some None v e = cc

@@ -1,4 +1,4 @@
--- Cuts across the whole: the rectangles between them cover each cell once.
+-- Cuts across the full map: the rectangles between them cover each cell once.
 use Rattle.std.proofs.Common.{◌≡◌, ℕ, ◌+◌, ◌<◌, ◌≤◌, List, [], ◌∷◌, map, Bool, true, false, ◌&&◌, cond, refl, ap, ◌∙◌, arith, ⊎_elim}
 use Rattle.std.specs.Prelude.{All, sum, count_by}
 use Rattle.std.specs.List.{flat_map}

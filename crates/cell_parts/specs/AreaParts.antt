@@ -15,7 +15,7 @@ pub record Tile : Type 0 where
   pub place : Rectangle
   pub map : Grid
 
--- where a cell of a tile lies in the whole
+-- where a cell of a tile lies in the full map
 abbrev pub moved_position : Rectangle → Position → Position
 moved_position r p = record { row = r.top + p.row; col = r.left + p.col }
 

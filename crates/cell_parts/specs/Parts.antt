@@ -24,7 +24,7 @@ abbrev pub stretches : ℕ → List ℕ → List (ℕ × ℕ)
 stretches from [] = []
 stretches from (n ∷ lengths) = (from, n) ∷ stretches (from + n) lengths
 
--- cuts across the whole, between rows of so many heights and columns of so many widths: the rectangles row by row
+-- cuts across the full map, between rows of so many heights and columns of so many widths: the rectangles row by row
 abbrev pub grid_of_cuts : (heights widths : List ℕ) → List Rectangle
 grid_of_cuts heights widths = flat_map (λ h. map (λ w. record { top = h.0; left = w.0; rows = h.1; cols = w.1 }) (stretches 0 widths)) (stretches 0 heights)
 

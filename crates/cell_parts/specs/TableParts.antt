@@ -33,7 +33,7 @@ pub record AreParts (rows cols : ℕ) (whole : List Grid) (parts : List Part) : 
 abbrev pub combinations_of_part : List ℕ → Part → List Combination
 combinations_of_part picks part = all_combinations part.maps picks part.place.rows part.place.cols
 
--- however maps are cut: each combination has as many cells in the whole as in all parts
+-- however maps are cut: each combination has as many cells in the full maps as in all parts
 abbrev pub PartsAddUp : Type 0
 PartsAddUp = (rows cols : ℕ) (whole : List Grid) (parts : List Part) → AreParts rows cols whole parts → (picks : List ℕ) (k : Combination) → count_of k (all_combinations whole picks rows cols) ≡ sum_by (λ part. count_of k (combinations_of_part picks part)) parts
 

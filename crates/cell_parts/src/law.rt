@@ -15,7 +15,7 @@ pub fn cut_outs_are_parts()
     ensures { CutOutsAreParts }
 {}
 
-/// Any parts that cover each cell once: each combination has as many cells in the whole as in all of them.
+/// Any parts that cover each cell once: each combination has as many cells in the full maps as in all of them.
 pub fn parts_add_up()
     ensures { PartsAddUp }
 {}

@@ -18,7 +18,7 @@ pub fn rule_leaves_out()
     ensures { RuleLeavesOut }
 {}
 
-/// The table of one map that leaves out null is its whole table without the entry of null.
+/// The table of one map that leaves out null is its full table without the entry of null.
 pub fn null_is_left_out()
     ensures { NullLeftOut }
 {}

@@ -135,8 +135,8 @@ fn hold(held: &mut CountPlace, cells: &[Cell], count: u64)
     held.count = count;
 }
 
-// Counts cells of a combination that is not in its own place, in a place near it. A combination that this place holds
-// first moves to the map. This is rare, and stays out of the loop over the cells.
+// Counts cells of a combination that is not in its own place, in a place near it. Another combination that this
+// place holds first moves to the map. This is rare, and stays out of the loop over the cells.
 #[inline(never)]
 fn add_near(
     alloc: Global,

@@ -5,7 +5,7 @@ use Rattle.cell_stats_counts.specs.declared.gathered.Gathered.{Gathered}
 use Rattle.cell_stats_counts.specs.Listed.{Counts, listed_of}
 use Rattle.cell_stats_counts.specs.parts.HeldPlaces.{gathered_of}
 
--- the count of each combination fits a number
+-- the count of each combination fits 64 bits
 abbrev pub ListedFits : Counts → Type 0
 ListedFits entries = (k : Combination) → listed_of k entries < 2 ^ 64
 

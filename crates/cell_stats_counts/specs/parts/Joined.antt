@@ -25,7 +25,7 @@ pub record IsJoined (old now : Counts) (last at : ℕ) : Type 0 where
 abbrev pub AreOfOne : Counts → ℕ → ℕ → Bool → Type 0
 AreOfOne entries a b same = (d : Combination × ℕ) → same ≡ is_same (slice_index_or entries a d).0 (slice_index_or entries b d).0
 
--- and if they are, their sum fits a number
+-- and if they are, their sum fits 64 bits
 abbrev pub CanAddUp : Counts → ℕ → ℕ → Type 0
 CanAddUp entries a b = (d : Combination × ℕ) → (slice_index_or entries a d).0 ≡ (slice_index_or entries b d).0
     → (slice_index_or entries a d).1 + (slice_index_or entries b d).1 < 2 ^ 64
