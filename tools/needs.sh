@@ -1,7 +1,7 @@
 #!/bin/sh
 # Checks what a build needs: rt of the kit, the kit's clang, Python 3.11 or later, and the programs that are named, such as git for
-# the gate and the release. If something is missing, one line on standard error names it, and the status is 1. A kit that has not
-# checked the proofs gives a warning.
+# the gate and the release. If something is missing, one line on standard error names it, and the status is 1. A kit that has
+# checked no version of the proofs gives a warning.
 #
 #     tools/needs.sh [PROGRAM...]
 logic='logic dac8208d650f15bf'
@@ -22,5 +22,5 @@ clang="$(dirname "$(rt doc)")/toolchain/bin/clang"
 [ -x "$clang" ] || missing "clang is missing: the kit has none at $clang, so unpack the kit again"
 case $(rt version) in
     "rattle-kit-13b $logic" | "rattle-kit-13f $logic") ;;
-    *) echo "rcell: the kit here is '$(rt version)'; the proofs were checked with $kits" >&2 ;;
+    *) echo "rcell: the kit here is '$(rt version)'; versions of the proofs were checked with $kits" >&2 ;;
 esac
