@@ -118,7 +118,7 @@ begun-none j = record {
 
 module _ (j : Joining) (texts : List Coming) (rows : List (List BorderText)) (row : List BorderText)
     (begun : AreGridSoFar j texts rows row) where
-  -- where the row that has begun is whole, it is one row more
+  -- if the row that has begun is full, it is one row more
   rows-push : IsWholeRow (last_row [] (region_rows rows)) (regions_of row)
       → AreTileRows (region_rows (rows ++ row ∷ []))
   rows-push is = subst AreTileRows (sym (region_rows-push rows row)) (record {

@@ -91,7 +91,7 @@ fn placement_in_first_row(first: Region, last: Region, tile: Region) -> TilePlac
     }
 }
 
-// After the last tile of a row, where a tile is above, which came so many tiles before.
+// After the last tile of a row, if there is a tile above, which came so many tiles before.
 fn placement_below(upper: Region, last: Region, tile: Region, back: usize) -> TilePlacement
     ensures { IsPlacementBelow upper last tile back result }
 {

@@ -21,7 +21,7 @@ use std::alloc::Global;
 /// What the joining did.
 #[derive(Clone, Copy, Debug, PartialEq, Eq)]
 pub struct ClumpsOutcome {
-    /// The number of bytes that the sink took, or the largest `u64` where it took more.
+    /// The number of bytes that the sink took, at most `u64::MAX`.
     pub written: u64,
     /// Why not all was written.
     pub fault: Option<ClumpsFault>,
@@ -111,9 +111,9 @@ fn put_runs<W: Sink>(out: &mut W, runs: &[Stretch]) -> ClumpsOutcome
 /// numbering: which number each clump of each tile has in the full map, of whatever size that is. The tiles are numbered in the order
 /// of the texts.
 ///
-/// The texts are read one after the other. A tile is the next in its row where it lies right of the one before it, and begins the
-/// next row where it lies below the first tile of a whole row. One row of tiles is held at a time; besides it, memory grows with the
-/// seams alone. Nothing is written before all texts are read. The sink is flushed once at the end, unless a put failed.
+/// The texts are read one after the other. A tile is the next in its row if it lies right of the one before it, and begins the
+/// next row if it lies below the first tile of a full row. One row of tiles is held at a time; other memory grows only with the
+/// seams. Nothing is written before all texts are read. The sink is flushed once at the end, unless a put failed.
 pub fn join_border_texts<R: Source + Drop, W: Sink>(
     alloc: Global,
     joining: Joining,
@@ -135,8 +135,7 @@ pub fn join_border_texts<R: Source + Drop, W: Sink>(
     ensures cut { (all : List Coming) → Give R.coming texts.items all
         → result.fault ≡ Some ClumpsFault.Write
         → HasClumpsPrefix joining all (W.taken out.old) (W.taken out.new) result.written }
-    // No error comes only where no call of the sink failed and it was flushed once, and, of a sink that had not failed before,
-    // Write only where it failed.
+    // Without an error, no call of the sink failed and it was flushed once. Write: a call failed, now or before.
     ensures sound { result.fault ≡ None
         → W.faults out.new ≡ after_flush (W.faults out.old) false }
     ensures write { result.fault ≡ Some ClumpsFault.Write

@@ -57,7 +57,7 @@ not-below above tile (Cols cols other) is wrong = wrong.0.apart is.cols
 not-below above tile (West west other) is wrong = wrong.0.apart is.west
 not-below above tile (East east other) is wrong = wrong.0.apart is.east
 
--- where a tile goes, it is not rejected
+-- a tile that has a place is not rejected
 goes-somewhere : (place : ℕ) (above row : List RegionValue) (tile : RegionValue) (f : ClumpsFault)
     → GoesInRow above row tile ⊎ BeginsRow above row tile → GoesNowhere place above row tile f → ⊥
 goes-somewhere place above row tile (Apart at beside below) (inl goes) wrong =

@@ -1,4 +1,4 @@
--- Where a numbering and tables have sizes, they are read side by side as these say, and nothing else is met.
+-- If a numbering and tables have sizes, they are read side by side as these say, and nothing else is met.
 use Rattle.std.proofs.Common.{◌≡◌, ◌≢◌, ℕ, zero, suc, pos, ◌+◌, ◌-◌, ◌^◌, ◌<◌, ◌≤◌, ◌==◌, List, [], ◌∷◌, ◌++◌, length}
 use Rattle.std.proofs.Common.{map, take, drop, Bool, true, false, cond, Option, Some, None, refl, ap}
 use Rattle.std.proofs.Common.{sym, ◌∙◌, subst, arith, append-nil, append_assoc, length-append, length-drop, inl}

@@ -207,7 +207,7 @@ count-stands n (number ∷ numbers) from (suc count) cells =
 
 module _ (j : Joining) (m numbers_map : Grid) (is : IsClumping j m numbers_map) (areas : ℕ)
     (has : HasAreas j m areas) (numbers : List ℕ) (n : ℕ) (some : 1 ≤ n) where
-  -- a cell has the number in the full map exactly where its own stands for it
+  -- a cell has the number in the full map exactly if its own stands for it
   stands-there : (c : CellValue) (p : Position) → cell_at_position numbers_map p ≡ c →
       number_there numbers c ≡ Some (pos n) → StandsFor n numbers 1 areas (c ∷ [])
   stands-there None p here e = cc

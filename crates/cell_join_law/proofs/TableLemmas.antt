@@ -33,7 +33,7 @@ pub table-lists : (n : ℕ) (sizes : List ℕ) (skip : Skip) (nulls : ℕ) →
 table-lists n [] skip nulls = null-lists skip nulls
 table-lists n (size ∷ sizes) skip nulls = ap (λ (l : List ℕ). size ∷ l) (table-lists (n + 1) sizes skip nulls)
 
--- the count of null, where the rule leaves it in
+-- the count of null, if it is not left out
 null-counts : (skip : Skip) (nulls : ℕ) → is_left_out skip (None ∷ []) ≡ false →
     count_in (None ∷ []) (entry_of_null skip nulls) ≡ nulls
 null-counts skip zero kept_in = refl

@@ -9,7 +9,7 @@ use Rattle.cell_join_lines.specs.declared.table_fault.TableKind.{TableKind}
 use Rattle.cell_join_lines.specs.declared.table_fault.TableKind.TheVariants.{BadCell, BadCount, BadWidth, ListedTwice, OutOfOrder, LongLine, CutOff, Read, Memory}
 use Rattle.cell_join_lines.specs.declared.table_fault.TheConstants.{MOST_BYTES}
 
--- the bytes that a buffer holds, what its source still gives, where that is known, the line that was read last, and what was
+-- the bytes that a buffer holds, what its source still gives, if that is known, the line that was read last, and what was
 -- heard of the source
 pub record LinesValue : Type 0 where
   pub held : List ℕ

@@ -7,7 +7,7 @@ use Rattle.cell_join_lines.specs.declared.stretch.Stretch.{Stretch}
 use Rattle.cell_join_lines.specs.declared.areas_fault.AreasFault.{AreasFault}
 use Rattle.cell_join_lines.specs.AreasReading.{AreasReading, areas_ended, areas_read, is_read_areas, with_stretch}
 
--- the run that was read last, the number of the line after it, what is read after it as a table, where that is known, and
+-- the run that was read last, the number of the line after it, what is read after it as a table, if that is known, and
 -- what was heard of the source
 pub record AreasTextValue : Type 0 where
   pub head : Option Stretch

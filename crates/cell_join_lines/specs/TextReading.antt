@@ -11,7 +11,7 @@ use Rattle.cell_join_lines.specs.declared.table_fault.TableFault.{TableFault}
 use Rattle.cell_join_lines.specs.LineReading.{TableReading, ended, reading_of_rest, with_entry}
 
 -- how many cells each line has, or 0, the entry that was read last, its line, the number of the line after it, what is to come
--- after it, where that is known, and what was heard of the source
+-- after it, if that is known, and what was heard of the source
 pub record TextValue : Type 0 where
   pub width : ℕ
   pub head : Option (Combination × ℕ)
@@ -24,7 +24,7 @@ pub record TextValue : Type 0 where
 abbrev pub combination_of : Option (Combination × ℕ) → Option Combination
 combination_of head = option_map (λ entry. entry.0) head
 
--- what is read after the head, where the text is known
+-- what is read after the head, if the text is known
 abbrev pub reading_behind : FormatValue → TextValue → Option TableReading
 reading_behind format text = option_map (reading_of_rest format text.width text.number (combination_of text.head)) text.coming
 
@@ -41,7 +41,7 @@ abbrev pub bytes_from_head : Option (Combination × ℕ) → List ℕ → Coming
 bytes_from_head None line coming = []
 bytes_from_head (Some entry) line coming = (line ++ codes "\n") ++ coming.bytes
 
--- the bytes from the head's line on, and those after it, where the text is known
+-- the bytes from the head's line on, and those after it, if the text is known
 abbrev pub bytes_from : TextValue → Option (List ℕ)
 bytes_from text = option_map (bytes_from_head text.head text.line) text.coming
 

@@ -35,7 +35,7 @@ size-other n (k ∷ numbers) (size ∷ sizes) less =
           (All-tail (λ (m : ℕ). m < n) k numbers less),
     )
 
--- of one of them, where no size is 0
+-- of one of them, if no size is 0
 pub size-some : (n : ℕ) (numbers sizes : List ℕ) (i : ℕ) → i < length numbers → get_or numbers i n ≡ n
     → length sizes ≡ length numbers → All (λ k. 0 < k) sizes → 0 < size_of_area n numbers sizes
 size-some n [] sizes i within is same all = absurd (omega arith)

@@ -165,7 +165,7 @@ impl HeldNumbering {
         self.line.saturating_sub(1)
     }
 
-    /// Goes on to the next run.
+    /// Continues with the next run.
     pub(crate) fn next(&mut self)
         requires { IsSome self.old.head }
         ensures read { held_behind self.old ≡ held_from self.new }

@@ -16,7 +16,7 @@
 //! /// The table of the first.
 //! pub(crate) const FIRST: &[u8] = b"1 5\n2 7\n* 3\n";
 //!
-//! /// That of the second.
+//! /// The table of the second.
 //! pub(crate) const SECOND: &[u8] = b"1 20\n2 30\n3 40\n";
 //!
 //! const SIZES: &[u8] = b"1 45\n2 27\n3 30\n";

@@ -31,7 +31,7 @@ use std::alloc::Global;
 /// What adding sizes did.
 #[derive(Clone, Copy, Debug, PartialEq, Eq)]
 pub struct SizesOutcome {
-    /// The number of bytes that the sink took, or the largest `u64` where it took more.
+    /// The number of bytes that the sink took, at most `u64::MAX`.
     pub written: u64,
     /// Why not all sizes are written.
     pub fault: Option<SizesFault>,
@@ -81,7 +81,7 @@ fn number_of(combo: &Combo) -> Option<u64>
     }
 }
 
-// The size of a clump, where the head is its entry.
+// The size of a clump, if the head is its entry.
 fn size_of(head: &Option<(Combo, u64)>, area: u64) -> Option<u64>
     ensures { MatchOption result (IsHeadOfOther area head.now)
         (λ size. head.now ≡ Some (area_entry area size)) }
@@ -346,22 +346,22 @@ pub fn join_table_sizes<R: Source + Drop, W: Sink>(
         → Give R.coming tables.items texts → result.fault ≡ None
         → HasWrittenSizes format.now (areas_reading_of text) (map (reading_of format.now 1) texts)
         (W.taken out.old) (W.taken out.new) result.written }
-    // Where a write failed, the sink has taken a prefix of them; with any other error nothing.
+    // If a write failed, the sink has taken a prefix of them; with any other error nothing.
     ensures written { (text : Coming) (texts : List Coming) → R.coming areas ≡ Some text
         → Give R.coming tables.items texts → IfSome result.fault
         (HasStopped format.now (areas_reading_of text) (map (reading_of format.now 1) texts)
         (W.taken out.old) (W.taken out.new) result.written) }
-    // An error is an error of the numbering, or the first that is met where it and the tables are read side by side.
+    // An error is an error of the numbering, or the first that is met when it and the tables are read side by side.
     ensures fault { (text : Coming) (texts : List Coming) → R.coming areas ≡ Some text
         → Give R.coming tables.items texts → IfSome result.fault
         (IsSizesFault (areas_reading_of text) (map (reading_of format.now 1) texts)) }
     // With any error but a failed write the sink is not called, whatever the sources are.
     ensures untouched { IfSome result.fault (λ fault. fault ≢ SizesFault.Write
         → (out.new ≡ out.old) × (result.written ≡ 0)) }
-    // No error comes only where no call of the sink failed and it was flushed once.
+    // Without an error, no call of the sink failed and it was flushed once.
     ensures sound { result.fault ≡ None
         → W.faults out.new ≡ after_flush (W.faults out.old) false }
-    // A failed write is reported only where the sink failed.
+    // A failed write is reported only if the sink failed.
     ensures write { result.fault ≡ Some SizesFault.Write → has_failed (W.faults out.new) ≡ true }
 {
     match add_tables(alloc, format, areas, tables) {

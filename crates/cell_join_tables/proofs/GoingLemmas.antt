@@ -172,7 +172,7 @@ got (y ∷ ys) (suc i) d x is = got ys i d x is
 abbrev pub nothing : TextValue
 nothing = record { width = 0; head = None; line = []; number = 0; coming = None; heard = record { sure = false; failed = false } }
 
--- what the lines of a text have after the head, where that is of the combination, and else from it on
+-- what the lines of a text have after the head if it is of the combination, or else from it on
 abbrev pub lines_past : FormatValue → Combination → TextValue → Option (List Labelled)
 lines_past format k text = option_map (past_labelled k) (labelled_from format text)
 
@@ -263,7 +263,7 @@ module _ (format : FormatValue) (k : Combination) where
       (λ here. (let more : first < other = ltb-true first other here.1 in absurd (omega (arith, less, more))))
       (lesser-or-same k k (nat_lt first other) is)
 
-  -- where the first one does not continue with the smallest combination, none does
+  -- if the first one does not continue with the smallest combination, none does
   none-goes-on : (heads : List (Option Combination)) (first other : ℕ) → GoesFirst heads first
       → get_or heads first None ≢ Some k
       → IfSome (get_or heads first None) (λ c. combination_cmp c k ≢ Less) → other < length heads

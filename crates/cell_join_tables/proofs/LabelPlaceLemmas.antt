@@ -102,7 +102,7 @@ labels-there format (x ∷ xs) zero y labelled is so = by x.head is
         sym (ap (λ (l : Labelled). l.1) one) ∙ two
 labels-there format (x ∷ xs) (suc i) y labelled is so = labels-there format xs i y labelled is so
 
--- texts that continue with other labels stop the merge, where the combination is the smallest
+-- texts that continue with other labels stop the merge if the combination is the smallest
 pub stops-at : (format : FormatValue) (k : Combination) (labelled : List ℕ) (texts : List TextValue) (first text : ℕ)
     → DifferAt format k labelled texts first text → (reported : OtherLabel) → reported.first ≡ first → reported.text ≡ text
     → reported.combo ≡ k → reported.labelled.items ≡ labelled

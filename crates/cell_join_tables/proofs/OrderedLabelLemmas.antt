@@ -88,7 +88,7 @@ module _ (format : FormatValue) (texts : List TextValue) where
       by (x ∷ xs) zero within first second = (let same : Some a ≡ Some b = sym (first x) ∙ second x in cc)
       by (x ∷ xs) (suc i) within first second = by xs i (omega (arith, within)) first second
 
-  -- where the first of all is at its end, no entry is begun with
+  -- if the first of all is at its end, no entry is begun with
   pub none-begins : (order : List ℕ) (ordered : IsOrder (heads_of texts) (length texts) order) (place : ℕ)
       (is : Some place ≡ slice_get order 0) (x : TextValue) (at : x ≡ get_or texts place x) → x.head ≡ None
       → (entry : Combination × ℕ) → BeginsWith texts entry → ⊥

@@ -27,7 +27,7 @@ use Rattle.cell_join_tables.specs.parts.Pairwise.{by_order, merge_entry, merged_
 listed-cons : (k : Combination) (e : Combination × ℕ) (es : Pairs) → listed_of k (e ∷ es) ≡ entry_of k e + listed_of k es
 listed-cons k e es = sum_by-cons (entry_of k) e es
 
--- what an entry and the list after it make with another list, where the list after it makes what it makes
+-- what an entry and the list after it make with another list, if the list after it makes what it makes
 module _ (x : Combination × ℕ) (more : Pairs → Pairs) where
   abbrev Step : Combination × ℕ → Pairs → Ordering → Pairs
   Step y ys o = by_order o (x ∷ more (y ∷ ys)) ((x.0, x.1 + y.1) ∷ more ys) (y ∷ merge_entry x more ys)

@@ -31,11 +31,11 @@ IsOpeningFault readings TooLong = ⊥
 IsOpeningFault readings Memory = Unit {0}
 IsOpeningFault readings Write = ⊥
 
--- a result, where the block has failed or not
+-- a result, by whether the block has failed
 abbrev pub settled : Bool → Result Unit JoinFault → Result Unit JoinFault
 settled failed answer = if failed then Err Write else answer
 
--- the error of a result, where the flush failed or not: one that fails turns what is done into a failed write
+-- the error of a result, by whether the flush failed: a failed flush turns what is done into a failed write
 abbrev pub answered : Result Unit JoinFault → Bool → Option JoinFault
 answered (Ok unit) fails = if fails then Some Write else None
 answered (Err fault) fails = Some fault

@@ -121,7 +121,7 @@ pub record HasLabelledPrefix (format : FormatValue) (texts : List Coming) (befor
   pub taken : now ≡ append_known before prefix
   pub count : written ≡ capped_count (length prefix)
 
--- what was written where the texts are not joined: whole lines, but a prefix where a write failed
+-- what was written if the texts are not joined: full lines, but a prefix if a write failed
 abbrev pub HasJoinWritten : FormatValue → List Coming → Option (List ℕ) → Option (List ℕ) → ℕ → JoinFault → Type 0
 HasJoinWritten format texts before now written (Text text fault) = HasLabelledLines format texts before now written
 HasJoinWritten format texts before now written (TooMany k) = HasLabelledLines format texts before now written

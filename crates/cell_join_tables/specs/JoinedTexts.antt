@@ -130,7 +130,7 @@ pub record HasPrefix (format : FormatValue) (readings : List TableReading) (befo
   pub taken : now ≡ append_known before prefix
   pub count : written ≡ capped_count (length prefix)
 
--- what was written where the texts are not joined: whole lines, but a prefix where a write failed
+-- what was written if the texts are not joined: full lines, but a prefix if a write failed
 abbrev pub HasWritten : FormatValue → List TableReading → Option (List ℕ) → Option (List ℕ) → ℕ → JoinFault → Type 0
 HasWritten format readings before now written (Text text fault) = HasLines format readings before now written
 HasWritten format readings before now written (TooMany k) = HasLines format readings before now written

@@ -42,7 +42,7 @@ abbrev pub put_first : Combination → Option ℕ → Pairs → Pairs
 put_first k None es = es
 put_first k (Some n) es = (k, n) ∷ es
 
--- where no table begins before a combination, the merge begins with it and with the sum of its counts, if it has any, and continues
+-- if no table begins before a combination, the merge begins with it and with the sum of its counts, if it has any, and continues
 -- as the merge of what is left
 abbrev pub LeastGoesFirst : Type 0
 LeastGoesFirst = (k : Combination) (tables : List Pairs) → AllByRecursion (BeginsAt k) tables → merge_of tables ≡ put_first k (total_in k tables) (merge_of (map (past_first k) tables))

@@ -1,4 +1,4 @@
--- What a merge takes from each text in one step: its first entry, where that is of one combination.
+-- What a merge takes from each text in one step: its first entry, if that is of one combination.
 use Rattle.std.specs.Prelude.{ℕ, ◌+◌, Bool, List, [], ◌∷◌, fold, Option, Some, None, if◌then◌else◌}
 use Rattle.std.specs.Ordering.{eq_by_cmp}
 use Rattle.cell_stats_counts.specs.Combinations.{Combination, combination_cmp}
@@ -15,7 +15,7 @@ abbrev pub head_count : Combination → Option (Combination × ℕ) → Option �
 head_count k None = None
 head_count k (Some entry) = if is_of k entry then Some entry.1 else None
 
--- entries, without the first where that is of the combination
+-- entries, without the first if that is of the combination
 abbrev pub past_first : Combination → Pairs → Pairs
 past_first k [] = []
 past_first k (entry ∷ entries) = if is_of k entry then entries else entry ∷ entries

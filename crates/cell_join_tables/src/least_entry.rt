@@ -74,7 +74,7 @@ fn take_others<R: Source>(
 ///
 /// # Errors
 ///
-/// [`JoinFault::Text`] of the first text that has an error after it, [`JoinFault::TooMany`] where the counts are beyond 64
+/// [`JoinFault::Text`] of the first text that has an error after it, [`JoinFault::TooMany`] if the counts are beyond 64
 /// bits, [`JoinFault::Memory`].
 pub(crate) fn take_least<R: Source>(
     alloc: Global,

@@ -200,7 +200,7 @@ impl<R: Source> OrderedTexts<R> {
     ///
     /// # Errors
     ///
-    /// [`JoinFault::Text`], where the text has an error there, and [`JoinFault::Memory`].
+    /// [`JoinFault::Text`] if the text has an error there, and [`JoinFault::Memory`].
     pub(crate) fn advance(&mut self, alloc: Global, format: &Format) -> Result<(), JoinFault>
         ensures reads { OnOk result ((first : ℕ) → GoesFirst (heads_of self.old) first
             → HeadReadsOn format.now self.old first self.new) }

@@ -33,7 +33,7 @@ use std::alloc::Global;
 /// What joining texts did.
 #[derive(Debug, Drop)]
 pub struct JoinOutcome {
-    /// The number of bytes that the sink took, or the largest `u64` where it took more.
+    /// The number of bytes that the sink took, at most `u64::MAX`.
     pub written: u64,
     /// Why the texts are not joined.
     pub fault: Option<LabelFault>,
@@ -200,11 +200,11 @@ fn join_opened<R: Source + Drop, W: Sink>(
 }
 
 /// Joins the texts of tables to the text of their merge: each combination that some text lists, once, in order, with the sum of
-/// its counts and, where labels are printed, with the labels that it has in all texts that list it. It holds a block of each
+/// its counts and, if labels are printed, with the labels that it has in all texts that list it. It holds a block of each
 /// source, the line and the entry that each text continues with, and no table.
 ///
 /// The first entry of each text is read before the first byte is written. The sink is flushed once at the end, unless a
-/// put failed. Texts that have one combination with other labels are reported where no error comes after a lesser one.
+/// put failed. Texts that have one combination with other labels are reported if no error comes after a smaller one.
 pub fn join_texts<R: Source + Drop, W: Sink>(
     alloc: Global,
     format: &Format,
@@ -224,7 +224,7 @@ pub fn join_texts<R: Source + Drop, W: Sink>(
     // Other labels are reported with the line that has them in its text.
     ensures line { (texts : List Coming) → Give R.coming sources.items texts
         → IfSome result.fault (IsOnLine (labels_of_texts format.now texts)) }
-    // With an error the sink has taken the lines of the first entries, or a prefix of them where a write failed.
+    // With an error the sink has taken the lines of the first entries, or a prefix of them if a write failed.
     ensures written { (texts : List Coming) → Give R.coming sources.items texts
         → IfSome result.fault (HasLabelledWritten format.now texts (W.taken out.old)
         (W.taken out.new) result.written) }
@@ -233,18 +233,17 @@ pub fn join_texts<R: Source + Drop, W: Sink>(
         → format.now.labels ≡ false
         → IsPlainly format.now texts (W.taken out.old) (W.taken out.new) result.written
         result.fault }
-    // Where the first line of a text is faulty, the sink is not called.
+    // If the first line of a text has an error, the sink is not called.
     ensures untouched { (texts : List Coming) (reading : TableReading)
         → Give R.coming sources.items texts
         → Contains (readings_of format.now texts) reading → IsFaultyAtOnce reading
         → out.new ≡ out.old }
-    // No error comes only where no call of the sink failed and it was flushed once, and, of a sink that had not failed before,
-    // Write only where it failed.
+    // Without an error, no call of the sink failed and it was flushed once. Write: a call failed, now or before.
     ensures sound { result.fault ≡ None
         → W.faults out.new ≡ after_flush (W.faults out.old) false }
     ensures write { result.fault ≡ Some (LabelFault.Join JoinFault.Write)
         → has_failed (W.faults out.new) ≡ true }
-    // Where each text is a table to its end, all have the same labels, the sums fit in 64 bits, memory lasts and the sink takes
+    // If each text is a table to its end, all have the same labels, the sums fit in 64 bits, memory lasts and the sink takes
     // everything, exactly the text of the merge is written.
     ensures headline { (texts : List Coming) (merged : List LabelledEntry)
         → Give R.coming sources.items texts → IsLabelledMerge format.now texts merged

@@ -12,7 +12,7 @@ use Rattle.cell_join_tables_law.specs.PrintedParts.{text_of_maps, text_of_part}
 use Rattle.cell_join_tables.specs.JoinedLabels.{AreJoinedLabels, IsLabelledMerge, LabelledEntry, counted_text}
 
 -- lines with labels that can be read back: counts and labels (r.stats manual, flags -c and -l), fields that can be distinguished, a
--- cell at least, labels of no more bytes than this, and no line that is too long where a cell takes 11 bytes, or as many as the
+-- cell at least, labels of no more bytes than this, and no line that is too long if a cell takes 11 bytes, or as many as the
 -- null text, its label so many, or 7 as null's, and a count 20
 pub record CanBeReadLabelled (format : FormatValue) (picks : List ℕ) (maps : List Grid) (most : ℕ) : Type 0 where
   pub clear : IsClear format

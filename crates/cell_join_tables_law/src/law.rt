@@ -15,7 +15,7 @@ pub fn printed_as_tables()
     ensures { PrintsAsTables }
 {}
 
-/// What is printed of a table with labels is read as the table, to the end of the text, where no label holds the separator.
+/// What is printed of a table with labels is read as the table, to the end of the text, if no label holds the separator.
 pub fn labelled_reads_as_itself()
     ensures { LabelledReadsAsItself }
 {}
@@ -35,7 +35,7 @@ pub fn text_reads_as_itself()
     ensures { TextReadsAsItself }
 {}
 
-/// The stretches of bands are such, where no band has more areas than a map can have, and there are no more bands than that.
+/// The stretches of bands are such, if no band has more areas than a map can have, and there are no more bands than that.
 pub fn stretches_are_readable()
     ensures { StretchesAreReadable }
 {}

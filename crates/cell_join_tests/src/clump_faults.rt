@@ -13,7 +13,7 @@ use std::test::Fail;
 // An edge at a whole map unit.
 const UNIT: i64 = 100000000;
 
-// The error of texts that are not joined, where nothing was written.
+// The error of texts that are not joined; nothing was written.
 fn fault_of(
     alloc: Global,
     texts: Vec<Vec<u8>>,

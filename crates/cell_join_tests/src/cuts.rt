@@ -11,7 +11,7 @@ pub(crate) fn ways(length: u32) -> u64 {
     }
 }
 
-/// The pieces of one of the ways: each place between two is cut where the way has a bit.
+/// The pieces of one of the ways: each place between two is cut if the way has its bit.
 pub(crate) fn pieces(alloc: Global, length: u32, way: u64) -> Result<Vec<u32>, Memory> {
     let mut lengths = Vec::new(alloc);
     let mut piece: u32 = 0;

@@ -17,7 +17,7 @@ const STRETCHES: u64 = 3;
 const NUMBERS: u64 = 5;
 
 // The texts of tiles, how many clumps they have, the largest number of each line of the numbering, and the sizes of the clumps of the
-// whole, by their numbers: 0 where a number is left out.
+// whole, by their numbers: 0 if a number is left out.
 #[derive(Drop)]
 struct Bands {
     areas: Vec<u8>,

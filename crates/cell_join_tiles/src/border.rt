@@ -16,7 +16,7 @@ pub struct Side {
 pub struct Border {
     /// The first row.
     pub first: Side,
-    /// The last row, which is the first where the tile has one.
+    /// The last row, which is the first if the tile has one.
     pub last: Side,
     /// The first column.
     pub left: Side,

@@ -36,7 +36,7 @@ fn is_last(pairs: &[(u64, u64)], one: u64, other: u64) -> bool
     }
 }
 
-// Puts a pair after others, but once where it comes again and again along a seam.
+// Puts a pair after others, but once if it comes again and again along a seam.
 fn add_pair(pairs: &mut Vec<(u64, u64)>, one: u64, other: u64) -> Result<(), Memory>
     ensures { OnOk result (Adds pairs.old.items pairs.new.items ((one, other) ∷ [])) }
 {

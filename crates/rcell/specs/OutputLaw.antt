@@ -8,7 +8,7 @@ use Rattle.rcell.specs.Output.{Executes, IsOutput}
 abbrev pub OneOutput : Type 0
 OneOutput = (shelf : ShelfValue) (statements : List Statement) (a b : List ℕ) → IsOutput shelf statements a → IsOutput shelf statements b → a ≡ b
 
--- a script is executed where its first part is, and then its second over the shelf that the first left; the outputs join
+-- to execute a script is to execute its first part, and then its second over the shelf that the first left; the outputs join
 abbrev pub PartsJoin : Type 0
 PartsJoin = (shelf : ShelfValue) (first second : List Statement) (text : List ℕ) (after : ShelfValue)
     → Executes shelf (first ++ second) text after

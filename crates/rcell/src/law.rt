@@ -13,7 +13,7 @@ pub fn one_output()
     clumping_is_one();
 }
 
-/// A script is executed where its first part is and then its second, over the shelf that the first left; their outputs
+/// To execute a script is to execute its first part, and then its second over the shelf that the first left; their outputs
 /// join.
 pub fn parts_join()
     ensures { PartsJoin }

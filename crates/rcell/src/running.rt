@@ -110,7 +110,7 @@ fn refused_outcome(fault: RunFault, written: u64) -> Outcome
 /// Runs a script over grids, and writes what it asks for.
 ///
 /// The grids are read whole, in their order, then the script, and only then the first statement is executed.
-/// Each statement has all that it needs of memory before its first byte is written. Where the script was accepted and no
+/// Each statement has all that it needs of memory before its first byte is written. If the script was accepted and no
 /// write failed, the sink is flushed once at the end.
 pub fn run<R: Source + Drop, W: Sink>(
     alloc: Global,
@@ -136,8 +136,7 @@ pub fn run<R: Source + Drop, W: Sink>(
     ensures status { result.status ≡ status_after result.fault }
     // An error of a grid names a grid that was given; out of memory, for a grid or for the script, is reported at line 0.
     ensures reported { IfSome result.fault (NamesItsGrid (length grids.items)) }
-    // Status 0 comes only where no call of the sink failed and it was flushed once, and, of a sink that had not failed
-    // before, Write only where it failed.
+    // Status 0: no call of the sink failed and it was flushed once. Write: a call failed, now or before.
     ensures sound { result.status ≡ 0 → W.faults out.new ≡ after_flush (W.faults out.old) false }
     ensures write { result.fault ≡ Some RunFault.Write → has_failed (W.faults out.new) ≡ true }
     // If Write is reported and no put failed, as when only the flush at the end failed, the sink took the full output.
@@ -147,7 +146,7 @@ pub fn run<R: Source + Drop, W: Sink>(
     // A run that was not rejected before execution flushes its sink once, unless a put failed: this is reported as Write.
     ensures first { IfSome result.fault IsInExecution
         → Failing result.fault (W.faults out.old) (W.faults out.new) }
-    // For every accepted script over grids of one region, where memory lasts and the sink takes everything,
+    // For every accepted script over grids of one region, if memory lasts and the sink takes everything,
     // exactly the output of its statements is written.
     ensures headline { OfTexts R.coming grids.items script
         (λ named text. (shelf : ShelfValue) (statements : List Statement)

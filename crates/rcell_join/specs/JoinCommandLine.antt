@@ -94,7 +94,7 @@ asked_tables words = asked_labelled (contains_flag labels_flag words) (without_f
 abbrev pub corners_flag : List ℕ
 corners_flag = codes "-d"
 
--- which cells are adjacent: by edges, or where the flag is given by edges and corners
+-- which cells are adjacent: by edges, or by edges and corners if the flag is given
 abbrev pub joining_in : List (List ℕ) → Joining
 joining_in words = if contains_flag corners_flag words then joinings.EdgesAndCorners else joinings.Edges
 

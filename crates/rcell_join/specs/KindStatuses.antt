@@ -1,4 +1,4 @@
--- The exit status of what a text has wrong: 4 where it cannot be read on, 3 when out of memory, 1 of anything else (profile).
+-- The exit status of an error of a text: 4 if a read failed, 3 when out of memory, 1 of anything else (profile).
 use Rattle.std.specs.Prelude.{ℕ}
 use Rattle.cell_ascii_meaning.specs.declared.grid_fault.GridKind.{GridKind}
 use Rattle.cell_ascii_meaning.specs.declared.grid_fault.GridKind.TheVariants as grid_kinds

@@ -1,4 +1,4 @@
-//! The exit status of what a text has wrong: 4 where it cannot be read on, 3 when out of memory, and 1 of anything else.
+//! The exit status of an error of a text: 4 if a read failed, 3 when out of memory, and 1 of anything else.
 
 ghost use Rattle.std.specs.Prelude.{◌≡◌};
 ghost use Rattle.rcell_join.specs.KindStatuses.{numbering_kind_status, grid_kind_status, table_kind_status};

@@ -85,7 +85,7 @@ map_there shelf place h lt =
       ),
     )
 
--- where a command reads a map to make another of it, the map is known
+-- if a command reads a map to make another of it, the map is known
 abbrev pub CanMake : List (List ℕ) → Command → Type 0
 CanMake known (Reclass place target rules) = place < length known
 CanMake known (Clump place target joining) = place < length known

@@ -15,8 +15,8 @@ use Rattle.rcell_law.specs.ReadAgain.{bare, written_grids, PrintNoLabels}
 abbrev pub second_grids : List ℕ → List Named → ShelfValue → List Named
 second_grids null_text grids between = grids ++ drop (length grids) (written_grids null_text between)
 
--- where the first part of a script is accepted and leaves a shelf, a second part that prints no labels is accepted over
--- what the first made, written and read again; and it writes what the whole writes after the first part's text
+-- if the first part of a script is accepted and leaves a shelf, a second part that prints no labels is accepted over
+-- what the first made, written and read again; and it writes what the full script writes after the first part's text
 abbrev pub CutInTwo : Type 0
 CutInTwo = (grids : List Named) (first second : Coming) (shelf between : ShelfValue) (one two : List Statement)
     (null_text text : List ℕ)

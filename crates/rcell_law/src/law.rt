@@ -30,8 +30,8 @@ pub fn accepted_have_output()
     ensures { AcceptedHaveOutput }
 {}
 
-/// A script cut in two: where the maps that the first part made are written and read again as grids, the second part writes
-/// what the whole would have written.
+/// A script cut in two: if the maps that the first part made are written and read again as grids, the second part writes
+/// what the full script would have written.
 pub fn cut_in_two()
     ensures { CutInTwo }
 {}

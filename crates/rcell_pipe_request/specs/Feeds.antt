@@ -36,7 +36,7 @@ abbrev pub ReadsField : {X Y : Type 0} → (X → Y) → FeedValue → Result X 
 ReadsField view old (Ok x) new reading = (new.known ≡ old.known) × (old.known ≡ true → reading (left old) ≡ Ok (view x, left new))
 ReadsField view old (Err stop) new reading = FieldFails stop old.known (reading (left old))
 
--- the same where an error has its place
+-- the same for errors with their places
 abbrev pub PlacedFails : {Y : Type 0} → RequestStop → Bool → Result Y RequestError → Type 0
 PlacedFails request_stops.Memory known reading = ⊤
 PlacedFails (request_stops.Error error) known reading = known ≡ true → reading ≡ Err error

@@ -164,7 +164,7 @@ head_at shelf c = do
   labels ← labels_at format.1
   Ok (record { name = name.0; region = region.0; format = format.0; labels = labels.0 }, labels.1)
 
--- a label without where it lies in memory
+-- a label without its place in memory
 abbrev pub label_value : Label → LabelValue
 label_value label = record { category = label.category; text = label.text.items }
 

@@ -40,7 +40,7 @@ one_more_row maps format cols rows c = do
   row ← error_at maps (length rows + 1) (cells_at format cols c)
   Ok (rows ++ row.0 ∷ [], row.1)
 
--- labels, where a later one of a category replaces an earlier one
+-- labels; a later one of a category replaces an earlier one
 unfoldable pub with_labels : finmap.FinMap int_cmp (List ℕ) → List LabelValue → finmap.FinMap int_cmp (List ℕ)
 with_labels labels [] = labels
 with_labels labels (label ∷ more) = with_labels (finmap.insert labels label.category label.text) more

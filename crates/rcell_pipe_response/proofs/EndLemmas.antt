@@ -29,7 +29,7 @@ or-true : (b : Bool) → (b || true) ≡ true
 or-true true = refl
 or-true false = refl
 
--- what was appended is cut where the sink stopped
+-- what was appended is cut if the sink stopped
 cut : {before now : Option (List ℕ)} {start faults : Faults} {text : List ℕ} {block : BlockValue} → Appended before start text now faults block → IsCut before now text
 cut a = record { front = a.front; rest = a.rest; whole = a.whole; taken = a.taken }
 

@@ -21,7 +21,7 @@ use Rattle.rcell_pipe_response.specs.declared.frame_run.RunForm.TheVariants.{Fra
 use Rattle.rcell_pipe_response.specs.Frames.{OutputFrame, GivesFrames}
 use Rattle.rcell_pipe_response.specs.FrameBytes.{EndValue, response_bytes}
 
--- an end without where its text lies in memory
+-- an end without the place of its text in memory
 abbrev pub end_value : End → EndValue
 end_value end = record { status = end.status; source = end.source; maps = end.maps; line = end.line; column = end.column; text = end.text.now }
 
@@ -59,15 +59,15 @@ script_column kind = 0
 abbrev pub done_end : EndValue
 done_end = record { status = 0; source = 0; maps = 0; line = 0; column = 0; text = [] }
 
--- the end where the bytes are no request
+-- the end if the bytes are no request
 abbrev pub request_end : RequestError → EndValue
 request_end error = record { status = request_status error.kind; source = 1; maps = error.maps; line = error.row; column = 0; text = kind_text error.kind }
 
--- the end where the script is rejected, with the text of the error
+-- the end if the script is rejected, with the text of the error
 abbrev pub script_end : ScriptFault → List ℕ → EndValue
 script_end error text = record { status = 1; source = 2; maps = 0; line = error.line; column = script_column error.kind; text = text }
 
--- the end where memory ran out, at a line or before the first
+-- the end if memory ran out, at a line or before the first
 abbrev pub memory_end : ℕ → EndValue
 memory_end line = record { status = 3; source = 0; maps = 0; line = line; column = 0; text = codes "no memory" }
 

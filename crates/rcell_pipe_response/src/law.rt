@@ -2,7 +2,7 @@
 
 ghost use Rattle.rcell_pipe_response.specs.FrameLaw.{FramesAreOutput, OutputIsFrames};
 
-/// Where a script gives frames, `rcell` writes their text for the same maps; and where it writes a text, there are frames
+/// If a script gives frames, `rcell` writes their text for the same maps; and if it writes a text, there are frames
 /// of that text.
 pub fn frames_are_output()
     ensures output { FramesAreOutput }

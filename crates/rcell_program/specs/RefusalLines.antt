@@ -1,4 +1,4 @@
--- What is reported where no run was started (profile).
+-- What is reported if no run was started (profile).
 use Rattle.std.specs.Prelude.{ℕ, List, codes}
 use Rattle.rcell.specs.Reports.{name_at_place}
 use Rattle.rcell_program.specs.declared.refusal.Refusal.{Refusal}

@@ -74,7 +74,7 @@ fn grids_of<'a>(alloc: Global, words: &[&'a str]) -> Result<(Vec<Name>, Vec<&'a 
 ///
 /// # Errors
 ///
-/// [`Refusal::Usage`] where a later word begins with `-`, or fewer than two follow the first; [`Refusal::GridWord`] of
+/// [`Refusal::Usage`] if a later word begins with `-`, or fewer than two follow the first; [`Refusal::GridWord`] of
 /// the first word after the script's that is not NAME=PATH; [`Refusal::Memory`].
 pub fn read_words<'a>(alloc: Global, words: &'a [String]) -> Result<RunRequest<'a>, Refusal>
     ensures asked { IfOk result (λ request. drop 1 (map string_bytes words.now)

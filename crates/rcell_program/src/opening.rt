@@ -62,7 +62,7 @@ fn open_grids<R: Files + AllocGlobal>(
 ///
 /// # Errors
 ///
-/// [`Refusal::ScriptFile`] or [`Refusal::GridFile`] of the first that can't be opened; [`Refusal::Usage`] where the request
+/// [`Refusal::ScriptFile`] or [`Refusal::GridFile`] of the first that can't be opened; [`Refusal::Usage`] if the request
 /// names no grid; [`Refusal::Memory`].
 pub fn open_files<R: Files + AllocGlobal>(
     rt: &R,

@@ -354,7 +354,7 @@ group-read (grouping.Group.reclass {known = known} {line = first} {inner = inner
           (line + 1) ls rest (short-tail l ls short),
     )
 
--- a text is read as statements exactly where its lines group into them
+-- a text is read as statements exactly if its lines group into them
 pub read-grouped : (known : List (List ℕ)) (text : List ℕ) (statements : List Statement) → IsScriptReading 1 (start known) (script_lines text) (Ok statements) ↔ IsGrouped known text statements
 read-grouped known text statements = (to, from)
   where

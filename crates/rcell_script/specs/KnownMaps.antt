@@ -3,7 +3,7 @@ use Rattle.std.specs.Prelude.{ℕ, List, [], ◌∷◌, ◌++◌, Option, Some, 
 use Rattle.rcell_script_commands.specs.declared.command.Command.{Command}
 use Rattle.rcell_script_commands.specs.declared.command.Command.TheVariants.{Mapcalc, Reclass, Clump, Stats, OutAscii}
 
--- the name of the map that a command makes, where it makes one
+-- the name of the map that a command makes, if it makes one
 abbrev pub made_by : Command → Option (List ℕ)
 made_by (Mapcalc target bound) = Some target
 made_by (Reclass place target rules) = Some target

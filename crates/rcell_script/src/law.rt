@@ -18,7 +18,7 @@ pub fn no_fault_of_a_script()
     one_assignment();
 }
 
-/// The reading of a text line by line gives statements exactly where the text is a script of them: its lines group into
+/// The reading of a text line by line gives statements exactly if the text is a script of them: its lines group into
 /// them.
 pub fn script_reading_denotes()
     ensures { ReadingDenotes }

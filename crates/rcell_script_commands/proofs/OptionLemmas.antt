@@ -83,7 +83,7 @@ kept value = Ok value
 
 -- ---- one key
 
--- after the values for a key, of which there is one at most, and none where the key was given before
+-- after the values for a key, at most one, and none if the key was given before
 abbrev pub Extends : {X : Type 0} → (List ℕ → Result X OptionFault) → List (List ℕ) → Option X → Option X → Type 0
 Extends read [] old new = old ≡ new
 Extends read (value ∷ []) None None = ⊥
@@ -137,7 +137,7 @@ take-value read value old with x none is = rw (none, is) refl
 
 -- ---- one word
 
--- the key and the value of a pair, where the command has the key
+-- the key and the value of a pair, if the command has the key
 abbrev setting_of : Form → Option (List ℕ × List ℕ) → Option (OptionKey × List ℕ)
 setting_of form pair = option_and_then (λ p. option_map (λ key. (key, p.1)) (option_key_of form p.0)) pair
 

@@ -72,7 +72,7 @@ after_of width (Some text) = combined (combo_of width text)
     combined (Ok combo) = Ok (Some combo)
     combined (Err fault) = Err (of_combo fault)
 
--- how a table is printed, and what of it: fields are separated by a space and null is an asterisk where nothing else is given
+-- how a table is printed, and what of it: fields are separated by a space and null is an asterisk if nothing else is given
 abbrev pub printed_with : Given → Option Combination → StatsOptions
 printed_with given after =
     record {
@@ -93,7 +93,7 @@ stats_of known words = do
   after ← after_of (length places) given.after
   Ok (Stats places (printed_with given after))
 
--- the grid text that words ask for, of an input that is known; null is an asterisk where no text is given
+-- the grid text that words ask for, of an input that is known; null is an asterisk if no text is given
 abbrev pub out_ascii_of : List (List ℕ) → List (List ℕ) → Result Command OptionFault
 out_ascii_of known words = do
   given ← options_of form.OutAscii words

@@ -139,7 +139,7 @@ with_value given TableNullText value = given_once given.table_null_text (do
   Ok (record given { table_null_text = Some text }))
 with_value given After value = given_once given.after (Ok (record given { after = Some value }))
 
--- with the value of a key, where the command has it
+-- with the value of a key, if the command has it
 abbrev pub with_option : Given → Option OptionKey → List ℕ → Result Given OptionFault
 with_option given None value = Err BadOption
 with_option given (Some key) value = with_value given key value

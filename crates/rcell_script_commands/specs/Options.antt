@@ -41,7 +41,7 @@ IsOptional Spells values (Some x) = (value : List ℕ) × (values ≡ value ∷ 
 abbrev pub IsOr : {X : Type 0} → X → (List ℕ → X → Type 0) → List (List ℕ) → X → Type 0
 IsOr {X} usual Spells values x = (given : Option X) × IsOptional Spells values given × (unwrap_or given usual ≡ x)
 
--- a value spells itself, where it passes a test
+-- a value spells itself, if it passes a test
 abbrev pub SpellsText : (List ℕ → Bool) → List ℕ → List ℕ → Type 0
 SpellsText test value text = (value ≡ text) × (test value ≡ true)
 

@@ -15,7 +15,7 @@ use Rattle.rcell_script_commands.specs.declared.command.StatsOptions.{StatsOptio
 abbrev pub skip_of : Bool → Bool → Skip
 skip_of no_null no_all_null = if no_null then AnyNull else (if no_all_null then AllNull else Nothing)
 
--- r.stats: `input` names known maps, `after` is a combination of as many cells, fields are separated by a space and null is an asterisk where nothing else is given, and a line for each cell goes with no count and no `after`
+-- r.stats: `input` names known maps, `after` is a combination of as many cells, fields are separated by a space and null is an asterisk if nothing else is given, and a line for each cell goes with no count and no `after`
 pub record SpellsStats (known : List (List ℕ)) (line : List ℕ) (places : List ℕ) (options : StatsOptions) : Type 0 where
   pub words : List (List ℕ)
   pub named : words_of line ≡ codes "r.stats" ∷ words

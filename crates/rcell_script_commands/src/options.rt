@@ -310,14 +310,14 @@ impl Options {
         self.flags
     }
 
-    /// The byte between the fields of a line, where one was given.
+    /// The byte between the fields of a line, if one was given.
     pub fn separator(&self) -> Option<u8>
         ensures { result ≡ self.now.separator }
     {
         self.separator
     }
 
-    /// The text of `after`, where it was given.
+    /// The text of `after`, if it was given.
     pub fn after_text(&self) -> Option<&[u8]>
         ensures { option_map (λ text. text.now) result ≡ self.now.after }
     {

@@ -43,7 +43,7 @@ IsFirstRowPlacement first last tile NextRow = IsBelow first tile
 IsFirstRowPlacement first last tile (Apart beside below) = IsBesideMisfit last tile beside × IsBelowMisfit first tile below
 IsFirstRowPlacement first last tile placement = ⊥
 
--- after the last tile of a row, where a tile is above, which came so many tiles before
+-- after the last tile of a row, if there is a tile above, which came so many tiles before
 abbrev pub IsPlacementBelow : (upper last tile : RegionValue) → ℕ → TilePlacement → Type 0
 IsPlacementBelow upper last tile many InRow = IsBeside last tile × IsBelow upper tile
 IsPlacementBelow upper last tile many (NotBeside misfit) = IsBesideMisfit last tile misfit

@@ -5,7 +5,7 @@ use Rattle.cell_core_devices.specs.Device.{Faults, after_flush, append_known, ha
 use Rattle.cell_join_clumps.specs.declared.clumps_fault.ClumpsFault.{ClumpsFault}
 use Rattle.cell_join_clumps.specs.declared.clumps_fault.ClumpsFault.TheVariants.{Write}
 
--- all of a text was put, or the first bytes of it where the sink failed
+-- all of a text was put, or its first bytes if the sink failed
 pub record HasPut (text : List ℕ) (before now : Option (List ℕ)) (start faults : Faults) (written : ℕ) (fault : Option ClumpsFault) : Type 0 where
   pub front : List ℕ
   pub rest : List ℕ

@@ -86,11 +86,11 @@ pub record IsAddedBelow (tile : BorderText) (old new : TileGrid) : Type 0 where
   pub row : new.row.items ≡ tile.region ∷ []
   pub borders : new.borders.items ≡ tile.border ∷ []
 
--- where it goes, and there it was added
+-- the tile was added in its place
 abbrev pub IsTileAdded : BorderText → (old new : TileGrid) → Type 0
 IsTileAdded tile old new = (IsTilePlacement old.above.items old.row.items tile.region InRow × IsAddedInRow tile old new) ⊎ (IsTilePlacement old.above.items old.row.items tile.region NextRow × IsAddedBelow tile old new)
 
--- that whose border a text is, where the text is known
+-- a tile was added, which the text spells if it is known
 pub record HasAddedTile (j : Joining) (text : Option Coming) (old new : TileGrid) : Type 0 where
   pub tile : BorderText
   pub spells : IfSome text (λ t. SpellsJoined j t tile)

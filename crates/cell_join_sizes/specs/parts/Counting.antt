@@ -72,7 +72,7 @@ pub record HasReadBand (band start now : ℕ) (areas after : Option AreasReading
   pub listed : IfSome table (IsTableOfBand band part)
   pub tallies : Tallies old (numbers_read part.stretches) part.sizes new
 
--- the lines of sizes were put on a sink: all, or the first of them where it failed
+-- the lines of sizes were put on a sink: all, or the first of them if it failed
 pub record HasPutSizes (format : FormatValue) (sizes : List ℕ) (before now : Option (List ℕ)) (start faults : Faults) (written : ℕ) (fault : Option SizesFault) : Type 0 where
   pub front : List ℕ
   pub rest : List ℕ

@@ -74,7 +74,7 @@ pub sound : (fault : Option RunFault) (old new : Faults) → Failing fault old n
 sound None old new failing none = failing
 sound (Some fault) old new failing none = not_none none
 
--- a call failed where a write did
+-- if a write failed, a call failed
 pub write : (fault : Option RunFault) (old new : Faults) → Failing fault old new → fault ≡ Some faults.Write → has_failed new ≡ true
 write fault old new failing is = by (rw is at failing)
   where

@@ -1,4 +1,4 @@
--- What is read is written, where memory lasts and the sink takes everything.
+-- What is read is written, if memory lasts and the sink takes everything.
 use Rattle.std.proofs.Common.{◌≡◌, ◌≢◌, ℕ, Bool, true, List, Option, Some, None, Result, Ok, Err, refl, ap, sym, ◌∙◌, subst}
 use Rattle.std.specs.Prelude.{IsNone, IfSome}
 use Rattle.std.proofs.lemmas.Bool.{true≢false}
@@ -26,7 +26,7 @@ input_unless_memory (Script fault) early bad = λ e. bad (ap script_status e)
 input_unless_memory (Memory line) early bad = absurd (bad refl)
 input_unless_memory Write early bad = absurd early
 
--- what was written in execution, where memory lasted and the sink took everything
+-- what was written in execution, if memory lasted and the sink took everything
 written : (shelf : ShelfValue) (statements : List Statement) (before now : Option (List ℕ)) (failed : Bool) (outcome : Outcome)
     → (IsNone outcome.fault → IsDone shelf statements before now outcome.written) → IfSome outcome.fault IsInExecution → outcome.status ≡ status_after outcome.fault
     → (outcome.fault ≡ Some Write → failed ≡ true) → Writes shelf statements before now failed outcome

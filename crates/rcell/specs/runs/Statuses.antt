@@ -7,7 +7,7 @@ use Rattle.rcell_script_commands.specs.declared.script_fault.ScriptKind.TheVaria
 use Rattle.rcell.specs.declared.run_fault.RunFault.{RunFault}
 use Rattle.rcell.specs.declared.run_fault.RunFault.TheVariants.{GridTwice, GridRegion, Grid, ScriptRead, ScriptSize, Script, Memory, Write}
 
--- 4 where a read failed, 3 when out of memory, 1 for what a text has wrong
+-- 4 if a read failed, 3 when out of memory, 1 for what a text has wrong
 abbrev pub grid_status : GridKind → ℕ
 grid_status grid_kinds.Read = 4
 grid_status grid_kinds.Memory = 3

@@ -2,6 +2,6 @@
 use Rattle.std.specs.Prelude.{ℕ, List, slice_get, slice_index_or, ◌==◌, if◌then◌else◌}
 use Rattle.rcell_pipe_request.specs.RawRows.{is_hiding}
 
--- the number in a place, packed: 255 where the mask hides it or where it stands for null
+-- the number in a place, packed: 255 if the mask hides it or it stands for null
 abbrev pub packed_byte : List ℕ → ℕ → List ℕ → ℕ → ℕ
 packed_byte mask null bytes place = let number = slice_index_or bytes place 0 in if is_hiding (slice_get mask place) then 255 else (if number == null then 255 else number)
