@@ -97,11 +97,11 @@ Programs    {sums("-static")}
             {sums(".o")}
             by the kit's ld.lld with the C library of Debian ({versions}); {origins()}.
 Tested ones {sums()}
-            linked dynamically from the same objects by the kit: rcell is the one that the gate runs on all cases, with
-            each growth of memory refused in turn (which LD_PRELOAD does, and a static program does not heed), rcell-join
-            the one that it runs beside a plain model, one case of each command with each growth refused, and rcell-pipe the
-            one that it runs on random requests beside rcell. The gate tries the static ones on the documents and on random runs
-            beside the same models, rcell on the quick start and with the helpers, and rcell-join on tables that this rcell prints.
+            linked dynamically from the same objects by the kit: rcell is the one that the gate runs on all cases, good ones also
+            with each growth of memory refused in turn (which LD_PRELOAD does, and a static program does not heed), rcell-join the
+            one that it runs beside a plain model, one case of each command with each growth refused, and rcell-pipe the one that
+            it runs on random requests beside rcell. The gate tries the static ones on the documents and on random runs beside the
+            same models, rcell on the quick start and with the helpers, and rcell-join on tables that this rcell prints.
             So what the static programs add to what is trusted is Debian's libc.a and startup files, and this link.
 
 What is proved, tested and trusted
