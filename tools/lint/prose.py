@@ -33,6 +33,7 @@ PHRASES = re.compile(
 # Code in docstrings and comments: what backticks enclose, paths, options, targets of make; keys of tables, and of parameters.
 CODE = re.compile(r"`[^`]*`|[\w.*]*/[\w./*]*|(?<=[\s[])--[\w-]+|^# make [\w-]+|\b\w+\.py\b|^[\w, ]+ : |^\w+  ")
 DOCUMENTED = (ast.Module, ast.ClassDef, ast.FunctionDef, ast.AsyncFunctionDef)
+PYTHON = re.compile(r".*\.py|helpers/rcell-[a-z]+")
 COMMENT_OF = {".rt": "//", ".antt": "--", ".sh": "#", ".mk": "#", ".R": "#", ".c": "//", ".cpp": "//", ".h": "//"}
 
 
@@ -153,7 +154,7 @@ def comments_of_python(text):
 def comments_of(name):
     """The lines of the docstrings and comments of a source file, by their numbers."""
     text = (ROOT / name).read_text(encoding="utf-8", errors="replace")
-    if name.endswith(".py"):
+    if PYTHON.fullmatch(name):
         return comments_of_python(text)
     mark = COMMENT_OF[pathlib.Path(name).suffix]
     return {number: line.strip() for number, line in enumerate(text.split("\n"), 1) if line.strip().startswith(mark)}
@@ -171,7 +172,7 @@ def retired_in_comments(name):
 @functools.cache
 def retired_by_file():
     """The retired words of docstrings and comments, by file."""
-    found = {name: list(retired_in_comments(name)) for name in tracked() if pathlib.Path(name).suffix in {".py", *COMMENT_OF}}
+    found = {name: list(retired_in_comments(name)) for name in tracked() if PYTHON.fullmatch(name) or pathlib.Path(name).suffix in COMMENT_OF}
     return {name: words for name, words in found.items() if words}
 
 
