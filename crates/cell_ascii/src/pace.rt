@@ -5,7 +5,7 @@ const FIRST_WAIT: usize = 16;
 
 const LAST_WAIT: usize = 4096;
 
-// Words come again often where so many cells were read so.
+// Words come again often if so many cells were read so.
 const MANY_CELLS: usize = 64;
 
 // So many words are looked up to see whether that is of use again.
@@ -75,7 +75,7 @@ impl Pace {
         }
     }
 
-    /// The way to read next, and how many cells at most. One by one, where the last try but one found nothing.
+    /// The way to read next, and how many cells at most. One by one if the last try but one found nothing.
     pub(crate) fn next_way(&self, tries: usize) -> (Way, usize) {
         if tries == 1 {
             return (Way::Single, usize::MAX);

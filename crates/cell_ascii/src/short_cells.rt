@@ -277,7 +277,7 @@ fn next_credit(credit: usize, more: usize) -> usize {
         .saturating_sub(COST_OF_A_WORD)
 }
 
-// The same as `cells_in`, for a text in which words come again and again: each that does is read once. It ends where few do.
+// The same as `cells_in`, for a text in which words come again and again: each that does is read once. It ends once few do.
 #[inline(never)]
 fn repeated_cells_in(buffered: &[u8], header: &Header, row: &mut [Cell]) -> (usize, usize)
     ensures { AreCellsInLine header.now buffered.now row.old row.new result }
@@ -316,7 +316,7 @@ fn single_cells_in(buffered: &[u8], header: &Header, row: &mut [Cell]) -> (usize
     (row.len(), passed)
 }
 
-// How many tries are left: all again where the last found some cells.
+// How many tries are left: all again if the last found some cells.
 fn tries_left(tries: usize, found: usize) -> usize
     requires { 0 < tries }
     // So the tries for all cells come to an end.

@@ -1,4 +1,4 @@
-//! Cells of words that were read before: each is read once, and then found by its bytes. Where most are new, numbers are read by
+//! Cells of words that were read before: each is read once, and then found by its bytes. If most are new, numbers are read by
 //! their digits.
 
 ghost use Rattle.std.specs.Prelude.{ℕ, List, ◌++◌, replicate, true, false, ◌≡◌, ◌+◌, ◌-◌, ◌*◌, ◌%◌, ◌^◌, ◌<◌, ◌≤◌, length, take, drop, Some, Ok, IfOk, IfSome};
@@ -33,7 +33,7 @@ const MOST_KEPT: usize = 8;
 // So many bytes have to be held for that, and for a load at the last of them.
 const LEAST_BUFFERED: usize = 72;
 
-// A word that was read, by its bytes, and its cell. It is free where it has no bytes.
+// A word that was read, by its bytes, and its cell. It is free if it has no bytes.
 #[derive(Clone, Copy)]
 struct WordEntry {
     key: u64,
@@ -219,7 +219,7 @@ fn read_word(bytes: &[u8], size: usize, header: &Header) -> Option<Cell>
     }
 }
 
-// Keeps the cell of a word, in the place of another, where the word is short.
+// Keeps the cell of a word, in the place of another if the word is short.
 fn keep_word(bytes: &[u8], size: usize, cell: Cell, header: &Header, entries: &mut [WordEntry])
     requires some { 0 < size }
     requires buffered { 8 ≤ length bytes.now }
@@ -239,7 +239,7 @@ fn keep_word(bytes: &[u8], size: usize, cell: Cell, header: &Header, entries: &m
     };
 }
 
-// Reads the cell of the word that the first bytes are, to a place of a row, and keeps it. Answers whether it is one. It is
+// Reads the cell of the word that the first bytes are, to a place of a row, and keeps it. Returns whether it is one. It is
 // counted as missed.
 #[inline(never)]
 fn read_cell(
@@ -265,8 +265,8 @@ fn read_cell(
     true
 }
 
-// Writes the cell of the word that the first bytes are to a place of a row. Answers whether it is one. A number is looked up
-// where SOUGHT says so, and read by its digits elsewhere.
+// Writes the cell of the word that the first bytes are to a place of a row. Returns whether it is one. A number is looked up
+// if SOUGHT says so, and else read by its digits.
 #[inline(always)]
 fn put_cell<const SOUGHT: bool>(
     bytes: &[u8],

@@ -27,7 +27,7 @@ none_some x e = let h : ⊥ = cc in absurd h
 lines_after : (b : ℕ) (bs : List ℕ) → is_space b ≡ true → line_words (b ∷ bs) ≡ opening (b == 10) (line_words bs)
 lines_after b bs space = lines_space [] b bs tt space
 
--- Where k comes to y from what is read next, G of the lines of the text is y.
+-- If k comes to y from what is read next, G of the lines of the text is y.
 module _ {Y : Type 0} (y : Y) (G : Lines → Option Y) where
   opened_lines : (skips : (ls : Lines) → G ([] ∷ ls) ≡ G ls) (t : Bool) (ls : Lines) → G ls ≡ Some y
       → G (opening t ls) ≡ Some y

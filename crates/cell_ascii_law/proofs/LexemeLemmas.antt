@@ -37,7 +37,8 @@ abbrev pub opening : Bool → Lines → Lines
 opening true ls = [] ∷ ls
 opening false ls = ls
 
--- the words of each line of what is to come, where a run of spaces has gone on for `run` bytes, or a word so far; none of a text beyond the limits or that fails
+-- the words of each line of what is to come, after `run` spaces or a part of a word; none if the text exceeds the limits
+-- or fails
 abbrev pub lex : ℕ → List ℕ → List ℕ → Bool → Option Lines
 lex run token [] true = None
 lex run token [] false = Some (put_token token ([] ∷ []))
@@ -80,7 +81,7 @@ module _ {Y : Type 0} (G : Lines → Option Y) where
   then_put x xs t None = refl
   then_put x xs t (Some ls) = refl
 
-  -- What comes before the next word: where k agrees with the words from the next one on, it agrees from here on.
+  -- What comes before the next word: if k agrees with the words from the next one on, it agrees from here on.
   module _ (skips : (ls : Lines) → G ([] ∷ ls) ≡ G ls) (k : Start → Option Y) (stops : (e : GridFault) → k (Stops e) ≡ None) (ends : (line : ℕ) → k (Ends line) ≡ G [])
       (begins : (line b : ℕ) (bs : List ℕ) (f : Bool) → is_space b ≡ false → k (Begins line (coming (b ∷ bs) f)) ≡ option_and_then G (lex 0 [] (b ∷ bs) f)) where
     pub before_word : (bs : List ℕ) (f : Bool) (line run : ℕ) → run ≤ 1048576 → k (grid_start line run (coming bs f)) ≡ option_and_then G (lex run [] bs f)
@@ -95,7 +96,7 @@ module _ {Y : Type 0} (G : Lines → Option Y) where
         by on (inl space) (inl room) = ap k (start-more line run low b bs f space room) ∙ on (omega arith)
             ∙ sym (ap (option_and_then G) (lex-space run [] b bs f space room) ∙ then_skipped skips (b == 10) (lex (run + 1) [] bs f))
 
-  -- The rest of a word: where k agrees from the word's end on, it agrees from here on.
+  -- The rest of a word: if k agrees from the word's end on, it agrees from here on.
   module _ (line : ℕ) (k : Result (List ℕ × Coming) GridFault → Option Y) (fails : (e : GridFault) → k (Err e) ≡ None)
       (done : (x : ℕ) (xs bs : List ℕ) (f : Bool) → k (Ok (x ∷ xs, coming bs f)) ≡ option_and_then (λ ls. G (put (x ∷ xs) ls)) (lex 0 [] bs f)) where
     in_word : (bs : List ℕ) (f : Bool) (x : ℕ) (xs : List ℕ) → length (x ∷ xs) ≤ 64 → k (word_from line (x ∷ xs) (coming bs f)) ≡ option_and_then G (lex 0 (x ∷ xs) bs f)
@@ -115,7 +116,7 @@ module _ {Y : Type 0} (G : Lines → Option Y) where
     pub next_word : (b : ℕ) (bs : List ℕ) (f : Bool) → is_space b ≡ false → k (word_from line [] (coming (b ∷ bs) f)) ≡ option_and_then G (lex 0 [] (b ∷ bs) f)
     next_word b bs f word = ap k (word-more line [] (omega arith) b bs f word) ∙ in_word bs f b [] (omega arith) ∙ ap (option_and_then G) (sym (lex-word 0 [] b bs f word (omega arith)))
 
-  -- The blanks of a line: where k agrees from what ends them on, it agrees from here on.
+  -- The blanks of a line: if k agrees from what ends them on, it agrees from here on.
   module _ (line : ℕ) (k : Gap → Option Y) (fails : (e : GridFault) → k (Fault e) ≡ None) (last : k Last ≡ G ([] ∷ []))
       (begins : (b : ℕ) (bs : List ℕ) (f : Bool) → is_space b ≡ false → k (Word (coming (b ∷ bs) f)) ≡ option_and_then G (lex 0 [] (b ∷ bs) f))
       (feeds : (run : ℕ) (bs : List ℕ) (f : Bool) → run ≤ 1048576 → k (Feed run (coming bs f)) ≡ option_and_then (λ ls. G ([] ∷ ls)) (lex run [] bs f)) where

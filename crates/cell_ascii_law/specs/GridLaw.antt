@@ -6,7 +6,7 @@ use Rattle.cell_ascii_meaning.specs.CellTexts.{grid_of}
 use Rattle.cell_ascii_meaning.specs.GridText.{Denotes, IsHeader, header_lines, line_words}
 use Rattle.cell_ascii_meaning.specs.Header.{OpenedText, header_of_text}
 
--- what is read of a text is a map exactly where the text denotes that map
+-- what is read of a text is a map exactly if the text denotes that map
 abbrev pub GridReadingAgrees : Type 0
 GridReadingAgrees = (c : Coming) (m : Grid) → (grid_of c ≡ Ok m) ↔ Denotes c m
 

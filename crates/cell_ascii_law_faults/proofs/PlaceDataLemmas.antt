@@ -398,7 +398,7 @@ module _ (gap : ℕ) (inside : Bool) (ls : Lines) (line : List (List ℕ)) (head
   behind_silent : (token : List ℕ) → is_opening words token ≡ false → (place : FaultPlace) → opening_table gap token inside ls line header words place ≡ None
   behind_silent token e place = ap (λ (t : Bool). if t then header_rows gap token inside ls line header words place else None) e
 
-  -- nor at its end, where the header is one
+  -- nor at its end if the header is a good one
   opened_silent : (h : HeaderValue) (x : ℕ) (xs : List ℕ) → gap ≡ 0 → inside ≡ false → header ≡ Ok h → (place : FaultPlace) → ends_token place ≡ true → opening_table gap (x ∷ xs) inside ls line header words place ≡ None
   opened_silent h x xs start out is place ends = ap (λ (o : Option GridKind). if is_opening words (x ∷ xs) then o else None) (rows place ends) ∙ no_matter (is_opening words (x ∷ xs))
     where

@@ -50,7 +50,7 @@ record IsWithin (table : RowTable) (ws : List (List ℕ)) : Type 0 where
 abbrev on_line : ℕ → Option GridKind → Option GridFault
 on_line line o = option_map (λ kind. grid_fault kind line) o
 
--- What comes before the next word: where k agrees with the places from the word on, and at the end, it agrees from here on.
+-- What comes before the next word: if k agrees with the places from the word on, and at the end, it agrees from here on.
 module _ (table : RowTable) (ws : List (List ℕ)) (between : IsBetween table ws) (k : Start → Option GridFault) (stops : (e : GridFault) → k (Stops e) ≡ Some e)
     (begins : (line gap b : ℕ) (bs : List ℕ) (f : Bool) → is_space b ≡ false → k (Begins line (coming (b ∷ bs) f)) ≡ row_scan table (row_seen line gap ws []) (b ∷ bs) f)
     (ends : (line gap : ℕ) → k (Ends line) ≡ row_scan table (row_seen line gap ws []) [] false) where
@@ -73,7 +73,7 @@ module _ (table : RowTable) (ws : List (List ℕ)) (between : IsBetween table ws
       by on (inl space) (inl room) = ap k (start-more line gap low b bs f space room) ∙ on (omega arith)
           ∙ sym (one_silent table s (row_seen (line + cond (b == 10) 1 0) (gap + 1) ws []) b bs f (ap (on_line line) (between.blank gap b space room)) (step_space s b space))
 
--- The rest of a word: where k agrees with the places from the word's end on, it agrees from here on.
+-- The rest of a word: if k agrees with the places from the word's end on, it agrees from here on.
 module _ (table : RowTable) (ws : List (List ℕ)) (within : IsWithin table ws) (line : ℕ) (k : Result (List ℕ × Coming) GridFault → Option GridFault) (fails : (e : GridFault) → k (Err e) ≡ Some e)
     (done : (x : ℕ) (xs bs : List ℕ) (f : Bool) → IsAfterWord bs f → k (Ok (x ∷ xs, coming bs f)) ≡ row_scan table (row_seen line 0 ws (x ∷ xs)) bs f) where
   in_word : (bs : List ℕ) (f : Bool) (x : ℕ) (xs : List ℕ) → length (x ∷ xs) ≤ 64 → k (word_from line (x ∷ xs) (coming bs f)) ≡ row_scan table (row_seen line 0 ws (x ∷ xs)) bs f
@@ -261,7 +261,7 @@ module _ (h : HeaderValue) (count : ℕ) where
           begins : (l g b : ℕ) (cs : List ℕ) (e : Bool) → is_space b ≡ false → then_more m (after_start h (Begins l (coming (b ∷ cs) e))) ≡ row_scan table (row_seen l g ws []) (b ∷ cs) e
           begins l g b cs e word = next_word table ws (within ws fewer) l (λ r. then_more m (cell_after_word h l r)) (λ e. refl) (λ x xs ds t after. word_done m ws fewer l x xs (on (x ∷ xs)) ds t after) g b cs e word (first ws fewer g b word)
 
-  -- where a token waits
+  -- if a token waits
   cells_with : (m : ℕ) → m ≡ count → (line x : ℕ) (xs bs : List ℕ) (f : Bool) → IsAfterWord bs f → fault_in (many (cell_from h) m (record { pending = Some (x ∷ xs); line = line; run = 0; coming = coming bs f })) ≡ row_scan table (row_seen line 0 [] (x ∷ xs)) bs f
   unfolding cell_from
   cells_with zero all line x xs bs f after = sym (nothing bs f line 0 [] (x ∷ xs) (omega arith))

@@ -24,7 +24,7 @@ unsigned_coordinate bs = in_units (before_first is_point bs) (after_first is_poi
 abbrev pub coordinate : List ℕ → Option ℤ
 coordinate bs = signed_number unsigned_coordinate bs
 
--- a whole number in range that counts rows or columns, where a negative one counts none
+-- a whole number in range that counts rows or columns; a negative one counts none
 abbrev pub side : List ℕ → Option ℕ
 side bs = option_map not_negative (whole_in_range bs)
   where

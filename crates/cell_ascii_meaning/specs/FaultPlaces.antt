@@ -172,7 +172,7 @@ abbrev pub header_ends : Result HeaderValue GridKind → List (List ℕ) → Lis
 header_ends header words token place =
     if (is_end_of_words place && is_empty words) || ((ends_token place && is_word token) && length words == 1) then why_not header else None
 
--- why a token of the data is no cell, where the header is a good one
+-- why a token of the data is no cell if the header is a good one
 abbrev pub cell_fault : Result HeaderValue GridKind → List (List ℕ) → List ℕ → Option GridKind
 cell_fault (Err kind) words token = None
 cell_fault (Ok h) [] token = None

@@ -31,14 +31,14 @@ start_at line [] true = Stops (grid_fault Read line)
 start_at line [] false = Ends line
 start_at line (b ∷ bs) fails = Begins line (record { bytes = b ∷ bs; fails = fails })
 
--- the next word, where a run of spaces has gone on for `run` bytes
+-- the next word, if the run of spaces has `run` bytes so far
 unfoldable pub grid_start : ℕ → ℕ → Coming → Start
 grid_start line run c =
     let gap = prefix_len is_space c.bytes in
     if nat_lt 1048576 (run + gap) then Stops (grid_fault ReaderStuck (line + newlines (take (1048576 - run) c.bytes)))
     else start_at (line + newlines (take gap c.bytes)) (drop gap c.bytes) c.fails
 
--- the end of a word, where a read may fail
+-- the end of a word, at which a read may fail
 abbrev pub word_end : ℕ → List ℕ → List ℕ → Bool → Result (List ℕ × Coming) GridFault
 word_end line word [] true = Err (grid_fault Read line)
 word_end line word [] false = Ok (word, record { bytes = []; fails = false })

@@ -34,11 +34,11 @@ pub record HeaderValue : Type 0 where
   pub null_text : List ℕ
   pub multiplier : ℤ
 
--- an asterisk is null where no text is given
+-- an asterisk is null if no text is given
 abbrev pub usual_null : List ℕ
 usual_null = codes "*"
 
--- cells stand for themselves where no multiplier is given
+-- cells stand for themselves if no multiplier is given
 abbrev pub usual_multiplier : ℤ
 usual_multiplier = pos 1
 

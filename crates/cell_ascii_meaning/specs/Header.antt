@@ -82,7 +82,7 @@ gap_at line run (b ∷ bs) fails =
     if is_line_feed b then (if nat_lt run 1048576 then Feed (run + 1) (record { bytes = bs; fails = fails }) else Fault (grid_fault ReaderStuck line))
     else Word (record { bytes = b ∷ bs; fails = fails })
 
--- what comes after the blanks of a line, where a run of blanks has gone on for `run` bytes
+-- what comes after the blanks of a line, if the run of blanks has `run` bytes so far
 unfoldable pub gap_of : ℕ → ℕ → Coming → Gap
 gap_of line run c =
     let gap = prefix_len is_grid_blank c.bytes in
@@ -150,7 +150,7 @@ abbrev pub after_line : (KeyValues → ℕ → ℕ → Coming → Result OpenedT
 after_line rest line (keys, None) = opened_text keys line None header_ended
 after_line rest line (keys, Some (run, c)) = rest keys (line + 1) run c
 
--- a line from its first word on: a header line where the word has a colon, else the data
+-- a line from its first word on: a header line if the word has a colon, else the data
 abbrev pub line_from : (KeyValues → ℕ → ℕ → Coming → Result OpenedText GridFault) → KeyValues → Start → Result OpenedText GridFault
 line_from rest keys (Stops f) = Err f
 line_from rest keys (Ends line) = opened_text keys line None header_ended

@@ -13,7 +13,7 @@ buffered_cons (x ∷ xs) b e = cc
 ended : (c : Coming) (f : Bool) → (c.bytes ≡ []) × (c.fails ≡ f) → c ≡ record { bytes = []; fails = f }
 ended c f e = λ i. record { bytes = e.0 i; fails = e.1 i }
 
--- functions that agree on what is to come, where a byte is held
+-- functions that agree on what is to come if a byte is held
 pub at_byte : {X : Type 0} (F G : Coming → X) (a : Ahead) (b : ℕ) → slice_get a.buffered 0 ≡ Some b → ((bs : List ℕ) (f : Bool) → F (coming (b ∷ bs) f) ≡ G (coming (b ∷ bs) f)) → option_map F (bytes_to_come a) ≡ option_map G (bytes_to_come a)
 at_byte F G a b buffered same = rw (buffered_cons a.buffered b buffered) (mapped (drop 1 a.buffered) a.rest)
   where

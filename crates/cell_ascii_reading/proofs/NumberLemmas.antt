@@ -98,7 +98,7 @@ by_one m n e = by (is_in_range n) refl
     by true f = rw (e, times_one n, f) refl
     by false f = rw f refl
 
--- the word of a number is its cell, where the null text is no number and nothing is multiplied
+-- the word of a number is its cell if the null text is no number and nothing is multiplied
 pub plain_cell : (h : HeaderValue) (word : List ℕ) (n : ℤ) → whole_number word ≡ Some n → capped_number h.null_text ≡ None → h.multiplier ≡ pos 1
     → cell_in_range n ≡ cell_of_word h word
 plain_cell h word n is none one =

@@ -42,7 +42,7 @@ fn bad_header(line: u64) -> GridFault
     }
 }
 
-// Reads the value of a header line. Answers where it begins in the word.
+// Reads the value of a header line. Returns the place in the word where it begins.
 fn read_value<R: Source>(scanner: &mut Scanner<R>, start: usize) -> Result<usize, GridFault>
     requires room { scanner.old.line + 1048576 < 2 ^ 64 }
     requires run { scanner.old.run ≡ 0 }
@@ -148,7 +148,7 @@ fn read_line<R: Source>(
     }
 }
 
-/// Reads the lines of a header up to the first word of the data, or to the end of the text. Answers whether that word was read.
+/// Reads the lines of a header up to the first word of the data, or to the end of the text. Returns whether that word was read.
 pub fn read_header<R: Source>(
     scanner: &mut Scanner<R>,
     keys: &mut HeaderKeys,

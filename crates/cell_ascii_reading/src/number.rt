@@ -9,7 +9,7 @@ use cell_core_values::whole_numbers::{are_digits, value_of_digits, whole_in_rang
 // Greater than each coordinate in units.
 const UNITS_CAP: u64 = 1000000000000000000;
 
-/// A number of rows or columns: a whole number in range, where a negative one counts none.
+/// A number of rows or columns: a whole number in range; a negative one counts none.
 pub fn side(text: &[u8]) -> Option<u32>
     ensures { result ≡ side text.now }
 {

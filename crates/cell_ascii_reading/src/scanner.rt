@@ -91,7 +91,7 @@ impl<R: Source> Scanner<R> {
         }
     }
 
-    // Passes one blank or line feed, where one comes.
+    // Passes one blank or line feed if one comes.
     fn step(&mut self) -> Result<ScanStep, GridFault>
         requires room { self.old.line + 1048576 < 2 ^ 64 + self.old.run }
         requires run { self.old.run ≤ 1048576 }
@@ -145,7 +145,7 @@ impl<R: Source> Scanner<R> {
         }
     }
 
-    /// Passes the blanks of a line, and the line feed where it ends them.
+    /// Passes the blanks of a line, and the line feed if it ends them.
     pub fn skip_blanks(&mut self) -> Result<InLine, GridFault>
         requires room { self.old.line + 1048576 < 2 ^ 64 }
         requires run { self.old.run ≤ 1048576 }
@@ -169,7 +169,7 @@ impl<R: Source> Scanner<R> {
         }
     }
 
-    // Takes one byte of a word, where one comes.
+    // Takes one byte of a word if one comes.
     fn grow(&mut self) -> Result<bool, GridFault>
         requires { length self.old.word ≤ 64 }
         ensures word { Agrees (word_from self.old.line self.old.word) self.old.ahead

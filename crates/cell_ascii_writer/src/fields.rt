@@ -81,7 +81,7 @@ fn digit_bytes(number: u32) -> (u64, u32)
     (bytes * 256 + (48 + rest) as u64, size + 1)
 }
 
-// A space and the text of a cell, or None where that is long.
+// A space and the text of a cell, or None if that is long.
 fn made_field(cell: Cell, null_text: &[u8]) -> Option<(u64, u32)>
     ensures { IfSome result (λ field. IsFieldOf null_text.now cell field.0 field.1) }
 {

@@ -139,7 +139,7 @@ fn write_region<W: Sink>(out: &mut W, block: &mut OutputBlock, region: Region)
     write_side(out, block, b"cols", region.cols());
 }
 
-// Writes the line of the null text, where that is not the usual one.
+// Writes the line of the null text if that is not the usual one.
 fn write_null_line<W: Sink>(out: &mut W, block: &mut OutputBlock, null_text: &[u8])
     ensures { Appends W.taken W.faults out.old block.old (null_line null_text.now)
         out.new block.new }

@@ -75,7 +75,7 @@ next_run cells b most u run v n is not_less e = by_order v u
     let s = same_more v cells in
     omega (arith, so, r, s))
 
--- where the last run becomes the longest
+-- if the last run becomes the longest
 new_longest : (cells : List CellValue) (b : ℤ) (most : ℕ) (u : ℤ) (run : ℕ) (v : ℤ) (n : ℕ)
     → IsLongestRun cells b most u run → (v <ℤ u → ⊥) → occurrences (Some v) (cells ++ Some v ∷ []) ≡ n → most < n
     → IsLongestRun (cells ++ Some v ∷ []) v n v n
@@ -93,7 +93,7 @@ new_longest cells b most u run v n is not_less counted more = record {
     beyond : (w : ℤ) → v <ℤ w → u <ℤ w
     beyond w h = by_lt_z v u (λ k. absurd (not_less k)) (λ k. omega (arith, ints, k, h))
 
--- where it does not
+-- if it does not
 old_longest : (cells : List CellValue) (b : ℤ) (most : ℕ) (u : ℤ) (run : ℕ) (v : ℤ) (n : ℕ)
     → IsLongestRun cells b most u run → (v <ℤ u → ⊥) → occurrences (Some v) (cells ++ Some v ∷ []) ≡ n → n ≤ most
     → IsLongestRun (cells ++ Some v ∷ []) b most v n

@@ -14,7 +14,7 @@ window_at [] i w lt is = absurd (let no : ⊥ = omega arith in no)
 window_at (v ∷ windows) zero w lt is = ap (λ v. Some v) (sym is)
 window_at (v ∷ windows) (suc i) w lt is = window_at windows i w (omega arith) is
 
--- where an offset is in reach, there is a window
+-- if an offset is in reach, there is a window
 pub within : (windows : List Window) (i : ℕ) (down : ℤ) → IsInReach down (slice_get windows i) → i < length windows
 within [] i down h = absurd h
 within (v ∷ windows) zero down h = omega arith

@@ -10,7 +10,7 @@ pub of_front : {V : Type 0} (P : V → Type 0) (queue : List V) (x : V) → slic
 of_front P queue x front all =
     subst P (get_or_from_slice_get queue 0 x x front) (all 0 x (slice_get_within queue 0 x front))
 
--- there is a first where some wait
+-- there is a first if some wait
 pub no_front : {V : Type 0} (queue : List V) (n : ℕ) → slice_get queue 0 ≡ None → length queue ≡ n → 0 < n → ⊥
 no_front [] n none count some = omega arith
 no_front (x ∷ queue) n none count some = cc
@@ -54,7 +54,7 @@ next_row rows i d lt = ap (λ l. take 1 l) (drop_more rows i d lt)
 pub no_more : {W : Type 0} (seen rows : List W) (i : ℕ) → length rows ≤ i → seen ≡ seen ++ take 1 (drop i rows)
 no_more seen rows i le = sym (ap (λ l. seen ++ take 1 l) (drop_all i rows le) ∙ append-nil seen)
 
--- the same where the first row is let go to wait
+-- the same if the first row is let go to wait
 pub room_swaps : (more rest rows queue n capacity : ℕ) → more + rest ≡ rows + queue → n ≡ capacity
     → queue + rows ≤ capacity → rest + more ≤ n
 room_swaps more rest rows queue n capacity same is le = omega arith
@@ -72,7 +72,7 @@ map_rest : {V W : Type 0} (f : V → W) (xs : List V) → map f (drop 1 xs) ≡ 
 map_rest f [] = refl
 map_rest f (x ∷ xs) = refl
 
--- it is let go where so many rows are above
+-- it is let go if so many rows are above
 pub let_go : {V W : Type 0} (f : V → W) (queue rest : List V) (seen : List W) (above centre : ℕ) → rest ≡ drop 1 queue
     → map f queue ≡ seen → above ≤ centre → map f rest ≡ (if nat_le above centre then drop 1 seen else seen)
 let_go f queue rest seen above centre is is_seen le =

@@ -11,7 +11,7 @@ use cell_core::memory::Memory;
 use cell_core::runs::fill_run;
 use std::alloc::Global;
 
-// Stretches have to have so many columns in the mean: where they have fewer, a value for each column costs no more.
+// Stretches have to have so many columns in the mean: if they have fewer, a value for each column costs no more.
 const COLUMNS_A_STRETCH: usize = 8;
 
 // So many stretches are looked for in each row.

@@ -49,7 +49,7 @@ fn longer_run(run: usize, last: Cell, cell: Cell) -> usize
     if cell == last { run } else { 0 }
 }
 
-// The cell of the longer of two runs, of the first where both are as long.
+// The cell of the longer of two runs, of the first if both are as long.
 fn longer(best: Cell, most: usize, cell: Cell, run: usize) -> Cell
     ensures { result ≡ (if nat_lt most run then cell else best) }
 {
@@ -107,7 +107,7 @@ fn mode_at(arguments: &[Vec<Cell>], c: usize, cells: &mut [Cell]) -> Cell
     most_frequent(&mut cells[..count])
 }
 
-/// The most frequent cells of the columns, null where one is null.
+/// The most frequent cells of the columns, null if one is null.
 pub(crate) fn mode(alloc: Global, arguments: &[Vec<Cell>], row: &mut [Cell]) -> Result<(), Memory>
     requires { AreWide (length row.old) arguments.now }
     ensures { OnOk result (Becomes row.old row.new

@@ -102,7 +102,7 @@ pub(crate) fn binary_value(
     Ok(row)
 }
 
-// Applies an operator to the cells of a row, which are its left operands. The right ones need no row of their own where they
+// Applies an operator to the cells of a row, which are its left operands. The right ones need no row of their own if they
 // are a number, or lie in the row of a map; else their row is free afterwards.
 fn apply_to_operands(
     operator: Operator,
@@ -164,7 +164,7 @@ pub(crate) fn choice_value(
     Ok(row)
 }
 
-// Puts the cells of an operand into a row where conditions hold.
+// Puts the cells of an operand into a row if conditions hold.
 fn choose_operands(
     alloc: Global,
     yes: Operand,
@@ -201,7 +201,7 @@ fn choose_operands(
     }
 }
 
-// Puts the cells of another row into a row where conditions hold; the other row is free afterwards.
+// Puts the cells of another row into a row if conditions hold; the other row is free afterwards.
 fn choose_row(
     others: Vec<Cell>,
     conditions: &[Cell],

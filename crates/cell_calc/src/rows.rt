@@ -152,7 +152,7 @@ pub fn shift(source: &[Cell], from: usize, right: i32, row: &mut [Cell])
     }
 }
 
-// The same where some of them are outside.
+// The same if some of them are outside.
 fn shift_over_the_edge(source: &[Cell], from: usize, right: i32, row: &mut [Cell])
     requires { from ≤ 65535 }
     ensures { Becomes row.old row.new
@@ -302,7 +302,7 @@ struct Overlap {
     count: usize,
 }
 
-// That of a row of so many cells, moved to the left, under a strip of a width that begins at a column.
+// The overlap of a row of so many cells, moved to the left, with a strip of a width that begins at a column.
 fn overlap_of(cells: usize, right: i32, from: usize, width: usize) -> Overlap
     requires { from ≤ 65535 }
     ensures strip { result.before + result.count ≤ width }

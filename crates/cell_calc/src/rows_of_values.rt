@@ -94,7 +94,7 @@ fn along_stretches(
     Ok(values)
 }
 
-// Writes the values of an expression along a row: one for each stretch where these are few, else one for each column.
+// Writes the values of an expression along a row: one for each stretch if these are few, else one for each column.
 fn write_row(
     alloc: Global,
     steps: &[Step<usize>],

@@ -12,7 +12,7 @@ pub(crate) struct Strip {
     pub(crate) width: usize,
 }
 
-/// The values that an operand has along a strip. Those of a number and of a map get a row only where one is needed.
+/// The values that an operand has along a strip. A number and a map get a row only if one is needed.
 #[derive(Drop)]
 pub(crate) enum Operand {
     Number(u32),

@@ -45,7 +45,7 @@ index_there (p ∷ places) i lt = by_case (p == i) refl (λ l. index_there place
     by_case true h others l = ap (λ n. Some n) (grind arith)
     by_case false h others l = let e : index_in places i + 1 ≡ suc (index_in places i) = omega arith in rw e (others (omega (arith, l)))
 
--- it keeps its place where others are put after it
+-- it keeps its place if others are put after it
 pub index_kept : (places others : List ℕ) (i : ℕ) → index_in places i < length places → index_in (places ++ others) i ≡ index_in places i
 index_kept [] others i lt = absurd (let no : ⊥ = omega arith in no)
 index_kept (p ∷ places) others i lt = by_case (p == i) (λ l. index_kept places others i l) lt

@@ -44,11 +44,11 @@ abbrev pub is_true : CellValue → Bool
 is_true None = false
 is_true (Some x) = not (is_zero x)
 
--- 0 where one of them is 0, else null where one is null, else 1
+-- 0 if one of them is 0, else null if one is null, else 1
 abbrev pub known_and : CellValue → CellValue → CellValue
 known_and a b = if is_false a || is_false b then Some (pos 0) else (if is_null a || is_null b then None else Some (pos 1))
 
--- 1 where one of them is a category other than 0, else null where one is null, else 0
+-- 1 if one of them is a category other than 0, else null if one is null, else 0
 abbrev pub known_or : CellValue → CellValue → CellValue
 known_or a b = if is_true a || is_true b then Some (pos 1) else (if is_null a || is_null b then None else Some (pos 0))
 

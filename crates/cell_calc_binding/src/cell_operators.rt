@@ -40,7 +40,7 @@ fn cell_or_null(number: Option<i32>) -> Cell
     }
 }
 
-/// 1 where something holds, 0 where not.
+/// 1 if something holds, 0 if not.
 #[inline(always)]
 pub fn truth(holds: bool) -> Cell
     ensures { result ≡ truth holds }
@@ -136,7 +136,7 @@ fn remainder_of(x: i32, y: i32) -> Cell
     cell_or_null(x.checked_rem(y))
 }
 
-/// `a + b`; null where one of them is null, or the sum is out of range (profile).
+/// `a + b`; null if one of them is null, or the sum is out of range (profile).
 #[inline(always)]
 pub fn sum(a: Cell, b: Cell) -> Cell
     ensures { result ≡ operator_value operator.Plus a b }
@@ -147,7 +147,7 @@ pub fn sum(a: Cell, b: Cell) -> Cell
     }
 }
 
-/// `a - b`; null where one of them is null, or the difference is out of range (profile).
+/// `a - b`; null if one of them is null, or the difference is out of range (profile).
 #[inline(always)]
 pub fn difference(a: Cell, b: Cell) -> Cell
     ensures { result ≡ operator_value operator.Minus a b }
@@ -158,7 +158,7 @@ pub fn difference(a: Cell, b: Cell) -> Cell
     }
 }
 
-/// `a * b`; null where one of them is null, or the product is out of range (profile).
+/// `a * b`; null if one of them is null, or the product is out of range (profile).
 #[inline(always)]
 pub fn product(a: Cell, b: Cell) -> Cell
     ensures { result ≡ operator_value operator.Times a b }
@@ -169,7 +169,7 @@ pub fn product(a: Cell, b: Cell) -> Cell
     }
 }
 
-/// `a / b`, cut off towards zero; null where one of them is null, or `b` is 0 (GRASS manual: r.mapcalc).
+/// `a / b`, cut off towards zero; null if one of them is null, or `b` is 0 (GRASS manual: r.mapcalc).
 #[inline(always)]
 pub fn quotient(a: Cell, b: Cell) -> Cell
     ensures { result ≡ operator_value operator.Divide a b }
@@ -186,7 +186,7 @@ pub fn quotient(a: Cell, b: Cell) -> Cell
     }
 }
 
-/// `a % b`, with the sign of `a`; null where one of them is null, or `b` is 0 (profile).
+/// `a % b`, with the sign of `a`; null if one of them is null, or `b` is 0 (profile).
 #[inline(always)]
 pub fn remainder(a: Cell, b: Cell) -> Cell
     ensures { result ≡ operator_value operator.Modulo a b }
@@ -203,7 +203,7 @@ pub fn remainder(a: Cell, b: Cell) -> Cell
     }
 }
 
-/// `a < b` as 1 or 0; null where one of them is null.
+/// `a < b` as 1 or 0; null if one of them is null.
 #[inline(always)]
 pub fn less(a: Cell, b: Cell) -> Cell
     ensures { result ≡ operator_value operator.Less a b }
@@ -214,7 +214,7 @@ pub fn less(a: Cell, b: Cell) -> Cell
     }
 }
 
-/// `a <= b` as 1 or 0; null where one of them is null.
+/// `a <= b` as 1 or 0; null if one of them is null.
 #[inline(always)]
 pub fn less_equal(a: Cell, b: Cell) -> Cell
     ensures { result ≡ operator_value operator.LessEqual a b }
@@ -225,7 +225,7 @@ pub fn less_equal(a: Cell, b: Cell) -> Cell
     }
 }
 
-/// `a > b` as 1 or 0; null where one of them is null.
+/// `a > b` as 1 or 0; null if one of them is null.
 #[inline(always)]
 pub fn greater(a: Cell, b: Cell) -> Cell
     ensures { result ≡ operator_value operator.Greater a b }
@@ -236,7 +236,7 @@ pub fn greater(a: Cell, b: Cell) -> Cell
     }
 }
 
-/// `a >= b` as 1 or 0; null where one of them is null.
+/// `a >= b` as 1 or 0; null if one of them is null.
 #[inline(always)]
 pub fn greater_equal(a: Cell, b: Cell) -> Cell
     ensures { result ≡ operator_value operator.GreaterEqual a b }
@@ -247,7 +247,7 @@ pub fn greater_equal(a: Cell, b: Cell) -> Cell
     }
 }
 
-/// `a == b` as 1 or 0; null where one of them is null.
+/// `a == b` as 1 or 0; null if one of them is null.
 #[inline(always)]
 pub fn equal(a: Cell, b: Cell) -> Cell
     ensures { result ≡ operator_value operator.Equal a b }
@@ -258,7 +258,7 @@ pub fn equal(a: Cell, b: Cell) -> Cell
     }
 }
 
-/// `a != b` as 1 or 0; null where one of them is null.
+/// `a != b` as 1 or 0; null if one of them is null.
 #[inline(always)]
 pub fn not_equal(a: Cell, b: Cell) -> Cell
     ensures { result ≡ operator_value operator.NotEqual a b }
@@ -269,7 +269,7 @@ pub fn not_equal(a: Cell, b: Cell) -> Cell
     }
 }
 
-/// `a && b` as 1 or 0; null where one of them is null.
+/// `a && b` as 1 or 0; null if one of them is null.
 #[inline(always)]
 pub fn and(a: Cell, b: Cell) -> Cell
     ensures { result ≡ operator_value operator.And a b }
@@ -280,7 +280,7 @@ pub fn and(a: Cell, b: Cell) -> Cell
     }
 }
 
-/// `a || b` as 1 or 0; null where one of them is null.
+/// `a || b` as 1 or 0; null if one of them is null.
 #[inline(always)]
 pub fn or(a: Cell, b: Cell) -> Cell
     ensures { result ≡ operator_value operator.Or a b }
@@ -291,7 +291,7 @@ pub fn or(a: Cell, b: Cell) -> Cell
     }
 }
 
-/// The lesser of two cells; null where one of them is null.
+/// The lesser of two cells; null if one of them is null.
 #[inline(always)]
 pub fn lesser(a: Cell, b: Cell) -> Cell
     ensures { result ≡ lesser a b }
@@ -313,7 +313,7 @@ pub fn larger(a: Cell, b: Cell) -> Cell
     }
 }
 
-/// `a &&& b`: 0 where one of them is 0, whatever the other is; else as `a && b` (GRASS manual: r.mapcalc).
+/// `a &&& b`: 0 if one of them is 0, whatever the other is; else as `a && b` (GRASS manual: r.mapcalc).
 #[inline(always)]
 pub fn known_and(a: Cell, b: Cell) -> Cell
     ensures { result ≡ operator_value operator.KnownAnd a b }
@@ -327,7 +327,7 @@ pub fn known_and(a: Cell, b: Cell) -> Cell
     fit(1)
 }
 
-/// `a ||| b`: 1 where one of them is neither null nor 0, whatever the other is; else as `a || b` (GRASS manual: r.mapcalc).
+/// `a ||| b`: 1 if one of them is neither null nor 0, whatever the other is; else as `a || b` (GRASS manual: r.mapcalc).
 #[inline(always)]
 pub fn known_or(a: Cell, b: Cell) -> Cell
     ensures { result ≡ operator_value operator.KnownOr a b }
@@ -369,7 +369,7 @@ pub fn known_larger(a: Cell, b: Cell) -> Cell
     larger(a, b)
 }
 
-/// `-a`; null where `a` is null.
+/// `-a`; null if `a` is null.
 #[tactic(auto, using(crate::proofs::Fit::fit_checked))]
 #[inline(always)]
 pub fn negated_cell(a: Cell) -> Cell
@@ -392,7 +392,7 @@ pub fn inverted_cell(a: Cell) -> Cell
     }
 }
 
-/// `abs(a)`; null where `a` is null.
+/// `abs(a)`; null if `a` is null.
 #[tactic(auto, using(crate::proofs::Fit::fit_checked))]
 #[inline(always)]
 pub fn size(a: Cell) -> Cell
@@ -415,7 +415,7 @@ pub fn chosen_cell(condition: Cell, yes: Cell, no: Cell) -> Cell
     }
 }
 
-/// `isnull(a)`: 1 where `a` is null, 0 where not.
+/// `isnull(a)`: 1 if `a` is null, 0 if not.
 #[inline(always)]
 pub fn nullness(a: Cell) -> Cell
     ensures { result ≡ truth (is_null a) }

@@ -93,12 +93,12 @@ widen (whole r n) w m = whole r (widen_more n w m)
 abbrev pub Follows : ℕ → List Placed → Type 0
 Follows k rest = (next k rest ≡ None) × IsAlone (head rest)
 
--- where the tokens of an expression are read, the machine then continues from the expression
+-- if the tokens of an expression are read, the machine then continues from the expression
 abbrev pub IsRead : ℕ → List Placed → Term → Type 0
 IsRead zero ts a = (rest : List Placed) → IsAlone (head rest) → GrammarReads (Operand (ts ++ rest)) (Got a rest)
 IsRead (suc k) ts a = (rest : List Placed) (o : ReadOutcome) → Follows k rest → GrammarReads (More (suc k) (Got a rest)) o → GrammarReads (Whole (suc k) (ts ++ rest)) o
 
--- an expression is read, where what follows does not continue with it
+-- an expression is read if what follows does not continue with it
 abbrev IsAllRead : List Placed → Term → Type 0
 IsAllRead ts a = (rest : List Placed) → Follows top rest → IsNot Question (head rest) → GrammarReads (Expression (ts ++ rest)) (Got a rest)
 
@@ -112,7 +112,7 @@ next_lower : (k : ℕ) (rest : List Placed) → next (suc k) rest ≡ None → n
 next_lower k [] e = refl
 next_lower k (s ∷ rest) e = below_down k (operator_of s.token) e
 
--- the whole of it is read, where what follows does not continue with it
+-- all of it is read if what follows does not continue with it
 read_whole : (k : ℕ) (ts : List Placed) (a : Term) → IsRead k ts a → (rest : List Placed) → Follows k rest → GrammarReads (Whole k (ts ++ rest)) (Got a rest)
 read_whole zero ts a h rest e = whole (h rest e.1) (done e.0)
 read_whole (suc k) ts a h rest e = h rest (Got a rest) (next_lower k rest e.0, e.1) (done e.0)

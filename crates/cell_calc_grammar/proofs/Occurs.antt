@@ -35,7 +35,7 @@ tokens (Called ts) = ts
 tokens (Arguments ts) = ts
 tokens (Onward o) = left o
 
--- the tokens are read as an operand, and where that stops, so does the outcome
+-- the tokens are read as an operand, and if that stops, so does the outcome
 abbrev pub Found : List Placed → ReadOutcome → Type 0
 Found us o =
     (q : ReadOutcome) × GrammarReads (Operand us) q

@@ -1,4 +1,4 @@
--- Where more is expected, the walk of the tokens by their shape ends too.
+-- If more is expected, the walk of the tokens by their shape ends too.
 use Rattle.std.proofs.Common.{◌≡◌, ℕ, ℤ, List, [], ◌∷◌, ◌++◌, Option, Some, None, Ok, Err, Bool, true, false, refl, sym, ap, ◌∙◌, subst}
 use Rattle.cell_calc_grammar.specs.declared.calc_fault.CalcKind.{CalcKind}
 use Rattle.cell_calc_grammar.specs.declared.calc_fault.CalcKind.TheVariants.{Expected}
@@ -75,7 +75,7 @@ offset_refused b st (Some (token.Sign Minus)) n q = absurd (q.0 refl)
 offset_refused b st (Some (token.Sign Plus)) n q = absurd (q.1 refl)
 offset_refused b st (Some _) n q = refl
 
--- where an offset stops the next token cannot come
+-- if an offset stops, the next token cannot come
 stop_refused : (b : Bool) (st : List Frame) {front rest : List Placed} → NoOffset Expected front rest
     → Refuses (head rest) (walk (Some (Offset b st)) (shape front))
 stop_refused b st {rest = rest} (f, unsigned, q, none n) = offset_refused b st (head rest) n (q refl)
@@ -91,7 +91,7 @@ bracket_refused st None n = tt
 bracket_refused st (Some (token.Sign CloseBracket)) n = absurd (n refl)
 bracket_refused st (Some _) n = refl
 
--- where offsets stop the next token cannot come
+-- if offsets stop, the next token cannot come
 offsets_refused : (st : List Frame) {front rest : List Placed} → NoOffsets Expected front rest
     → Refuses (head rest) (walk (Some (Offset false st)) (shape front))
 offsets_refused st (first h) = stop_refused false st h
@@ -116,7 +116,7 @@ abbrev EndsWhole : ReadOutcome → Type 0
 EndsWhole (Got a rest) = next top rest ≡ None
 EndsWhole _ = Unit {0}
 
--- the tokens that are read are walked, and where more is expected the next one cannot come
+-- the tokens that are read are walked, and if more is expected, the next one cannot come
 abbrev pub IsWalked : State → ReadOutcome → Type 0
 IsWalked (Operand ts) o = (st : List Frame) → Walks (Ends st o) (Some (place.Operand st)) ts (left o)
 IsWalked (Whole k ts) o = (st : List Frame) → Walks (Ends st o) (Some (place.Operand st)) ts (left o)

@@ -27,7 +27,7 @@ IsOpen before =
     (front inner rest : List Placed) × (name : List ℕ) × (c d : ℕ)
     × (before ≡ front ++ name_at name c ∷ sign_at OpenBracket d ∷ inner) × NoOffsets BadOffset inner rest
 
--- the tokens from the place of an error to the one that shows it, where that one belongs to them
+-- the tokens from the place of an error to the one that shows it, if that one belongs to them
 abbrev pub IsSegment : CalcKind → (before seg : List Placed) → Type 0
 IsSegment Expected before seg = seg ≡ []
 IsSegment UnknownFunction before seg =
@@ -160,7 +160,7 @@ IsViable s o = Unit {0}
 abbrev SomeOffsets : List Placed → Type 0
 SomeOffsets l = (down right : ℤ) × AreOffsets l down right
 
--- a number continues where offsets stop, or else another sign where that is expected
+-- a number continues if offsets stop, or else another sign if that is expected
 offsets_go_on : {kind : CalcKind} {front rest : List Placed} → NoOffsets kind front rest
     → ((l : List Placed) × SomeOffsets ((front ++ token_number_at 0 0 ∷ []) ++ l) × NoNumber kind rest)
     ⊎ ((kind ≡ Expected) × (l : List Placed) × SomeOffsets (front ++ l))

@@ -5,7 +5,7 @@ use Rattle.cell_calc_grammar.specs.Grammar.{IsExpression}
 use Rattle.cell_calc_grammar.specs.TokensRead.{Expression, Got, ReadOutcome, GrammarReads, State}
 use Rattle.cell_calc_grammar.specs.Term.{Term}
 
--- tokens are read to their end as an expression exactly where they stand for it
+-- tokens are read to their end as an expression exactly if they stand for it
 abbrev pub ExpressionReadingAgrees : Type 0
 ExpressionReadingAgrees =
     (ts : List Placed) (a : Term)

@@ -70,7 +70,7 @@ abbrev pub token_number : ℕ → List ℕ → Result Token CalcFault
 token_number column digits =
     if nat_le (value_of_digits digits) 2147483647 then Ok (token.Number (value_of_digits digits)) else Err (token_fault BadNumber column)
 
--- a word is a name where it begins with a letter or an underscore, and else a number
+-- a word is a name if it begins with a letter or an underscore, and else a number
 unfoldable pub word_of : ℕ → List ℕ → Result Token CalcFault
 word_of column bytes =
     if starts_name bytes then token_name column bytes

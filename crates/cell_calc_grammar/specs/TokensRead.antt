@@ -154,7 +154,7 @@ join op a (Got b rest) = Got (Binary op a b) rest
 join op a (GotAll xs rest) = Stops Expected rest
 join op a (Stops kind rest) = Stops kind rest
 
--- after a condition, what is chosen where it holds, and the colon
+-- after a condition, what is chosen if it holds, and the colon
 abbrev pub choose : Term → Term → ReadOutcome → ReadOutcome
 choose x a (Got b rest) = Got (Call If (Then x (Then a (Then b NoTrees)))) rest
 choose x a (GotAll xs rest) = Stops Expected rest

@@ -21,9 +21,9 @@ pub enum Operator {
     NotEqual,
     And,
     Or,
-    /// `&&&`: 0 where one operand is 0, whatever the other one is.
+    /// `&&&`: 0 if one operand is 0, whatever the other one is.
     KnownAnd,
-    /// `|||`: 1 where one operand is a number other than 0, whatever the other one is.
+    /// `|||`: 1 if one operand is a number other than 0, whatever the other one is.
     KnownOr,
 }
 

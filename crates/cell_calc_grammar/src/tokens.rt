@@ -227,7 +227,7 @@ fn token_of(alloc: Global, bytes: &[u8], column: u32) -> Result<Token, CalcFault
     }
 }
 
-// The token of a piece, where so many are before it.
+// The token of a piece after so many others.
 fn next_token(alloc: Global, count: usize, bytes: &[u8], column: u32) -> Result<Placed, CalcFault>
     ensures { ReportsToken result
         (next_token count (record { column = column; bytes = bytes.now })) }

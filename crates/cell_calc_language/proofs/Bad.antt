@@ -157,7 +157,7 @@ none_in_one s kind ts bad (x ∷ m) mid e =
     let f : [] ≡ m ++ name_at bad.name bad.column ∷ (bad.ends ++ mid) = cc in
     not_nothing m (name_at bad.name bad.column) (bad.ends ++ mid) f
 
--- none ends in what is read before the outcome, where this continues with more
+-- none ends in what is read before the outcome, if this continues with more
 none_before : {s : State} {o : ReadOutcome} (r : GrammarReads s o) (extra more : List Placed) → left o ≡ extra ++ more → ((rest : List Placed) → o ≡ Stops BadOffset rest → extra ≡ [])
     → (kind : CalcKind) (ts : List Placed) (bad : Bad kind ts) (front m mid : List Placed) → (find r).before ≡ front ++ name_at bad.name bad.column ∷ m → bad.ends ++ mid ≡ m ++ extra → ⊥
 none_before {s = s} {o = o} r extra more e far kind ts bad front m mid f g =

@@ -72,7 +72,7 @@ one_miscounted c c' b n ((front, inside, name, d, f, xs, e, u, h, a), can) ((fro
     go (before m i j) = absurd (not_within c d inside xs h (b ++ n ∷ []) (bad_call (b ++ n ∷ []) front' inside' name' c' d' f' xs' e' u' h' a') m j)
     go (behind m i j) = absurd (not_within c' d' inside' xs' h' (b ++ n ∷ []) (bad_call (b ++ n ∷ []) front inside name c d f xs e u h a) m j)
 
--- the kind that a token shows where all up to it can continue
+-- the kind that a token shows if all up to it can continue
 abbrev reported_by : Token → CalcKind
 reported_by (token.Sign OpenParenthesis) = UnknownFunction
 reported_by (token.Sign _) = BadArguments

@@ -32,7 +32,7 @@ enum Frame<'a> {
     Joined(u32, Operator),
     /// An expression, which `?` may follow.
     Choice,
-    /// What is chosen where the condition holds is being read.
+    /// What is chosen if the condition holds is being read.
     AfterQuestion,
     /// What is chosen otherwise is being read.
     AfterColon,
@@ -269,7 +269,7 @@ impl<'a> Reader<'a> {
         self.enter(rest)
     }
 
-    // After what is chosen where the condition holds.
+    // After what is chosen if the condition holds.
     fn otherwise(&mut self, tokens: &'a [Placed]) -> Result<Turn<'a>, ParseStop<'a>>
         ensures goes { Resumes self.old frame.AfterQuestion tokens.now self.new result }
         ensures lighter { LeavesWork (work tokens.now self.old) self.new result }

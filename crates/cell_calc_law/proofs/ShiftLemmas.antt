@@ -98,7 +98,7 @@ null-beyond-the-edge shelf place a b x all are row col row_lt col_lt far = are.c
 
 -- ---- counts of a shifted map
 
--- 1 where a combination is the one
+-- 1 if a combination is the one
 abbrev is-one : Combination → Combination → ℕ
 is-one k l = cond (eq_by_cmp combination_cmp k l) 1 0
 
@@ -118,7 +118,7 @@ past-pos n i past to same = let e : i ≡ to = cc in omega (arith, e, past)
 past-neg : (n i : ℕ) → (to : ℕ) → negsuc i ≡ pos to → n ≤ to
 past-neg n i to same = cc
 
--- 1 where a cell has the category
+-- 1 if a cell has the category
 abbrev has : ℤ → CellValue → ℕ
 has category c = is-one (Some category ∷ []) (c ∷ [])
 

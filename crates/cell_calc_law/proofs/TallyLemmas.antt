@@ -87,7 +87,7 @@ found-some (suc n) some = refl
 -- ---- the entries for which a test holds
 
 module _ (h : Combination → Bool) where
-  -- what an entry counts, where the test holds
+  -- what an entry counts if the test holds
   abbrev counted : (Combination × ℕ → ℕ) → Combination × ℕ → ℕ
   counted f e = cond (h e.0) (f e) 0
 
@@ -168,7 +168,7 @@ module _ (h : Combination → Bool) where
       let others = sum-alike f g es (λ i d within. all (suc i) d (omega (arith, within))) in
       omega (arith, sum-cons f e es, sum-cons g e es, first, others)
 
-  -- the counts of the entries add up to the cells, where a test holds
+  -- the counts of the entries add up to the cells if a test holds
   pub table-counts : (cells : List Combination)
       → sum_by (λ e. e.1) (filter (λ e. h e.0) (table_of Nothing cells)) ≡ count_by h cells
   table-counts cells =

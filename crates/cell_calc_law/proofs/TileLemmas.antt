@@ -34,7 +34,7 @@ module _ (f g : Formula) (whole tile : ShelfValue) (r : Rectangle) (is : IsHaloe
   col-in : col < whole.region.cols
   col-in = omega (arith, holds.wide, holds.left)
 
-  -- where the expressions have one value, the maps have one cell
+  -- if the expressions have one value, the maps have one cell
   same-cell : value g tile.maps (position_in h row col) ≡ value f whole.maps (grid_position whole.region row col)
       → cell_at y (row - h.top) (col - h.left) ≡ cell_at x row col
   same-cell same =

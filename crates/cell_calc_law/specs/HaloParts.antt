@@ -1,4 +1,4 @@
--- Values of parts: an expression has the same value over a part of maps, where what it reads lies in the part or the maps end.
+-- Values of parts: an expression has the same value over a part of maps if what it reads lies in the part or the maps end.
 use Rattle.std.specs.Prelude.{ℕ, ℤ, pos, ◌+ℤ◌, Some, slice_get, [], ◌∷◌, Bool, true, false, ◌||◌, ◌==◌, ◌≡◌, ◌≤◌, ◌<◌, ◌+◌, ◌⊎◌, max, List, All, if◌then◌else◌}
 use Rattle.cell_core_values.specs.Region.{RegionValue}
 use Rattle.cell_core.specs.Grid.{Grid, CellValue, IsFilled}
@@ -78,7 +78,7 @@ abbrev pub HaloIsEnough : Type 0
 HaloIsEnough = (f : Formula) (whole part : List Grid) (region : RegionValue) (r : Rectangle) (row col : ℕ) → All (λ m. IsFilled region m.rows) whole → AreCutOut r whole part → HasHalo f region r row col → value f part (record { rows = r.rows; cols = r.cols; row = row; col = col }) ≡ value f whole (grid_position region (r.top + row) (r.left + col))
 
 abbrev mutual
-  -- the value where row() and the like report another spot than the one that offsets are counted from
+  -- the value if row() and the like report another spot than the one that offsets are counted from
   pub value_seen_from : Formula → List Grid → (here reported : GridPosition) → CellValue
   value_seen_from (Number n) maps here reported = Some (pos n)
   value_seen_from (Map i down right) maps here reported = cell_in (slice_get maps i) (pos here.row +ℤ down) (pos here.col +ℤ right)

@@ -85,7 +85,7 @@ ItsReachIsEnough =
     → (row col : ℕ) → IsCellInside region r row col
     → value f part (position_in (with_halo region (reach_of f) r) row col) ≡ value f whole (grid_position region row col)
 
--- and any expression does, where row() and its like are reported of the cell in the full map
+-- and any expression does if row() and its like are reported of the cell in the full map
 abbrev pub ItsReachIsEnoughElsewhere : Type 0
 ItsReachIsEnoughElsewhere =
     (f : Formula) (whole part : List Grid) (region : RegionValue) (r : Rectangle)

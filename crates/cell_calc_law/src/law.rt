@@ -43,12 +43,12 @@ pub fn either_way_is_the_same()
     ensures { EitherWayIsTheSame }
 {}
 
-/// After `x = g[a,b]`, `y = x[c,d]` and `z = g[a+c,b+d]`, y has the cell of z where the step by (c,d) stays in the region.
+/// After `x = g[a,b]`, `y = x[c,d]` and `z = g[a+c,b+d]`, y has the cell of z if the step by (c,d) stays in the region.
 pub fn shifts_add_up()
     ensures { ShiftsAddUp }
 {}
 
-/// After `x = g[a,b]`, x is null where the step by (a,b) leaves the region.
+/// After `x = g[a,b]`, x is null if the step by (a,b) leaves the region.
 pub fn null_beyond_the_edge()
     ensures { NullBeyondTheEdge }
 {}
@@ -58,7 +58,7 @@ pub fn shifts_only_lose()
     ensures { ShiftsOnlyLose }
 {}
 
-/// A halo is enough: an expression has the same value over a part of maps as over the full map, where what it reads lies in
+/// A halo is enough: an expression has the same value over a part of maps as over the full map if what it reads lies in
 /// the part or the maps end.
 pub fn halo_is_enough()
     ensures { HaloIsEnough }
@@ -70,7 +70,7 @@ pub fn seen_from_itself()
     ensures { SeenFromItself }
 {}
 
-/// If they report the spot in the full map, any expression has the same value over a part as over the full map, where what it
+/// If they report the spot in the full map, any expression has the same value over a part as over the full map if what it
 /// reads lies in the part or the maps end.
 pub fn reach_is_enough()
     ensures { ReachIsEnough }
@@ -87,7 +87,7 @@ pub fn its_reach_is_enough()
     ensures { ItsReachIsEnough }
 {}
 
-/// And any expression does, where `row()` and its like are reported of the cell in the full map.
+/// And any expression does if `row()` and its like are reported of the cell in the full map.
 pub fn its_reach_is_enough_elsewhere()
     ensures { ItsReachIsEnoughElsewhere }
 {}

@@ -22,7 +22,7 @@ values-listed : (names : List (List ℕ)) (maps : List Grid) (s : GridPosition) 
 values-listed names maps s NoTrees = refl
 values-listed names maps s (Then a xs) = ap (λ l. value (with_places names a) maps s ∷ l) (values-listed names maps s xs)
 
--- the value of an expression, where its steps have been taken
+-- the value of an expression once its steps have been taken
 pub value_after : (names : List (List ℕ)) (maps : List Grid) (s : GridPosition) (e : Term) (steps : List (Step MapName)) → steps ≡ postfix e
     → values_after (step_value names maps s) steps [] ≡ value (with_places names e) maps s ∷ []
 value_after names maps s e steps is =

@@ -174,7 +174,7 @@ module _ (line : List ℕ) (rule : RuleValue) where
         label = refl;
       })
 
-  -- and is read where it spells it
+  -- and is read if it spells it
   pub rule-complete : SpellsRule line rule → rule_of line ≡ Ok rule
   rule-complete s =
       let l = listed-complete (list_words_of s.left) rule.listed s.listed in

@@ -30,7 +30,7 @@ is_null_word word = bytes_eq word (codes "NULL") || bytes_eq word (codes "null")
 abbrev pub is_end : List ℕ → Bool
 is_end word = not (is_thru word) && not (is_star word)
 
--- one more item, where its ends stand for numbers
+-- one more item if its ends stand for numbers
 abbrev pub with_item : List ℕ → List ℕ → Option (List (List ℕ × List ℕ)) → Option (List (List ℕ × List ℕ))
 with_item a b items = if is_end a && is_end b then option_map (λ more. (a, b) ∷ more) items else None
 
@@ -72,7 +72,7 @@ is_star_left (Some items) = false
 abbrev pub range_of : List ℕ × List ℕ → Option (ℤ × ℤ)
 range_of item = option_and_then (λ a. option_map (λ b. (a, b)) (whole_in_range item.1)) (whole_in_range item.0)
 
--- the ranges of items, where all their numbers are good
+-- the ranges of items if all their numbers are good
 abbrev pub ranges_of : List (List ℕ × List ℕ) → Option (List (ℤ × ℤ))
 ranges_of [] = Some []
 ranges_of (item ∷ items) = option_and_then (λ range. option_map (λ ranges. range ∷ ranges) (ranges_of items)) (range_of item)
@@ -82,7 +82,7 @@ abbrev pub listed_of_line : Left → Option (Option (List (ℤ × ℤ)))
 listed_of_line None = Some None
 listed_of_line (Some items) = option_map Some (ranges_of items)
 
--- what the word of an output gives, where its number is good
+-- what the word of an output gives if its number is good
 abbrev pub output_of : List ℕ → Option Output
 output_of word = if is_null_word word then Some (To None) else (if is_star word then Some Same else option_map (λ n. To (Some n)) (whole_in_range word))
 
@@ -107,6 +107,6 @@ with_line rules line =
     if is_skipped (trimmed_text line) then Ok (Skipped, rules)
     else (if bytes_eq (trimmed_text line) (codes "end") then Ok (End, rules) else (rule_of line >>= λ rule. Ok (Rule, rules ++ rule ∷ [])))
 
--- a line is read as one more rule exactly where it spells that rule
+-- a line is read as one more rule exactly if it spells that rule
 abbrev pub RulesAreRead : Type 0
 RulesAreRead = (rules : List RuleValue) (line : List ℕ) (rule : RuleValue) → (with_line rules line ≡ Ok (Rule, rules ++ rule ∷ [])) ↔ SpellsRule line rule

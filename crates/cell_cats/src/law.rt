@@ -15,7 +15,7 @@ pub fn worked_lines()
 {}
 
 /// Words are read as items exactly if they are the words of items, one item after another, and as the ends of those; and
-/// a line is read as one more rule exactly where it spells that rule.
+/// a line is read as one more rule exactly if it spells that rule.
 pub fn rules_are_read()
     ensures items { ItemsAreRead }
     ensures rules { RulesAreRead }

@@ -146,7 +146,7 @@ fn is_lone_star(words: &[&[u8]]) -> bool
     }
 }
 
-// The items, or none where the left is `*`.
+// The items, or none if the left is `*`.
 fn left_of<'a>(
     alloc: Global,
     words: &[&'a [u8]],

@@ -16,7 +16,7 @@ use Rattle.cell_cats_areas.proofs.PathLemmas.{AreJoined-adjacent, AreJoined-sym,
 use Rattle.cell_cats_areas.proofs.MeetingLemmas.{AreSound-joined, after_join_keeps, after_join_one}
 use Rattle.cell_cats_areas.proofs.StartLemmas.{same_position, earlier_adjacent, count_le, alike_from, alike_to}
 
--- what tests of cells say, where one is a category
+-- what tests of cells say if one is a category
 pub is_alike : (x y : CellValue) (v : ℤ) (b : Bool) → y ≡ Some v → b ≡ cell_eq x y → b ≡ true → x ≡ Some v
 is_alike x y v b is test yes' = alike_to x y v is (sym test ∙ yes')
 

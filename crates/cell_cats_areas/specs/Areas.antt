@@ -75,5 +75,5 @@ pub record IsClumping (j : Joining) (m numbers : Grid) : Type 0 where
   pub nulls : (p : Position) → cell_at_position m p ≡ None → cell_at_position numbers p ≡ None
   -- a cell that is not null has its number
   pub numbered : (p : Position) → IsSome (cell_at_position m p) → (n : ℕ) × HasNumber j m p n × (cell_at_position numbers p ≡ Some (pos n))
-  -- two such cells have the same number exactly where a path joins them
+  -- two such cells have the same number exactly if a path joins them
   pub same : (p q : Position) → IsSome (cell_at_position m p) → IsSome (cell_at_position m q) → (cell_at_position numbers p ≡ cell_at_position numbers q) ↔ AreJoined j m p q

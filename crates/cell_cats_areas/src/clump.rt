@@ -22,7 +22,7 @@ pub enum Joining {
 /// The map in which each cell that is not null has the number of its area, over the same region and
 /// without labels. Null stays null.
 ///
-/// Two cells are of one area where a path of adjacent cells of one category joins them (r.clump
+/// Two cells are of one area if a path of adjacent cells of one category joins them (r.clump
 /// manual). Areas are numbered 1, 2, .. in the order of their first cells, row by row from the top
 /// left (profile). The rows `1 2` and `2 1` give `1 2` and `3 4` by edges, and `1 2` and `2 1` by edges
 /// and corners.

@@ -7,7 +7,7 @@ pub fn clumping_is_one()
     ensures { ClumpingIsOne }
 {}
 
-/// Where a cell has a number, it is 1 or more, and some cell has each number from 1 to it.
+/// If a cell has a number, it is 1 or more, and some cell has each number from 1 to it.
 pub fn no_number_is_left_out()
     ensures { NoNumberIsLeftOut }
 {}

@@ -123,7 +123,7 @@ module _ (f : ℕ → ℕ → Combination) (t : Combination → Bool) where
       rows-more (count_by t (map (f row) cols)) (count_by t (flat_map (λ r. map (f r) cols) rows)) (row-at row cols)
       (rows-at rows cols) (omega (arith, some, both))
 
--- where some cell is counted, there is one
+-- if some cell is counted, there is one
 pub counted-at : (maps : List Grid) (picks : List ℕ) (t : Combination → Bool) (rows cols : ℕ) →
     0 < count_by t (all_combinations maps picks rows cols) → At (combination_at maps picks) t
 counted-at maps picks t rows cols some = rows-at (combination_at maps picks) t (range_with_len 0 rows)
@@ -194,7 +194,7 @@ in-more t x xs rest false is some =
     let behind = rest (omega (arith, some, count_by-cons t x xs, here)) in
     (behind.0, (suc behind.1.0, omega (arith, behind.1.1), behind.1.2), behind.2)
 
--- where some of a list are counted, there is one
+-- if some of a list are counted, there is one
 pub counted-in : (t : Combination → Bool) (xs : List Combination) → 0 < count_by t xs →
     (x : Combination) × Contains xs x × (t x ≡ true)
 counted-in t [] some = absurd (omega (arith, some))
@@ -346,7 +346,7 @@ module _ (t : Combination → Bool) where
         passing-cons k cells es,
       )
 
-  -- where each cell is one entry's
+  -- if each cell is one entry's
   passing-all : (es : Pairs) (cells : List Combination) → All (λ k. sum_by (mark k) es ≡ 1) cells →
       sum_by (passing cells) es ≡ count_by t cells
   passing-all es [] all = passing-none es

@@ -1,4 +1,4 @@
--- The numbers of the other areas, where one area is made null.
+-- The numbers of the other areas if one area is made null.
 use Rattle.std.proofs.Common.{
   ◌≡◌,
   ℕ,

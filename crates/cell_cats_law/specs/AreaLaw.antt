@@ -58,7 +58,7 @@ abbrev pub IsWithout : Grid → Grid → ℤ → Grid → Type 0
 IsWithout m numbers number less = (p : Position)
     → cell_at_position less p ≡ (if cell_eq (cell_at_position numbers p) (Some number) then None else cell_at_position m p)
 
--- making null of one whole area changes no other: two cells are of one area where they were
+-- making one whole area null changes no other: two cells are of one area exactly if they were
 abbrev pub OtherAreasStay : Type 0
 OtherAreasStay = (j : Joining) (m numbers : Grid) → IsClumping j m numbers
     → (number : ℤ) (less renumbered : Grid) → IsWithout m numbers number less → IsClumping j less renumbered

@@ -11,7 +11,7 @@ use Rattle.cell_stats_counts.specs.LeftOut.{is_left_out}
 use Rattle.cell_stats_counts.specs.Counts.{count_of}
 use Rattle.cell_stats.specs.CategoryTables.{Pairs, IsTable}
 
--- null stays null, and so is a category that no rule lists, where no rule is one of `*`
+-- null stays null; a category that no rule lists becomes null if no rule is one of `*`
 abbrev pub UnnamedIsNull : Type 0
 UnnamedIsNull = (rules : List RuleValue)
     → (new_category rules None ≡ None)

@@ -25,7 +25,7 @@ pub fn no_area_is_empty()
     ensures { NoAreaIsEmpty }
 {}
 
-/// Where one whole area is made null, two other cells are of one area exactly where they were.
+/// If one whole area is made null, two other cells are of one area exactly if they were.
 pub fn other_areas_stay()
     ensures { OtherAreasStay }
 {}

@@ -18,7 +18,7 @@ pub fn rest_of_rest()
     ensures { RestOfRest }
 {}
 
-/// Null stays null, and so is a category that no rule lists, where no rule is one of `*`.
+/// Null stays null; a category that no rule lists becomes null if no rule is one of `*`.
 pub fn unnamed_is_null()
     ensures { UnnamedIsNull }
 {}

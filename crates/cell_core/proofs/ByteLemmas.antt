@@ -1,4 +1,4 @@
--- Bytes are equal exactly where the cells are that they stand for.
+-- Bytes are equal exactly if their cells are.
 use Rattle.std.proofs.Common.{◌≡◌, ◌<◌, ℕ, List, length, get_or, Bool, true, false, eqb, refl, ap, sym, ◌∙◌}
 use Rattle.std.proofs.lemmas.Bool.{eqb-true, eq-eqb}
 use Rattle.std.proofs.lemmas.List.{get_or-map}

@@ -34,7 +34,7 @@ pub(crate) fn number_of_byte_runs(bytes: &[u8]) -> usize
     if bytes.is_empty() {
         return 0;
     }
-    // Of 32 bits, so that a vector counts as many as it compares. Bytes are alike where their cells are.
+    // Of 32 bits, so that a vector counts as many as it compares. Bytes are alike if their cells are.
     let mut alike: u32 = 0;
     let mut last = bytes[0];
     for byte in bytes {

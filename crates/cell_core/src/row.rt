@@ -23,7 +23,7 @@ pub(crate) struct Row {
     kept: RowForm,
 }
 
-/// A row as its runs, or where most runs are short as its cells: in a byte each, if these stand for all of them.
+/// A row as its runs, or, if most runs are short, as its cells: in a byte each, if these stand for all of them.
 /// Each row takes one growth of just its size, since its runs are counted first. One list of runs for a map took the same
 /// time and memory, and rows would have to be cut out of it. With runs alone, noise took 8 bytes a cell.
 #[derive(Debug, Drop)]

@@ -15,6 +15,6 @@ took_more o bs i n = append_known-append o (take i bs) (take n (drop i bs)) ∙ 
 pub whole_rest : (bs : List ℕ) (i : ℕ) → take (length bs - i) (drop i bs) ≡ drop i bs
 whole_rest bs i = take_all (length bs - i) (drop i bs) (omega (arith, length-drop i bs))
 
--- the same where the piece is cut from the rest of a slice
+-- the same if the piece is cut from the rest of a slice
 pub put_more : (o : Option (List ℕ)) (bs : List ℕ) (i n : ℕ) → append_known (append_known o (take i bs)) (take n (take (length bs - i) (drop i bs))) ≡ append_known o (take (i + n) bs)
 put_more o bs i n = ap (λ (xs : List ℕ). append_known (append_known o (take i bs)) (take n xs)) (whole_rest bs i) ∙ took_more o bs i n

@@ -55,7 +55,7 @@ pub trait Sink {
     ///
     /// # Errors
     ///
-    /// [`DeviceFault`] where that fails. It has failed to flush from then on.
+    /// [`DeviceFault`] if that fails. It has failed to flush from then on.
     fn flush(&mut self) -> Result<(), DeviceFault>
         ensures taken { taken self.new ≡ taken self.old }
         ensures faults { faults self.new ≡ after_flush (faults self.old) (is_err result) };
@@ -64,7 +64,7 @@ pub trait Sink {
 /// How many bytes went out before the sink failed.
 #[derive(Clone, Copy, Debug, PartialEq, Eq)]
 pub struct WriteFault {
-    /// The number of bytes that the sink took: of the slice or the text that was put, or, where a block gathers the
+    /// The number of bytes that the sink took: of the slice or the text that was put, or, if a block gathers the
     /// output, of all that was put through the block.
     pub written: u64,
 }
@@ -73,7 +73,7 @@ pub struct WriteFault {
 ///
 /// # Errors
 ///
-/// [`WriteFault`] where the sink fails: exactly the first `written` bytes went out.
+/// [`WriteFault`] if the sink fails: exactly the first `written` bytes went out.
 pub fn put_bytes<W: Sink>(out: &mut W, bytes: &[u8]) -> Result<(), WriteFault>
     ensures ok { OnOk result (W.taken out.new ≡ append_known (W.taken out.old) bytes.now) }
     ensures within { IfErr result (λ fault. fault.written < length bytes.now) }
@@ -139,7 +139,7 @@ impl<W: Write> Sink for WriteSink<W> {
         requires { 0 < length bytes.now }
         ensures count { IfOk result (λ n. (0 < n) × (n ≤ length bytes.now)) }
         ensures faults { self.new.1 ≡ after_put self.old.1 (is_err result) }
-        // What the writer holds, where that is known, has grown by what was taken.
+        // What the writer holds, if that is known, has grown by what was taken.
         ensures written { WriteAppends (W.contents self.old.0) (W.contents self.new.0)
             result bytes.now }
     {

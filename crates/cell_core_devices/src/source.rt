@@ -53,7 +53,7 @@ pub trait Source {
     ///
     /// # Errors
     ///
-    /// [`DeviceFault`] where the source fails.
+    /// [`DeviceFault`] if the source fails.
     fn take(&mut self, buf: &mut [u8]) -> Result<usize, DeviceFault>
         requires { 0 < length buf.old }
         ensures count { IfOk result (λ n. n ≤ length buf.new) }
@@ -103,7 +103,7 @@ impl<R: Read> Source for ReadSource<R> {
     fn take(&mut self, buf: &mut [u8]) -> Result<usize, DeviceFault>
         requires { 0 < length buf.old }
         ensures count { IfOk result (λ n. n ≤ length buf.new) }
-        // What the reader has left, where that is known, has lost what was taken.
+        // What the reader has left, if that is known, has lost what was taken.
         ensures read { ReadConsumes (R.remaining self.old.0) (R.remaining self.new.0)
             result buf.new }
         ensures asked { self.new.1 ≡ after_take self.old.1 result }

@@ -19,7 +19,7 @@ fn cells_of(alloc: Global, categories: &[i32]) -> Result<Vec<Cell>, Memory> {
     Ok(cells)
 }
 
-/// The map of these categories in rows of so many columns, or None where they fill no map.
+/// The map of these categories in rows of so many columns, or None if they fill no map.
 pub fn map_of(alloc: Global, categories: &[i32], cols: u32) -> Result<Option<CellMap>, Memory>
     requires { 0 < cols }
 {

@@ -31,7 +31,7 @@ const MOST_CELLS: u32 = 2147483647;
 
 /// A rectangle with its numbers of rows and columns (g.region manual).
 ///
-/// The four edges are whole numbers of 10^-8 map units. Two regions are equal exactly where all
+/// The four edges are whole numbers of 10^-8 map units. Two regions are equal exactly if all
 /// six numbers are.
 #[derive(Clone, Copy, Debug)]
 pub struct Region {

@@ -84,7 +84,7 @@ pub fn is_in_range(n: i64) -> bool
 ///
 /// # Errors
 ///
-/// [`WholeFault::NotWhole`] where it spells none, [`WholeFault::OutOfRange`] where it spells one out of range.
+/// [`WholeFault::NotWhole`] if it spells none, [`WholeFault::OutOfRange`] if it spells one out of range.
 pub fn read_whole(text: &[u8]) -> Result<i32, WholeFault>
     ensures { result ≡ read_whole text.now }
 {
@@ -95,7 +95,7 @@ pub fn read_whole(text: &[u8]) -> Result<i32, WholeFault>
     }
 }
 
-/// The whole number in range that a text spells, or None where it spells none. Takes no memory.
+/// The whole number in range that a text spells, or None if it spells none. Takes no memory.
 pub fn whole_in_range(text: &[u8]) -> Option<i32>
     ensures { result ≡ whole_in_range text.now }
 {

@@ -60,7 +60,7 @@ pub is-some : (c : CellValue) (v : ℤ) → c ≡ Some v → IsSome c
 is-some None v e = cc
 is-some (Some w) v e = search
 
--- a path elsewhere, where adjacent cells are adjacent and cells the same
+-- a path elsewhere, if adjacent cells stay adjacent and cells the same
 module _ (j : Joining) (m whole : Grid) (to : Position → Position) (near : (p q : Position) → AreAdjacent j p q → AreAdjacent j (to p) (to q)) (cell : (v : ℤ) (p : Position) → cell_at_position m p ≡ Some v → cell_at_position whole (to p) ≡ Some v) where
   leads-by : (p : Position) (others : List Position) (q : Position) → LeadsTo j p others q → LeadsTo j (to p) (map to others) (to q)
   leads-by p [] q h = ap to h
@@ -176,14 +176,14 @@ which (t ∷ tiles) p q = by (decide-in t.place p) (decide-in t.place q) (which 
 tile-of : (whole : Grid) (tiles : List Tile) (all : All (IsTile whole) tiles) (t : Tile) → Contains tiles t → IsTile whole t
 tile-of whole tiles all t c = subst (IsTile whole) c.2 (all c.0 t c.1)
 
--- where links join, chains do
+-- if links join, chains do
 chain-joins : (j : Joining) (whole : Grid) (Link : Position → Position → Type 0) → ((p q : Position) → Link p q → AreJoined j whole p q) → (v : ℤ) (p : Position) (others : List Position) (q : Position) → cell_at_position whole p ≡ Some v → IsChain Link p others q → AreJoined j whole p q
 chain-joins j whole Link joins v p [] q is h = subst (λ (s : Position). AreJoined j whole p s) h (AreJoined-refl j whole p v is)
 chain-joins j whole Link joins v p (x ∷ others) q is h =
     let here = joins p x h.0 in
     AreJoined-trans j whole p x q here (chain-joins j whole Link joins here.category x others q (AreJoined-last j whole p x here) h.1)
 
--- where each step of a path is a link, the path is a chain
+-- if each step of a path is a link, the path is a chain
 path-chains : (j : Joining) (whole : Grid) (Link : Position → Position → Type 0) → ((p q : Position) (v : ℤ) → AreAdjacent j p q → cell_at_position whole p ≡ Some v → cell_at_position whole q ≡ Some v → Link p q) → (v : ℤ) (p : Position) (others : List Position) (q : Position) → LeadsTo j p others q → All (λ s. cell_at_position whole s ≡ Some v) (p ∷ others) → IsChain Link p others q
 path-chains j whole Link links v p [] q h alike = h
 path-chains j whole Link links v p (x ∷ others) q h alike =

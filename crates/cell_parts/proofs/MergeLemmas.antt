@@ -52,7 +52,7 @@ beside-all skip k cells (part ∷ parts) =
       beside-all skip k cells parts,
     )
 
--- where counts add up, tables merge
+-- if counts add up, tables merge
 merge-from : (skip : Skip) (whole : List Combination) {X : Type 0} (cells : X → List Combination) (parts : List X) → ((k : Combination) → count_of k whole ≡ sum_by (λ part. count_of k (cells part)) parts) → (pairs : Pairs) → IsMerge (map (λ part. table_of skip (cells part)) parts) pairs ↔ IsTable skip whole pairs
 merge-from skip whole cells parts adds pairs =
     let sum : (k : Combination) → sum_by (count_in k) (map (λ part. table_of skip (cells part)) parts) ≡ count_of k (kept_cells skip whole) = λ k.

@@ -44,7 +44,7 @@ pub record MeetAtBorder (j : Joining) (whole : Grid) (tiles : List Tile) (p q : 
 abbrev pub AreLinked : Joining → Grid → List Tile → Position → Position → Type 0
 AreLinked j whole tiles p q = ((t : Tile) × Contains tiles t × AreJoinedIn j t p q) ⊎ MeetAtBorder j whole tiles p q
 
--- however a map is cut: a path joins two cells exactly where a chain of links does
+-- however a map is cut: a path joins two cells exactly if a chain of links does
 abbrev pub AreasJoin : Type 0
 AreasJoin = (j : Joining) (whole : Grid) (tiles : List Tile) → All (IsTile whole) tiles → (p q : Position) → IsSome (cell_at_position whole p) → AreJoined j whole p q ↔ ((others : List Position) × IsChain (AreLinked j whole tiles) p others q)
 

@@ -35,7 +35,7 @@ pub fn cut_outs_are_tiles()
     ensures { CutOutsAreTiles }
 {}
 
-/// However a map is cut into tiles, a path joins two cells exactly where a chain of links does: each is a path within one
+/// However a map is cut into tiles, a path joins two cells exactly if a chain of links does: each is a path within one
 /// tile, or a step between adjacent cells of one category that no tile has both of.
 pub fn areas_join()
     ensures { AreasJoin }

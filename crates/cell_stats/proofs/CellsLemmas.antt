@@ -170,7 +170,7 @@ module _ {shelf : ShelfValue} {picks : List ℕ} {row cols col count : ℕ} {cur
       alike shelf.maps row col cursors picks count j walk.ahead walk.least within ∙ sym walk.same))
       ∙ text-append f skip (map k (range_with_len 0 col)) (replicate count cells)
 
-  -- and the row ends where no column is left
+  -- and the row ends if no column is left
   pub stands-end : cols ≤ col → col ≡ shelf.region.cols
   stands-end ended = omega (arith, ended, walk.most, walk.region)
 

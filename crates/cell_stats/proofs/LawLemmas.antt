@@ -72,7 +72,7 @@ counts-cons k cells [] = refl
 counts-cons k cells (e ∷ es) =
     omega (arith, sum_by-cons (λ e. count_of e.0 (k ∷ cells)) e es, sum_by-cons (mark k) e es, sum_by-cons (λ e. count_of e.0 cells) e es, count_cons e.0 k cells, counts-cons k cells es)
 
--- where each cell is one entry's, the counts are as many as the cells
+-- if each cell is one entry's, the counts are as many as the cells
 counts-all : (es : Pairs) (cells : List Combination) → All (λ k. sum_by (mark k) es ≡ 1) cells → sum_by (λ e. count_of e.0 cells) es ≡ length cells
 counts-all es [] all = counts-none es
 counts-all es (k ∷ cells) all =

@@ -133,7 +133,7 @@ one_table cells a b p q =
 pub count_cons : (q k : Combination) (cells : List Combination) → count_of q (k ∷ cells) ≡ cond (eq_by_cmp combination_cmp q k) 1 0 + count_of q cells
 count_cons q k cells = sum_by-append (λ (x : Combination). cond (eq_by_cmp combination_cmp q x) 1 0) (k ∷ []) cells ∙ ap (λ n. n + count_of q cells) (zero-add _)
 
--- a value, where the count is not of nothing
+-- a value if the count is not of nothing
 abbrev occurring : ℕ → ℕ → Option ℕ
 occurring zero v = None
 occurring (suc n) v = Some v

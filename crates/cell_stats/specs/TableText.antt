@@ -17,7 +17,7 @@ pub record FormatValue : Type 0 where
   pub labels : Bool
   pub counts : Bool
 
--- the label of a category of a map, empty where it has none; null has no data
+-- the label of a category of a map, empty if it has none; null has no data
 abbrev pub label_text : Grid → CellValue → List ℕ
 label_text map None = codes "no data"
 label_text map (Some category) = unwrap_or (finmap.get map.labels category) []

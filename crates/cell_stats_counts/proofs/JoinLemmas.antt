@@ -77,7 +77,7 @@ latest n xs d within all =
     let more : n < length (take (n + 1) xs) = omega (arith, within, length-take (n + 1) xs) in
     subst (λ (e : Combination × ℕ). 0 < e.1) (get_or-take (n + 1) xs n d (omega arith)) (all n d more)
 
--- keys stay where an entry keeps its own
+-- keys stay if an entry keeps its own
 keys-set : (xs : Counts) (at j : ℕ) (y d : Combination × ℕ) → j < length xs → y.0 ≡ (get_or xs at d).0 → (get_or (set xs at y) j d).0 ≡ (get_or xs j d).0
 keys-set xs at j y d within same =
     let size : j < length (set xs at y) = omega (arith, within, length-set xs at y) in

@@ -13,7 +13,7 @@ use Rattle.cell_stats_counts.specs.declared.combination_text.ComboFault.TheVaria
 abbrev pub cell_of_part : List ℕ → Option CellValue
 cell_of_part part = if bytes_eq part (codes "*") then Some None else option_map Some (whole_in_range part)
 
--- the cells of parts, where each has one
+-- the cells of parts if each has one
 abbrev pub cells_of_parts : List (List ℕ) → Option Combination
 cells_of_parts [] = Some []
 cells_of_parts (part ∷ parts) = option_and_then (λ cell. option_map (λ cells. cell ∷ cells) (cells_of_parts parts)) (cell_of_part part)

@@ -20,13 +20,13 @@ const FIRST: u32 = 4096;
 // The most combinations that are ever held.
 const MOST: usize = 262144;
 
-// How many times as many are held where there were too few places.
+// How many times as many are held if there were too few places.
 const GROWTH: usize = 8;
 
-// There are too few places where one in so many has sent a new combination to the map.
+// There are too few places if one in so many has sent a new combination to the map.
 const CROWD: usize = 64;
 
-// How many places are looked at for a combination, where the list has few.
+// How many places are looked at for a combination if the list has few.
 const NEAR: usize = 12;
 
 // The most maps that are tallied together.
@@ -48,7 +48,7 @@ pub(crate) struct CountPlaces {
     pub(crate) pairs: PairTable,
 }
 
-// A number of a combination. Those of neighbouring categories are close to each other.
+// A number of a combination. Neighbouring categories have numbers close to each other.
 fn combination_number(cells: &[Cell]) -> usize {
     let mut number: u64 = 0;
     for cell in cells {

@@ -2,7 +2,7 @@
 
 ghost use Rattle.cell_stats_counts.specs.ComboReading.{CombinationsAreRead};
 
-/// A text is read as a combination exactly where it spells it, and has its width.
+/// A text is read as a combination exactly if it spells it, and has its width.
 pub fn combinations_are_read()
     ensures { CombinationsAreRead }
 {}

@@ -12,9 +12,9 @@ use cell_core::cell::Cell;
 pub enum Skip {
     /// None.
     Nothing,
-    /// Those with a null.
+    /// Combinations with a null.
     AnyNull,
-    /// Those of nulls only.
+    /// Combinations of nulls only.
     AllNull,
 }
 

@@ -24,7 +24,7 @@ pub(crate) fn add(alloc: Global, shelf: &mut Shelf, name: &[u8], map: CellMap) -
     }
 }
 
-/// The map of these categories; an `Err` where they fill none.
+/// The map of these categories; an `Err` if they fill none.
 pub(crate) fn filled(alloc: Global, categories: &[i32], cols: u32) -> Result<CellMap, Fail>
     requires { 0 < cols }
 {

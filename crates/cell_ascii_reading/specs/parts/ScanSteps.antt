@@ -23,7 +23,7 @@ step_from line run [] false = (Ok End, record { bytes = []; fails = false })
 step_from line run (b ∷ bs) fails =
     step_at (is_space b) (nat_lt run 1048576) (b == 10) line (record { bytes = b ∷ bs; fails = fails }) (record { bytes = bs; fails = fails })
 
--- a step where a run of spaces has gone on for `run` bytes, and what is to come then
+-- a step if the run of spaces has `run` bytes so far, and what is to come then
 unfoldable pub step_of : ℕ → ℕ → Coming → Result ScanStep GridFault × Coming
 step_of line run c = step_from line run c.bytes c.fails
 
@@ -37,7 +37,7 @@ run_step (Ok Blank) run = run + 1
 run_step (Ok FeedStep) run = run + 1
 run_step _ run = run
 
--- where the end is reported, nothing is to come
+-- if the end is reported, nothing is to come
 abbrev pub EndsReported : Result ScanStep GridFault → Ahead → Type 0
 EndsReported (Ok End) ahead = IsAtEnd false (bytes_to_come ahead)
 EndsReported _ ahead = Unit {0}

@@ -180,7 +180,7 @@ fn category(number: i64) -> Option<Cell>
     }
 }
 
-// The cell of a number: its product with the multiplier, where both are in range.
+// The cell of a number: its product with the multiplier if both are in range.
 fn cell_of_number(multiplier: i32, number: i64) -> Result<Cell, GridKind>
     ensures { result ≡ cell_of_number multiplier (Some number) }
 {

@@ -110,7 +110,7 @@ fn is_most_frequent(cells: &[Cell], value: Cell) -> bool
     are_within(cells, occurrences(value, cells), cells)
 }
 
-// Those of these than which none occurs more often among the cells.
+// The cells of `these` that are among the most frequent of `cells`.
 fn frequent(alloc: Global, cells: &[Cell], these: &[Cell]) -> Result<Vec<Cell>, Memory>
     ensures { IfOk result (λ found. found.items ≡ filter (is_most_frequent cells.now) these.now) }
 {

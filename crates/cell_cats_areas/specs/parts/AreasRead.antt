@@ -112,7 +112,7 @@ SharesAt j cell near table new label = (m : Grid) (r c : ℕ) (v : ℤ) (labels 
     → cell ≡ Some v → cell_at_position m (position r c) ≡ Some v → AreNear m (length labels) (area_label_at m labels) r c near
     → AreRowsRead j m table labels open_of → Shares j m new labels open_of r c v label
 
--- the same where neither the cell on the left nor the one above has its category
+-- the same if neither the cell on the left nor the one above has its category
 abbrev pub SharesAtCorners : CellValue → Near → List ℕ → List ℕ → ℕ → Type 0
 SharesAtCorners cell near table new label = (m : Grid) (r c : ℕ) (v : ℤ) (labels : List ℕ) (open_of : ℕ → ℕ)
     → cell ≡ Some v → cell_at_position m (position r c) ≡ Some v → AreNear m (length labels) (area_label_at m labels) r c near

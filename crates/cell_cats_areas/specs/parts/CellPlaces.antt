@@ -7,7 +7,7 @@ use Rattle.cell_cats_areas.specs.Areas.{Position}
 abbrev pub position : ℕ → ℕ → Position
 position r c = record { row = r; col = c }
 
--- the cell at a place, where a row has w cells
+-- the cell at a place if a row has w cells
 abbrev pub cell_of_place : ℕ → ℕ → Position
 cell_of_place w k = record { row = k / w; col = k % w }
 
