@@ -321,7 +321,7 @@ def answer_of_program(asked: Asked, text_of: Callable[[str], bytes]) -> Answer:
 def parsed(asked: Asked, text: bytes) -> list[Any]:
     """The cells that are printed, as a list and as a grid."""
     lines, size = text.replace(b"*", b"%d" % NULL).split(b"\n"), asked.rows * asked.cols
-    return [np.array(b" ".join(part).split(), np.int64) for part in (lines[:size], lines[size + 6:])]
+    return [np.fromstring(b" ".join(part), np.int64, sep=" ") for part in (lines[:size], lines[size + 6:])]
 
 
 def work(answer: Callable[[Asked], Answer]) -> None:

@@ -14,15 +14,15 @@ rcell_align <- function(x, to, resample = NULL, filename = "", overwrite = FALSE
   check_inputs(filename, sources)
   map <- sources[[1]]
   target <- sources[[2]]
-  for (source in sources) if (is.null(source$template)) bad_map(source$name, "no header from which its grid could be taken")
   systems <- c(map$crs, target$crs)
   if (!nzchar(map$crs) != !nzchar(target$crs)) check_crs(rev(sources), "")
   is_same <- !any(nzchar(systems)) || same_crs(map$crs, target$crs)
   if (is.null(resample)) check_alignment(map, target, is_same)
-  place <- if (is_same) places_by_side(map$template, target$template) else places_by_centre(map$template, target$template)
+  grids <- lapply(sources, template_of)
+  place <- do.call(if (is_same) places_by_side else places_by_centre, grids)
   cells <- all_cells(map)
   found <- if (is.null(place$index)) as.vector(cells[place$cols, place$rows]) else cells[place$index]
-  raster <- rast(target$template, vals = found)
+  raster <- rast(grids[[2]], vals = found)
   if (length(map$labels$codes)) levels(raster) <- data.frame(value = map$labels$codes, label = map$labels$labels)
   raster <- written(raster, filename)
   attr(raster, "aligned") <- facts_of(place, cells, found)
@@ -32,19 +32,19 @@ rcell_align <- function(x, to, resample = NULL, filename = "", overwrite = FALSE
 # A map of which the grid alone matters; it may have no values.
 grid_source <- function(name, given) {
   if (!inherits(given, "SpatRaster") || hasValues(given)) return(source_of(name, given))
-  list(name = name, path = "", template = template_of(given), region = region_of(name, given), crs = crs(given))
+  list(name = name, path = "", raster = given, region = region_of(name, given), crs = crs(given))
 }
 
 # That a map needs nothing but to be moved by whole cells.
 check_alignment <- function(map, target, is_same) {
   if (!is_same) check_crs(list(target, map), "")
-  sizes <- list(res(map$template), res(target$template))
+  sizes <- list(res(map$raster), res(target$raster))
   if (any(abs(sizes[[1]] - sizes[[2]]) * c(map$region$cols, map$region$rows) > SHIFT_TOLERANCE * sizes[[1]])) {
     text <- sprintf("cells of %s, and those of `to` are %s: resample=\"nearest\" takes the nearest cell",
       paste(format(sizes[[1]], digits = 15, trim = TRUE), collapse = " x "), paste(format(sizes[[2]], digits = 15, trim = TRUE), collapse = " x "))
     bad_map(map$name, text, class = "rcell_other_region")
   }
-  shift <- shift_of(map$template, target$template)
+  shift <- shift_of(map$raster, target$raster)
   if (any(shift != round(shift))) {
     bad_map(map$name, sprintf("shifted by %.10g rows and %.10g columns, not by whole cells: resample=\"nearest\" takes the nearest cell",
       shift[[1]], shift[[2]]), class = "rcell_other_region")
@@ -101,7 +101,6 @@ facts_of <- function(place, cells, found) {
 # The call that moves a map onto the first one of a run, to be pasted.
 align_call <- function(first, source) {
   shown <- function(one) if (is.character(one$given)) sprintf("\"%s\"", one$given) else one$name
-  is_moved <- !is.null(first$template) && !is.null(source$template) && isTRUE(all.equal(res(first$template), res(source$template), tolerance = 1e-9)) &&
-    all(shift_of(source$template, first$template) %% 1 == 0)
+  is_moved <- isTRUE(all.equal(res(first$raster), res(source$raster), tolerance = 1e-9)) && all(shift_of(source$raster, first$raster) %% 1 == 0)
   sprintf("%s <- rcell_align(%s, to = %s%s)", source$name, shown(source), shown(first), if (is_moved) "" else ", resample = \"nearest\"")
 }

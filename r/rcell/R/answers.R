@@ -54,7 +54,7 @@ asked_of <- function(script, dots, maps, program) {
 answer_of <- function(script, sources, outputs = list(), wanted = character()) {
   labels <- c(lapply(sources, `[[`, "labels"), labels_of_rules(script, outputs, wanted))
   frames <- run_pipe(script$program, sources, sent_script(script, outputs, wanted), script$lines)
-  list(frames = frames, labels = labels, template = sources[[1]]$template)
+  list(frames = frames, labels = labels, template = template_of(sources[[1]]))
 }
 
 # Run a script of this package and return its frames.

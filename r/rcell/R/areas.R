@@ -14,7 +14,7 @@ check_unit <- function(area) {
 
 area_title <- function(area) paste0("area_", area)
 
-is_in_degrees <- function(template) !is.null(template) && isTRUE(suppressWarnings(is.lonlat(template)))
+is_in_degrees <- function(template) isTRUE(suppressWarnings(is.lonlat(template)))
 
 # How many metres the unit of the map has; 1 if nothing is known of it.
 metres_of_unit <- function(template) {
@@ -71,7 +71,7 @@ areas_of <- function(cells, template, unit) {
 # are counted by rows as well, in the tables for which `by_row` says so.
 count_cells <- function(sources, combinations, area = NULL, before = character(), by_row = rep(TRUE, length(combinations)),
                         null = FALSE, program = NULL) {
-  template <- sources[[1]]$template
+  template <- template_of(sources[[1]])
   by_row <- by_row & !is.null(area) & is_in_degrees(template)
   rows <- unused_name("row_number", c(before, unlist(combinations)), names(sources))
   lines <- Map(function(maps, adds) sprintf("r.stats -c%s input=%s", if (null) "" else "n", paste(c(maps, if (adds) rows), collapse = ",")), combinations, by_row)

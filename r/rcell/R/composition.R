@@ -28,7 +28,7 @@ zoned_sources <- function(x, zones, zone_field, crs, name = "map") {
 rcell_cross <- function(..., area = "ha", labels = NULL, null = FALSE, crs = NULL, maps = list(), program = NULL) {
   check_unit(area)
   sources <- sources_of(named_maps(list(...), maps), crs)
-  by_row <- !is.null(area) && is_in_degrees(sources[[1]]$template)
+  by_row <- !is.null(area) && is_in_degrees(template_of(sources[[1]]))
   if (length(sources) > MAPS_LIMIT - by_row) {
     refuse(sprintf("%d maps, and a table has at most %d%s", length(sources), MAPS_LIMIT - by_row,
       if (by_row) " with areas in degrees" else ""), status = 2L)
@@ -63,7 +63,7 @@ rcell_change <- function(before, after = NULL, years = NULL, area = "ha", labels
     legends <- lapply(pair, function(source) if (!is.null(given)) given else if (length(source$labels$codes)) source$labels else shared)
     table <- count_cells(pair, list(names(pair)), area, program = program)[[1]]
     for (side in 1:2) check_legend(given, table$codes[[side]], names(pair)[[side]])
-    change_of(table, legends, area, sources[[1]]$template, years[first + 0:1])
+    change_of(table, legends, area, template_of(sources[[1]]), years[first + 0:1])
   })
   parts <- function(part) do.call(rbind, lapply(pairs, `[[`, part))
   matrices <- lapply(pairs, `[[`, "matrix")

@@ -11,9 +11,7 @@ stated_crs <- function(given) {
 }
 
 with_stated <- function(source, stated) {
-  if (nzchar(source$crs) || !nzchar(stated)) return(source)
-  source$crs <- stated
-  if (!is.null(source$template)) crs(source$template) <- stated
+  if (!nzchar(source$crs)) source$crs <- stated
   source
 }
 

@@ -23,13 +23,13 @@ rcell_patches <- function(x, connectivity = 4, area = "ha", zones = NULL, classe
   sources <- zoned_sources(x, zones, zone_field, crs)
   labels <- labels_from(labels, sources$map$labels)
   zone_labels <- labels_from(zone_labels, sources$zones$labels, "zone_labels")
-  is_degrees <- is_in_degrees(sources$map$template)
-  if (is_degrees) warning("perimeters are not computed in degrees", call. = FALSE)
+  template <- template_of(sources$map)
+  if (is_in_degrees(template)) warning("perimeters are not computed in degrees", call. = FALSE)
   combinations <- list(c("patch", "map"), c("patch", "core"), c("patch", "side"), c("patch", "rows"), c("patch", "cols"), if (!is.null(zones)) c("patch", "zones"))
   combinations <- Filter(Negate(is.null), combinations)
   tables <- count_cells(sources, combinations, area, before = patch_lines(connectivity, core_depth), by_row = seq_along(combinations) <= 2L,
     program = program)
-  found <- patch_table(tables, sources$map$template, area, labels, zone_labels)
+  found <- patch_table(tables, template, area, labels, zone_labels)
   check_legend(labels, found$class, "map")
   found <- found[(is.null(classes) | found$class %in% classes) & found$cells >= max(least, 0), , drop = FALSE]
   rownames(found) <- NULL
@@ -116,7 +116,7 @@ rcell_majority <- function(x, size = 3, fill = FALSE, filename = "", overwrite =
     class_lines(size, run_own("r.stats -n input=map", sources, program)[[1]]$codes[[1]])
   script <- c(script, if (fill) "r.mapcalc majority = commonest" else "r.mapcalc majority = if(isnull(map), null(), commonest)",
     "r.out.ascii input=majority")
-  answer <- list(template = sources$map$template, labels = list(majority = sources$map$labels))
+  answer <- list(template = template_of(sources$map), labels = list(majority = sources$map$labels))
   written(raster_of(run_own(script, sources, program)[[1]], answer), filename)
 }
 

@@ -84,13 +84,12 @@ check_legend <- function(labels, codes, map, name = "labels") {
 zones_source <- function(zones, field, source) {
   polygons <- polygons_of(zones, field)
   if (is.null(polygons)) return(source_of("zones", zones))
-  if (is.null(source$template)) bad_map(source$name, "no header from which the grid of the zones could be taken")
   if (!identical(crs(polygons), "") && nzchar(source$crs) && !same_crs(crs(polygons), source$crs)) {
     other_crs(list(name = "zones", crs = crs(polygons)), list(name = sprintf("`%s`", source$name), crs = source$crs))
   }
   ids <- zone_ids(polygons, field)
-  burnt <- burnt_polygons(polygons, which(!is.na(ids$of_polygon)), source$template)
-  raster <- rast(source$template, vals = ids$of_polygon[burnt])
+  template <- template_of(source)
+  raster <- rast(template, vals = ids$of_polygon[burnt_polygons(polygons, which(!is.na(ids$of_polygon)), template)])
   crs(raster) <- crs(polygons)
   found <- raster_source("zones", raster)
   found$labels <- ids$labels

@@ -77,8 +77,8 @@ raster_source <- function(name, raster, is_opened_here = FALSE) {
   }
   check_file(name, raster, chosen$facts, chosen$band)
   region <- region_of(name, raster)
-  list(name = name, raster = raster, alpha = chosen$alpha, alpha_null = chosen$alpha_null, path = chosen$path, template = template_of(raster), region = region,
-    labels = labels_of(raster), crs = crs(raster))
+  list(name = name, raster = raster, alpha = chosen$alpha, alpha_null = chosen$alpha_null, path = chosen$path, region = region, labels = labels_of(raster),
+    crs = crs(raster))
 }
 
 # The only layer that is no alpha band, the alpha band of its file if there is one, and what GDAL knows of the file.
@@ -131,7 +131,7 @@ check_file <- function(name, raster, facts, band) {
     bad_map(name, sprintf("not a map of whole numbers: its cells are of the type %s", type))
   }
   if (type %in% c("Int64", "UInt64")) check_wide_null(name, told)
-  if ("INT1U" %in% datatype(raster) && any(grepl("PIXELTYPE=SIGNEDBYTE", told, fixed = TRUE))) {
+  if (any(grepl("PIXELTYPE=SIGNEDBYTE", told, fixed = TRUE)) && "INT1U" %in% datatype(raster)) {
     bad_map(name, "its bytes are signed, and terra reads them as 0 to 255: write it with 16 bits a cell by another program first")
   }
   if (any(grepl("Mask Flags:", told, fixed = TRUE) & !grepl("ALPHA", told, fixed = TRUE))) {
@@ -151,8 +151,8 @@ check_wide_null <- function(name, told) {
   }
 }
 
-# Return the geometry without cells, labels and colours.
-template_of <- function(raster) rast(nrows = nrow(raster), ncols = ncol(raster), extent = ext(raster), crs = crs(raster))
+# Return the geometry of a source without cells, labels and colours.
+template_of <- function(source) rast(nrows = source$region$rows, ncols = source$region$cols, extent = ext(source$raster), crs = source$crs)
 
 path_source <- function(name, path) {
   path <- native_path(path)
@@ -199,7 +199,7 @@ text_source <- function(name, path) {
     colClasses = rep("integer", region$cols), showProgress = FALSE)
   edges <- as.numeric(region$edges)
   list(name = name, path = normalizePath(path), cells = as.vector(t(as.matrix(cells))), region = region, crs = "",
-    template = rast(nrows = region$rows, ncols = region$cols, xmin = edges[[4]], xmax = edges[[3]], ymin = edges[[2]], ymax = edges[[1]], crs = ""))
+    raster = rast(nrows = region$rows, ncols = region$cols, xmin = edges[[4]], xmax = edges[[3]], ymin = edges[[2]], ymax = edges[[1]], crs = ""))
 }
 
 # Raise the error of the program `rcell` about a grid.
