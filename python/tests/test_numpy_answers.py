@@ -16,7 +16,7 @@ import numpy as np
 import rcell
 from rcell._grid import Grid
 from rcell._libraries import has
-from rcell._program import execute, find_pipe, labels_of, planned
+from rcell._program import execute, find_pipe, planned
 from rcell_front import pipe
 
 
@@ -270,7 +270,7 @@ class Scripts(unittest.TestCase):
             status, output, message = by_files(script, lc=text_of(np.ma.MaskedArray(LAND)))
             self.assertEqual((status, message), (0, ""))
             told = {int(line.split("\t")[0]): line.split("\t")[1] for line in output.decode().splitlines()}
-            labels = labels_of(planned(script, ["lc"])[0])
+            labels = planned(script, ["lc"])[0].labels
             self.assertEqual({category: label for category, label in told.items() if label}, {c: labels[c] for c in told if c in labels}, rules)
 
     def test_labels_of_any_rules(self) -> None:
@@ -287,7 +287,8 @@ class Scripts(unittest.TestCase):
             [table] = pipe.run(find_pipe(), [given], f"{script}\nr.stats -l -n input=k".encode())
             assert isinstance(table, pipe.TableFrame) and table.labels is not None
             told = {category: label.decode() for category, label in zip(table.cells.tolist(), table.labels) if label}
-            self.assertEqual(labels_of(planned(script, ["lc"])[0]), told, script)
+            labels = planned(script, ["lc"])[0].labels
+            self.assertEqual({category: labels[category] for category in table.cells.tolist() if category in labels}, told, script)
 
     def test_texts_of_the_printed_table_change_no_value(self) -> None:
         script = "\n".join(f"r.stats -c input=lc,lc null_value={text}" for text in ("end", "1", "-9", "*")) + "\nr.stats -l input=lc,lc separator=e null_value=d"

@@ -41,6 +41,8 @@ PLAN = (
     b"PLAN" + struct.pack("<Q", 7) + b"\1\x08" + text(b"k") + struct.pack("<Q", 1) + text(b"lc") + struct.pack("<4Q", 1, 2, 3, 4)
     + struct.pack("<Q", 2) + text(b"lc") + struct.pack("<4QB", 5, 6, 7, 8, 0) + text(b"ws") + struct.pack("<4QB", 0, 0, 0, 0, 1)
     + b"\x15" + struct.pack("<Q", 2) + text(b"k") + text(b"lc") + struct.pack("<Q2i", 2, 9, pipe.NULL)
+    + struct.pack("<Q2QB2QB", 2, 5, 9, 2, 12, 300, 4)
+    + struct.pack("<Qi", 3, 2) + text(b"first") + struct.pack("<i", -7) + text(b"wood") + struct.pack("<i", 2) + text(b"last")
 )
 
 
@@ -122,9 +124,10 @@ class Answers(Asked):
 
     def test_a_statement(self) -> None:
         [found] = pipe.plan(self.answering(MAGIC + PLAN + DONE), ["lc", "ws"], b"x")
-        self.assertEqual((found.line, found.command, found.is_placed, found.made), (7, "r.mapcalc", True, "k"))
+        self.assertEqual((found.line, found.command, found.made), (7, "r.mapcalc", "k"))
         self.assertEqual((found.reads, found.needs), ({"lc": (1, 2, 3, 4)}, {"lc": (5, 6, 7, 8), "ws": None}))
         self.assertEqual((found.options, found.inputs, found.after, found.text), ("c1N", ("k", "lc"), (9, pipe.NULL), ""))
+        self.assertEqual((found.calls, found.labels), ((pipe.Call("col", 4, 9), pipe.Call("ncols", 11, 300)), {-7: "wood", 2: "last"}))
         with open(f"{self.folder}/request", "rb") as file:
             self.assertEqual(file.read(), b"RCELLP1\n" + struct.pack("<I", 2) + b"\2lc\2ws" + struct.pack("<I", 1) + b"x")
 
@@ -244,9 +247,10 @@ class Runs(unittest.TestCase):
             "r.clump output=k -d input=c\n r.mapcalc y = d[1,0] + k\nr.stats -1N\tinput=b,a,b -l \r"
         )
         found = pipe.plan(find_pipe(), ["a", "b", "c"], script.encode())
-        self.assertEqual([(one.line, one.command, one.made, one.inputs, one.options, one.is_placed) for one in found], [
-            (1, "r.mapcalc", "x", (), "", True), (2, "r.stats", "", ("a", "b"), "cn", False), (4, "r.reclass", "d", ("a",), "", False),
-            (8, "r.clump", "k", ("c",), "", False), (9, "r.mapcalc", "y", (), "", False), (10, "r.stats", "", ("b", "a", "b"), "l1N", False)])
+        self.assertEqual([(one.line, one.command, one.made, one.inputs, one.options, [*one.calls]) for one in found], [
+            (1, "r.mapcalc", "x", (), "", [("row", 14, 19)]), (2, "r.stats", "", ("a", "b"), "cn", []), (4, "r.reclass", "d", ("a",), "", []),
+            (8, "r.clump", "k", ("c",), "", []), (9, "r.mapcalc", "y", (), "", []), (10, "r.stats", "", ("b", "a", "b"), "l1N", [])])
+        self.assertEqual([one.labels for one in found], [{}, {}, {1: "grove"}, {}, {}, {}])
         self.assertEqual((found[1].after, found[2].text, found[5].text), (
             (1, pipe.NULL), "r.reclass input=a output=d\n1 = 1 wood\n2 = 1 grove\nend", "r.stats -1N\tinput=b,a,b -l \r"))
         self.assertEqual((found[4].reads, found[4].needs), ({"d": (0, 1, 0, 0), "k": (0, 0, 0, 0)}, {"a": (0, 1, 0, 0), "c": None}))

@@ -37,7 +37,7 @@ class ScriptTest(unittest.TestCase):
         script = f"r.mapcalc x = null()\nr.reclass input=a output=k\n1 = 7 seven\nend\n{script}"
         with mock.patch("rcell.core.answers.frames_of", wraps=answers.frames_of) as run:
             found = answers.run(self.program, script, self.maps, ["b"])
-        self.assertEqual(run.call_args.args[3], f"{script}\nr.out.ascii input=b\nr.stats -l -n input=k")
+        self.assertEqual(run.call_args.args[3], f"{script}\nr.out.ascii input=b")
         self.assertEqual([type(output).__name__ for output in found.outputs], ["Table", "Table", "Table", "Table", "Grid", "Grid"])
         self.assertEqual([table.categories.tolist() for table in found.tables],
                          [[[1], [2], [NULL]], [[1, 1], [2, 2]], [[NULL, 1], [NULL, 2]], [[7], [NULL], [NULL]]])

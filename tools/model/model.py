@@ -10,7 +10,7 @@ import os
 import re
 import sys
 from dataclasses import dataclass, replace
-from typing import Optional
+from typing import Optional, Sequence
 
 from model_expressions import CalcRefused, Expression, Parser, Place
 from model_grids import (BLANKS, TOKEN, Answer, Cell, CellMap, Failing, Refused, Region, cell_text, grid_text, is_name,
@@ -124,6 +124,7 @@ Maps = dict[bytes, CellMap]
 class Mapcalc:
     target: bytes
     expression: Expression
+    calls: Sequence[tuple[bytes, int, int]] = ()  # functions with the columns of their first and last bytes
 
     def run(self, maps: Maps, region: Region) -> bytes:
         maps[self.target] = map_of(region, lambda row, col: self.expression.value(Place(maps, region, row, col)))
@@ -315,7 +316,7 @@ class ScriptReader:
         except CalcRefused as fault:
             raise script_refused(self.at, f"{fault.text} at column {begin + fault.column}") from None
         self.make(target)
-        return Mapcalc(target, expression)
+        return Mapcalc(target, expression, [(name, begin + first, begin + last) for name, first, last in parser.calls])
 
     def flags_and_options(self, command: bytes, tokens: list[bytes]) -> tuple[frozenset[bytes], dict[bytes, bytes]]:
         flags: set[bytes] = set()

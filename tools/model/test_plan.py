@@ -24,14 +24,14 @@ from typing import Iterator, NamedTuple
 import model
 from fuzz import damaged_bytes
 from made_cases import ScriptMaker
-from model_expressions import FUNCTIONS, Binary, Call, Expression, MapCell, Negated, Not
+from model_expressions import Binary, Call, Expression, MapCell, Negated, Not
 from model_grids import Refused, is_name
 from pipe_model import NULL
 
 MOST_NAMES = 65535
 WRITES, LABELS, WHOLE, POSITION = 1, 2, 4, 8
 COMMANDS = (model.Mapcalc, model.Reclass, model.Clump, model.Stats, model.OutAscii)
-POSITIONS = [FUNCTIONS[name] for name in (b"row", b"col", b"nrows", b"ncols")]
+POSITIONS = (b"row", b"col", b"nrows", b"ncols")
 
 
 class Need(NamedTuple):
@@ -61,6 +61,8 @@ class Frame:
     options: int
     inputs: tuple[bytes, ...]
     after: tuple[int, ...]
+    calls: tuple[tuple[int, int, int], ...]
+    labels: tuple[tuple[int, bytes], ...]
 
 
 @dataclass(frozen=True)
@@ -122,10 +124,20 @@ def after_of(statement: model.Statement) -> tuple[int, ...]:
     return tuple(NULL if cell is None else cell for cell in after)
 
 
+def calls_of(statement: model.Statement) -> tuple[tuple[int, int, int], ...]:
+    """The columns of the first and the last byte of each call, and the number of its function."""
+    calls = getattr(statement, "calls", [])
+    return tuple((first, last, POSITIONS.index(name) + 1) for name, first, last in calls if name in POSITIONS)
+
+
+def labels_of(statement: model.Statement) -> tuple[tuple[int, bytes], ...]:
+    """The labels of rules, in their order."""
+    return tuple((rule.output, rule.label) for rule in getattr(statement, "rules", []) if isinstance(rule.output, int) and rule.label)
+
+
 def flags_of(statement: model.Statement) -> int:
     if isinstance(statement, model.Mapcalc):
-        calls = [part.function for part in within(statement.expression) if isinstance(part, Call)]
-        return POSITION if any(function is of_place for function in calls for of_place in POSITIONS) else 0
+        return POSITION if calls_of(statement) else 0
     if isinstance(statement, model.Stats):
         return WRITES + (LABELS if b"l" in statement.flags else 0)
     return {model.Reclass: 0, model.Clump: WHOLE, model.OutAscii: WRITES}[type(statement)]
@@ -155,7 +167,8 @@ def plan(names: list[bytes], statements: list[tuple[int, model.Statement]]) -> l
             needs_of[made] = needs
         command = COMMANDS.index(type(statement)) + 1
         options = options_of(statement), tuple(inputs_of(statement)), after_of(statement)
-        frames.append(Frame(line, command, flags_of(statement), made, tuple(reads.items()), tuple(needs.items()), *options))
+        details = calls_of(statement), labels_of(statement)
+        frames.append(Frame(line, command, flags_of(statement), made, tuple(reads.items()), tuple(needs.items()), *options, *details))
     return frames
 
 
@@ -246,7 +259,10 @@ class ResponseReader(Reader):
         line, command, flags, made = self.number("Q"), self.number("B"), self.number("B"), self.text()
         reads, needs, options = self.needs(False), self.needs(True), self.number("B")
         inputs = tuple(self.text() for _ in range(self.number("Q")))
-        return Frame(line, command, flags, made, reads, needs, options, inputs, tuple(self.number("i") for _ in range(self.number("Q"))))
+        after = tuple(self.number("i") for _ in range(self.number("Q")))
+        calls = tuple((self.number("Q"), self.number("Q"), self.number("B")) for _ in range(self.number("Q")))
+        labels = tuple((self.number("i"), self.text()) for _ in range(self.number("Q")))
+        return Frame(line, command, flags, made, reads, needs, options, inputs, after, calls, labels)
 
     def response(self) -> Response:
         if self.take(8) != b"RCELLA1\n":
@@ -274,6 +290,9 @@ EXAMPLES = {
     "rules pass needs on": (b"r.mapcalc a = k[5,0]\nr.reclass input=a output=b\n1 = 2 wood\nend\n", {b"b": {b"k": Need(0, 5)}}),
     "maps in their order": (b"r.stats -nlc input=h,g,h after=1,*,-2\nr.stats -1N input=k\n", {}),
     "a position needs no map": (b"r.mapcalc a = row() * ncols()\n", {b"a": {}}),
+    "calls at their columns": (b" \tr.mapcalc\trow=if( row\t( ) ,g,col()+nrows())*abs(ncols(\t))\r\nr.mapcalc b = row + g", {}),
+    "labels in the order of the rules": (b"r.reclass input=g output=a\n# 7 = 7 no\n1 = 2 wood\n\n 3 thru 5=+2  a = b \n9 = NULL gone\n6 = 1\n* = * kept\n end \r\n"
+                                         b"r.reclass input=a output=b\n7 = -1 x\nend\nr.mapcalc c = a\n", {}),
 }
 
 

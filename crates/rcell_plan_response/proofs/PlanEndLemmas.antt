@@ -1,6 +1,6 @@
 -- How responses end.
 use Rattle.std.proofs.Common.{◌≡◌, ◌∙◌, ℕ, suc, Bool, true, false, List, [], ◌∷◌, ◌++◌, Option, Some, None}
-use Rattle.std.proofs.Common.{Result, Ok, Err, refl, sym, ap, subst, append_assoc}
+use Rattle.std.proofs.Common.{Result, Ok, Err, refl, sym, ap, subst, append_assoc, map}
 use Rattle.std.specs.Prelude.{◌≢◌, IfSome, length, unwrap_or}
 use Rattle.std.specs.Option.{IsNone, is_some}
 use Rattle.cell_core_devices.specs.Device.{Faults, Coming}
@@ -30,6 +30,7 @@ use Rattle.rcell_plan_response.specs.declared.responding.RequestForm.TheVariants
 use Rattle.rcell_plan.specs.declared.planning.Plan.{Plan}
 use Rattle.rcell_plan.specs.Plans.{plans_of, given_needs, needs_after}
 use Rattle.rcell_plan.specs.declared.needs.Need.{Need}
+use Rattle.rcell_plan_response.specs.PlanDetails.{StatementDetails, statement_details}
 use Rattle.rcell_plan_response.specs.PlanRequests.{PlanRequestValue}
 use Rattle.rcell_plan_response.specs.PlanFrames.{plans_bytes, all_names, plan_response}
 use Rattle.rcell_plan_response.specs.PlanEnds.{IsPlanResponse}
@@ -80,16 +81,20 @@ pub length-plans : (known : List (List Need)) (statements : List Statement)
 length-plans known [] = refl
 length-plans known (s ∷ ss) = ap suc (length-plans (needs_after known s.command) ss)
 
--- the names of all maps, and the plans of statements
+-- the names of all maps, and the plans and details of statements
 pub finished_plan : {before now : Option (List ℕ)} {start after : Faults} {outcome : PipeOutcome}
-    (names all : List (List ℕ)) (statements : List Statement) (plans : List Plan) → all ≡ all_names names statements
+    (names all lines : List (List ℕ)) (statements : List Statement) (plans : List Plan)
+    (details : List StatementDetails) → all ≡ all_names names statements
     → plans ≡ plans_of (given_needs (length names)) statements
-    → Finished before start now after None (response_magic ++ plans_bytes all plans statements
+    → details ≡ map (statement_details lines) statements
+    → Finished before start now after None (response_magic ++ plans_bytes all plans statements details
     ++ end_bytes done_end) outcome
-    → Finished before start now after None (plan_response names statements) outcome
-finished_plan {before} {now} {start} {after} {outcome} names all statements plans all_is plans_is finished =
+    → Finished before start now after None (plan_response names lines statements) outcome
+finished_plan {before} {now} {start} {after} {outcome} names all lines statements plans details all_is plans_is
+    details_is finished =
     subst (λ (t : List ℕ). Finished before start now after None t outcome)
-    (λ i. response_magic ++ plans_bytes (all_is i) (plans_is i) statements ++ end_bytes done_end) finished
+    (λ i. response_magic ++ plans_bytes (all_is i) (plans_is i) statements (details_is i) ++ end_bytes done_end)
+    finished
 
 -- ---- rejected scripts
 

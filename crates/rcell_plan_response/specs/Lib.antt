@@ -2,6 +2,8 @@
 pub mod PlanRequests
 pub mod MapNames
 pub mod PlanOptions
+pub mod PositionCalls
+pub mod PlanDetails
 pub mod PlanFrames
 pub mod PlanEnds
 pub mod Responses

@@ -1,5 +1,6 @@
 -- What is written in response to a plan request (profile).
 use Rattle.std.specs.Prelude.{ℕ, ◌≡◌, List, [], Option, Some, None, Result, Ok, Err}
+use Rattle.rcell_script.specs.Lines.{script_lines}
 use Rattle.rcell_script.specs.Scripts.{IsScript}
 use Rattle.rcell_script.specs.ReadScripts.{IsScriptFault}
 use Rattle.rcell_script.specs.declared.statement.Statement.{Statement}
@@ -24,7 +25,7 @@ pub record IsPlanDone (read : Result PlanRequestValue RequestError) (response : 
   pub names : List (List ℕ)
   pub statements : List Statement
   pub accepted : IsPlanAccepted read names statements
-  pub bytes : response ≡ plan_response names statements
+  pub bytes : response ≡ plan_response names (script_lines accepted.script) statements
 
 -- the script is rejected for its first error: no frame but the end, with some text of the error
 pub record IsPlanRejected (read : Result PlanRequestValue RequestError) (response : List ℕ)

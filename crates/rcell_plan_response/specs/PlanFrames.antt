@@ -1,5 +1,6 @@
 -- The frames of a plan, and the response to a plan request (profile).
-use Rattle.std.specs.Prelude.{ℕ, List, [], ◌∷◌, ◌++◌, length, flat_map, codes, Option, Some, None}
+use Rattle.std.specs.Prelude.{ℕ, ℤ, List, [], ◌∷◌, ◌++◌, length, map, flat_map, codes, Option, Some, None}
+use Rattle.std.specs.Int.{w32, to_le_bytes, cast_unsigned}
 use Rattle.std.specs.List.{zip}
 use Rattle.rcell_script.specs.KnownMaps.{known_after}
 use Rattle.rcell_script.specs.declared.statement.Statement.{Statement}
@@ -9,6 +10,8 @@ use Rattle.rcell_plan.specs.declared.needs.Margin.{Margin}
 use Rattle.rcell_plan.specs.declared.needs.Need.{Need}
 use Rattle.rcell_plan.specs.declared.planning.Plan.{Plan}
 use Rattle.rcell_plan.specs.Plans.{plans_of, given_needs}
+use Rattle.rcell_plan_response.specs.declared.position_calls.PositionCall.{PositionCall}
+use Rattle.rcell_plan_response.specs.PlanDetails.{StatementDetails, statement_details}
 use Rattle.rcell_plan_response.specs.PlanOptions.{options_bytes}
 use Rattle.rcell_plan_response.specs.MapNames.{name_of_place}
 
@@ -41,22 +44,45 @@ abbrev pub plan_head : List (List ℕ) → Plan → List ℕ
 plan_head names p =
     codes "PLAN" ++ number_bytes p.line ++ (p.code ∷ p.flags ∷ []) ++ text_bytes (made_name names p.made)
 
--- the frame of a statement by its plan, over the names of all maps
-abbrev pub plan_bytes : List (List ℕ) → Plan × Statement → List ℕ
+-- a call: the columns of its first and its last byte, and the number of its function
+abbrev pub call_bytes : PositionCall → List ℕ
+call_bytes call = number_bytes call.first ++ number_bytes call.last ++ call.code ∷ []
+
+-- a category in four bytes
+abbrev pub category_bytes : ℤ → List ℕ
+category_bytes category = to_le_bytes w32 (cast_unsigned w32 category)
+
+-- a category, and its label
+abbrev pub plan_label_bytes : ℤ × List ℕ → List ℕ
+plan_label_bytes label = category_bytes label.0 ++ text_bytes label.1
+
+-- how many there are, and each of them
+abbrev pub calls_bytes : List PositionCall → List ℕ
+calls_bytes calls = number_bytes (length calls) ++ flat_map call_bytes calls
+
+abbrev pub plan_labels_bytes : List (ℤ × List ℕ) → List ℕ
+plan_labels_bytes labels = number_bytes (length labels) ++ flat_map plan_label_bytes labels
+
+abbrev pub details_bytes : StatementDetails → List ℕ
+details_bytes details = calls_bytes details.calls ++ plan_labels_bytes details.labels
+
+-- the frame of a statement by its plan and its details, over the names of all maps
+abbrev pub plan_bytes : List (List ℕ) → (Plan × Statement) × StatementDetails → List ℕ
 plan_bytes names p =
-    plan_head names p.0 ++ reads_bytes names p.0.reads ++ needs_bytes names p.0.needs ++ options_bytes names p.1.command
+    plan_head names p.0.0 ++ reads_bytes names p.0.0.reads ++ needs_bytes names p.0.0.needs
+    ++ options_bytes names p.0.1.command ++ details_bytes p.1
 
 -- the frames of statements
-abbrev pub plans_bytes : List (List ℕ) → List Plan → List Statement → List ℕ
-plans_bytes names plans statements = flat_map (plan_bytes names) (zip plans statements)
+abbrev pub plans_bytes : List (List ℕ) → List Plan → List Statement → List StatementDetails → List ℕ
+plans_bytes names plans statements details = flat_map (plan_bytes names) (zip (zip plans statements) details)
 
 -- the names of all maps: of those that are given, and of those that statements make
 abbrev pub all_names : List (List ℕ) → List Statement → List (List ℕ)
 all_names names [] = names
 all_names names (s ∷ ss) = all_names (known_after names s.command) ss
 
--- the response to a plan request whose script denotes the statements
-abbrev pub plan_response : List (List ℕ) → List Statement → List ℕ
-plan_response names statements =
+-- the response to a plan request whose script has these lines and denotes the statements
+abbrev pub plan_response : List (List ℕ) → List (List ℕ) → List Statement → List ℕ
+plan_response names lines statements =
     response_magic ++ plans_bytes (all_names names statements) (plans_of (given_needs (length names)) statements) statements
-    ++ end_bytes done_end
+    (map (statement_details lines) statements) ++ end_bytes done_end

@@ -1,2 +1,4 @@
 -- What only private functions and proofs cite.
+pub mod LineDetails
+pub mod LabelsOfLines
 pub mod RequestStops

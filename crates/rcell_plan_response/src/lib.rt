@@ -5,12 +5,17 @@
 //! - `plan_request`: `read_plan`, names of maps and a script, or their first error
 //! - `plan_response`: `plan_request`, the plan of each statement, as `rcell_plan` makes it
 //! - specs/Responses.antt: the response of every request
-//! - private: `plan_frames`, `plan_options`: a plan as bytes; `made_names`: the names of all maps
+//! - private: `plan_frames`, `plan_options`: a plan as bytes; `made_names`: the names of all maps;
+//!   `plan_details`: what only the text of a statement says, the calls of `position_calls` and the
+//!   labels of `rule_labels`
 #![tactic(auto)]
 
 mod made_names;
+mod plan_details;
 mod plan_frames;
 mod plan_options;
 pub mod plan_request;
 pub mod plan_response;
+mod position_calls;
 pub mod responding;
+mod rule_labels;

@@ -1,10 +1,15 @@
 //! The frames of a plan as bytes.
 
-ghost use Rattle.std.specs.Prelude.{◌≡◌, length, flat_map};
+ghost use Rattle.std.specs.Prelude.{◌≡◌, length, map, flat_map};
 ghost use Rattle.cell_core_devices.specs.Blocks.{Appends};
-ghost use Rattle.rcell_plan_response.specs.PlanFrames.{made_name, margin_bytes, read_bytes, need_bytes, reads_bytes, needs_bytes, plan_head, plan_bytes, plans_bytes};
+ghost use Rattle.rcell_plan_response.specs.PlanFrames.{made_name, margin_bytes, read_bytes, need_bytes, reads_bytes, needs_bytes, plan_head, call_bytes, calls_bytes, category_bytes, plan_label_bytes, plan_labels_bytes, details_bytes, plan_bytes, plans_bytes};
+ghost use Rattle.rcell_plan_response.specs.parts.LabelsOfLines.{rule_label_value};
+ghost use Rattle.rcell_plan_response.specs.parts.LineDetails.{details_value};
 
+use crate::plan_details::Details;
 use crate::plan_options::{name_of_place, push_options};
+use crate::position_calls::PositionCall;
+use crate::rule_labels::RuleLabel;
 use cell_core::block::OutputBlock;
 use cell_core::name::Names;
 use cell_core::sink::Sink;
@@ -94,6 +99,72 @@ fn push_plan_head<W: Sink>(out: &mut W, block: &mut OutputBlock, names: &Names, 
     push_text(out, block, made_name(names, plan.made));
 }
 
+fn push_call<W: Sink>(out: &mut W, block: &mut OutputBlock, call: PositionCall)
+    ensures { Appends W.taken W.faults out.old block.old (call_bytes call) out.new block.new }
+{
+    push_number(out, block, call.first as u64);
+    push_number(out, block, call.last as u64);
+    block.push(out, &[call.code]);
+}
+
+fn push_each_call<W: Sink>(out: &mut W, block: &mut OutputBlock, calls: &[PositionCall])
+    ensures { Appends W.taken W.faults out.old block.old (flat_map call_bytes calls.now)
+        out.new block.new }
+{
+    for call in calls {
+        push_call(out, block, *call);
+    }
+}
+
+fn push_calls<W: Sink>(out: &mut W, block: &mut OutputBlock, calls: &[PositionCall])
+    ensures { Appends W.taken W.faults out.old block.old (calls_bytes calls.now)
+        out.new block.new }
+{
+    push_number(out, block, calls.len() as u64);
+    push_each_call(out, block, calls);
+}
+
+fn push_category<W: Sink>(out: &mut W, block: &mut OutputBlock, category: i32)
+    ensures { Appends W.taken W.faults out.old block.old (category_bytes category)
+        out.new block.new }
+{
+    block.push(out, &category.to_le_bytes());
+}
+
+fn push_label<W: Sink>(out: &mut W, block: &mut OutputBlock, label: &RuleLabel<'_>)
+    ensures { Appends W.taken W.faults out.old block.old
+        (plan_label_bytes (rule_label_value label.now)) out.new block.new }
+{
+    push_category(out, block, label.category);
+    push_text(out, block, label.text);
+}
+
+fn push_each_label<W: Sink>(out: &mut W, block: &mut OutputBlock, labels: &[RuleLabel<'_>])
+    ensures { Appends W.taken W.faults out.old block.old
+        (flat_map (λ label. plan_label_bytes (rule_label_value label)) labels.now)
+        out.new block.new }
+{
+    for label in labels {
+        push_label(out, block, label);
+    }
+}
+
+fn push_labels<W: Sink>(out: &mut W, block: &mut OutputBlock, labels: &[RuleLabel<'_>])
+    ensures { Appends W.taken W.faults out.old block.old
+        (plan_labels_bytes (map rule_label_value labels.now)) out.new block.new }
+{
+    push_number(out, block, labels.len() as u64);
+    push_each_label(out, block, labels);
+}
+
+fn push_details<W: Sink>(out: &mut W, block: &mut OutputBlock, details: &Details<'_>)
+    ensures { Appends W.taken W.faults out.old block.old
+        (details_bytes (details_value details.now)) out.new block.new }
+{
+    push_calls(out, block, &details.calls);
+    push_labels(out, block, &details.labels);
+}
+
 // The frame of a statement.
 fn push_plan<W: Sink>(
     out: &mut W,
@@ -101,29 +172,35 @@ fn push_plan<W: Sink>(
     names: &Names,
     plan: &Plan,
     statement: &Statement,
+    details: &Details<'_>,
 )
     ensures { Appends W.taken W.faults out.old block.old
-        (plan_bytes names.now (plan.now, statement.now)) out.new block.new }
+        (plan_bytes names.now ((plan.now, statement.now), details_value details.now))
+        out.new block.new }
 {
     push_plan_head(out, block, names, plan);
     push_reads(out, block, names, plan.reads.in_order());
     push_needs(out, block, names, plan.needs.in_order());
     push_options(out, block, names, &statement.command);
+    push_details(out, block, details);
 }
 
-/// The frames of statements by their plans, over the names of all maps.
+/// The frames of statements by their plans and details, over the names of all maps.
 pub(crate) fn push_plans<W: Sink>(
     out: &mut W,
     block: &mut OutputBlock,
     names: &Names,
     plans: &[Plan],
     statements: &[Statement],
+    details: &[Details<'_>],
 )
-    requires { length plans.now ≡ length statements.now }
+    requires plans { length plans.now ≡ length statements.now }
+    requires details { length details.now ≡ length statements.now }
     ensures { Appends W.taken W.faults out.old block.old
-        (plans_bytes names.now plans.now statements.now) out.new block.new }
+        (plans_bytes names.now plans.now statements.now (map details_value details.now))
+        out.new block.new }
 {
     for i in 0..plans.len() {
-        push_plan(out, block, names, &plans[i], &statements[i]);
+        push_plan(out, block, names, &plans[i], &statements[i], &details[i]);
     }
 }

@@ -1,16 +1,19 @@
 //! The response to a plan request.
 
-ghost use Rattle.std.specs.Prelude.{◌≡◌, ◌++◌, length, None, Ok, Result};
+ghost use Rattle.std.specs.Prelude.{◌≡◌, ◌++◌, length, map, None, Ok, Result};
 ghost use Rattle.rcell_script.specs.FittingScripts.{Fits};
+ghost use Rattle.rcell_script.specs.Scripts.{IsScript};
 ghost use Rattle.rcell_pipe_response.specs.FrameBytes.{response_magic, end_bytes};
 ghost use Rattle.rcell_pipe_response.specs.RunEnds.{done_end};
 ghost use Rattle.rcell_pipe_response.specs.FrameEndings.{Finished, EndsAs};
 ghost use Rattle.rcell_pipe_request.specs.declared.error.RequestError.{RequestError};
 ghost use Rattle.rcell_plan_response.specs.PlanRequests.{PlanRequestValue, plan_request_value};
 ghost use Rattle.rcell_plan_response.specs.PlanFrames.{plans_bytes};
-ghost use Rattle.rcell_plan_response.specs.PlanEnds.{IsPlanAccepted, IsPlanResponse};
+ghost use Rattle.rcell_plan_response.specs.PlanEnds.{IsPlanResponse};
+ghost use Rattle.rcell_plan_response.specs.parts.LineDetails.{details_value};
 
 use crate::made_names::all_names;
+use crate::plan_details::{Details, details_of, lines_of};
 use crate::plan_frames::push_plans;
 use crate::plan_request::PlanRequest;
 use cell_core::name::Names;
@@ -25,20 +28,23 @@ use rcell_script::script_parsing::parse_script;
 use rcell_script::statement::Statement;
 use std::alloc::Global;
 
-// Writes the plans of statements, over the names of all maps.
+// Writes the plans and details of statements, over the names of all maps.
 fn write_plans<W: Sink>(
     out: &mut W,
     names: &Names,
     plans: &[Plan],
     statements: &[Statement],
+    details: &[Details<'_>],
 ) -> PipeOutcome
-    requires { length plans.now ≡ length statements.now }
+    requires plans { length plans.now ≡ length statements.now }
+    requires details { length details.now ≡ length statements.now }
     ensures { Finished (W.taken out.old) (W.faults out.old) (W.taken out.new) (W.faults out.new)
-        None (response_magic ++ plans_bytes names.now plans.now statements.now
+        None (response_magic
+        ++ plans_bytes names.now plans.now statements.now (map details_value details.now)
         ++ end_bytes done_end) result }
 {
     let mut block = begin_response(out);
-    push_plans(out, &mut block, names, plans, statements);
+    push_plans(out, &mut block, names, plans, statements, details);
     end_response(out, block, None, &done_end())
 }
 
@@ -46,22 +52,30 @@ fn write_plans<W: Sink>(
 fn plan_statements<W: Sink>(
     alloc: Global,
     names: Names,
+    script: &[u8],
     statements: &[Statement],
     out: &mut W,
 ) -> PipeOutcome
-    requires { Fits names statements.now }
+    requires fits { Fits names statements.now }
+    requires denoted { IsScript names script.now statements.now }
     ensures { (read : Result PlanRequestValue RequestError)
-        → IsPlanAccepted read names statements.now
+        → read ≡ Ok (record { names = names; script = script.now })
         → EndsAs (IsPlanResponse read) (W.taken out.old) (W.faults out.old) (W.taken out.new)
         (W.faults out.new) result }
 {
+    let Ok(lines) = lines_of(alloc, script) else {
+        return reject(out, PipeError::Memory, &memory_end(0));
+    };
+    let Ok(details) = details_of(alloc, lines.as_slice(), statements) else {
+        return reject(out, PipeError::Memory, &memory_end(0));
+    };
     let Ok(plans) = plans_of(alloc, names.len(), statements) else {
         return reject(out, PipeError::Memory, &memory_end(0));
     };
     let Ok(all) = all_names(alloc, names, statements) else {
         return reject(out, PipeError::Memory, &memory_end(0));
     };
-    write_plans(out, &all, plans.as_slice(), statements)
+    write_plans(out, &all, plans.as_slice(), statements, details.as_slice())
 }
 
 /// Responds to a plan request: with the plan of each statement, or with the first error of the script.
@@ -71,7 +85,7 @@ pub fn plan_request<W: Sink>(alloc: Global, request: PlanRequest, out: &mut W) -
 {
     let PlanRequest { names, script } = request;
     match parse_script(alloc, &script, &names) {
-        Ok(parsed) => plan_statements(alloc, names, parsed.statements(), out),
+        Ok(parsed) => plan_statements(alloc, names, &script, parsed.statements(), out),
         Err(error) => match error.kind {
             ScriptKind::Memory => reject(out, PipeError::Memory, &memory_end(0)),
             _ => reject_script(alloc, out, error),

@@ -12,7 +12,7 @@ from rcell_front.pipe import Statement
 from ._errors import Refused
 from ._grid import Grid
 from ._maps import Source, named_once, sources_of
-from ._program import Output, execute, labels_of, planned
+from ._program import Output, execute, planned
 from ._table import StatsTable
 
 __all__ = ["Result", "grid", "grids_of", "outputs_with", "run", "run_of", "table"]
@@ -105,7 +105,7 @@ class _Run:
 
     def labels(self, name: str) -> Mapping[int, str]:
         """Return the labels of a map: from the rules that made it, or from the input map."""
-        return self.sources[name].labels if name in self.sources else labels_of(self.made[name])
+        return self.sources[name].labels if name in self.sources else self.made[name].labels
 
     def _answer(self, output: Output) -> StatsTable | Grid:
         if output.command == "r.out.ascii":

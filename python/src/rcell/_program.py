@@ -23,16 +23,13 @@ from rcell_front.programs import Started, close, found_on_path, pipe
 
 from ._arrays import NDArray
 from ._errors import Killed, MissingProgram, OutOfMemory, RcellError, Refused, WrongProgram
-from ._maps import MAX_CATEGORY, ArrayMap, Source
-from ._region import Region
+from ._maps import Source
 
-__all__ = ["Output", "candidates", "execute", "find_beside", "find_pipe", "find_program", "grid_text", "known_after", "labels_of", "planned", "printed"]
+__all__ = ["Output", "candidates", "execute", "find_beside", "find_pipe", "find_program", "grid_text", "known_after", "planned", "printed"]
 
 PROBE_SECONDS = 60
 """So long a program may take for a map of three cells, on a machine that has much else to do."""
 
-_NUMBER = re.compile("0*([0-9]{1,10})")
-_PROBE_COLS = 1 << 10
 _MESSAGE = re.compile(r"rcell: ([^:]*):(\d+): (.*)")
 
 
@@ -214,18 +211,6 @@ def planned(script: str, names: Iterable[str], *, program: str | os.PathLike[str
     known = list(names)
     with _told(script, known, path := find_pipe(program)):
         return front.plan(path, known, front.script_bytes(script))
-
-
-def labels_of(statement: front.Statement) -> dict[int, str]:
-    """Return the labels of the map that a statement makes: the program applies its rules to a map of all numbers that they name and those next to them."""
-    if statement.command != "r.reclass":
-        return {}
-    named = {0, *(int(number) for number in _NUMBER.findall(statement.text))}
-    near = np.unique([sign * number + step for number in named for sign in (-1, 1) for step in (-1, 0, 1)])
-    cells = np.resize(near[abs(near) <= MAX_CATEGORY], (-(-near.size // _PROBE_COLS), _PROBE_COLS))
-    [frame] = _frames(f"{statement.text}\nr.stats -l -n input={statement.made}", {statement.inputs[0]: ArrayMap("rules", cells, Region.of_cells(*cells.shape))})
-    assert isinstance(frame, front.TableFrame) and frame.labels is not None
-    return {code: label.decode("utf-8", "surrogateescape") for code, label in zip(frame.cells.tolist(), frame.labels) if label}
 
 
 def printed(script: str, maps: Mapping[str, Source], *, program: str | os.PathLike[str] | None = None) -> bytes:

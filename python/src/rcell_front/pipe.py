@@ -21,7 +21,7 @@ from .advice import lines_of_error
 from .programs import WATCH_SECONDS, Started, close, pipe
 
 __all__ = [
-    "NULL", "Block", "Buffer", "Fault", "Frame", "GridFrame", "Killed", "Map", "Margin", "NoAnswer", "NotStarted", "Rejected", "Statement", "TableFrame", "is_known", "plan", "request",
+    "NULL", "Block", "Buffer", "Call", "Fault", "Frame", "GridFrame", "Killed", "Map", "Margin", "NoAnswer", "NotStarted", "Rejected", "Statement", "TableFrame", "is_known", "plan", "request",
     "run",
     "script_bytes",
     "text",
@@ -40,7 +40,7 @@ _CODES = {name: code for code, name in enumerate(CELL_BYTES, 1)}
 _SOURCES = {1: "request", 2: "script"}
 _COMMANDS = ("r.mapcalc", "r.reclass", "r.clump", "r.stats", "r.out.ascii")
 _OPTIONS = "cl1nN"
-_IS_PLACED = 8
+_CALLED = ("row", "col", "nrows", "ncols")
 _NO_MEMORY = 3  # a status
 _AT_COLUMN = re.compile(r" at column (\d+)$")
 # Rows and their masks are put together in pieces that stay in the cache of a processor.
@@ -249,6 +249,14 @@ class Margin(NamedTuple):
     right: int = 0
 
 
+class Call(NamedTuple):
+    """A call of `row()`, `col()`, `nrows()` or `ncols()`: the function, and the bytes of the line from `start` to `end`."""
+
+    function: str
+    start: int
+    end: int
+
+
 @dataclass(frozen=True)
 class Statement:
     """A statement of a script, as the program plans it.
@@ -258,8 +266,6 @@ class Statement:
     line : int
         Its first line, from 1.
     command : {"r.mapcalc", "r.reclass", "r.clump", "r.stats", "r.out.ascii"}
-    is_placed : bool
-        Whether it depends on the position: by `row()`, `col()`, `nrows()` or `ncols()`.
     made : str
         The map that it makes, or empty.
     reads : dict of str to Margin
@@ -272,19 +278,24 @@ class Statement:
         The maps of `input=`, in its order.
     after : tuple of int
         The categories of `after=`.
+    calls : tuple of Call
+        Calls of functions of the position, from left to right.
+    labels : dict of int to str
+        The labels that its rules give.
     text : str
         Its lines, of an r.reclass up to the next statement.
     """
 
     line: int
     command: str
-    is_placed: bool
     made: str
     reads: dict[str, Margin]
     needs: dict[str, Optional[Margin]]
     options: str = ""
     inputs: tuple[str, ...] = ()
     after: tuple[int, ...] = ()
+    calls: tuple[Call, ...] = ()
+    labels: Mapping[int, str] = field(default_factory=dict)
     text: str = ""
 
 
@@ -438,18 +449,23 @@ class _Response:
         return GridFrame(line, name, null_text, edges, rows, cols, kind, self.cells(rows * cols, letter))
 
     def statement(self) -> Statement:
-        line, (command, flags) = self.count(), self.take(2)
+        line, (command, _) = self.count(), self.take(2)
         return Statement(
             line=line,
             command=_COMMANDS[command - 1] if 0 < command <= len(_COMMANDS) else self.unknown(),
-            is_placed=bool(flags & _IS_PLACED),
             made=self.name(),
             reads={self.name(): Margin(*self.numbers(4)) for _ in range(self.count())},
             needs={self.name(): self.need() for _ in range(self.count())},
             options="".join(letter for bit, letter in zip(f"{self.take(1)[0]:05b}"[::-1], _OPTIONS) if bit == "1"),
             inputs=self.names(self.count()),
             after=tuple(self.cells(self.count(), "i")),
+            calls=tuple(self.call() for _ in range(self.count())),
+            labels={self.cells(1, "i")[0]: self.name() for _ in range(self.count())},
         )
+
+    def call(self) -> Call:
+        (first, last), [code] = self.numbers(2), self.take(1)
+        return Call(_CALLED[code - 1] if 0 < code <= len(_CALLED) else self.unknown(), first - 1, last)
 
     def need(self) -> Optional[Margin]:
         margin = Margin(*self.numbers(4))

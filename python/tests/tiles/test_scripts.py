@@ -58,10 +58,17 @@ def told(expression: str, *names: str) -> list[str]:
 
 def test_row_and_its_like_are_told_of_the_whole() -> None:
     assert told("row() * 2 + col\t(  ) - nrows() % ncols()", "lc") == [
-        "r.mapcalc tile_row = row() + 100", "r.mapcalc tile_col = col() + 40",
-        "r.mapcalc x = tile_row * 2 + tile_col - 5000 % 6000"]
+        "r.mapcalc _aaaa = row() + 100", "r.mapcalc _aaab = col() + 40",
+        "r.mapcalc x = _aaaa * 2 + _aaab - 5000 % 6000"]
     assert told("row  + lc", "row", "lc") == ["r.mapcalc x = row  + lc"]
-    assert told("row() + tile_row", "tile_row")[-1] == "r.mapcalc x = tile_row_ + tile_row"
+    assert told("row() + _aaaa", "_aaaa")[-1] == "r.mapcalc x = _aaab + _aaaa"
+
+
+def test_a_line_gets_no_longer() -> None:
+    blanks = " " * (65535 - len("r.mapcalc x = row()+col()*nrows()"))
+    *_, line = told(f"{blanks}row()+col()*nrows()", "lc")
+    assert len(line) < 65535
+    planned("r.mapcalc _aaaa = row()\nr.mapcalc _aaab = col()\n" + line, ["lc"])
 
 
 def test_only_what_the_last_line_depends_on_is_run() -> None:

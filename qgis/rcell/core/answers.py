@@ -185,19 +185,15 @@ def run(program: str, script: str, maps: Mapping[str, Raster], wanted: Sequence[
     fitted(list(maps.values()))
     watch = watch or Watch()
     plan = plan_of(program, script, list(maps), watch)
-    made = {each.made: each.command for each in plan if each.made}
+    made = {each.made: each.labels for each in plan if each.made}
     for name in wanted:
         if name not in maps and name not in made:
             raise Refused(f"no map {name}: there are {', '.join([*maps, *made])}", status=2)
-    shown = [each.inputs[0] for each in plan if each.command == "r.out.ascii"]
-    labelled = [name for name in dict.fromkeys([*shown, *wanted]) if made.get(name) == "r.reclass"]
-    more = [*(f"r.out.ascii input={name}" for name in wanted), *(f"r.stats -l -n input={name}" for name in labelled)]
-    frames = frames_of(program, maps, script, "\n".join([script, *more]), watch)
-    labels = {**{name: raster.labels for name, raster in maps.items()},
-              **{name: _labels_of(frame)[0] for name, frame in zip(labelled, frames[len(frames) - len(labelled) :])}}
+    frames = frames_of(program, maps, script, "\n".join([script, *(f"r.out.ascii input={name}" for name in wanted)]), watch)
+    labels = {**{name: raster.labels for name, raster in maps.items()}, **made}
     outputs: list[Table | Grid] = [
-        Grid(frame.name, _cells_of(frame), labels=labels.get(frame.name, {})) if isinstance(frame, pipe.GridFrame) else _table(frame, maps)
-        for frame in frames[: len(frames) - len(labelled)]]
+        Grid(frame.name, _cells_of(frame), labels=labels[frame.name]) if isinstance(frame, pipe.GridFrame) else _table(frame, maps)
+        for frame in frames]
     tables = [output for output in outputs if isinstance(output, Table)]
     return Answers(tables, [output for output in outputs if isinstance(output, Grid)], outputs)
 

@@ -52,7 +52,7 @@ asked_of <- function(script, dots, maps, program) {
 # Runs an accepted script over its maps: the frames of the outputs that are asked for, the maps that are wanted, and what is needed
 # to read them.
 answer_of <- function(script, sources, outputs = list(), wanted = character()) {
-  labels <- c(lapply(sources, `[[`, "labels"), labels_of_rules(script, outputs, wanted))
+  labels <- c(lapply(sources, `[[`, "labels"), script$labels)
   frames <- run_pipe(script$program, sources, sent_script(script, outputs, wanted), script$lines)
   list(frames = frames, labels = labels, template = template_of(sources[[1]]))
 }

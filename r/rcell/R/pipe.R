@@ -10,8 +10,9 @@ HAS_NODATA <- 1L
 COMMANDS <- c("r.mapcalc", "r.reclass", "r.clump", "r.stats", "r.out.ascii")
 FLAGS <- c("c", "l", "1", "n", "N")
 BITS_OF_FLAGS <- c(1L, 2L, 4L, 8L, 16L)
-# What a plan says of each map that a statement reads, and that it needs.
+# What a plan says of each map that a statement reads, and that it needs, and of a call of row() and its like.
 BYTES_OF_MARGINS <- c(32L, 33L)
+BYTES_OF_CALL <- 17L
 # Columns, rows, north, type, null, file, first byte, bytes a cell and bytes a row.
 RAW_RASTER <- "<VRTDataset rasterXSize=\"%.0f\" rasterYSize=\"%.0f\"><GeoTransform>0, 1, 0, %.0f, 0, -1</GeoTransform>
 <VRTRasterBand dataType=\"%s\" band=\"1\" subClass=\"VRTRawRasterBand\"><NoDataValue>%s</NoDataValue>
@@ -127,7 +128,8 @@ grid_frame <- function(reader) {
   list(line = line, maps = name, raster = reader$raster(size[[1]], size[[2]], is_small))
 }
 
-# A statement: whether it writes a frame, the map that it makes, its flags, its maps and the combination after which a table begins.
+# A statement: whether it writes a frame, the map that it makes, its flags, its maps, the combination after which a table begins, and
+# the labels that its rules give.
 plan_frame <- function(reader) {
   line <- as.integer(reader$numbers())
   head <- as.integer(reader$bytes(2))
@@ -138,8 +140,23 @@ plan_frame <- function(reader) {
   }
   options <- as.integer(reader$bytes(1))
   maps <- reader$texts(reader$numbers())
+  after <- reader$integers(reader$numbers())
+  reader$bytes(BYTES_OF_CALL * reader$numbers())
   list(line = line, command = COMMANDS[[head[[1]]]], is_output = bitwAnd(head[[2]], 1L) > 0L, made = made,
-    flags = FLAGS[bitwAnd(options, BITS_OF_FLAGS) > 0L], maps = maps, after = reader$integers(reader$numbers()))
+    flags = FLAGS[bitwAnd(options, BITS_OF_FLAGS) > 0L], maps = maps, after = after, labels = labels_in(reader))
+}
+
+# The last label of a category counts.
+labels_in <- function(reader) {
+  count <- reader$numbers()
+  codes <- integer(count)
+  labels <- character(count)
+  for (at in seq_len(count)) {
+    codes[[at]] <- reader$integers(1)
+    labels[[at]] <- reader$text()
+  }
+  kept <- !duplicated(codes, fromLast = TRUE)
+  list(codes = codes[kept], labels = labels[kept])
 }
 
 end_frame <- function(reader) {

@@ -65,10 +65,10 @@ probe <- function(path) {
       !identical(found[[2]]$codes, list(c(1L, NA, 2L))) || !identical(as.integer(values(found[[3]]$raster, mat = FALSE)), c(1L, NA, 2L))) wrong()
 }
 
-# A map of a few cells.
-small_map <- function(name, cells, cols = length(cells)) {
-  rows <- length(cells) %/% cols
-  list(name = name, cells = cells, region = list(edges = as.character(c(rows, 0L, cols, 0L)), rows = rows, cols = cols))
+# A map of a row of cells.
+small_map <- function(name, cells) {
+  cols <- length(cells)
+  list(name = name, cells = cells, region = list(edges = as.character(c(1L, 0L, cols, 0L)), rows = 1L, cols = cols))
 }
 
 # A folder whose files have ASCII names, so that no locale can get in the way.

@@ -2,7 +2,6 @@
 # What a script asks for: the program says so, before a map is looked for.
 
 MAPS_LIMIT <- 16L
-SMALL_COLS <- 1000L
 NAME <- "[A-Za-z_][A-Za-z0-9_.]{0,63}"
 
 is_name <- function(words) grepl(paste0("^", NAME, "$"), words, useBytes = TRUE)
@@ -22,39 +21,20 @@ lines_of <- function(script) {
   if (length(lines)) lines else ""
 }
 
-# A script that the program accepts for maps of these names: its lines and statements, what it writes, and the maps that it makes.
+# A script that the program accepts for maps of these names: its lines and statements, what it writes, the maps that it makes, and the
+# labels that it gives them.
 accepted <- function(script, names, program) {
   lines <- lines_of(script)
   path <- rcell_program(program)$path
   statements <- frames_of(ask_pipe(path, plan_request(names, lines)), path, names, lines)
-  made <- vapply(statements, `[[`, "", "made")
-  list(program = path, lines = lines, statements = statements, outputs = Filter(function(statement) statement$is_output, statements), made = made[nzchar(made)])
+  makers <- Filter(function(statement) nzchar(statement$made), statements)
+  made <- vapply(makers, `[[`, "", "made")
+  labels <- lapply(makers, `[[`, "labels")
+  names(labels) <- made
+  list(program = path, lines = lines, outputs = Filter(function(statement) statement$is_output, statements), made = made, labels = labels)
 }
 
 is_grid <- function(output) output$command == "r.out.ascii"
-
-# The labels that are needed of maps made by rules, if some outputs and maps are asked for, by the names of the maps.
-labels_of_rules <- function(script, outputs, wanted) {
-  shown <- Filter(function(output) is_grid(output) || "l" %in% output$flags, outputs)
-  needed <- c(unlist(lapply(shown, `[[`, "maps")), wanted)
-  ends <- c(vapply(script$statements[-1], `[[`, 0L, "line") - 1L, length(script$lines))
-  is_needed <- vapply(script$statements, function(statement) statement$command == "r.reclass" && statement$made %in% needed, NA)
-  found <- Map(function(statement, end) labels_made(statement, script$lines[statement$line:end], script$program), script$statements[is_needed], ends[is_needed])
-  names(found) <- vapply(script$statements[is_needed], `[[`, "", "made")
-  found
-}
-
-# The labels of the map that an r.reclass makes: the program applies its rules to all numbers that they name and those next to them.
-labels_made <- function(statement, rules, path) {
-  numbers <- suppressWarnings(as.numeric(unlist(strsplit(rules, "[^0-9]+", useBytes = TRUE))))
-  near <- outer(unique(c(0, numbers[!is.na(numbers)])), -1:1, `+`)
-  near <- as.integer(near[abs(near) <= CATEGORY_LIMIT])
-  cells <- unique(c(near, -near))
-  map <- small_map(statement$maps, rep_len(cells, SMALL_COLS * ceiling(length(cells) / SMALL_COLS)), SMALL_COLS)
-  frame <- run_pipe(path, list(map), c(rules, sprintf("r.stats -ln input=%s", statement$made)))[[1]]
-  kept <- nzchar(frame$labels)
-  list(codes = frame$codes[[1]][kept], labels = frame$labels[kept])
-}
 
 # What is sent for an accepted script, and which of its outputs are. The lines keep their numbers; after the last one follow the maps
 # that are wanted. Labels are joined here, a column at a time, and so tables go without -l.

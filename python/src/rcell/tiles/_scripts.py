@@ -3,9 +3,10 @@
 
 from __future__ import annotations
 
-import re
-from collections.abc import Iterable, Sequence
+from collections.abc import Iterable, Iterator, Mapping, Sequence
 from dataclasses import dataclass, replace
+from itertools import product
+from string import ascii_lowercase
 
 from rcell_front.pipe import NULL, Statement
 from rcell_front.pipe import Margin as Reach
@@ -15,10 +16,6 @@ from .joining import Rectangle
 __all__ = ["NO_REACH", "Reach", "Statement", "TileScript", "counting", "spare_name"]
 
 NO_REACH = Reach()
-
-CALL = re.compile(r"(?<![A-Za-z0-9_.])(row|col|nrows|ncols) ?\( ?\)")
-BLANKS = re.compile("[ \t\r]+")
-"""Replaced by single blanks: then 1000 tokens of 64 bytes, and what tiles add, fit into the 65,535 bytes of a line."""
 
 
 def counting(stats: Statement, inside: str | None = None) -> Statement:
@@ -35,6 +32,20 @@ def spare_name(base: str, taken: Iterable[str]) -> str:
     """Return a name that no map has."""
     known = set(taken)
     return next(name for name in (base + "_" * count for count in range(len(known) + 1)) if name not in known)
+
+
+def short_names(taken: Iterable[str]) -> Iterator[str]:
+    """Yield names that no map has, as short as `row()`: a line has at most 65,535 bytes, and no more in a tile."""
+    known = set(taken)
+    return (name for name in map("".join, product("_", *[ascii_lowercase] * 4)) if name not in known)
+
+
+def with_calls(statement: Statement, written: Mapping[str, str]) -> str:
+    """Return the text of a statement with other words for its calls."""
+    text = statement.text.encode("utf-8", "surrogateescape")
+    for call in reversed(statement.calls):
+        text = text[:call.start] + written[call.function].encode() + text[call.end:]
+    return text.decode("utf-8", "surrogateescape")
 
 
 @dataclass(frozen=True)
@@ -66,8 +77,8 @@ class TileScript:
             if each.made in wanted:
                 used.insert(0, each)
                 wanted |= set(each.reads)
-        taken = {*names, *(each.made for each in plan)}
-        return cls(tuple(used), spare_name("tile_row", taken), spare_name("tile_col", taken))
+        spare = short_names([*names, *(each.made for each in plan)])
+        return cls(tuple(used), next(spare), next(spare))
 
     def with_last(self, statement: Statement) -> TileScript:
         """Return this script with another last statement."""
@@ -88,12 +99,12 @@ class TileScript:
         return sum(self._calls(function) for function in ("row", "col")) + sum(each.made != "" for each in self.statements)
 
     def _calls(self, function: str) -> bool:
-        return any(each.is_placed and function in CALL.findall(BLANKS.sub(" ", each.text)) for each in self.statements)
+        return any(call.function == function for each in self.statements for call in each.calls)
 
     def text(self, place: Rectangle, rows: int, cols: int) -> str:
         """Return the script for a tile (with its halo) of a full map of so many rows and columns."""
         lines = [f"r.mapcalc {name} = {call}() + {before}"
                  for name, call, before in ((self.row, "row", place.top), (self.col, "col", place.left)) if self._calls(call)]
         written = {"row": self.row, "col": self.col, "nrows": str(rows), "ncols": str(cols)}
-        lines += [CALL.sub(lambda call: written[call[1]], BLANKS.sub(" ", each.text)) if each.is_placed else each.text for each in self.statements]
+        lines += [with_calls(each, written) for each in self.statements]
         return "\n".join(lines) + "\n"

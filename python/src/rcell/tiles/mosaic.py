@@ -21,7 +21,7 @@ from .._errors import RcellError, Refused
 from .._joiner import check_files, find_joiner
 from .._maps import named_once
 from .._patches import check_connectivity
-from .._program import labels_of, planned
+from .._program import planned
 from .._region import CELL_LIMIT, SIDE_LIMIT
 from .._xarray import data_array
 from . import _tasks
@@ -324,7 +324,7 @@ class Mosaic:
         self._refuse_inputs(path)
         run = self._grid_run(script)
         last = run.script.statements[-1]
-        name, labels = last.made, labels_of(last)
+        name, labels = last.made, last.labels
         tiles = self._tiles(grid_demand(self._read(run), run.made, run.reach), path is not None)
         work = self._over(_tasks.grid_cells, run, tiles, dtype="int32")
         if path is None:
@@ -467,7 +467,7 @@ class Mosaic:
     def _labels(self, script: Sequence[Statement]) -> dict[str, Mapping[int, str]]:
         """Return the labels of the maps that the last statement reads."""
         made = {statement.made: statement for statement in script}
-        return {name: self._maps.labels_of(name) if name in self._files else labels_of(made[name]) for name in script[-1].inputs}
+        return {name: self._maps.labels_of(name) if name in self._files else made[name].labels for name in script[-1].inputs}
 
     def _grid_run(self, script: str) -> _tasks.TileRun:
         text, plan = self._planned(script)

@@ -8,15 +8,13 @@ use Rattle.rcell_plan_response.specs.PlanEnds.{IsPlanResponse}
 use Rattle.rcell_plan_response.proofs.PlanEndLemmas.{plan_rejection}
 use Rattle.rcell_plan_response.proofs.plan_response.plan_request.Goals as goal
 
+pub plan_statements-requires-clause-denoted : goal.plan_statements-requires-clause-denoted
+plan_statements-requires-clause-denoted g c =
+    rw c.deref-in-Ok.ensures.value (rw (← c.statements.ensures, c.deref.ensures.value) at c.in-Ok.ensures.ok)
+
 pub returns-in-Ok : goal.returns-in-Ok
 returns-in-Ok g c =
-    c.plan_statements.ensures (Ok (plan_request_value c.args.request))
-    (record {
-      script = c.args.request.script.items;
-      request = refl;
-      denoted = rw
-          (← c.statements.ensures, c.deref.ensures.value) at c.in-Ok.ensures.ok;
-    })
+    c.plan_statements.ensures (Ok (plan_request_value c.args.request)) (rw c.deref-in-Ok.ensures.value refl)
 
 pub returns-in-Memory : goal.returns-in-Memory
 returns-in-Memory g c =
