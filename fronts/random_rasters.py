@@ -353,7 +353,8 @@ class Front:
     def __post_init__(self) -> None:
         paths = {"qgis": "qgis", "grass": "grass/tests"}
         words = ["Rscript", str(HERE / "random_rasters.R")] if self.name == "r" else [sys.executable, "-W", "ignore", __file__, "--work", self.name]
-        known = {**environment(), "PYTHONPATH": str(REPOSITORY / paths.get(self.name, "python/src"))}
+        # R starts programs with fork, which copies its table of pages: huge ones are few.
+        known = {**environment(), "PYTHONPATH": str(REPOSITORY / paths.get(self.name, "python/src")), "GLIBC_TUNABLES": "glibc.malloc.hugetlb=1"}
         self._process = subprocess.Popen(words, stdin=subprocess.PIPE, stdout=subprocess.PIPE, env=known)
 
     def ask(self, place: Place, rasters: list[Made], again: int) -> tuple[str, bytes]:
