@@ -149,7 +149,7 @@ alike_splits x y row col a b same h =
           same both.1,
     )
 
--- the whole map is the same
+-- all of the map is the same
 abbrev pub IsSameMap : (a b : List Grid) → Need → Type 0
 IsSameMap a b n = slice_get a n.place ≡ slice_get b n.place
 

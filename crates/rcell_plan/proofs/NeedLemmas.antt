@@ -31,7 +31,7 @@ put_behind x n xs at = ap (λ o. put_at (x ∷ xs) (at + 1) n o) next ∙ by_opt
     by_option None = refl
     by_option (Some y) = by_case y (y.place == n.place)
 
--- a need that is put where it stands is added
+-- a need that is put at its place is added
 pub put_among : (xs : List Need) (n : Need) → put_need xs (place_among n.place xs) n ≡ with_need xs n
 put_among [] n = refl
 put_among (x ∷ xs) n = by_case (nat_le n.place x.place) refl (put_among xs n)

@@ -1,4 +1,4 @@
--- The reads of an expression are its reach, and each map stands once.
+-- The reads of an expression are its reach, and each map occurs once.
 use Rattle.std.proofs.Common.{◌≡◌, ℕ, zero, suc, ℤ, ◌+◌, ◌<◌, ◌≤◌, max, List, [], ◌∷◌, ◌++◌, map, Bool, true, false}
 use Rattle.std.proofs.Common.{◌||◌, refl, ap, sym, ◌∙◌, arith}
 use Rattle.std.specs.Prelude.{All, ◌==◌, nat_lt, flat_map, if◌then◌else◌}

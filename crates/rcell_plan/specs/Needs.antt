@@ -38,7 +38,7 @@ joined a b = record { place = a.place; margin = margin_of_both a.margin b.margin
 abbrev pub moved : Margin → Need → Need
 moved margin n = record { place = n.place; margin = added margin n.margin; whole = n.whole }
 
--- the whole map
+-- all of the map
 abbrev pub wholly : Need → Need
 wholly n = record { place = n.place; margin = n.margin; whole = true }
 

@@ -47,7 +47,7 @@ needs_of_read known read = map (moved read.margin) (needs_at known read.place)
 abbrev pub needs_of_reads : List (List Need) → List Need → List Need
 needs_of_reads known reads = with_needs [] (flat_map (needs_of_read known) reads)
 
--- what a command needs of them: r.clump numbers the areas of the whole map
+-- what a command needs of them: r.clump numbers the clumps of the full map
 abbrev pub command_needs : List (List Need) → Command → List Need
 command_needs known (Mapcalc target bound) = needs_of_reads known (expression_reads bound)
 command_needs known (Reclass place target rules) = needs_at known place
@@ -79,7 +79,7 @@ given_needs count = given_from 0 count
 abbrev pub position_flag : Formula → ℕ
 position_flag f = if calls asks_where f then 8 else 0
 
--- 1: it writes; 2: it prints labels; 4: it needs the whole map; 8: it depends on the position
+-- 1: it writes; 2: it prints labels; 4: it needs the full map; 8: it depends on the position
 abbrev pub command_flags : Command → ℕ
 command_flags (Mapcalc target bound) = position_flag bound
 command_flags (Reclass place target rules) = 0

@@ -24,12 +24,12 @@ abbrev pub AscendPast : ℕ → List Need → Type 0
 AscendPast place [] = Unit {0}
 AscendPast place (n ∷ ns) = (place < n.place) × AscendPast n.place ns
 
--- places ascend, so that each map stands once
+-- places ascend, so that each map occurs once
 abbrev pub Ascend : List Need → Type 0
 Ascend [] = Unit {0}
 Ascend (n ∷ ns) = AscendPast n.place ns
 
--- the maps of each plan stand once, in the order of their places
+-- the maps of each plan occur once, in the order of their places
 abbrev pub PlansAscend : Type 0
 PlansAscend = (count : ℕ) (statements : List Statement)
     → All (λ p. Ascend p.reads × Ascend p.needs) (plans_of (given_needs count) statements)

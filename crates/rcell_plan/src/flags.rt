@@ -45,7 +45,7 @@ fn position_flag(bound: &Bound) -> u8
     if steps_ask(bound.steps()) { 8 } else { 0 }
 }
 
-/// 1 if a command writes, 2 if it prints labels, 4 if it needs the whole map, 8 if it depends on the position: their sum.
+/// 1 if a command writes, 2 if it prints labels, 4 if it needs the full map, 8 if it depends on the position: their sum.
 pub fn command_flags(command: &Command) -> u8
     ensures { result ≡ command_flags command.now }
 {

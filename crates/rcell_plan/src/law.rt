@@ -14,7 +14,7 @@ pub fn reads_are_reach()
     ensures { ReadsAreReach }
 {}
 
-/// The maps of each plan stand once, in the order of their places.
+/// The maps of each plan occur once, in the order of their places.
 pub fn plans_ascend()
     ensures { PlansAscend }
 {}

@@ -22,7 +22,7 @@ pub struct Margin {
 pub struct Need {
     pub place: usize,
     pub margin: Margin,
-    /// Whether the whole map is needed, because r.clump lies between.
+    /// Whether the full map is needed, because r.clump lies between.
     pub whole: bool,
 }
 
@@ -98,7 +98,7 @@ fn moved(margin: Margin, need: Need) -> Result<Need, Memory>
     })
 }
 
-// Where the need of a place stands among others, or would be put.
+// The place of a need among others, or where it would be put.
 fn place_among(needs: &[Need], place: usize) -> usize
     ensures { result ≡ place_among place needs.now }
 {
@@ -110,7 +110,7 @@ fn place_among(needs: &[Need], place: usize) -> usize
     needs.len()
 }
 
-// Puts a need where it stands or would be put.
+// Puts a need at its place.
 fn put_need(needs: &mut Vec<Need>, at: usize, need: Need) -> Result<(), Memory>
     ensures { OnOk result (needs.new.items ≡ put_need needs.old.items at need) }
 {

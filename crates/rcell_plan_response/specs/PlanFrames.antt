@@ -28,7 +28,7 @@ margin_bytes m = number_bytes m.up ++ number_bytes m.down ++ number_bytes m.left
 abbrev pub read_bytes : List (List ℕ) → Need → List ℕ
 read_bytes names n = text_bytes (name_of_place names n.place) ++ margin_bytes n.margin
 
--- a map that is needed: its name, how far, and 1 if the whole map is needed
+-- a map that is needed: its name, how far, and 1 if the full map is needed
 abbrev pub need_bytes : List (List ℕ) → Need → List ℕ
 need_bytes names n = read_bytes names n ++ flag n.whole ∷ []
 

@@ -9,7 +9,7 @@ use Rattle.rcell_script_commands.specs.declared.command.StatsOptions.{StatsOptio
 use Rattle.rcell_pipe_response.specs.FrameBytes.{number_bytes, text_bytes, wide_bytes, flag}
 use Rattle.rcell_plan_response.specs.MapNames.{name_of_place}
 
--- 8: combinations with a null are left out; 16: those of nulls only
+-- 8: combinations with a null are left out; 16: combinations of nulls only
 abbrev pub skip_flag : Skip → ℕ
 skip_flag Nothing = 0
 skip_flag AnyNull = 8

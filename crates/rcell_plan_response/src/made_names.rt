@@ -33,7 +33,7 @@ fn push_made(alloc: Global, names: &mut Names, command: &Command) -> Result<(), 
     }
 }
 
-/// The names, and those of the maps that statements make.
+/// The names, and the names of the maps that statements make.
 ///
 /// # Errors
 ///
