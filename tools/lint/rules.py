@@ -21,6 +21,7 @@ WORKED = "Worked.antt"
 CRATES_OF_STEPS = {"cell_calc_grammar", "cell_calc_language", "cell_calc_binding", "cell_calc", "rcell_plan"}
 EXAMPLE = re.compile(r"^//! ```\n(.*?)^//! ```$", re.MULTILINE | re.DOTALL)
 STEPS = re.compile(r"\.steps\(|\bstep::Step\b|declared\.step\b")
+GHOST_MEMBER = re.compile(r"^ *ghost \w+ = \{(.*?)\};", re.MULTILINE | re.DOTALL)
 
 
 def counted(counts):
@@ -171,9 +172,10 @@ def is_infix(name):
 
 
 def citing_of_public():
-    """The (module, name) pairs that clauses of public functions, traits and models cite."""
+    """The (module, name) pairs that clauses of public functions, traits and models cite, and members of what implements them."""
     texts = {path: text for _, path, text in sources.read_files("src", True)}
-    found = set()
+    found = {it for text in texts.values() for member in GHOST_MEMBER.findall(text)
+             for it in sources.targets_in(member, sources.read_imports(text))}
     for it in sources.read_functions(True):
         if it.is_public or it.container:
             imports = sources.read_imports(texts[it.path])

@@ -1,3 +1,4 @@
--- The words of a command line.
+-- The words of a command line, and the errors that a program reports.
 pub mod CommandWords
+pub mod Reported
 pub mod parts

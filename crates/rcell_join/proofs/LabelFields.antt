@@ -6,7 +6,7 @@ use Rattle.std.proofs.lemmas.List.Splits.{slice_split_first}
 use Rattle.std.proofs.lemmas.Slice.Eq.{bytes_eq-Decides}
 use Rattle.std.specs.Str.{bytes_eq}
 use Rattle.std.specs.List.{position_or_len, before_first, after_first}
-use Rattle.rcell_join.specs.TablesReports.{fields_of, last_field}
+use Rattle.rcell_join.specs.TwoLabels.{fields_of, last_field}
 
 -- fields that are the same on both lines were read
 pub record AreReadOn (separator : ℕ) (line other category rest rest_of_other : List ℕ) : Type 0 where

@@ -1,16 +1,18 @@
-//! What is reported of borders that are not joined.
+//! The report of joined borders.
 
-ghost use Rattle.std.specs.Prelude.{◌≡◌, is_some, IfSome, map};
-ghost use Rattle.rcell_join.specs.ClumpsReports.{begins_row, border_line, border_status, clumps_other, clumps_place};
+ghost use Rattle.std.specs.Prelude.{◌≡◌, map};
+ghost use Rattle.std.specs.Option.{option_map};
+ghost use Rattle.rcell_join.specs.ErrorPlaces.{clumps_place};
+ghost use Rattle.rcell_join.specs.parts.ComparedBorders.{begins_row, clumps_other};
 
-use crate::kind_status::grid_kind_status;
-use crate::report_line::{Place, Report, on_line, path_at, whole};
-use crate::shown::Shown;
+use crate::text_places::{grid_place, path_at};
 use cell_cats_areas::clump::Joining;
 use cell_join_borders::border_fault::BorderFault;
 use cell_join_clumps::clumps_fault::{ClumpsFault, Misfit};
 use cell_join_clumps::clumps_joining::ClumpsOutcome;
 use itoa::Buffer;
+use rcell_command::reported::{Place, Reported, on_line};
+use rcell_command::shown::Shown;
 use std::fmt;
 
 // How many units a coordinate of 1 has.
@@ -111,21 +113,52 @@ fn write_border_fault<W: fmt::Write>(f: &mut fmt::Formatter<W>, fault: BorderFau
     }
 }
 
-/// The text of an error of joining borders, after so many bytes were written, and what the border is compared with.
-#[derive(Debug, Drop)]
-pub struct ClumpsText<'a> {
-    pub fault: ClumpsFault,
-    pub written: u64,
-    pub other: &'a str,
+// What the rejected border is compared with: another border, or for the first one the command.
+fn clumps_other<'a>(paths: &[&'a str], fault: ClumpsFault) -> &'a [u8]
+    ensures { result.now ≡ clumps_other (map (λ path. path.now) paths.now) fault }
+{
+    match fault {
+        ClumpsFault::Connectivity {
+            text: 0,
+            found: Joining::Edges,
+        } => b"clumps -d",
+        ClumpsFault::Connectivity {
+            text: 0,
+            found: Joining::EdgesAndCorners,
+        } => b"clumps without -d",
+        ClumpsFault::Connectivity { .. } => path_at(paths, 0),
+        ClumpsFault::Apart {
+            text,
+            beside,
+            below,
+        } => match begins_row(beside, below) {
+            true => path_at(paths, 0),
+            false => path_at(paths, text.saturating_sub(1)),
+        },
+        ClumpsFault::NotBeside { text, .. } => path_at(paths, text.saturating_sub(1)),
+        ClumpsFault::NotBelow { other, .. } => path_at(paths, other),
+        ClumpsFault::FewTiles { other } => path_at(paths, other),
+        _ => b"",
+    }
 }
 
-impl<'a> fmt::Display for ClumpsText<'a> {
+/// The report of joined borders, by their paths.
+#[derive(Drop)]
+pub struct ClumpsReport<'a> {
+    pub outcome: ClumpsOutcome,
+    pub paths: &'a [&'a str],
+}
+
+impl<'a> fmt::Display for ClumpsReport<'a> {
     fn fmt<W: fmt::Write>(&self, f: &mut fmt::Formatter<W>) -> fmt::Result {
-        let written = self.written;
-        let other = Shown {
-            text: self.other.as_bytes(),
+        let ClumpsOutcome { written, fault } = self.outcome;
+        let Some(fault) = fault else {
+            return Ok(());
         };
-        match self.fault {
+        let other = Shown {
+            text: clumps_other(self.paths, fault),
+        };
+        match fault {
             ClumpsFault::Border { text: _, fault } => return write_border_fault(f, fault),
             ClumpsFault::Connectivity { text: _, found } => write_connectivity(f, found)?,
             ClumpsFault::Apart {
@@ -153,96 +186,31 @@ impl<'a> fmt::Display for ClumpsText<'a> {
     }
 }
 
-// The line of an error of a border, 0 if it belongs to none.
-fn border_line(fault: BorderFault) -> u64
-    ensures { result ≡ border_line fault }
-{
-    match fault {
-        BorderFault::Text(fault) => fault.line,
-        _ => 0,
-    }
-}
+impl<'a> Reported for ClumpsReport<'a> {
+    ghost place = { λ r. option_map (clumps_place (map (λ path. path.now) r.paths.now)) r.outcome.fault };
 
-// The exit status of an error of a border.
-fn border_status(fault: BorderFault) -> u8
-    ensures { result ≡ border_status fault }
-{
-    match fault {
-        BorderFault::Text(fault) => grid_kind_status(fault.kind),
-        BorderFault::Memory => 3,
-        _ => 1,
+    fn place(&self) -> Option<Place<'_>> {
+        let paths = self.paths;
+        Some(match self.outcome.fault? {
+            ClumpsFault::Border {
+                text,
+                fault: BorderFault::Text(fault),
+            } => grid_place(path_at(paths, text), fault),
+            ClumpsFault::Border {
+                text,
+                fault: BorderFault::Memory,
+            } => on_line(path_at(paths, text), 0, 3),
+            ClumpsFault::Border { text, .. }
+            | ClumpsFault::Connectivity { text, .. }
+            | ClumpsFault::Apart { text, .. }
+            | ClumpsFault::NotBeside { text, .. }
+            | ClumpsFault::NotBelow { text, .. } => on_line(path_at(paths, text), 0, 1),
+            ClumpsFault::FewTiles { .. } => {
+                on_line(path_at(paths, paths.len().saturating_sub(1)), 0, 1)
+            }
+            ClumpsFault::TooManyClumps => on_line(b"clumps", 0, 1),
+            ClumpsFault::Memory => on_line(b"clumps", 0, 3),
+            ClumpsFault::Write => on_line(b"output", 0, 4),
+        })
     }
-}
-
-fn clumps_place<'a>(paths: &[&'a str], fault: ClumpsFault) -> Place<'a>
-    ensures { result ≡ clumps_place (map (λ path. path.now) paths.now) fault }
-{
-    match fault {
-        ClumpsFault::Border { text, fault } => {
-            let status = border_status(fault);
-            on_line(path_at(paths, text), border_line(fault), status)
-        }
-        ClumpsFault::Connectivity { text, .. } => whole(path_at(paths, text), 1),
-        ClumpsFault::Apart { text, .. } => whole(path_at(paths, text), 1),
-        ClumpsFault::NotBeside { text, .. } => whole(path_at(paths, text), 1),
-        ClumpsFault::NotBelow { text, .. } => whole(path_at(paths, text), 1),
-        ClumpsFault::FewTiles { .. } => whole(path_at(paths, paths.len().saturating_sub(1)), 1),
-        ClumpsFault::TooManyClumps => whole("clumps", 1),
-        ClumpsFault::Memory => whole("clumps", 3),
-        ClumpsFault::Write => whole("output", 4),
-    }
-}
-
-// What the rejected border is compared with: another border, or for the first one the command.
-fn clumps_other<'a>(paths: &[&'a str], fault: ClumpsFault) -> &'a str
-    ensures { result.now ≡ clumps_other (map (λ path. path.now) paths.now) fault }
-{
-    match fault {
-        ClumpsFault::Connectivity {
-            text: 0,
-            found: Joining::Edges,
-        } => "clumps -d",
-        ClumpsFault::Connectivity {
-            text: 0,
-            found: Joining::EdgesAndCorners,
-        } => "clumps without -d",
-        ClumpsFault::Connectivity { .. } => path_at(paths, 0),
-        ClumpsFault::Apart {
-            text,
-            beside,
-            below,
-        } => match begins_row(beside, below) {
-            true => path_at(paths, 0),
-            false => path_at(paths, text.saturating_sub(1)),
-        },
-        ClumpsFault::NotBeside { text, .. } => path_at(paths, text.saturating_sub(1)),
-        ClumpsFault::NotBelow { other, .. } => path_at(paths, other),
-        ClumpsFault::FewTiles { other } => path_at(paths, other),
-        _ => "",
-    }
-}
-
-/// The report of borders that are not joined, by their paths; None if there is no error.
-pub fn clumps_report<'a>(
-    outcome: ClumpsOutcome,
-    paths: &[&'a str],
-) -> Option<Report<'a, ClumpsText<'a>>>
-    ensures reported { is_some result ≡ is_some outcome.fault }
-    ensures place { IfSome result (λ reported. IfSome outcome.fault (λ fault. reported.place
-        ≡ clumps_place (map (λ path. path.now) paths.now) fault)) }
-    ensures other { IfSome result (λ reported. IfSome outcome.fault (λ fault.
-        reported.text.other.now ≡ clumps_other (map (λ path. path.now) paths.now) fault)) }
-    ensures fault { IfSome result (λ reported. IfSome outcome.fault (λ fault.
-        reported.text.fault ≡ fault)) }
-    ensures written { IfSome result (λ reported. reported.text.written ≡ outcome.written) }
-{
-    let fault = outcome.fault?;
-    Some(Report {
-        place: clumps_place(paths, fault),
-        text: ClumpsText {
-            fault,
-            written: outcome.written,
-            other: clumps_other(paths, fault),
-        },
-    })
 }

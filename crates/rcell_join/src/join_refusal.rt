@@ -1,8 +1,10 @@
 //! Why nothing was joined.
 
-ghost use Rattle.std.specs.Prelude.{◌≡◌};
-ghost use Rattle.rcell_join.specs.JoinRefusals.{join_refusal_status};
+ghost use Rattle.std.specs.Prelude.{Some, map};
 
+use crate::text_places::path_at;
+use rcell_command::reported::{Place, Reported, on_line};
+use std::fmt;
 use thiserror::Error;
 
 /// The usage of one command, or of all.
@@ -42,16 +44,30 @@ pub enum JoinRefusal {
     File { file: usize },
 }
 
-impl JoinRefusal {
-    /// The exit status: 2 for the command line, 3 when out of memory, 4 for a file (profile).
-    pub fn status(self) -> u8
-        ensures { result ≡ join_refusal_status self }
-    {
-        match self {
-            JoinRefusal::Usage(_) => 2,
-            JoinRefusal::BadOption => 2,
-            JoinRefusal::Memory => 3,
-            JoinRefusal::File { .. } => 4,
-        }
+/// The report of an error before anything is joined, by the paths of the files.
+#[derive(Drop)]
+pub struct JoinRefusalReport<'a> {
+    pub refusal: JoinRefusal,
+    pub paths: &'a [&'a str],
+}
+
+impl<'a> fmt::Display for JoinRefusalReport<'a> {
+    fn fmt<W: fmt::Write>(&self, f: &mut fmt::Formatter<W>) -> fmt::Result {
+        let refusal = self.refusal;
+        write!(f, "{refusal}")
+    }
+}
+
+impl<'a> Reported for JoinRefusalReport<'a> {
+    ghost use Rattle.rcell_join.specs.ErrorPlaces.{join_refusal_place};
+
+    ghost place = { λ r. Some (join_refusal_place (map (λ path. path.now) r.paths.now) r.refusal) };
+
+    fn place(&self) -> Option<Place<'_>> {
+        Some(match self.refusal {
+            JoinRefusal::Usage(_) | JoinRefusal::BadOption => on_line(b"arguments", 0, 2),
+            JoinRefusal::Memory => on_line(b"arguments", 0, 3),
+            JoinRefusal::File { file } => on_line(path_at(self.paths, file), 0, 4),
+        })
     }
 }

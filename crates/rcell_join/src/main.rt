@@ -5,13 +5,15 @@
 //! `cell_join_sizes`. Here is what only a process has, in the order of work:
 //! - `join_words`: `read_join_words`, arguments to a `JoinRequest`, defined in `join_request`
 //! - `join_opening`: the files; `join_refusal`: why nothing was joined
-//! - `tables_report`, `border_report`, `clumps_report`, `sizes_report`: a command's error as a
-//!   line; `report_line` prints it and returns the status: 1 bad text, 2 arguments, 3 memory, 4 a
-//!   file
-//! - `kind_status`, `shown`: the status of a text's error; paths without control characters
+//! - `tables_report`, `border_report`, `clumps_report`, `sizes_report`: the error of a command, which
+//!   `report` of `rcell_command` prints; `text_places`: where the error of a text is
 //!
 //! Example: this folder. `args` has the arguments, data/ the files, `stdout` the output.
 #![tactic(auto)]
+
+ghost use Rattle.std.specs.Prelude.{◌≡◌, map};
+ghost use Rattle.rcell_command.specs.Reported.{status_of};
+ghost use Rattle.rcell_join.specs.ErrorPlaces.{join_refusal_place};
 
 mod border_report;
 mod clumps_report;
@@ -19,21 +21,18 @@ mod join_opening;
 mod join_refusal;
 mod join_request;
 mod join_words;
-mod kind_status;
-mod report_line;
-mod shown;
 mod sizes_report;
 mod tables_report;
+mod text_places;
 
-use crate::border_report::border_report;
-use crate::clumps_report::clumps_report;
+use crate::border_report::BorderReport;
+use crate::clumps_report::ClumpsReport;
 use crate::join_opening::open_paths;
-use crate::join_refusal::{JoinRefusal, Usage};
+use crate::join_refusal::{JoinRefusal, JoinRefusalReport, Usage};
 use crate::join_request::{JoinRequest, TableFormat};
 use crate::join_words::read_join_words;
-use crate::report_line::{print_error, print_refusal};
-use crate::sizes_report::sizes_report;
-use crate::tables_report::tables_report;
+use crate::sizes_report::SizesReport;
+use crate::tables_report::TablesReport;
 use cell_cats_areas::clump::Joining;
 use cell_core::sink::WriteSink;
 use cell_join_borders::map_border::write_border;
@@ -42,9 +41,24 @@ use cell_join_sizes::table_sizes::join_table_sizes;
 use cell_join_tables::table_joining::join_texts;
 use rcell_command::arguments::words_given;
 use rcell_command::file_opening::open_file;
+use rcell_command::reported::{Reported, report};
 use std::io;
 use std::process::ExitCode;
 use std::rt::{Env, Files};
+
+// Reports an error, if there is one, and returns the exit status.
+fn print_error<R: Eprint, T: Reported>(rt: &R, reported: &T) -> u8
+    ensures { result ≡ status_of (T.place reported.now) }
+{
+    report(rt, "rcell-join", reported)
+}
+
+// Reports an error before anything is joined, and returns the exit status.
+fn print_refusal<R: Eprint>(rt: &R, refusal: JoinRefusal, paths: &[&str]) -> u8
+    ensures { result ≡ (join_refusal_place (map (λ path. path.now) paths.now) refusal).status }
+{
+    print_error(rt, &JoinRefusalReport { refusal, paths })
+}
 
 // Merges the tables of tiles, with labels if they have them.
 fn merge_tables<R: Files + Print + Eprint + AllocGlobal>(
@@ -58,7 +72,7 @@ fn merge_tables<R: Files + Print + Eprint + AllocGlobal>(
     };
     let mut output = WriteSink::new(io::writer(rt));
     let outcome = join_texts(rt.alloc(), &format.lent(), sources, &mut output);
-    print_error(rt, tables_report(outcome, paths))
+    print_error(rt, &TablesReport { outcome, paths })
 }
 
 // Writes the border of a tile.
@@ -73,7 +87,7 @@ fn write_tile_border<R: Files + Print + Eprint + AllocGlobal>(
     };
     let mut output = WriteSink::new(io::writer(rt));
     let outcome = write_border(rt.alloc(), joining, source, &mut output);
-    print_error(rt, border_report(outcome, map))
+    print_error(rt, &BorderReport { outcome, map })
 }
 
 // Joins borders, and writes the numbering of the full map.
@@ -88,7 +102,7 @@ fn join_clumps<R: Files + Print + Eprint + AllocGlobal>(
     };
     let mut output = WriteSink::new(io::writer(rt));
     let outcome = join_border_texts(rt.alloc(), joining, sources, &mut output);
-    print_error(rt, clumps_report(outcome, paths))
+    print_error(rt, &ClumpsReport { outcome, paths })
 }
 
 // Adds up the sizes of the clumps of tiles.
@@ -113,7 +127,14 @@ fn add_sizes<R: Files + Print + Eprint + AllocGlobal>(
     };
     let mut output = WriteSink::new(io::writer(rt));
     let outcome = join_table_sizes(rt.alloc(), &format.lent(), numbers, sources, &mut output);
-    print_error(rt, sizes_report(outcome, numbering, tables))
+    print_error(
+        rt,
+        &SizesReport {
+            outcome,
+            numbering,
+            tables,
+        },
+    )
 }
 
 // Does what the words ask for, and returns the exit status.

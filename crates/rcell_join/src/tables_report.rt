@@ -1,16 +1,18 @@
-//! What is reported of tables that are not merged.
+//! The report of merged tables.
 
-ghost use Rattle.std.specs.Prelude.{◌≡◌, is_some, IfSome, map};
-ghost use Rattle.rcell_join.specs.TablesReports.{AreTwoLabels, label_place, table_place};
+ghost use Rattle.std.specs.Prelude.{IfSome, map};
+ghost use Rattle.std.specs.Option.{option_map};
+ghost use Rattle.rcell_join.specs.ErrorPlaces.{tables_place};
+ghost use Rattle.rcell_join.specs.TwoLabels.{AreTwoLabels};
 
-use crate::kind_status::table_kind_status;
-use crate::report_line::{Place, Report, on_line, path_at, whole};
-use crate::shown::Shown;
+use crate::text_places::{path_at, table_place};
 use cell_join_lines::places::cut_at;
 use cell_join_tables::join_fault::JoinFault;
 use cell_join_tables::label_fault::{LabelFault, OtherLabel};
 use cell_join_tables::table_joining::JoinOutcome;
 use cell_stats_counts::combination::Combo;
+use rcell_command::reported::{Place, Reported, on_line};
+use rcell_command::shown::Shown;
 use std::fmt;
 
 // The cells of a combination, with a blank between two of them, and `*` for null.
@@ -91,71 +93,50 @@ fn write_labels<W: fmt::Write>(f: &mut fmt::Formatter<W>, reported: &OtherLabel)
     }
 }
 
-/// The text of an error of merging tables, after so many bytes were written.
-#[derive(Debug, Drop)]
-pub struct TablesText {
-    pub fault: LabelFault,
-    pub written: u64,
+/// The report of merged tables, by the paths of their texts.
+#[derive(Drop)]
+pub struct TablesReport<'a> {
+    pub outcome: JoinOutcome,
+    pub paths: &'a [&'a str],
 }
 
-impl fmt::Display for TablesText {
+impl<'a> fmt::Display for TablesReport<'a> {
     fn fmt<W: fmt::Write>(&self, f: &mut fmt::Formatter<W>) -> fmt::Result {
-        let written = self.written;
-        match &self.fault {
-            LabelFault::Join(JoinFault::Text { text: _, fault }) => {
+        let written = self.outcome.written;
+        match &self.outcome.fault {
+            Some(LabelFault::Join(JoinFault::Text { text: _, fault })) => {
                 let kind = fault.kind;
                 write!(f, "{kind}")
             }
-            LabelFault::Join(JoinFault::TooMany(combo)) => {
+            Some(LabelFault::Join(JoinFault::TooMany(combo))) => {
                 let cells = CellList { combo };
                 write!(f, "count too great for {cells}")
             }
-            LabelFault::Join(JoinFault::TooLong) => f.write_str("table too long"),
-            LabelFault::Join(JoinFault::Memory) => f.write_str("no memory"),
-            LabelFault::Join(JoinFault::Write) => {
+            Some(LabelFault::Join(JoinFault::TooLong)) => f.write_str("table too long"),
+            Some(LabelFault::Join(JoinFault::Memory)) => f.write_str("no memory"),
+            Some(LabelFault::Join(JoinFault::Write)) => {
                 write!(f, "write failed after {written} bytes")
             }
-            LabelFault::OtherLabel(other) => write_labels(f, other),
+            Some(LabelFault::OtherLabel(other)) => write_labels(f, other),
+            None => Ok(()),
         }
     }
 }
 
-fn table_place<'a>(paths: &[&'a str], fault: &JoinFault) -> Place<'a>
-    ensures { result ≡ table_place (map (λ path. path.now) paths.now) fault.now }
-{
-    match fault {
-        JoinFault::Text { text, fault } => {
-            let status = table_kind_status(fault.kind);
-            on_line(path_at(paths, *text), fault.line, status)
-        }
-        JoinFault::TooMany(_) => whole("output", 1),
-        JoinFault::TooLong => whole("output", 1),
-        JoinFault::Memory => whole("tables", 3),
-        JoinFault::Write => whole("output", 4),
-    }
-}
+impl<'a> Reported for TablesReport<'a> {
+    ghost place = { λ r. option_map (tables_place (map (λ path. path.now) r.paths.now)) r.outcome.fault };
 
-fn label_place<'a>(paths: &[&'a str], fault: &LabelFault) -> Place<'a>
-    ensures { result ≡ label_place (map (λ path. path.now) paths.now) fault.now }
-{
-    match fault {
-        LabelFault::Join(fault) => table_place(paths, fault),
-        LabelFault::OtherLabel(other) => on_line(path_at(paths, other.text), other.line, 1),
+    fn place(&self) -> Option<Place<'_>> {
+        let paths = self.paths;
+        Some(match self.outcome.fault.as_ref()? {
+            LabelFault::Join(JoinFault::Text { text, fault }) => {
+                table_place(path_at(paths, *text), *fault)
+            }
+            LabelFault::Join(JoinFault::TooMany(_)) => on_line(b"output", 0, 1),
+            LabelFault::Join(JoinFault::TooLong) => on_line(b"output", 0, 1),
+            LabelFault::Join(JoinFault::Memory) => on_line(b"tables", 0, 3),
+            LabelFault::Join(JoinFault::Write) => on_line(b"output", 0, 4),
+            LabelFault::OtherLabel(other) => on_line(path_at(paths, other.text), other.line, 1),
+        })
     }
-}
-
-/// The report of tables that are not merged, by the paths of their texts; None if there is no error.
-pub fn tables_report<'a>(outcome: JoinOutcome, paths: &[&'a str]) -> Option<Report<'a, TablesText>>
-    ensures reported { is_some result ≡ is_some outcome.fault }
-    ensures place { IfSome result (λ reported. IfSome outcome.fault (λ fault. reported.place
-        ≡ label_place (map (λ path. path.now) paths.now) fault)) }
-    ensures text { IfSome result (λ reported. IfSome outcome.fault (λ fault. reported.text
-        ≡ record { fault = fault; written = outcome.written })) }
-{
-    let JoinOutcome { written, fault } = outcome;
-    let fault = fault?;
-    Some(Report {
-        place: label_place(paths, &fault),
-        text: TablesText { fault, written },
-    })
 }

@@ -2,4 +2,3 @@
 pub mod CommandLine
 pub mod OpenedGrids
 pub mod Refusals
-pub mod RefusalLines

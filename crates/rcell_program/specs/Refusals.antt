@@ -1,15 +1,17 @@
--- Why no run was started, and the exit status (profile).
-use Rattle.std.specs.Prelude.{ℕ, ◌≡◌, ◌<◌, ⊤}
+-- Where an error before a run is reported, and its exit status (profile).
+use Rattle.std.specs.Prelude.{ℕ, ◌≡◌, ◌<◌, ⊤, List, codes}
+use Rattle.rcell.specs.Reports.{name_at_place}
+use Rattle.rcell_command.specs.Reported.{PlaceValue, on_line}
 use Rattle.rcell_program.specs.declared.refusal.Refusal.{Refusal}
 use Rattle.rcell_program.specs.declared.refusal.Refusal.TheVariants.{Usage, GridWord, Memory, ScriptFile, GridFile}
 
--- 2 for the command line, 3 when out of memory, 4 for a file that can't be opened
-abbrev pub refusal_status : Refusal → ℕ
-refusal_status Usage = 2
-refusal_status (GridWord place) = 2
-refusal_status Memory = 3
-refusal_status ScriptFile = 4
-refusal_status (GridFile grid) = 4
+-- an error before a run belongs to the command line, the script or a grid; the line of a bad grid word is its place
+abbrev pub refusal_place : (names : List (List ℕ)) → Refusal → PlaceValue
+refusal_place names Usage = on_line (codes "arguments") 0 2
+refusal_place names (GridWord place) = on_line (codes "arguments") place 2
+refusal_place names Memory = on_line (codes "arguments") 0 3
+refusal_place names ScriptFile = on_line (codes "script") 0 4
+refusal_place names (GridFile grid) = on_line (name_at_place names grid) 0 4
 
 -- the errors of opening a script and so many grids
 abbrev pub IsOfOpening : ℕ → Refusal → Type 0

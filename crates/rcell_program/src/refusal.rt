@@ -1,8 +1,10 @@
 //! Why no run was started.
 
-ghost use Rattle.std.specs.Prelude.{◌≡◌};
-ghost use Rattle.rcell_program.specs.Refusals.{refusal_status};
+ghost use Rattle.std.specs.Prelude.{Some};
 
+use cell_core::name::Name;
+use rcell_command::reported::{Place, Reported, on_line};
+use std::fmt;
 use thiserror::Error;
 
 /// Why no run was started.
@@ -25,17 +27,35 @@ pub enum Refusal {
     GridFile { grid: usize },
 }
 
-impl Refusal {
-    /// The exit status: 2 for the command line, 3 when out of memory, 4 for a file (profile).
-    pub fn status(self) -> u8
-        ensures { result ≡ refusal_status self }
-    {
-        match self {
-            Refusal::Usage => 2,
-            Refusal::GridWord { .. } => 2,
-            Refusal::Memory => 3,
-            Refusal::ScriptFile => 4,
-            Refusal::GridFile { .. } => 4,
-        }
+/// The report of an error before a run, by the names of the grids.
+#[derive(Drop)]
+pub struct RefusalReport<'a> {
+    pub refusal: Refusal,
+    pub names: &'a [Name],
+}
+
+impl<'a> fmt::Display for RefusalReport<'a> {
+    fn fmt<W: fmt::Write>(&self, f: &mut fmt::Formatter<W>) -> fmt::Result {
+        let refusal = self.refusal;
+        write!(f, "{refusal}")
+    }
+}
+
+impl<'a> Reported for RefusalReport<'a> {
+    ghost use Rattle.rcell_program.specs.Refusals.{refusal_place};
+
+    ghost place = { λ r. Some (refusal_place r.names.now r.refusal) };
+
+    fn place(&self) -> Option<Place<'_>> {
+        Some(match self.refusal {
+            Refusal::Usage => on_line(b"arguments", 0, 2),
+            Refusal::GridWord { place } => on_line(b"arguments", place, 2),
+            Refusal::Memory => on_line(b"arguments", 0, 3),
+            Refusal::ScriptFile => on_line(b"script", 0, 4),
+            Refusal::GridFile { grid } => match self.names.get(grid) {
+                Some(name) => on_line(name.bytes(), 0, 4),
+                None => on_line(b"", 0, 4),
+            },
+        })
     }
 }

@@ -1,5 +1,5 @@
 use Rattle.std.proofs.Common.{◌∙◌, ◌++◌, ◌∷◌, [], ap, sym}
-use Rattle.rcell_join.specs.TablesReports.{fields_of}
+use Rattle.rcell_join.specs.TwoLabels.{fields_of}
 use Rattle.rcell_join.proofs.LabelFields.{cut-behind, cut-is, fields-alike, fields-differ, last-one}
 use Rattle.rcell_join.proofs.tables_report.two_labels.Goals as goal
 

@@ -1,0 +1,60 @@
+//! The line on standard error that says why a program did not do all its work, and the exit status.
+
+ghost use Rattle.std.specs.Prelude.{◌≡◌, Option};
+ghost use Rattle.rcell_command.specs.Reported.{PlaceValue, on_line, status_of};
+
+use crate::shown::Shown;
+use std::fmt;
+use std::marker::Model;
+
+/// The source of an error, its line, and the exit status (profile). The line is 0 if the error has none. The status is 1 if a text
+/// was rejected, 2 for the command line, 3 if memory ran out, and 4 if a file could not be opened, read or written.
+#[derive(Drop)]
+pub struct Place<'a> {
+    pub source: &'a [u8],
+    pub line: u64,
+    pub status: u8,
+}
+
+impl<'a> Model for Place<'a> {
+    ghost use Rattle.rcell_command.specs.Reported.{PlaceValue};
+
+    ghost Value = { PlaceValue };
+
+    ghost view = { λ p. record { source = p.source.now; line = p.line; status = p.status } };
+}
+
+/// A line of a source.
+pub fn on_line<'a>(source: &'a [u8], line: u64, status: u8) -> Place<'a>
+    ensures { result ≡ on_line source.now line status }
+{
+    Place {
+        source,
+        line,
+        status,
+    }
+}
+
+/// The report of a program's work. It is displayed as the text of its error.
+pub trait Reported: fmt::Display {
+    /// Where the error is, None if there is none.
+    ghost place: { Self → Option PlaceValue };
+
+    /// Where the error is, None if there is none.
+    fn place(&self) -> Option<Place<'_>>
+        ensures { result ≡ place self.now };
+}
+
+/// Prints the line `PROGRAM: SOURCE:LINE: TEXT` of an error (profile) on standard error, and returns the exit status; 0 and no line if
+/// there is no error. If standard error takes nothing, the status still says it.
+pub fn report<R: Eprint, T: Reported>(rt: &R, program: &str, reported: &T) -> u8
+    ensures { result ≡ status_of (T.place reported.now) }
+{
+    let Some(place) = reported.place() else {
+        return 0;
+    };
+    let source = Shown { text: place.source };
+    let line = place.line;
+    let _ = eprintln!(rt; "{program}: {source}:{line}: {reported}");
+    place.status
+}

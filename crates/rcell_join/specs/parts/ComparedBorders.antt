@@ -1,0 +1,27 @@
+-- What a border that is rejected is compared with (profile).
+use Rattle.std.specs.Prelude.{ℕ, zero, suc, ◌-◌, Bool, true, false, List, [], codes, if◌then◌else◌}
+use Rattle.cell_cats_areas.specs.declared.clump.Joining.TheVariants as joinings
+use Rattle.cell_join_clumps.specs.declared.clumps_fault.ClumpsFault.{ClumpsFault}
+use Rattle.cell_join_clumps.specs.declared.clumps_fault.ClumpsFault.TheVariants as clumps
+use Rattle.cell_join_clumps.specs.declared.clumps_fault.Misfit.{Misfit}
+use Rattle.cell_join_clumps.specs.declared.clumps_fault.Misfit.TheVariants.{WestEast, NorthSouth}
+use Rattle.rcell_join.specs.ErrorPlaces.{path_at}
+
+-- a tile of the first row that is neither right of the last tile nor below the first begins the next row: the first tile ends where it
+-- begins
+abbrev pub begins_row : (beside below : Misfit) → Bool
+begins_row (WestEast west east) (NorthSouth north south) = false
+begins_row (WestEast west east) below = true
+begins_row beside below = false
+
+-- what the border is compared with: the first border, or for that one the command; the border on the left or above; or the one with
+-- none below it
+abbrev pub clumps_other : List (List ℕ) → ClumpsFault → List ℕ
+clumps_other paths (clumps.Connectivity zero joinings.Edges) = codes "clumps -d"
+clumps_other paths (clumps.Connectivity zero joinings.EdgesAndCorners) = codes "clumps without -d"
+clumps_other paths (clumps.Connectivity (suc text) found) = path_at paths 0
+clumps_other paths (clumps.Apart text beside below) = path_at paths (if begins_row beside below then 0 else text - 1)
+clumps_other paths (clumps.NotBeside text misfit) = path_at paths (text - 1)
+clumps_other paths (clumps.NotBelow text other misfit) = path_at paths other
+clumps_other paths (clumps.FewTiles other) = path_at paths other
+clumps_other paths fault = []
