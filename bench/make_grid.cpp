@@ -13,6 +13,8 @@
 //   checkerboard 1 and 2 by turns
 //   zones        a coarse zoning: 900 zones in runs of some hundred and fifty cells
 //   heights      numbers of four digits: a surface of hills with a little noise
+//   heights:N    the same with hills N times as high; of 5 about 11,000 numbers, most of five digits
+//   mask         1 where such a surface is above its middle, and 0 elsewhere
 //
 // Cells are apart by one blank, or as SPELLING says: `two` blanks, `tabs`, a cell a line (`lines`), or each word set right in
 // five places and a blank after it (`padded`).
@@ -41,6 +43,7 @@ constexpr size_t COLS_OF_A_NEW_ZONE = 2000;
 constexpr int32_t LOWEST = 900;
 // Hills of three sizes: the cells from one summit or hollow to the next, and how much they differ at most.
 constexpr std::pair<size_t, uint64_t> HILLS[] = {{256, 2200}, {64, 700}, {16, 150}};
+constexpr int32_t MIDDLE = 2425;
 constexpr size_t PLACES = 5;
 
 // Numbers at random: splitmix64.
@@ -89,6 +92,7 @@ public:
         else if (name == "spiral") each([this, r](size_t c) { return turn(r, c); });
         else if (name == "zones") zones(r);
         else if (name == "heights") each([this, r](size_t c) { return height(r, c); });
+        else if (name == "mask") each([this, r](size_t c) { return height(r, c) > MIDDLE; });
         else if (name == "checkerboard") each([r](size_t c) { return (r + c) % 2 + 1; });
         else std::exit((std::fprintf(stderr, "make_grid: unknown kind\n"), 2));
         return row;
@@ -139,7 +143,7 @@ private:
             const auto between = [side = side, c, right](size_t row) {
                 return corner(row, c / side, side) * (side - right) + corner(row, c / side + 1, side) * right;
             };
-            sum += (between(r / side) * (side - down) + between(r / side + 1) * down) / side * most / side / 65536;
+            sum += (between(r / side) * (side - down) + between(r / side + 1) * down) / side * most * std::max<uint64_t>(number, 1) / side / 65536;
         }
         return int32_t(sum);
     }

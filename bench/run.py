@@ -33,7 +33,7 @@ OUT = f"{HERE}/out"
 DOCUMENT = f"{ROOT}/bench/RESULTS.md"
 # What is before and after the tables there.
 MARKS = ("<!-- The tables of bench/run.py -->\n", "<!-- End of the tables -->\n")
-NAMES = "ghi"
+NAMES = "ghijklmnopqrstuv"
 SHORT_SIDE = 1000
 # Grids of few cells are timed in more rounds, since what disturbs a short run is a larger part of it.
 FEW_SIDE = 2000
@@ -64,10 +64,10 @@ class Task:
 
 @dataclass(frozen=True)
 class Bench:
-    """Tasks over grids of one region, each grid a kind of make_grid.cpp and a seed."""
+    """Tasks over grids of one region, each grid a kind of make_grid.cpp and a seed. `side` is its rows and columns, or a pair of both."""
     title: str
     grids: tuple[tuple[str, int], ...]
-    side: int
+    side: int | tuple[int, int]
     tasks: tuple[Task, ...]
 
 
@@ -156,13 +156,16 @@ PARTS = {
 }
 
 RUNS_AND_WORDS = "Runs and words"
-# The tasks, and the ratios aimed at for patches and for noise.
-RACED = ((READ, 0.5, 0.6), (STATS, 0.5, 0.6), (STATS_TWO, 0.6, 0.7), (RECLASS_STATS, 0.5, 0.5), (LONG_IF_STATS, 0.6, 0.8),
-         (CLUMP, 0.8, 0.8), (CLUMP_CORNERS, 0.8, 0.8), (CLUMP_WRITE, 0.7, 0.9), (SUM_WRITE, 0.9, 0.8), (WRITE, 0.7, 0.7))
+# The tasks, and the ratios aimed at for patches, noise and heights of five digits.
+RACED = ((READ, 0.4, 0.4, 0.9), (STATS, 0.45, 0.45, 1.0), (STATS_TWO, 0.4, 0.5, 1.3), (RECLASS_STATS, 0.45, 0.4, 1.0),
+         (LONG_IF_STATS, 0.6, 0.55, 1.0), (CLUMP, 0.65, 0.7, 0.9), (CLUMP_CORNERS, 0.65, 0.7, 0.9), (CLUMP_WRITE, 0.55, 0.75, 0.9),
+         (SUM_WRITE, 0.8, 0.65, 0.9), (WRITE, 0.45, 0.4, 0.9))
 SPELLED = ((READ, 1.0),)
 PARTS[RUNS_AND_WORDS] = (
-    Race("patchy land cover, 4 million cells", "patchy", tuple((task, patchy) for task, patchy, _ in RACED)),
-    Race("noise, 4 million cells", "noise", tuple((task, noise) for task, _, noise in RACED)),
+    Race("patchy land cover, 4 million cells", "patchy", tuple((task, patchy) for task, patchy, *_ in RACED)),
+    Race("noise, 4 million cells", "noise", tuple((task, noise) for task, _, noise, _ in RACED)),
+    Race("heights of five digits, 4 million cells", "heights:5", tuple((task, heights) for task, *_, heights in RACED)),
+    Race("a mask, 4 million cells", "mask", tuple((task, None) for task, *_ in RACED)),
     Race("a coarse zoning, 4 million cells", "zones", tuple((task, None) for task, *_ in RACED)),
     Race("heights of four digits, 4 million cells", "heights", tuple((task, None) for task, *_ in RACED)),
     Race("noise, two blanks between cells, 4 million cells", "noise@two", SPELLED),
@@ -170,6 +173,27 @@ PARTS[RUNS_AND_WORDS] = (
     Race("noise, a cell a line, 4 million cells", "noise@lines", SPELLED),
     Race("noise, each cell set right in five places, 4 million cells", "noise@padded", SPELLED),
     Race("patchy land cover, each cell set right in five places, 4 million cells", "patchy@padded", SPELLED),
+)
+
+# No dimension may take more than so many times as long as the yardstick.
+MOST = 3
+NARROW = (READ.aiming(MOST), CLUMP_WRITE.aiming(MOST), SUM_WRITE.aiming(MOST))
+
+
+def counted(title, kinds, side=2000):
+    """A table of all maps of some kinds, the seeds of which are 1, 2, .."""
+    grids = tuple((kind, seed + 1) for seed, kind in enumerate(kinds))
+    script = f"r.stats -c input={','.join(NAMES[:len(kinds)])}\n"
+    return Bench(title, grids, side, (Task("r.stats -c of all maps", script, STATS.words, len(kinds), MOST),))
+
+
+PARTS["Dimensions beside C++"] = (
+    *(Bench(f"noise in 65,535 rows of {cols} columns", (("noise", 1),), (65535, cols), NARROW) for cols in (1, 16, 61)),
+    *(counted(f"{count:,} categories at random, 4 million cells", [f"random:{count}"]) for count in (10_000, 100_000, 1_000_000)),
+    counted("another category in each of 10 million cells", ["blocks:1"], 3163),
+    *(counted(f"two maps of {count:,} values at random, 4 million cells", [f"random:{count}"] * 2) for count in (300, 1000, 3000)),
+    counted("two maps of heights of five digits, 4 million cells", ["heights:5"] * 2),
+    *(counted(f"{maps} maps of four values at random, 1 million cells", ["random:4"] * maps, 1000) for maps in (8, 12, 16)),
 )
 
 REAL_MAPS = "Real maps"
@@ -209,11 +233,12 @@ def grid_file(kind, seed, side):
     """The path of a grid, which is written if it is not there yet."""
     if kind.startswith(REAL):
         return f"{OUT}/{kind}.txt"
-    path = f"{OUT}/{kind.replace(':', '-')}-{seed}-{side}.txt"
+    rows, cols = side if isinstance(side, tuple) else (side, side)
+    path = f"{OUT}/{kind.replace(':', '-')}-{seed}-{rows}" + (f"-{cols}.txt" if cols != rows else ".txt")
     if not os.path.exists(path):
         say(f"  writing {os.path.basename(path)}")
         with open(f"{path}.part", "wb") as file:
-            subprocess.run([f"{OUT}/make_grid", kind, str(side), str(side), str(seed)], stdout=file, check=True)
+            subprocess.run([f"{OUT}/make_grid", kind, str(rows), str(cols), str(seed)], stdout=file, check=True)
         os.rename(f"{path}.part", path)
     return path
 

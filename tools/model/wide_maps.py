@@ -1,0 +1,103 @@
+#!/usr/bin/env python3
+"""Runs rcell over random maps of many columns, and compares its tables and grids with numpy.
+
+    /usr/bin/python3 tools/model/wide_maps.py [--maps N] [--seed S] [--first F] [--program PATH] [--pieces CLANG]
+
+A row has up to 20,000 columns in stretches of different kinds: masks, small numbers, heights, long and negative numbers, null, each in
+a spelling of its own. Map F of seed S is the same wherever it is made. With --pieces half of the maps are read a few bytes at a time,
+as by compare.py. The last line is 'N maps, M differences'.
+"""
+import argparse
+import tempfile
+
+import cases
+import numpy as np
+from compare import PIECES, ROOT, Program
+from made_cases import Made
+
+NULL = -(2**31)
+MOST = 2**31 - 1
+MOST_COLS = 20_000
+LENGTHS = (1, 3, 64, 65, 300, 5000)  # the most cells of a stretch
+# The smallest and the largest number of a stretch.
+RANGES = ((0, 1), (7, 7), (1, 12), (0, 254), (0, 255), (1, 999), (0, 19_999), (0, 99_999_999), (-120, -1), (-9999, 9999), (-MOST, MOST))
+SPELLINGS = ("%d",) * 4 + ("%d ", "%5d", "%d\t", "%05d", "%d\r\n", "%d\n", "%12d")
+SCRIPT = b"r.stats -c input=g\nr.stats -c input=g,h\nr.out.ascii input=g\nr.mapcalc m = max(g[0,1], h)\nr.out.ascii input=m\n"
+
+
+def random_map(random, shape):
+    """Cells, and their text."""
+    cells, words = np.empty(shape[0] * shape[1], np.int64), []
+    longest, few = random.choice(LENGTHS), random.choice(len(RANGES), random.integers(1, 4))
+    while len(words) < cells.size:
+        size = min(int(random.integers(1, longest + 1)), cells.size - len(words))
+        least, most = RANGES[random.choice(few)]
+        part = random.integers(least, most + 1, size)
+        part[random.random(size) < random.choice([0, 0, 0.05, 1])] = NULL
+        cells[len(words) : len(words) + size] = part
+        spelling = SPELLINGS[random.integers(len(SPELLINGS))]
+        words += ["*" if cell == NULL else spelling % cell for cell in part.tolist()]
+    return cells.reshape(shape), " ".join(words) + "\n"
+
+
+def header(shape):
+    return f"north: {shape[0]}\nsouth: 0\neast: {shape[1]}\nwest: 0\nrows: {shape[0]}\ncols: {shape[1]}\n"
+
+
+def words_of(cells):
+    return ["*" if cell == NULL else str(cell) for cell in cells.tolist()]
+
+
+def table(*maps):
+    """The text of r.stats -c, which has null after all numbers."""
+    last = np.where(np.stack([it.ravel() for it in maps]) == NULL, MOST + 1, np.stack([it.ravel() for it in maps]))
+    found, counts = np.unique(last, axis=1, return_counts=True)
+    return "".join(" ".join(words_of(np.where(keys > MOST, NULL, keys))) + f" {count}\n" for keys, count in zip(found.T, counts))
+
+
+def grid(cells):
+    return header(cells.shape) + "".join(" ".join(words_of(row)) + "\n" for row in cells)
+
+
+def expected(g, h):
+    beside = np.full(g.shape, NULL, np.int64)
+    beside[:, :-1] = g[:, 1:]
+    largest = np.where((beside == NULL) | (h == NULL), NULL, np.maximum(beside, h))
+    return table(g) + table(g, h) + grid(g) + grid(largest)
+
+
+def is_equal(program, shim, seed, number):
+    random = np.random.default_rng([seed, number])
+    shape = (int(random.integers(1, 4)), int(random.integers(1, random.choice([200, 3000, MOST_COLS]))))
+    (g, text), (h, other) = random_map(random, shape), random_map(random, shape)
+    files = {"script": SCRIPT, "grid0": (header(shape) + text).encode(), "grid1": (header(shape) + other).encode()}
+    made = Made(files, [(b"g", "grid0"), (b"h", "grid1")])
+    program.put(made)
+    pieces = {"LD_PRELOAD": shim, "READ_PIECE": str(random.choice(PIECES))} if shim and random.random() < 0.5 else {}
+    got = program.answer(made.words, **pieces)
+    return (got.status, got.output, got.told) == (0, expected(g, h).encode(), b"")
+
+
+def main():
+    parser = argparse.ArgumentParser(description=__doc__, formatter_class=argparse.RawDescriptionHelpFormatter)
+    parser.add_argument("--maps", type=int, default=100)
+    parser.add_argument("--seed", type=int, default=1)
+    parser.add_argument("--first", type=int, default=0)
+    parser.add_argument("--program", default=f"{ROOT}/bin/rcell")
+    parser.add_argument("--pieces", metavar="CLANG")
+    wanted = parser.parse_args()
+    with tempfile.TemporaryDirectory(prefix="rcell-wide-") as room:
+        shim = f"{room}/devices.so" if wanted.pieces else ""
+        if shim:
+            cases.build_shim(wanted.pieces, shim, "devices")
+        program = Program(wanted.program, room)
+        numbers = range(wanted.first, wanted.first + wanted.maps)
+        different = [number for number in numbers if not is_equal(program, shim, wanted.seed, number)]
+        for number in different:
+            print(f"map {number} of seed {wanted.seed} differs")
+    print(f"{wanted.maps} maps, {len(different)} differences")
+    return 1 if different else 0
+
+
+if __name__ == "__main__":
+    raise SystemExit(main())
