@@ -15,11 +15,7 @@ import importlib
 import os
 from typing import TYPE_CHECKING, Any
 
-from ._align import align
 from ._answers import Result, grid, run, table
-from ._bands import bands
-from ._change import Change, change
-from ._composition import composition, cross
 from ._errors import (
     BadMap,
     Killed,
@@ -35,14 +31,10 @@ from ._errors import (
     WrongProgram,
 )
 from ._grid import Grid
-from ._joiner import find_joiner
-from ._majority import majority
 from ._maps import Aligned, Map
-from ._patches import patches
 from ._program import find_program
 from ._region import Region
 from ._table import Pivot, StatsTable, Table
-from ._zonal import zonal
 
 __all__ = [
     "Aligned",
@@ -84,9 +76,30 @@ __all__ = [
 
 if TYPE_CHECKING:
     from . import tiles
+    from ._align import align
+    from ._bands import bands
+    from ._change import Change, change
+    from ._composition import composition, cross
+    from ._majority import majority
+    from ._patches import patches
     from ._version import __version__
+    from ._zonal import zonal
 
     __all__ += ["tiles"]
+
+# The modules that are imported when one of these is first used: a table needs none of them.
+_LATER = {
+    "Change": "_change",
+    "__version__": "_version",
+    "align": "_align",
+    "bands": "_bands",
+    "change": "_change",
+    "composition": "_composition",
+    "cross": "_composition",
+    "majority": "_majority",
+    "patches": "_patches",
+    "zonal": "_zonal",
+}
 
 
 def program(path: str | os.PathLike[str] | None = None) -> str:
@@ -144,13 +157,21 @@ def joiner(path: str | os.PathLike[str] | None = None) -> str:
     >>> os.path.basename(rcell.joiner())
     'rcell-join'
     """
+    from ._joiner import find_joiner
+
     return find_joiner(path)
 
 
 def __getattr__(name: str) -> Any:
-    """Import when first used: `rcell.tiles` needs Dask, and the version is looked up among the installed packages."""
+    """Import when first used: `rcell.tiles` needs Dask, and half of the modules are for some calls alone."""
     if name == "tiles":
         return importlib.import_module(".tiles", __name__)
-    if name == "__version__":
-        return importlib.import_module("._version", __name__).__version__
-    raise AttributeError(f"module {__name__!r} has no attribute {name!r}")
+    if name not in _LATER:
+        raise AttributeError(f"module {__name__!r} has no attribute {name!r}")
+    value = getattr(importlib.import_module(f".{_LATER[name]}", __name__), name)
+    globals()[name] = value
+    return value
+
+
+def __dir__() -> list[str]:
+    return sorted({*globals(), *_LATER, "tiles"})
