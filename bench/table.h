@@ -12,11 +12,11 @@
 inline uint32_t rank_of(int32_t cell) { return uint32_t(cell - 1u) ^ 0x80000000u; }
 inline int32_t cell_of(uint32_t rank) { return int32_t((rank ^ 0x80000000u) + 1u); }
 
-// The combinations of one, two and three maps.
+// The combinations of one, two and more maps.
 struct One {
     using Key = uint32_t;
     static constexpr size_t WIDTH = 1;
-    static Key key(const std::array<uint32_t, 3> &ranks) { return ranks[0]; }
+    static Key key(const std::array<uint32_t, 1> &ranks) { return ranks[0]; }
     static uint32_t rank(Key key, size_t) { return key; }
     static uint64_t mixed(Key key) { return key * 0x9E3779B97F4A7C15u; }
 };
@@ -24,18 +24,20 @@ struct One {
 struct Two {
     using Key = uint64_t;
     static constexpr size_t WIDTH = 2;
-    static Key key(const std::array<uint32_t, 3> &ranks) { return uint64_t(ranks[0]) << 32 | ranks[1]; }
+    static Key key(const std::array<uint32_t, 2> &ranks) { return uint64_t(ranks[0]) << 32 | ranks[1]; }
     static uint32_t rank(Key key, size_t at) { return uint32_t(at == 0 ? key >> 32 : key); }
     static uint64_t mixed(Key key) { return (key ^ key >> 32) * 0x9E3779B97F4A7C15u; }
 };
 
-struct Three {
-    using Key = std::array<uint32_t, 3>;
-    static constexpr size_t WIDTH = 3;
-    static Key key(const std::array<uint32_t, 3> &ranks) { return ranks; }
+template <size_t N> struct Many {
+    using Key = std::array<uint32_t, N>;
+    static constexpr size_t WIDTH = N;
+    static Key key(const Key &ranks) { return ranks; }
     static uint32_t rank(const Key &key, size_t at) { return key[at]; }
     static uint64_t mixed(const Key &key) {
-        return ((key[0] * 0x9E3779B97F4A7C15u + key[1]) * 0x9E3779B97F4A7C15u + key[2]) * 0x9E3779B97F4A7C15u;
+        uint64_t sum = 0;
+        for (const uint32_t rank : key) sum = (sum + rank) * 0x9E3779B97F4A7C15u;
+        return sum;
     }
 };
 
@@ -160,7 +162,7 @@ template <typename Form, typename Counts> inline Entries<Form> entries_by_hash(c
     const size_t size = maps[0].size();
     // Cells that have the combination of the cell before are counted together.
     for (size_t from = 0, to = 0; from < size; from = to) {
-        std::array<uint32_t, 3> ranks{};
+        std::array<uint32_t, Form::WIDTH> ranks{};
         for (size_t m = 0; m < Form::WIDTH; m++) ranks[m] = rank_of(cells[m][from]);
         bool is_same = true;
         while (is_same && ++to < size) {
@@ -197,6 +199,9 @@ inline void write_table(const std::vector<Map> &maps, bool by_std, Output &outpu
     }
     if (maps.size() == 1) write_table_of<One>(maps, by_std, output);
     else if (maps.size() == 2) write_table_of<Two>(maps, by_std, output);
-    else if (maps.size() == 3) write_table_of<Three>(maps, by_std, output);
-    else fail("more than three maps");
+    else if (maps.size() == 3) write_table_of<Many<3>>(maps, by_std, output);
+    else if (maps.size() == 8) write_table_of<Many<8>>(maps, by_std, output);
+    else if (maps.size() == 12) write_table_of<Many<12>>(maps, by_std, output);
+    else if (maps.size() == 16) write_table_of<Many<16>>(maps, by_std, output);
+    else fail("another number of maps than 1, 2, 3, 8, 12 and 16");
 }
