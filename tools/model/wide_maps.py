@@ -49,10 +49,15 @@ def words_of(cells):
 
 
 def table(*maps):
-    """The text of r.stats -c, which has null after all numbers."""
-    last = np.where(np.stack([it.ravel() for it in maps]) == NULL, MOST + 1, np.stack([it.ravel() for it in maps]))
-    found, counts = np.unique(last, axis=1, return_counts=True)
-    return "".join(" ".join(words_of(np.where(keys > MOST, NULL, keys))) + f" {count}\n" for keys, count in zip(found.T, counts))
+    """The text of r.stats -c of one or two maps, which has null after all numbers."""
+    keys = np.zeros(maps[0].size, np.uint64)
+    for cells in maps:
+        last = np.where(cells == NULL, MOST + 1, cells).ravel()
+        keys = keys << np.uint64(32) | (last + MOST).astype(np.uint64)
+    found, counts = np.unique(keys, return_counts=True)
+    columns = [(found >> np.uint64(32 * at) & np.uint64(2**32 - 1)).astype(np.int64) - MOST for at in reversed(range(len(maps)))]
+    words = [words_of(np.where(column > MOST, NULL, column)) for column in columns]
+    return "".join(" ".join(line) + "\n" for line in zip(*words, map(str, counts.tolist())))
 
 
 def grid(cells):
