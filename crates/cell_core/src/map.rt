@@ -103,6 +103,14 @@ impl CellMap {
         self.rows[row as usize].bytes()
     }
 
+    /// The cells of a row, from left to right, if the row is kept so.
+    pub fn cells(&self, row: u32) -> Option<&[Cell]>
+        requires row_in_range { row < self.now.region.rows }
+        ensures { IfSome result (λ cells. cells.now ≡ row_at self.now row) }
+    {
+        self.rows[row as usize].cells()
+    }
+
     /// Says that each cell of a map is null or a category. Does nothing. It is a call of its own, so that only a law that needs
     /// the range carries the fact.
     pub fn cells_are_in_range(&self)

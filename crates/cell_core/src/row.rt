@@ -129,6 +129,16 @@ impl Row {
         }
     }
 
+    // The cells, if they are kept so.
+    pub(crate) fn cells(&self) -> Option<&[Cell]>
+        ensures { IfSome result (λ cells. cells.now ≡ self.now) }
+    {
+        match &self.kept {
+            RowForm::Cells(cells) => Some(cells.as_slice()),
+            _ => None,
+        }
+    }
+
     // The stretches, from left to right.
     pub(crate) fn stretches(&self) -> Stretches<'_>
         ensures written { written_out result ≡ self.now }
