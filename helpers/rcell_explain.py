@@ -7,7 +7,7 @@ import sys
 
 from rcell_front.advice import INDENT, Messages, marked, shown
 from rcell_front.grids import EDGES, FORGOTTEN, GridFile, SIX, SOUGHT, cause_of, quoted
-from rcell_front.mending import asker, is_name, names_in, rejected_lines, warnings
+from rcell_front.mending import asker, rejected_lines, warnings
 from rcell_run import Missing, Run, found_program
 
 MESSAGE = re.compile(r"rcell: ([A-Za-z0-9_.]+):([0-9]+): (.*)")
@@ -84,7 +84,7 @@ class Explanation:
         name, equals, path = word.partition("=")
         near = self.words[line] if line < len(self.words) else ""
         first = self.words[0]
-        if "=" in first and is_name(first.split("=")[0]) and not os.path.exists(first):
+        if "=" in first and not os.path.exists(first):
             script = next((it for it in self.words if "=" not in it), word)
             others = [it for it in self.words if it != script]
             self.say_known("arguments", text, "script not first", {"fixed": " ".join(["rcell", quoted(script)] + [quoted(it) for it in others])})
@@ -93,15 +93,11 @@ class Explanation:
             fixed = re.sub(r" *= *", "=", " ".join(parts))
             self.say_known("arguments", text, "blanks", {"fixed": shown(fixed.encode("utf-8", "surrogateescape"))})
         elif not equals:
-            stem = re.sub(r"[^A-Za-z0-9_.]", "_", os.path.basename(word).split(".")[0]) or "map"
-            stem = stem if is_name(stem) else "m_" + stem
-            self.say_known("arguments", text, "no name", {"word": quoted(word), "name": stem})
+            self.say_known("arguments", text, "no name", {"word": quoted(word), "name": as_name(os.path.basename(word).split(".")[0])})
         elif not path:
             self.say_known("arguments", text, "no path", {"name": quoted(name)})
         else:
-            fixed = re.sub(r"[^A-Za-z0-9_.]", "_", name)
-            fixed = fixed if is_name(fixed) else "m_" + fixed[:60]
-            self.say_known("arguments", text, "bad name", {"name": quoted(name), "fixed": quoted("%s=%s" % (fixed, path))})
+            self.say_known("arguments", text, "bad name", {"name": quoted(name), "fixed": quoted("%s=%s" % (as_name(name), path))})
 
     # Files
 
@@ -239,7 +235,7 @@ class Explanation:
         script = given.start((1 << 20) + 1) if given else b""
         if not script or self.ask is None:
             return iter(())
-        names = [name for name, _ in self.run.given.grids] if has_names else names_in(script)
+        names = [name for name, _ in self.run.given.grids] if has_names else None
         return rejected_lines(self.ask, script, names, quoted(given.path))
 
     def explain_script(self, line, text, part):
@@ -275,6 +271,11 @@ class Explanation:
             self.say("write:")
             for it in mended:
                 self.say("  " + shown(it))
+
+
+def as_name(text):
+    """Return a name for a grid that is like a text."""
+    return re.sub(r"^(?=[0-9.])", "m_", re.sub(r"[^A-Za-z0-9_.]", "_", text) or "map")[:60]
 
 
 def same_number(one, other):

@@ -1,23 +1,24 @@
 # SPDX-License-Identifier: Apache-2.0 OR GPL-2.0-or-later
-"""What is often written in scripts that rcell rejects, and what to try instead: the table that mending.py asks the program about.
+"""Usual mistakes in scripts that rcell rejects: the text that is written, and the texts to try instead.
 
     CAUSES[part, text]   the causes of a message, in the order in which they are tried
+
+mending.py tries each on the program, which alone knows the grammar. The words below are those that users may have meant; the program is
+asked which of them a command knows, and how many arguments a function takes. No result of a run depends on this table.
 """
 import re
 from typing import NamedTuple
 
 from .advice import near_name, nearest, new_name
+from .pipe import COMMANDS
 
-LARGEST = 2147483647
 LINE = "\0"  # becomes the corrected line
 
-# The letters of the flags of each command, and its keys.
-COMMANDS = {"r.mapcalc": ("", ()), "r.reclass": ("", ("input", "output")), "r.clump": ("d", ("input", "output")),
-            "r.stats": ("clnN1", ("input", "separator", "null_value", "after")), "r.out.ascii": ("", ("input", "null_value"))}
-WRITERS = ("r.stats", "r.out.ascii")
-FUNCTIONS = {"if": "1 to 3 arguments", "isnull": "one argument", "null": "no argument", "abs": "one argument", "min": "", "max": "",
-             "mode": "", "row": "no argument", "col": "no argument", "nrows": "no argument", "ncols": "no argument",
-             "eval": "one or more arguments", "nmin": "", "nmax": "", "nmode": ""}
+OPTIONS = ("-c", "-l", "-n", "-N", "-1", "-d", "input=", "output=", "separator=", "null_value=", "after=")
+FUNCTIONS = "if isnull null abs min max mode row col nrows ncols eval nmin nmax nmode".split()
+MOST_MAPS = 16  # that are tried
+ARGUMENTS = {(0,): "no argument", (1,): "one argument", (1, 2, 3): "1 to 3 arguments", (2, 3, 4): "two or more arguments",
+             (1, 2, 3, 4): "one or more arguments"}
 MODULES = {
     "g.region": "delete it: the region comes from the grids; run `g.region` before you export them",
     "r.mask": "`r.mapcalc masked = if(mask, map, null())`",
@@ -74,11 +75,6 @@ OPERATORS = {"and": "&&", "or": "||", "mod": "%", "div": "/", "eq": "==", "ne": 
 CHARACTERS = {"\xc3\x97": "*", "\xc3\xb7": "/", "\xe2\x88\x92": "-", "\xe2\x80\x93": "-", "\xe2\x80\x94": "-", "\xe2\x89\xa4": "<=",
               "\xe2\x89\xa5": ">=", "\xe2\x89\xa0": "!=", "\xc2\xa0": " ", "\xe2\x80\x9c": "", "\xe2\x80\x9d": "", "\xe2\x80\x9e": "",
               "\xe2\x80\x98": "", "\xe2\x80\x99": ""}
-MADE = re.compile(r"^[ \t]*r\.mapcalc[ \t]+([\w.]+)|^[ \t]*r\.(?:clump|reclass)[ \t].*?output=([\w.]+)", re.ASCII | re.MULTILINE)
-# In an accepted script, what is marked is seldom meant.
-WARNINGS = {"label comment": r"^[^#=\n]*=[ \t]*[+-]?\d+[ \t]+(?:.*[ \t])?(?P<mark>#.*\S)",
-            "label quotes": r"^[^#=\n]*=[ \t]*[+-]?\d+[ \t]+(?P<mark>([\"']).*\2)[ \t\r]*$",
-            "null quotes": r"^[ \t]*r\..*[ \t]null_value=(?P<mark>([\"'])\S*\2)(?!\S)"}
 
 
 class Cause(NamedTuple):
@@ -125,52 +121,56 @@ def lower(at):
     return [at["mark"].lower()]
 
 
+def options(at, is_flag):
+    """Return the flags, or the keys, that the program knows for a command: it does not report a bad option."""
+    tried = [it for it in OPTIONS if (it[0] == "-") == is_flag]
+    return [it for it in tried if at["judge"].answer("%s %s%s" % (at["command"], it, "" if is_flag else "*")) != "bad option"]
+
+
 def near_keys(at):
-    keys, meant = COMMANDS[at["command"]][1], KEYS.get(at["key"].lower(), at["key"].lower())
+    keys, meant = [it[:-1] for it in options(at, False)], KEYS.get(at["key"].lower(), at["key"].lower())
     return [it for it in keys if it.startswith(meant)] or near_name(meant, keys, 0.7)
 
 
 def known_flags(at):
-    return ["".join(letter for letter in at["letters"] if letter in COMMANDS[at["command"]][0])]
+    return ["".join(letter for letter in at["letters"] if "-" + letter in options(at, True))]
+
+
+def unknown_flags(at):
+    return ["-" + letter for letter in at["letters"] if "-" + letter not in options(at, True)]
 
 
 def flags(at):
-    letters = ["-" + letter for letter in COMMANDS[at["command"]][0]]
-    return "its flags are %s" % " ".join(letters) if len(letters) > 1 else "its flag is %s" % letters[0] if letters else "it has no flags"
-
-
-def is_single(at):
-    return None if at["command"] == "r.stats" else at["command"]
-
-
-def inputs(at):
-    return 1 + re.search(r"input=(\S*)", at["line"])[1].count(",")
+    known = options(at, True)
+    return "its flags are %s" % " ".join(known) if len(known) > 1 else "its flag is %s" % known[0] if known else "it has no flags"
 
 
 def keys(at):
-    known = COMMANDS[at["command"]][1]
-    return None if at["key"] in known else "its keys are %s" % " ".join(key + "=" for key in known)
+    known = options(at, False)
+    return None if at["key"] + "=" in known else "its keys are %s" % " ".join(known)
+
+
+def single(at):
+    """Return the command if it takes no second map."""
+    return at["command"] if at["judge"].answer(at["command"] + " input={map},{map}") == "bad name" else None
+
+
+def functions(at):
+    return [it for it in FUNCTIONS if at["judge"].answer("r.mapcalc x = %s()" % it) != "unknown function"]
+
+
+def function(at):
+    return at["mark"] if at["judge"].answer("r.mapcalc x = %s()" % at["mark"]) != "unknown function" else None
+
+
+def wanted(at):
+    """Return how many arguments a function takes, by the numbers of them that the program accepts."""
+    calls = {count: "r.mapcalc x = %s(%s)" % (at["mark"], ",".join("1" * count)) for count in range(5)}
+    return ARGUMENTS.get(tuple(count for count, call in calls.items() if not at["judge"].answer(call)), "another number of arguments")
 
 
 def free_name(at):
     return [new_name(at["made"], at["judge"].maps())]
-
-
-def flat(text):
-    """Return a text with all that is in closed parentheses or brackets blanked out."""
-    while (less := re.sub(r"[(\[][^()\[\]]*[)\]]", lambda it: "_" * len(it[0]), text)) != text:
-        text = less
-    return text
-
-
-def arguments(at):
-    """Return how many arguments a call has."""
-    text = flat(at["after"].partition("(")[2]).partition(")")[0]
-    return text.count(",") + bool(text.strip())
-
-
-def if_of_three(at):
-    return "for `if(x, a, b, c)`: `if(x > 0, a, if(x, c, b))`" if at["mark"] == "if" and arguments(at) == 4 else None
 
 
 def decimal(at):
@@ -183,7 +183,7 @@ def decimal(at):
 def whole(at):
     """Return a number with decimals as a whole one, if it is one or is compared."""
     value, sign = decimal(at), at["sign"].strip()
-    is_right = value and value <= LARGEST and (value.denominator == 1 or sign[:1] in ("<", ">") and sign)
+    is_right = value and (value.denominator == 1 or sign[:1] in ("<", ">") and sign)
     return ["%d" % (value // 1 + (value.denominator > 1 and sign in ("<", ">=")))] if is_right else []
 
 
@@ -215,10 +215,13 @@ POWER = r"(?P<name>[A-Za-z_][\w.]*)[ \t]*(?P<mark>\^)[ \t]*%d(?![\w.])"
 DASHED = r"(?<![\w.])[A-Za-z_][\w.]*(?:-[\w.]+)+(?![\w.(])"
 OPTION = Cause("option", r"(?<!\S)--(?:o|overwrite|q|quiet|qq|v|verbose|ui|help)(?!\S)", ("",))
 UNDERSCORED, READ = replaced((r"[ \t]*-[ \t]*", "_")), replaced(("-", " - "))
-LATER = {"later": lambda at: at["judge"].later(at["mark"])}
+LATER = {"later": lambda at: at["judge"].later(at["mark"], at["block"])}
 NEAR = {"near": lambda at: nearest(at["mark"], at["judge"].maps())}
 EXISTS = {"whence": lambda at: at["judge"].maps().get(at["made"]), "name": "{made}", "fixed": "{new}"}
-ARGUMENTS = {"wanted": lambda at: FUNCTIONS.get(at["mark"]), "count": arguments, "fixed": "see r.mapcalc in docs/commands.md"}
+ARGUMENT = r"[ \t]*((?:[^(),\n]|\((?:[^()\n]|\([^()\n]*\))*\))*?)[ \t]*"
+IF_OF_FOUR = r"(?P<mark>if)[ \t]*\(%s\)" % ",".join(ARGUMENT.replace("((", "(?P<%s>(" % name, 1) for name in "xabc")
+TWO_IFS = "if({x} > 0, {a}, if({x}, {c}, {b}))"
+OPEN = r"\((?P<rest>(?:[^()\n]|\((?:[^()\n]|\([^()\n]*\))*\))*)(?P<mark>)$"
 
 CAUSES = {
     ("script", "missing end"): [Cause("missing end", "^")],
@@ -245,7 +248,7 @@ CAUSES = {
         Cause("flag case", r"(?<!\S)-\w+", ("{new}",), lower, {"flag": "{mark}"}),
         Cause("area", r"(?<!\S)-(?=\w*(?P<letter>[ap]))(?P<letters>\w+)", ("-{new}", "-{new}c"), known_flags, {"flag": "-{letter}"}),
         Cause("flag", r"(?<!\S)-(?P<letters>\S+)", ("-{new}", ""), known_flags,
-              {"flag": lambda at: ["-" + it for it in at["letters"] if it not in COMMANDS[at["command"]][0]], "flags": flags}),
+              {"flag": unknown_flags, "flags": flags}),
         Cause("rules", r"(?<!\S)rules=(?P<file>\S*)", ("",), values={"statement": LINE}),
         Cause("flags key", r"(?<!\S)flags?=(?P<letters>\w+)", ("-{letters}",)),
         Cause("key twice", r"(?<!\S)(?P<first>(?P<key>[a-z_]+)=.*[ \t])(?P<mark>(?P=key)=\S*)", ("{first}",), shown=False),
@@ -256,23 +259,23 @@ CAUSES = {
         Cause("short key", r"(?P<key>[^\s=]+)=(?P<value>\S*)", ("{new}={value}",), near_keys),
         Cause("separator newline", r"(?i)(?<!\S)separator=[\"']?(?:newline|\\n|nl)[\"']?(?!\S)", ("",)),
         Cause("separator", r"(?<!\S)separator=(?P<value>\S*)", ("separator={new}",), of(SEPARATORS, "value")),
-        Cause("separator", r"(?<!\S)separator=\S*", values={"fixed": "separator=tab"}),
+        Cause("separator", r"(?<!\S)separator=\S*", ("separator=tab",), shown=False),
         Cause("null text", r"(?<!\S)null_value=(?!\S)", ("",)),
-        Cause("null colon", r"(?<!\S)null_value=\S*:\S*"),
-        Cause("null text", r"(?<!\S)null_value=\S*"),
-        Cause("many maps", r"(?<!\S)input=(?:[^\s,]*,){16}\S*"),
+        Cause("null colon", r"(?<!\S)null_value=\S*:\S*", ("null_value=NA",), shown=False),
+        Cause("null text", r"(?<!\S)null_value=\S*", ("null_value=NA",), shown=False),
+        Cause("many maps", r"(?<!\S)input=(?P<first>[^\s,]+),\S*", ("input={first}",), shown=False),
         Cause("no key", r"(?<!\S)(?P<word>[^\s=-][^\s=]*)(?!\S)", ("input={word}",)),
         Cause("no equals sign", r"(?<!\S)[^\s=-][^\s=]*(?!\S)"),
         Cause("unknown key", r"(?P<key>[^\s=]*)=\S*", values={"keys": keys}),
-        Cause("cells and counts", r"^(?=.*\s-\w*1)(?=.*\s-\w*c)(?P<mark>.*\S)", values={"word": "-c"}),
-        Cause("cells and counts", r"^(?=.*\s-\w*1)(?=.*\safter=)(?P<mark>.*\S)", values={"word": "after="}),
+        Cause("cells and counts", r"^(?=.*\s-\w*1)(?P<head>.*\s-\w*)c(?P<tail>.*\S)", ("{head}1{tail}",), values={"word": "-c"}, shown=False),
+        Cause("cells and counts", r"^(?=.*\s-\w*1)(?P<head>.*\s)after=\S*(?P<tail>.*)", ("{head}{tail}",), values={"word": "after="}, shown=False),
         Cause("no equals sign", WORD)],
     ("script", "bad name"): [
         CONTINUED, BLANKS, COMMA,
         Cause("quotes", r"(?<!\S)\S*[\"']\S*", ("{new}",), replaced(("[\"']", ""))),
         Cause("mapset", r"(?<!\S)\w+=(?P<name>[^\s@,]*)@\S*", ("{new}",), replaced(("@[^,]*", ""))),
         Cause("dash", r"(?<!\S)\w+=\S*-\S*", ("{new}",), UNDERSCORED),
-        Cause("one map", r"(?<!\S)(?:input|output)=[^\s,]+,\S*", values={"command": is_single}),
+        Cause("one map", r"(?<!\S)(?P<key>\w+=)(?P<first>[^\s,]+),\S*", ("{key}{first}",), values={"command": single}, shown=False),
         Cause("other byte", WORD)],
     ("script", "missing option"): [
         Cause("missing option", END, (" {new}",), lambda at: ["input=" + at["judge"].map, "output=" + at["judge"].spare],
@@ -288,7 +291,8 @@ CAUSES = {
         Cause("map exists", "^", values={"whence": "another line", "fixed": "NAME"})],
     ("script", "bad combination"): [CONTINUED, Cause("bad combination", r"after=(?:(?:\*|[+-]?\d{1,9}),)*(?P<part>[^,\s]*)\S*")],
     ("script", "combination of another width"): [
-        Cause("width", r"after=(?P<value>\S*)", values={"parts": lambda at: 1 + at["value"].count(","), "maps": inputs})],
+        Cause("width", r"after=(?P<value>\S*)", ("after={new}",), lambda at: [",".join("*" * count) for count in range(1, MOST_MAPS + 1)],
+              {"parts": lambda at: 1 + at["value"].count(","), "maps": lambda at: 1 + at["new"].count(",")}, False)],
     ("script", "bad rule"): [
         Cause("end with more", r"^(?P<end>[ \t]*end)\b(?P<mark>[^=\n]*[^=\s])[ \t\r]*$", ("{end}",)),
         NEXT_COMMAND,
@@ -348,8 +352,8 @@ CAUSES = {
         Cause("shift", r"<<|>>>?"),
         Cause("power", r"\*\*"),
         Cause("one offset", r"(?P<offset>[\w.]+\[[^\[\]]*)(?P<mark>\])", ("{offset},0]",)),
-        Cause("parenthesis open", END, (")", "))", ")))", "))))"), values={"open": lambda at: flat(at["before"]).rfind("(") + 1 or None}),
-        Cause("parenthesis closed", r"\)", values={"word": lambda at: None if "(" in flat(at["before"]) else ")"}),
+        Cause("parenthesis open", OPEN, ("({rest})", "({rest}))", "({rest})))", "({rest}))))"), values={"open": lambda at: len(at["before"]) - len(at["rest"])}),
+        Cause("parenthesis closed", r"\)", ("",), shown=False),
         Cause("line ends", END),
         Cause("other token", r"[\w.]+|[^\w\s]")],
     ("expression", "unknown function"): [
@@ -358,18 +362,17 @@ CAUSES = {
         Cause("absent function", r"(?i)not(?=[ \t]*\()", ("!",), values={"fixed": "`!`"}),
         Cause("absent function", values={"fixed": of(ABSENT_FUNCTIONS)}),
         Cause("unknown function", write=("{new}",), new=near(FUNCTIONS, 0.75), values={"near": "did you mean `{new}`?"}),
-        Cause("unknown function", values={"near": "functions are %s; no parenthesis can follow the name of a map" % ", ".join(FUNCTIONS)})],
+        Cause("unknown function", values={"near": lambda at: "functions are %s; no parenthesis can follow the name of a map" % ", ".join(functions(at))})],
     ("expression", "wrong number of arguments"): [
         Cause("null test", r"null(?=[ \t]*\()", ("isnull",)),
-        Cause("two or more", r"n?(?:min|max|mode)(?=[ \t]*\()", values=ARGUMENTS),
-        Cause("count", r"if(?=[ \t]*\()", values={**ARGUMENTS, "fixed": if_of_three}),
-        Cause("count", values=ARGUMENTS)],
+        Cause("count", IF_OF_FOUR, (TWO_IFS,), values={"wanted": wanted, "fixed": "`%s`" % TWO_IFS}),
+        Cause("count", values={"wanted": wanted, "fixed": lambda at: "pass " + wanted(at)})],
     ("expression", "offset out of range"): [Cause("offset")],
     ("expression", "unknown map"): [
         OPTION,
         Cause("null", r"(?i)(?<![\w.])null(?![\w.])", ("null()",)),
-        Cause("function", r"(?<![\w.])(?:%s)(?![\w.])" % "|".join(FUNCTIONS), ("{mark}()",)),
-        Cause("function", r"(?<![\w.])(?:%s)(?![\w.])" % "|".join(FUNCTIONS)),
+        Cause("function", write=("{mark}()",), values={"name": function}),
+        Cause("function", values={"name": function}),
         Cause("dash", DASHED, ("{new}",), UNDERSCORED, {"read": READ}),
         Cause("dash", DASHED, values={"read": READ, "fixed": UNDERSCORED}),
         Cause("made later", values=LATER),

@@ -1,13 +1,14 @@
 # SPDX-License-Identifier: Apache-2.0 OR GPL-2.0-or-later
-"""Explain the errors of a script, and find what to write instead, by asking rcell-pipe about changed scripts.
+"""Find what to write instead of the lines of a script that rcell rejects, by asking rcell-pipe about changed scripts.
 
     rejected_lines(ask, script, names)           yield the lines that are rejected, with their errors and corrections
     warnings(ask, script, names)                 yield what is accepted but seldom meant
     advice(program, script, names, line, text)   return the column of one error, and what to write instead
     asker(program)                               return `ask` of a program
 
-The program reports where a line fails; causes.py has the usual causes and what to try instead; only what the program
-accepts is proposed. Scripts are strings with one character per byte, so an index into a line counts bytes.
+This works like a spell checker. The program says which line is wrong; causes.py lists usual mistakes; each is tried on the program, and
+only scripts that it accepts are proposed. No grammar is known here, and no result of a run depends on it. Scripts are strings with one
+character per byte, so an index into a line counts bytes.
 """
 import re
 from itertools import islice, product
@@ -15,24 +16,21 @@ from typing import NamedTuple
 
 from . import pipe
 from .advice import LONGEST_VALUE, Fault, Messages, filled, shown
-from .causes import CAUSES, LINE, MADE, WARNINGS, WRITERS
+from .causes import CAUSES, LINE
 from .grids import kind_of
 
-LONGEST_SCRIPT = 65535  # bytes; for longer scripts, advice would delay the package's error
 LONGEST_SEARCHED, WINDOW = 1000, 300  # bytes: a longer line is searched only around the error
 MOST_QUESTIONS, MOST_BYTES = 600, 1 << 24  # for one script
 MOST_OF_A_LINE, MOST_OF_AN_ERROR, MOST_MATCHES, LONGEST_CHAIN = 40, 30, 20, 3
-MOST_NAMES, BYTES_OF_A_NAME = 50000, 10
+BYTES_OF_A_NAME = 10
 COLUMN = re.compile(r" at column \d+$")
-NAME = re.compile(r"[A-Za-z_][A-Za-z0-9_.]{0,63}")
 WORD = re.compile(r"[^ \t\r]+")
+VALUE = re.compile(r"(?<=[=,])[A-Za-z_][\w.]{0,63}(?![^,\s])", re.ASCII)  # which may be a map
 PARTS = re.compile(r"\{(\w+)\}")
-# The program looks for these errors of a line later than for others.
-STAGES = {"missing option": 1, "unknown map": 2, "map exists": 3, "bad combination": 4,
-          "combination of another width": 5}
-LATER_IN_A_WORD = ("wrong number of arguments", "bad name")
 # What may replace an error without a correction, so that the rest of the line can be checked.
-STAND_INS = ("", "1", "*", "eval", "{map}", "{key}={map}", "{key}={spare}")
+STAND_INS = ("{key}={spare}", "{key}={map}", "", "1", "*", "eval", "{map}")
+RECLASS = "r.reclass input={map} output={spare}"  # before rules whose own r.reclass was left out
+QUOTED = re.compile(r"[\"'].*[\"']")
 
 
 class Found(NamedTuple):
@@ -75,9 +73,9 @@ class Block(NamedTuple):
         text = self.text[:start] + "".join(texts) + self.text[end:]
         return Block(text, self.origins[:start] + origins + self.origins[end:])
 
-    def order(self, found):
-        """Return a key by which the errors of a line are sorted as the program looks for them."""
-        return STAGES.get(found.text, 0), self.origins[found.start][0], found.text in LATER_IN_A_WORD
+    def place(self, found):
+        """Return where an error is in the given text."""
+        return self.origins[found.start][0]
 
 
 def span_of(match):
@@ -90,6 +88,10 @@ def key_of(error):
     return "expression" if error.column else "script", COLUMN.sub("", error.text)
 
 
+def has_word(text, word):
+    return re.search(r"(?<![\w.])%s(?![\w.])" % re.escape(word), text, re.ASCII) is not None
+
+
 def first_bad(count, is_bad):
     """Return the first number from 1 to count that is bad; so are those after it."""
     good, bad = 0, count
@@ -100,25 +102,35 @@ def first_bad(count, is_bad):
 
 
 class Judge:
-    """A script that is checked from error to error: `head` is accepted, `rest` is not."""
+    """A script that is checked from error to error: `head` is accepted, `rest` is not. Without names, all maps that it reads are given."""
 
     def __init__(self, ask, text, names):
-        self.ask, self.names, self.head, self.rest = ask, names, "", text
+        self.ask, self.has_names, self.names, self.head, self.rest = ask, names is not None, list(names or ()), "", text
         self.given = text.split("\n")
         self.numbers = list(range(1, len(self.given) + 1))  # the given line of each line
         self.questions, self.bytes, self.has_rules = 0, 0, True
         self.map, self.spare, self.spares = self.unused("map"), "", set()
+        self.left_out = []  # lines without a correction, with their numbers
+        self.answers = {}
 
     def unused(self, name):
         while any(name in text for text in (self.head, self.rest, *self.names)):
             name += "_"
         return name
 
-    def error(self, text):
-        """Return the first error that the program reports in a text, or None."""
-        self.questions, self.bytes = self.questions + 1, self.bytes + len(text) + BYTES_OF_A_NAME * len(self.names)
-        self.statements, found = self.ask([*self.names, self.map], text)
+    def error(self, text, more=()):
+        """Return the first error that the program reports in a text, or None; `more` maps are given."""
+        names = [*self.names, self.map, *more]
+        self.questions, self.bytes = self.questions + 1, self.bytes + len(text) + BYTES_OF_A_NAME * len(names)
+        self.statements, found = self.ask(names, text)
         return found
+
+    def answer(self, line):
+        """Return what the program reports of a line alone, without its column; the line may read `{map}`."""
+        if line not in self.answers:
+            self.questions, (_, error) = self.questions + 1, self.ask([self.map], line.replace("{map}", self.map))
+            self.answers[line] = key_of(error)[1] if error else ""
+        return self.answers[line]
 
     @property
     def is_enough(self):
@@ -128,13 +140,27 @@ class Judge:
         """Return the maps that are known before the line of the error, with where they come from."""
         self.error(self.head)
         made = {it.made: "line %d" % self.numbers[it.line - 1] for it in self.statements if it.made}
-        known = {**dict.fromkeys(self.names, "a grid"), **made}
-        return {name: whence for name, whence in known.items() if name not in self.spares}
+        return {**dict.fromkeys(self.names, "a grid"), **{name: whence for name, whence in made.items() if name not in self.spares}}
 
-    def later(self, name):
-        """Return the first line after the error that makes a map, or None."""
-        found = next((it for it in MADE.finditer(self.rest) if name in it.groups()), None)
-        return found and self.numbers[-1 - self.rest.count("\n", found.start(found.lastindex))]
+    def later(self, name, block):
+        """Return the line after a block that makes a map, or None: if the map were given, the program would report that it exists."""
+        text = self.head + block + self.rest
+        error = self.error(text, [name])
+        lines = text.split("\n")[error.line - 1 :] if error else [""]
+        is_made = error and error.text.startswith("map exists") and len(lines) <= self.rest.count("\n") and has_word(lines[0], name)
+        return self.numbers[-len(lines)] if is_made else None
+
+    def is_taken_as_given(self, name, block):
+        """Take an unknown map as given, if a line that was left out may make it, or if no names are known."""
+        number = next((number for number, text in self.left_out if has_word(text, name)), None)
+        if self.has_names and number is None or self.later(name, block) is not None:
+            return False
+        if self.has_names:
+            self.numbers.insert(self.head.count("\n"), number)
+            self.head += "r.mapcalc %s = %s\n" % (name, self.map)
+        else:
+            self.names.append(name)
+        return True
 
     def lines(self):
         """Yield the rejected lines; the last is None if there may be more."""
@@ -143,7 +169,7 @@ class Judge:
                 yield None
                 return
             line = self.rejected(error)
-            if not self.has_rules and line.faults[0].cause in ("missing end", "next command"):
+            if not self.has_rules and line.faults and line.faults[0].cause in ("missing end", "next command"):
                 line = line._replace(faults=line.faults[1:], mended=[it for it in line.mended if it != "end"])
             if line.faults:
                 yield line
@@ -151,14 +177,13 @@ class Judge:
 
     def rejected(self, error):
         """Return the line of an error, with all its errors, and continue after it."""
+        first, number = error.line - 1, self.numbers[error.line - 1]
         if error.text == "missing end":
             self.rest, self.numbers = self.rest + "\nend", [*self.numbers, self.numbers[-1]]
-            number = self.numbers[error.line - 1]
             text = self.given[number - 1]
             return Line(number, text, [Fault(0, len(text), error.text, "missing end", "script", {})], [])
         lines, self.spare = (self.head + self.rest).split("\n"), self.unused("spare")
         self.spares.add(self.spare)
-        first, number = error.line - 1, self.numbers[error.line - 1]
         end = first + 1
         while end < len(lines) and lines[end - 1].rstrip(" \t\r").endswith("\\"):
             end += 1
@@ -169,16 +194,16 @@ class Judge:
         last = shown(written[-1]) if written else ""
         for fault in faults:
             fault.values = {key: last if value == LINE else value for key, value in fault.values.items()}
-        left = block.text if is_proposed or not self.is_enough and self.first(block) is None else self.stand_in(text)
+        left = block.text if is_proposed or not self.is_enough and self.first(block) is None else self.stand_in(number, text)
+        first, end = self.head.count("\n"), len(self.numbers) - self.rest.count("\n")
         self.head, self.numbers[first:end] = self.head + left, [number] * (left.count("\n") + 1)
-        return Line(number, lines[first], faults, written if is_proposed else [])
+        return Line(number, text.split("\n")[0], faults, written if is_proposed else [])
 
-    def stand_in(self, text):
-        """Return a line that makes the map of a line that cannot be corrected, or nothing."""
-        made = MADE.match(text)
-        form = "r.reclass input={map} output=%s" if text.split()[:1] == ["r.reclass"] else "r.mapcalc %s = {map}"
-        lines = [filled(form, vars(self)) % name for name in (made.group(made.lastindex), self.spare)] if made else []
-        return next((line for line in lines if self.first(Block(line, [(0, 0)] * (len(line) + 1))) is None), "")
+    def stand_in(self, number, text):
+        """Leave a line out, and return what takes its place: nothing, or an r.reclass, if with it the program reads further."""
+        self.left_out.append((number, text))
+        errors = {line: self.error(self.head + line + self.rest) for line in ("", filled(RECLASS, vars(self)))}
+        return max(errors, key=lambda it: errors[it].line if errors[it] and errors[it].text != "missing end" else len(self.numbers) + 1)
 
     # The errors of a line
 
@@ -190,7 +215,9 @@ class Judge:
             return None
         start, (part, text) = sum(len(line) + 1 for line in lines[:at]), key_of(error)
         span = (error.column - 1,) * 2 if error.column else self.span(block, start, lines[at], error)
-        return Found(text, part, start + span[0], start + span[1])
+        found = Found(text, part, start + span[0], start + span[1])
+        name = re.compile(r"[\w.]*", re.ASCII).match(block.text, found.start)[0] if text == "unknown map" else ""
+        return self.first(block) if name and self.is_taken_as_given(name, block.text) else found
 
     def span(self, block, start, line, error):
         """Return the span of a line that an error without a column is about."""
@@ -198,10 +225,11 @@ class Judge:
         if error.text == "unknown command":
             return words[0]
         if error.text == "unknown map":
-            maps, values = self.maps(), re.compile(r"[^,\s]+").finditer(line, re.search(r"(?<!\S)input=", line).end())
-            return next(it.span() for it in values if it.group() not in maps)
+            known = {*self.maps(), self.map}
+            values = [it for it in VALUE.finditer(line) if it[0] not in known]
+            return next((it.span() for it in values if self.is_unknown(block, {other[0] for other in values} - {it[0]})), (0, len(line)))
         if error.text not in ("bad option", "bad name"):
-            return 0, len(line)
+            return len(line) * (error.text == "missing option"), len(line)
 
         def is_bad(count):
             cut = block.text[: start + words[count][1]] + block.text[start + len(line) :]
@@ -209,6 +237,11 @@ class Judge:
             return found is not None and (found.line, found.text) == (error.line, error.text)
 
         return words[first_bad(len(words) - 1, is_bad)]
+
+    def is_unknown(self, block, others):
+        """Return whether a map is unknown in a block, though all others are given."""
+        error = self.error(self.head + block.text + self.rest, others)
+        return error is not None and error.text == "unknown map"
 
     def mended(self, block):
         """Return a block with its errors corrected or replaced, the errors, and whether it can be proposed."""
@@ -232,10 +265,9 @@ class Judge:
                 if after is None or tries == MOST_OF_AN_ERROR:
                     continue
                 new, tries = self.first(after), tries + 1
-                if new is None or after.order(new) > block.order(found):
+                if new is None or cause.shown and new.text != found.text or after.place(new) > block.place(found):
                     return after, [*faults, fault], is_shown and cause.shown
-                is_later = STAGES.get(new.text, 0) >= STAGES.get(error.text, 0)
-                if is_later and len(faults) + 1 < LONGEST_CHAIN:
+                if len(faults) + 1 < LONGEST_CHAIN:
                     waiting.append((after, new, [*faults, fault], is_shown and cause.shown))
         return self.passed(block, found, last[1]), [last[0]], False
 
@@ -274,21 +306,20 @@ class Judge:
         """Return what the functions of a cause get, by the names that causes.py has for it."""
         first, (start, end) = block.text.rfind("\n", 0, found.start) + 1, span_of(match)
         line, groups = block.text[first:].partition("\n")[0].strip(" \t\r"), match.groupdict("")
-        return {"judge": self, "mark": block.text[start:end], "all": match.group(), "before": block.text[first:start],
+        return {"judge": self, "block": block.text, "mark": block.text[start:end], "all": match.group(), "before": block.text[first:start],
                 "after": block.text[start:], "line": line.replace(self.map, "NAME"),
                 "command": WORD.search(line).group(), "groups": groups, **groups}
 
     def passed(self, block, found, match):
         """Return the block with a replacement for the marked words, or None if no replacement gets further."""
-        mark, best = re.compile(r"(?P<key>[^=\s]*)[^\n]*").fullmatch(block.text, *span_of(match)), None
+        mark, best = re.compile(r"(?P<key>[^=\s]*)[^\n]*").fullmatch(block.text, *span_of(match)), (False, False, None)
         for template in STAND_INS if mark and found.text != "unknown command" else ():
             after = block.changed(mark, template, vars(self))
             new = self.first(after)
             if new is None:
                 return after
-            block_, found_ = best or (block, found)
-            best = (after, new) if after.order(new) > block_.order(found_) else best
-        return best and best[0]
+            best = max(best, (after.place(new) > block.place(found), new.text != found.text, after), key=lambda it: it[:2])
+        return best[2]
 
 
 def values_of(cause, at):
@@ -323,24 +354,17 @@ def no_script(text):
 
 
 def rejected_lines(ask, script, names, path="script"):
-    """Yield the lines of a script that the program rejects."""
+    """Yield the lines of a script that the program rejects; if `names` is None, all maps that it reads are given."""
     reason, text = no_script(script), script.decode("latin-1")
-    names = [name for name in dict.fromkeys(names) if NAME.fullmatch(name)]
     bad = reason and Line(1, "", [Fault(0, 0, *reason[:2], "script", reason[2])], [])
-    for line in [bad] if bad else Judge(ask, text, names).lines():
+    for line in [bad] if bad else Judge(ask, text, names and dict.fromkeys(names)).lines():
         for fault in line.faults if line else ():
             fault.values.setdefault("path", path)
         yield line
 
 
-def names_in(script):
-    """Return the words of a script that may be names of grids."""
-    text = script.decode("latin-1")
-    return sorted(set(NAME.findall(text)) - {name for found in MADE.findall(text) for name in found})[:MOST_NAMES]
-
-
-def is_name(text):
-    return NAME.fullmatch(text) is not None
+def as_shown(text):
+    return shown(text.encode("utf-8", "surrogateescape"))
 
 
 def warnings(ask, script, names):
@@ -349,11 +373,18 @@ def warnings(ask, script, names):
     statements, error = ask(names, text)
     if reason and reason[1] == "line ends":
         yield 0, "line ends", {}
-    if error is None and not any(it.command in WRITERS for it in statements):
+    if error is None and all(it.made for it in statements):
         yield 0, "no output" if statements else "empty script", {}
-    found = [(it.start(), name, it["mark"]) for name, find in WARNINGS.items() for it in re.finditer(find, text, re.M)]
-    for start, name, word in sorted(found):
-        yield text.count("\n", 0, start) + 1, name, {"word": shown(word)}
+    for it in statements:
+        lines = it.text.split("\n")
+        for label in it.labels.values():
+            number = it.line + next(at for at, line in enumerate(lines) if line.rstrip(" \t\r").endswith(label))
+            if (comment := re.search(r"(?:^|[ \t])(#.*)", label)):
+                yield number, "label comment", {"word": as_shown(comment[1])}
+            if QUOTED.fullmatch(label):
+                yield number, "label quotes", {"word": as_shown(label)}
+        if not it.made and (word := QUOTED.search(lines[0])):
+            yield it.line, "null quotes", {"word": as_shown(word[0])}
 
 
 def asker(program, seconds=10):
@@ -369,7 +400,7 @@ def asker(program, seconds=10):
 
 def advice(program, script, names, line, text):
     """Return the column of the word that a message is about, and what to write instead; None for both if unknown."""
-    found = next(rejected_lines(asker(program), script, names), None) if len(script) <= LONGEST_SCRIPT else None
+    found = next(rejected_lines(asker(program), script, names), None)
     first = found and found.faults[0]
     if not first or (found.number, first.text) != (line, text):
         return None, None
@@ -377,4 +408,4 @@ def advice(program, script, names, line, text):
     mended = [shown(it) for it in found.mended]
     if first.cause == "fraction" and mended and "; " in instead:
         mended[-1] += "  (%s)" % instead.partition("; ")[2]
-    return first.start + 1, "\n".join(mended) or instead
+    return first.start + 1 if first.start else None, "\n".join(mended) or instead

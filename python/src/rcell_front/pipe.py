@@ -38,7 +38,7 @@ CELL_BYTES = {"u8": 1, "i8": 1, "u16": 2, "i16": 2, "u32": 4, "i32": 4, "i64": 8
 
 _CODES = {name: code for code, name in enumerate(CELL_BYTES, 1)}
 _SOURCES = {1: "request", 2: "script"}
-_COMMANDS = ("r.mapcalc", "r.reclass", "r.clump", "r.stats", "r.out.ascii")
+COMMANDS = ("r.mapcalc", "r.reclass", "r.clump", "r.stats", "r.out.ascii")
 _OPTIONS = "cl1nN"
 _CALLED = ("row", "col", "nrows", "ncols")
 _NO_MEMORY = 3  # a status
@@ -452,7 +452,7 @@ class _Response:
         line, (command, _) = self.count(), self.take(2)
         return Statement(
             line=line,
-            command=_COMMANDS[command - 1] if 0 < command <= len(_COMMANDS) else self.unknown(),
+            command=COMMANDS[command - 1] if 0 < command <= len(COMMANDS) else self.unknown(),
             made=self.name(),
             reads={self.name(): Margin(*self.numbers(4)) for _ in range(self.count())},
             needs={self.name(): self.need() for _ in range(self.count())},
