@@ -177,7 +177,7 @@ def decimal(at):
     """Return a number with decimals as a fraction, or 0 if it is too long."""
     from fractions import Fraction
 
-    return Fraction(at["mark"]) if re.fullmatch(r"\d*\.?\d*", at["mark"]) and len(at["mark"]) < 20 else Fraction(0)
+    return Fraction(at["mark"]) if re.fullmatch(r"\d+\.?\d*|\.\d+", at["mark"]) and len(at["mark"]) < 20 else Fraction(0)
 
 
 def whole(at):

@@ -77,6 +77,16 @@ class Block(NamedTuple):
         """Return where an error is in the given text."""
         return self.origins[found.start][0]
 
+    def is_past(self, found, place, new, after, match):
+        """Return whether, once the words of a match are changed, no error is left, or one farther on or of other words."""
+        if new is None or after.place(new) > place:
+            return True
+        start, end = span_of(match)
+        if start < end:
+            start, end = self.text.rfind(" ", 0, start) + 1, (self.text + " ").find(" ", end)
+        (start, end), (first, last) = self.span(start, end), after.span(new.start, new.end)
+        return new.text != found.text and (first >= max(end, start + 1) or max(last, first + 1) <= start)
+
 
 def span_of(match):
     """Return the span of a match that is marked."""
@@ -265,7 +275,7 @@ class Judge:
                 if after is None or tries == MOST_OF_AN_ERROR:
                     continue
                 new, tries = self.first(after), tries + 1
-                if new is None or cause.shown and new.text != found.text or after.place(new) > block.place(found):
+                if cause.shown and new and new.text != found.text or before.is_past(found, block.place(found), new, after, match):
                     return after, [*faults, fault], is_shown and cause.shown
                 if len(faults) + 1 < LONGEST_CHAIN:
                     waiting.append((after, new, [*faults, fault], is_shown and cause.shown))
@@ -312,14 +322,15 @@ class Judge:
 
     def passed(self, block, found, match):
         """Return the block with a replacement for the marked words, or None if no replacement gets further."""
-        mark, best = re.compile(r"(?P<key>[^=\s]*)[^\n]*").fullmatch(block.text, *span_of(match)), (False, False, None)
+        mark, best = re.compile(r"(?P<key>[^=\s]*)[^\n]*").fullmatch(block.text, *span_of(match)), (-1, None)
         for template in STAND_INS if mark and found.text != "unknown command" else ():
             after = block.changed(mark, template, vars(self))
             new = self.first(after)
             if new is None:
                 return after
-            best = max(best, (after.place(new) > block.place(found), new.text != found.text, after), key=lambda it: it[:2])
-        return best[2]
+            if block.is_past(found, block.place(found), new, after, mark):
+                best = max(best, (max(after.place(new), block.place(found)), after), key=lambda it: it[0])
+        return best[1]
 
 
 def values_of(cause, at):
