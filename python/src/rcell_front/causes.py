@@ -26,14 +26,12 @@ MODULES = {
     "r.info": "delete it: `r.stats -c` counts, and the header of the grid has the region",
     "r.report": "`r.stats -c -n`, and multiply the counts",
     "r.univar": "`r.stats -c -n`, and awk over category and count",
-    "r.cross": "`r.stats -c input=a,b`: the combinations with their counts",
-    "r.coin": "`r.stats -c input=a,b`",
+    **dict.fromkeys(("r.cross", "r.coin"), "`r.stats -c input=a,b`: the combinations with their counts"),
     "r.patch": "`r.mapcalc new = if(isnull(a), b, a)`",
     "r.recode": "an r.reclass: `1 thru 3 = 2`",
     "r.category": "an r.reclass with `* = *` and a rule with the label for each category",
     "r.neighbors": "`r.mapcalc m = nmode(map[-1,-1],map[-1,0],..,map[1,1])`; nmin, nmax and sums the same way",
-    "r.grow": "`r.mapcalc` over the neighbours `map[-1,0]`, `map[1,0]`, `map[0,-1]`, `map[0,1]`",
-    "r.buffer": "`r.mapcalc` over the neighbours `map[-1,0]`, `map[1,0]`, `map[0,-1]`, `map[0,1]`",
+    **dict.fromkeys(("r.grow", "r.buffer"), "`r.mapcalc` over the neighbours `map[-1,0]`, `map[1,0]`, `map[0,-1]`, `map[0,1]`"),
     "r.reclass.area": "count the patches with r.clump and r.stats, and keep the large ones with an r.reclass in a second run",
     "r.in.ascii": "delete it: the grids are on the command line, `NAME=PATH`",
     "r.in.gdal": "delete it: `rcell-tif MAP.tif GRID` before the run, and `NAME=GRID` on the command line",
@@ -52,11 +50,8 @@ ABSENT_KEYS = {
     "minsize": "count the patches with r.stats -c, and drop the small ones with an r.reclass in a second run",
     "threshold": "delete it: a patch is of one category",
     "sort": "after the run: `rcell .. | sort -k2,2nr`",
-    "nsteps": "delete it: cells are whole numbers",
-    "precision": "delete it: cells are whole numbers",
-    "width": "delete it: a row of the map is a line",
-    "format": "delete it",
-    "type": "delete it: all maps are CELL",
+    **dict.fromkeys(("nsteps", "precision"), "delete it: cells are whole numbers"),
+    "width": "delete it: a row of the map is a line", "format": "delete it", "type": "delete it: all maps are CELL",
 }
 SEPARATORS = {"\\t": "tab", "t": "tab", "tab": "tab", "tabulator": "tab", "space": "space", "blank": "space", "": "space", "_": "space",
               "pipes": "pipe", "commas": "comma", "spaces": "space", "semicolon": ";", "colon": ":"}
@@ -132,31 +127,18 @@ def near_keys(at):
     return [it for it in keys if it.startswith(meant)] or near_name(meant, keys, 0.7)
 
 
-def known_flags(at):
-    return ["".join(letter for letter in at["letters"] if "-" + letter in options(at, True))]
-
-
-def unknown_flags(at):
-    return ["-" + letter for letter in at["letters"] if "-" + letter not in options(at, True)]
-
-
-def flags(at):
-    known = options(at, True)
-    return "its flags are %s" % " ".join(known) if len(known) > 1 else "its flag is %s" % known[0] if known else "it has no flags"
-
-
 def keys(at):
     known = options(at, False)
     return None if at["key"] + "=" in known else "its keys are %s" % " ".join(known)
 
 
-def single(at):
-    """Return the command if it takes no second map."""
-    return at["command"] if at["judge"].answer(at["command"] + " input={map},{map}") == "bad name" else None
+def known_flags(at):
+    return ["".join(letter for letter in at["letters"] if "-" + letter in options(at, True))]
 
 
-def functions(at):
-    return [it for it in FUNCTIONS if at["judge"].answer("r.mapcalc x = %s()" % it) != "unknown function"]
+def flags(at):
+    known = options(at, True)
+    return "its flags are %s" % " ".join(known) if len(known) > 1 else "its flag is %s" % known[0] if known else "it has no flags"
 
 
 def function(at):
@@ -248,7 +230,7 @@ CAUSES = {
         Cause("flag case", r"(?<!\S)-\w+", ("{new}",), lower, {"flag": "{mark}"}),
         Cause("area", r"(?<!\S)-(?=\w*(?P<letter>[ap]))(?P<letters>\w+)", ("-{new}", "-{new}c"), known_flags, {"flag": "-{letter}"}),
         Cause("flag", r"(?<!\S)-(?P<letters>\S+)", ("-{new}", ""), known_flags,
-              {"flag": unknown_flags, "flags": flags}),
+              {"flag": lambda at: ["-" + it for it in at["letters"] if "-" + it not in options(at, True)], "flags": flags}),
         Cause("rules", r"(?<!\S)rules=(?P<file>\S*)", ("",), values={"statement": LINE}),
         Cause("flags key", r"(?<!\S)flags?=(?P<letters>\w+)", ("-{letters}",)),
         Cause("key twice", r"(?<!\S)(?P<first>(?P<key>[a-z_]+)=.*[ \t])(?P<mark>(?P=key)=\S*)", ("{first}",), shown=False),
@@ -275,7 +257,8 @@ CAUSES = {
         Cause("quotes", r"(?<!\S)\S*[\"']\S*", ("{new}",), replaced(("[\"']", ""))),
         Cause("mapset", r"(?<!\S)\w+=(?P<name>[^\s@,]*)@\S*", ("{new}",), replaced(("@[^,]*", ""))),
         Cause("dash", r"(?<!\S)\w+=\S*-\S*", ("{new}",), UNDERSCORED),
-        Cause("one map", r"(?<!\S)(?P<key>\w+=)(?P<first>[^\s,]+),\S*", ("{key}{first}",), values={"command": single}, shown=False),
+        Cause("one map", r"(?<!\S)(?P<key>\w+=)(?P<first>[^\s,]+),\S*", ("{key}{first}",), shown=False,
+              values={"command": lambda at: at["command"] if at["judge"].answer(at["command"] + " input={map},{map}") == "bad name" else None}),
         Cause("other byte", WORD)],
     ("script", "missing option"): [
         Cause("missing option", END, (" {new}",), lambda at: ["input=" + at["judge"].map, "output=" + at["judge"].spare],
@@ -362,7 +345,8 @@ CAUSES = {
         Cause("absent function", r"(?i)not(?=[ \t]*\()", ("!",), values={"fixed": "`!`"}),
         Cause("absent function", values={"fixed": of(ABSENT_FUNCTIONS)}),
         Cause("unknown function", write=("{new}",), new=near(FUNCTIONS, 0.75), values={"near": "did you mean `{new}`?"}),
-        Cause("unknown function", values={"near": lambda at: "functions are %s; no parenthesis can follow the name of a map" % ", ".join(functions(at))})],
+        Cause("unknown function", values={
+            "near": lambda at: "functions are %s; no parenthesis can follow the name of a map" % ", ".join(it for it in FUNCTIONS if function({**at, "mark": it}))})],
     ("expression", "wrong number of arguments"): [
         Cause("null test", r"null(?=[ \t]*\()", ("isnull",)),
         Cause("count", IF_OF_FOUR, (TWO_IFS,), values={"wanted": wanted, "fixed": "`%s`" % TWO_IFS}),

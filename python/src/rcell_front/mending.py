@@ -11,6 +11,7 @@ only scripts that it accepts are proposed. No grammar is known here, and no resu
 character per byte, so an index into a line counts bytes.
 """
 import re
+from collections import namedtuple
 from itertools import islice, product
 from typing import NamedTuple
 
@@ -20,9 +21,8 @@ from .causes import CAUSES, LINE
 from .grids import kind_of
 
 LONGEST_SEARCHED, WINDOW = 1000, 300  # bytes: a longer line is searched only around the error
-MOST_QUESTIONS, MOST_BYTES = 600, 1 << 24  # for one script
+MOST_BYTES, BYTES_OF_A_QUESTION, BYTES_OF_A_NAME = 1 << 24, 1 << 15, 10  # for one script; what a question costs beside its bytes
 MOST_OF_A_LINE, MOST_OF_AN_ERROR, MOST_MATCHES, LONGEST_CHAIN = 40, 30, 20, 3
-BYTES_OF_A_NAME = 10
 COLUMN = re.compile(r" at column \d+$")
 WORD = re.compile(r"[^ \t\r]+")
 VALUE = re.compile(r"(?<=[=,])[A-Za-z_][\w.]{0,63}(?![^,\s])", re.ASCII)  # which may be a map
@@ -33,22 +33,10 @@ RECLASS = "r.reclass input={map} output={spare}"  # before rules whose own r.rec
 QUOTED = re.compile(r"[\"'].*[\"']")
 
 
-class Found(NamedTuple):
-    """An error of a block: its text, its part of messages.json, and the span of the block that it is about."""
-
-    text: str
-    part: str
-    start: int
-    end: int
-
-
-class Line(NamedTuple):
-    """A rejected line: its number, its bytes, its errors, and the lines to write instead, which may be none."""
-
-    number: int
-    text: str
-    faults: list
-    mended: list
+# An error of a block: its text, its part of messages.json, and the span of the block that it is about.
+Found = namedtuple("Found", "text part start end")
+# A rejected line: its number, its bytes, its errors, and the lines to write instead, which may be none.
+Line = namedtuple("Line", "number text faults mended")
 
 
 class Block(NamedTuple):
@@ -102,15 +90,6 @@ def has_word(text, word):
     return re.search(r"(?<![\w.])%s(?![\w.])" % re.escape(word), text, re.ASCII) is not None
 
 
-def first_bad(count, is_bad):
-    """Return the first number from 1 to count that is bad; so are those after it."""
-    good, bad = 0, count
-    while bad - good > 1:
-        middle = (good + bad) // 2
-        good, bad = (good, middle) if is_bad(middle) else (middle, bad)
-    return bad
-
-
 class Judge:
     """A script that is checked from error to error: `head` is accepted, `rest` is not. Without names, all maps that it reads are given."""
 
@@ -118,7 +97,7 @@ class Judge:
         self.ask, self.has_names, self.names, self.head, self.rest = ask, names is not None, list(names or ()), "", text
         self.given = text.split("\n")
         self.numbers = list(range(1, len(self.given) + 1))  # the given line of each line
-        self.questions, self.bytes, self.has_rules = 0, 0, True
+        self.bytes, self.has_rules = 0, True
         self.map, self.spare, self.spares = self.unused("map"), "", set()
         self.left_out = []  # lines without a correction, with their numbers
         self.answers = {}
@@ -131,20 +110,20 @@ class Judge:
     def error(self, text, more=()):
         """Return the first error that the program reports in a text, or None; `more` maps are given."""
         names = [*self.names, self.map, *more]
-        self.questions, self.bytes = self.questions + 1, self.bytes + len(text) + BYTES_OF_A_NAME * len(names)
+        self.bytes += BYTES_OF_A_QUESTION + len(text) + BYTES_OF_A_NAME * len(names)
         self.statements, found = self.ask(names, text)
         return found
 
     def answer(self, line):
         """Return what the program reports of a line alone, without its column; the line may read `{map}`."""
         if line not in self.answers:
-            self.questions, (_, error) = self.questions + 1, self.ask([self.map], line.replace("{map}", self.map))
+            _, error = self.ask([self.map], line.replace("{map}", self.map))
             self.answers[line] = key_of(error)[1] if error else ""
         return self.answers[line]
 
     @property
     def is_enough(self):
-        return self.questions > MOST_QUESTIONS or self.bytes > MOST_BYTES
+        return self.bytes > MOST_BYTES
 
     def maps(self):
         """Return the maps that are known before the line of the error, with where they come from."""
@@ -234,24 +213,18 @@ class Judge:
         words = [it.span() for it in WORD.finditer(line)]
         if error.text == "unknown command":
             return words[0]
-        if error.text == "unknown map":
+        if error.text == "unknown map":  # also if all other words are given
             known = {*self.maps(), self.map}
-            values = [it for it in VALUE.finditer(line) if it[0] not in known]
-            return next((it.span() for it in values if self.is_unknown(block, {other[0] for other in values} - {it[0]})), (0, len(line)))
+            values = {it[0]: it.span() for it in reversed([*VALUE.finditer(line)]) if it[0] not in known}
+            asked = {name: self.error(self.head + block.text + self.rest, {*values} - {name}) for name in reversed(values)}
+            return next((values[name] for name, found in asked.items() if found and found.text == error.text), (0, len(line)))
         if error.text not in ("bad option", "bad name"):
             return len(line) * (error.text == "missing option"), len(line)
-
-        def is_bad(count):
-            cut = block.text[: start + words[count][1]] + block.text[start + len(line) :]
-            found = self.error(self.head + cut + self.rest)
-            return found is not None and (found.line, found.text) == (error.line, error.text)
-
-        return words[first_bad(len(words) - 1, is_bad)]
-
-    def is_unknown(self, block, others):
-        """Return whether a map is unknown in a block, though all others are given."""
-        error = self.error(self.head + block.text + self.rest, others)
-        return error is not None and error.text == "unknown map"
+        for span in words[1:] or words:  # the last one of the shortest beginning of the line that is rejected as the line is
+            found = self.error(self.head + block.text[: start + span[1]] + block.text[start + len(line) :] + self.rest)
+            if self.is_enough or found and (found.line, found.text) == (error.line, error.text):
+                break
+        return span
 
     def mended(self, block):
         """Return a block with its errors corrected or replaced, the errors, and whether it can be proposed."""
@@ -374,10 +347,6 @@ def rejected_lines(ask, script, names, path="script"):
         yield line
 
 
-def as_shown(text):
-    return shown(text.encode("utf-8", "surrogateescape"))
-
-
 def warnings(ask, script, names):
     """Yield what an accepted script has that is seldom meant: a line or 0, the name of the warning, and its values."""
     text, reason = script.decode("latin-1"), no_script(script)
@@ -386,16 +355,16 @@ def warnings(ask, script, names):
         yield 0, "line ends", {}
     if error is None and all(it.made for it in statements):
         yield 0, "no output" if statements else "empty script", {}
+    found = []
     for it in statements:
         lines = it.text.split("\n")
         for label in it.labels.values():
             number = it.line + next(at for at, line in enumerate(lines) if line.rstrip(" \t\r").endswith(label))
-            if (comment := re.search(r"(?:^|[ \t])(#.*)", label)):
-                yield number, "label comment", {"word": as_shown(comment[1])}
-            if QUOTED.fullmatch(label):
-                yield number, "label quotes", {"word": as_shown(label)}
-        if not it.made and (word := QUOTED.search(lines[0])):
-            yield it.line, "null quotes", {"word": as_shown(word[0])}
+            comment = re.search(r"(?:^|[ \t])(#.*)", label)
+            found += [(number, "label comment", comment[1])] if comment else [(number, "label quotes", label)] if QUOTED.fullmatch(label) else []
+        found += [] if it.made else [(it.line, "null quotes", word) for word in QUOTED.findall(lines[0])]
+    for number, name, word in found:
+        yield number, name, {"word": shown(word.encode("utf-8", "surrogateescape"))}
 
 
 def asker(program, seconds=10):
