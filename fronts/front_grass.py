@@ -14,12 +14,11 @@ import sys
 import tempfile
 
 from cases import Case, cases
+from rcell_front import pipe
 
 HERE = pathlib.Path(__file__).resolve().parent
 REFUSED = re.compile(r"rcell: ([^:]*):(\d+): (.*)")
 NO_MAP = re.compile(r"Raster map <([^>]*)> (.*)")
-ADDED = " separator=pipe"
-TABLE = re.compile(r"^\s*r\.stats\b", re.MULTILINE)
 
 
 def called(*words: str, text: str | None = None) -> subprocess.CompletedProcess[str]:
@@ -48,19 +47,27 @@ def plain(row: list[str], titles: list[str]) -> list[str]:
     return found
 
 
-def titles_of(script: str) -> list[str]:
-    """The titles of the only r.stats of a script, which prints none."""
-    line = next((line for line in script.splitlines() if TABLE.match(line)), "r.stats input=")
-    flags = "".join(word[1:] for word in line.split() if word.startswith("-"))
+def tables_of(case: Case) -> list[pipe.Statement]:
+    """The statements of a script that print tables; none of a script that is rejected."""
+    program = str(pathlib.Path(os.environ["RCELL"]).with_name("rcell-pipe"))
+    try:
+        return [it for it in pipe.plan(program, list(case.maps), case.script.encode()) if it.command == "r.stats"]
+    except pipe.Rejected:
+        return []
+
+
+def titles_of(case: Case) -> list[str]:
+    """The titles of the only table of a script, which prints none."""
     titles: list[str] = []
-    for name in next(word[6:] for word in line.split() if word.startswith("input=")).split(","):
+    table = tables_of(case)[0]
+    for name in table.inputs:
         count = titles.count(name)
-        titles += [f"{name}_{count + 1}" if count else name] + [f"{name}_label"] * ("l" in flags)
-    return titles + ["cells"] * ("c" in flags)
+        titles += [f"{name}_{count + 1}" if count else name] + [f"{name}_label"] * ("l" in table.options)
+    return titles + ["cells"] * ("c" in table.options)
 
 
 def of_table(case: Case, text: str) -> list[str]:
-    titles = titles_of(case.script)
+    titles = titles_of(case)
     return ["|".join(titles)] + ["|".join(plain(line.split("|"), titles)) for line in text.splitlines()]
 
 
@@ -71,7 +78,10 @@ def of_grid(name: str) -> list[str]:
 def asked(case: Case) -> tuple[str, list[str]]:
     """The script, and the words after r.rcell."""
     kind, *words = case.call.split()
-    return TABLE.sub(lambda found: found[0] + ADDED, case.script), [f"output={words[0]}=found"] if kind == "grid" else []
+    lines = case.script.split("\n")
+    for it in tables_of(case):
+        lines[it.line - 1] += " separator=pipe"
+    return "\n".join(lines), [f"output={words[0]}=found"] if kind == "grid" else []
 
 
 def refusal(case: Case, told: str) -> list[str]:
@@ -79,9 +89,9 @@ def refusal(case: Case, told: str) -> list[str]:
     text = " ".join(line.removeprefix("ERROR: ").strip() for line in told.splitlines() if not line.startswith(("    ", "WARNING")))
     found = REFUSED.search(text)
     if found:
-        # The mark is below its column, four blanks farther to the right, and what was added to the line comes before it.
-        shown = [line[4:] for line in told.splitlines() if line.startswith("    ")]
-        marks = [len(mark) - len(ADDED) * (ADDED in line[: len(mark)]) for line, mark in zip(shown, shown[1:]) if mark.endswith("^")]
+        # The mark is below its column, four blanks farther to the right.
+        beneath = [line for line in told.splitlines() if line.startswith("    ")]
+        marks = [len(line) - 4 for line in beneath[1:] if line.endswith("^")]
         lines = [("kind", "refused"), ("source", found[1]), ("line", int(found[2]) or None), ("column", marks[0] if marks else None)]
         return [f"{key}: {value}" for key, value in [*lines, ("text", found[3].strip())] if value is not None]
     missing = NO_MAP.search(text)

@@ -101,11 +101,11 @@ class Stopped(Exception):
 
 
 def with_labels(script, statements):
-    """The script with the flag -l in each r.stats that lacks it."""
+    """The script with the flag -l after each r.stats that lacks it."""
     lines = script.split("\n")
     for it in statements:
         if it.command == "r.stats" and "l" not in it.options:
-            lines[it.line - 1] = lines[it.line - 1].replace("r.stats", "r.stats -l", 1)
+            lines[it.line - 1] += " -l"
     return "\n".join(lines)
 
 
@@ -136,9 +136,8 @@ def stopped(end, script, names):
     said, word, line = "rcell: %s:%d: %s" % (fault.source, fault.line, fault.text), "", fault.content
     if line is None:
         return Stopped(said)
-    is_option = fault.text == "bad option"
-    place = None if is_option and fault.column == 1 else fault.column  # 1: two options that exclude each other
-    if place and is_option:
+    place = fault.column
+    if place and fault.text == "bad option":
         word = ": " + line.encode("utf-8", "surrogateescape")[place - 1 :].split()[0].decode(errors="replace")
     beneath = "    %s\n" % shown(line)
     if place:

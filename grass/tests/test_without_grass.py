@@ -93,9 +93,11 @@ class Session(unittest.TestCase):
 class Scripts(Session):
     def test_flag_of_labels(self):
         script = "r.stats -c input=a\n  r.stats -nl input=a\nr.stats input=a separator=-\r\n#r.stats\nr.mapcalc x = 1\nr.stats -1 input=a\nr.stats -l1 input=a"
-        wanted = ("r.stats -l -c input=a\n  r.stats -nl input=a\nr.stats -l input=a separator=-\r\n#r.stats\nr.mapcalc x = 1\nr.stats -l -1 input=a\n"
+        wanted = ("r.stats -c input=a -l\n  r.stats -nl input=a\nr.stats input=a separator=-\r -l\n#r.stats\nr.mapcalc x = 1\nr.stats -1 input=a -l\n"
                   "r.stats -l1 input=a")
-        self.assertEqual(rcell.with_labels(script, self.statements(script)), wanted)
+        labelled = rcell.with_labels(script, self.statements(script))
+        self.assertEqual(labelled, wanted)
+        self.assertEqual(["l" in it.options for it in self.statements(labelled)], [True, True, True, False, True, True])
 
     def test_maps_of_tables_with_labels(self):
         statements = self.statements("r.stats -cl input=a,c\nr.stats -c input=b\nr.out.ascii input=e\nr.stats -1l input=d\nr.stats -1 input=b", "abcde")
