@@ -1,27 +1,40 @@
 # SPDX-License-Identifier: Apache-2.0 OR GPL-2.0-or-later
-# What to write instead of a line that was rejected. rcell-explain knows it: where Python has its modules they are asked, else nothing
-# is said.
+# Which word of a line is wrong, and what to write instead. The code of rcell-explain finds both; it is in this package, or in Python's.
+# Without Python nothing is said.
 
 ADVICE_SECONDS <- 5
 ADVICE_CODE <- "
 import sys
+code, program, path, line, text, *names = sys.argv[1:]
+sys.path[:0] = [code] if code else []
 from rcell_front.mending import advice
-program, path, line, text, *names = sys.argv[1:]
 with open(path, 'rb') as script:
-    found = advice(program, script.read(), names, int(line), text)[1]
-sys.stdout.buffer.write((found or '').encode())
+    column, found = advice(program, script.read(), names, int(line), text)
+sys.stdout.buffer.write(('%d\\n%s' % (column or 0, found or '')).encode())
 "
 
+# The word with its column in bytes from 1, or NULL, and a text, which may be empty.
 advice_on <- function(program, lines, line, text, names) {
+  nothing <- list(bad = NULL, text = "")
   python <- getOption("rcell.python", Sys.which("python3")[[1]])
-  if (!nzchar(python)) return("")
+  if (!nzchar(python)) return(nothing)
   path <- tempfile("rcell-")
   on.exit(unlink(path))
   # An error of the advice must not hide the message.
-  said <- tryCatch({
+  tryCatch({
     writeLines(lines, path, useBytes = TRUE)
-    run(python, c("-c", ADVICE_CODE, program, path, line, sub(" at column [0-9]+$", "", text), names), timeout = ADVICE_SECONDS)$stdout
-  }, error = function(e) "")
-  Encoding(said) <- "UTF-8"
-  said
+    words <- c("-B", "-c", ADVICE_CODE, system.file("python", package = "rcell"), program, path, line, sub(" at column [0-9]+$", "", text), names)
+    said <- run(python, words, timeout = ADVICE_SECONDS)$stdout
+    Encoding(said) <- "UTF-8"
+    column <- as.integer(sub("\n.*", "", said))
+    list(bad = if (column > 0L) list(word = word_at(lines[[line]], column), column = column), text = sub("^[0-9]+\n", "", said))
+  }, error = function(e) nothing)
+}
+
+# The word of a line that begins at a column.
+word_at <- function(line, column) {
+  bytes <- charToRaw(line)
+  word <- sub("[ \t\r].*", "", rawToChar(bytes[column:length(bytes)]), useBytes = TRUE)
+  Encoding(word) <- "UTF-8"
+  word
 }

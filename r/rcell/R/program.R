@@ -152,7 +152,6 @@ fault <- function(end, path, names, lines) {
   if (!(line %in% seq_along(lines))) refuse(end$text, if (is_of_map) names[[end$maps + 1]] else "script", status = status, class = kind)
   content <- sub("\r$", "", lines[[line]], useBytes = TRUE)
   Encoding(content) <- "UTF-8"
-  # The program names no word of a statement whose options are wrong.
-  bad <- if (end$text == "bad option") bad_word(path, lines, line, names)
-  refuse(end$text, "script", line, status, content, kind, bad, advice_on(path, lines, line, end$text, names))
+  advice <- advice_on(path, lines, line, end$text, names)
+  refuse(end$text, "script", line, status, content, kind, if (end$text == "bad option") advice$bad, advice$text)
 }

@@ -54,20 +54,6 @@ statement_of <- function(output) {
   paste(words, collapse = " ")
 }
 
-# The word of a statement that is no option of its command, with its column in bytes from 1: the last word of the shortest beginning
-# of the statement that is rejected as the statement is. Of an option that is lacking nothing is said until then.
-bad_word <- function(path, lines, line, names) {
-  places <- gregexpr("[^ \t\r]+", lines[[line]], useBytes = TRUE)[[1]]
-  words <- strsplit(sub("^[ \t\r]+", "", lines[[line]], useBytes = TRUE), "[ \t\r]+", useBytes = TRUE)[[1]]
-  for (at in seq_along(words)[-1]) {
-    beginning <- words[seq_len(at)]
-    if (!any(startsWith(beginning, "input="))) beginning <- c(beginning, paste0("input=", names[[1]]))
-    end <- end_of(ask_pipe(path, plan_request(names, replace(lines, line, paste(beginning, collapse = " ")))))
-    if (end$line == line && end$text == "bad option") return(list(word = words[[at]], column = as.integer(places[[at]])))
-  }
-  NULL
-}
-
 unused_name <- function(name, lines, names) {
   while (any(grepl(name, c(lines, names), fixed = TRUE, useBytes = TRUE))) name <- paste0(name, "_")
   name

@@ -31,8 +31,8 @@ All errors are of the class \code{rcell_error}, and of one of these:
 \tabular{ll}{
 \code{rcell_refused} \tab a script, a map or a request is invalid; fields \code{source} (the name of a map,
 \code{"script"}, \code{"arguments"} or \code{"output"}), \code{line} (0 for none), \code{column} (in bytes, or \code{NA}),
-\code{text}, \code{status}, \code{content} (the line of the script). If an option is bad, the message names the word. If Python's
-package rcell is installed, the message ends with what to write instead; \code{options(rcell.python = "")} turns this off \cr
+\code{text}, \code{status}, \code{content} (the line of the script). If Python 3 is on the
+path, the message names a bad option, and ends with what to write instead; \code{options(rcell.python = "")} turns this off \cr
 \code{rcell_bad_map} \tab a map is not one of whole numbers, is rotated, has several layers; fields \code{name}, \code{row},
 \code{column}, \code{value}; also \code{rcell_refused} \cr
 \code{rcell_other_crs} \tab a map has another coordinate reference system than the first, or none; also \code{rcell_bad_map} \cr

@@ -118,21 +118,37 @@ board <- matrix(c(1, 2, 1, 2, 1, 2, 1, 2, 3), 3)
 expect_equal(max(values(rcell_grid("r.clump input=x output=p", "p", x = board), mat = FALSE)), max(rcell_patches(board)$patch))
 expect_identical(formals(rcell_patches)$connectivity, 4)
 
-# The script is judged before a map is looked for, and the word that is no option is named.
+# The script is judged before a map is looked for.
 quoted <- refusal(rcell_grid("r.mapcalc \"x = lc * 2\"", "x", lc = plain))
 expect_identical(quoted[c("source", "line", "column", "text")],
   list(source = "script", line = 1L, column = 11L, text = "bad byte at column 11"))
 expect_identical(conditionMessage(quoted), "script, line 1: bad byte at column 11\n  r.mapcalc \"x = lc * 2\"\n            ^")
 expect_identical(refusal(rcell_grid("r.mapcalc y = lc", "x", lc = plain))$text, "no map x: there are lc, y")
-for (case in list(c("r.stats -cn lc", "lc", 13), c("r.stats in=lc", "in=lc", 9), c("r.stats -c input=lc output=t.txt", "output=t.txt", 21),
-  c("r.stats -cq input=lc", "-cq", 9), c("r.stats input=lc input=lc", "input=lc", 18), c("r.stats -c -1 input=lc", "-1", 12),
-  c("r.stats input=lc separator=ab", "separator=ab", 18), c("r.clump -n input=lc output=k", "-n", 9))) {
+expect_identical(conditionMessage(refusal(rcell_run("r.stats -cn lc", lc = plain))), "script, line 1: bad option\n  r.stats -cn lc")
+
+# With Python, the word that is no option is named, and what to write instead.
+python <- Sys.which("python3")[[1]]
+folder <- system.file("python", package = "rcell")
+has_code <- nzchar(python) && processx::run(python, c("-c", "import sys; sys.path.append(sys.argv[1]); import rcell_front.mending", folder),
+  error_on_status = FALSE)$status == 0L
+options(rcell.python = if (has_code) python else "")
+for (case in if (has_code) list(c("r.stats -cn lc", "lc", 13, "r.stats -cn input=lc"), c("r.stats in=lc", "in=lc", 9, "r.stats input=lc"),
+  c("r.stats -c input=lc output=t.txt", "output=t.txt", 21, "r.stats -c input=lc"), c("r.stats -cq input=lc", "-cq", 9, "r.stats -c input=lc"),
+  c("r.stats input=lc input=lc", "input=lc", 18, "delete one of the two"), c("\tr.clump -n input=lc output=k", "-n", 10, "r.clump input=lc output=k"),
+  c("r.stats input=lc separator=ab", "separator=ab", 18, "`separator=tab`"))) {
   found <- refusal(rcell_run(case[[1]], lc = plain))
   expect_identical(found$text, "bad option", info = case[[1]])
   expect_identical(found$column, as.integer(case[[3]]), info = case[[1]])
-  mark <- strrep(" ", as.integer(case[[3]]) + 1)
-  expect_identical(conditionMessage(found), sprintf("script, line 1: bad option: %s\n  %s\n%s^", case[[2]], case[[1]], mark))
+  mark <- paste0(if (startsWith(case[[1]], "\t")) "\t" else " ", strrep(" ", as.integer(case[[3]]) - 2))
+  expect_identical(conditionMessage(found),
+    sprintf("script, line 1: bad option: %s\n  %s\n  %s^\n  try: %s", case[[2]], case[[1]], mark, case[[4]]))
 }
+if (has_code) {
+  both <- refusal(rcell_run("r.stats -c -1 input=lc", lc = plain))
+  expect_identical(both$column, NA_integer_)
+  expect_identical(conditionMessage(both), "script, line 1: bad option\n  r.stats -c -1 input=lc\n  try: one of the two")
+}
+options(rcell.python = "")
 for (name in c("a=b", "a-b", "1a", strrep("x", 65))) {
   found <- refusal(rcell_run("r.stats input=a", maps = structure(list(plain), names = name)))
   expect_identical(found[c("source", "line", "status")], list(source = "arguments", line = 0L, status = 2L), info = name)

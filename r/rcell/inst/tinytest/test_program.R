@@ -74,7 +74,7 @@ expect_identical(found[c("source", "line", "text", "status")], list(source = "sc
 expect_inherits(found, "rcell_out_of_memory")
 
 # What rcell-explain would write instead ends the message, where a Python has it.
-advisor <- script("advisor", "printf 'r.stats input=%s' \"$6\"")
+advisor <- script("advisor", "printf '0\\nr.stats input=%s' \"$9\"")
 before <- options(rcell.python = advisor)
 expect_identical(conditionMessage(refusal(rcell_run("r.stats input=lend", lc = lc))),
   "script, line 1: unknown map\n  r.stats input=lend\n  try: r.stats input=lc")
