@@ -19,7 +19,6 @@ from rcell_run import Missing, found_program
 LONGEST_SCRIPT = 1048576
 LONGEST_FILE_NAME = 255
 PIECE = 1 << 18
-WRITERS = ("r.stats", "r.out.ascii")
 MESSAGE = re.compile(rb"(rcell: (script|arguments):)([0-9]+)(: .*)", re.DOTALL)
 USAGE_STATUS, REFUSED_STATUS = 2, 1
 
@@ -47,7 +46,7 @@ class Marked:
     def __init__(self, text, plan):
         self.word = b"--%s" % binascii.hexlify(os.urandom(8))
         nothing = b"nothing_%s" % self.word[2:]
-        writers = {it.line: it for it in plan if it.command in WRITERS}
+        writers = {it.line: it for it in plan if not it.made}
         self.outputs = [Output(place, it) for place, it in enumerate(writers.values(), 1)]
         lines, self.users_lines = [], []
         for number, line in enumerate(text.split(b"\n"), 1):

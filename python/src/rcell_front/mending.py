@@ -21,7 +21,7 @@ from .causes import CAUSES, LINE
 from .grids import kind_of
 
 LONGEST_SEARCHED, WINDOW = 1000, 300  # bytes: a longer line is searched only around the error
-MOST_BYTES, BYTES_OF_A_QUESTION, BYTES_OF_A_NAME = 1 << 24, 1 << 15, 10  # for one script; what a question costs beside its bytes
+MOST_BYTES, BYTES_OF_A_QUESTION, BYTES_OF_A_NAME = 1 << 24, 1 << 15, 10  # of all questions about a script; a question counts more than its bytes
 MOST_OF_A_LINE, MOST_OF_AN_ERROR, MOST_MATCHES, LONGEST_CHAIN = 40, 30, 20, 3
 COLUMN = re.compile(r" at column \d+$")
 WORD = re.compile(r"[^ \t\r]+")
@@ -34,9 +34,9 @@ QUOTED = re.compile(r"[\"'].*[\"']")
 
 
 # An error of a block: its text, its part of messages.json, and the span of the block that it is about.
-Found = namedtuple("Found", "text part start end")
+Found = namedtuple("Found", ("text", "part", "start", "end"))
 # A rejected line: its number, its bytes, its errors, and the lines to write instead, which may be none.
-Line = namedtuple("Line", "number text faults mended")
+Line = namedtuple("Line", ("number", "text", "faults", "mended"))
 
 
 class Block(NamedTuple):
@@ -142,7 +142,7 @@ class Judge:
     def is_taken_as_given(self, name, block):
         """Take an unknown map as given, if a line that was left out may make it, or if no names are known."""
         number = next((number for number, text in self.left_out if has_word(text, name)), None)
-        if self.has_names and number is None or self.later(name, block) is not None:
+        if name in self.names or self.has_names and number is None or self.later(name, block) is not None:
             return False
         if self.has_names:
             self.numbers.insert(self.head.count("\n"), number)
@@ -213,11 +213,12 @@ class Judge:
         words = [it.span() for it in WORD.finditer(line)]
         if error.text == "unknown command":
             return words[0]
-        if error.text == "unknown map":  # also if all other words are given
+        if error.text == "unknown map":  # also if all others are given
             known = {*self.maps(), self.map}
-            values = {it[0]: it.span() for it in reversed([*VALUE.finditer(line)]) if it[0] not in known}
-            asked = {name: self.error(self.head + block.text + self.rest, {*values} - {name}) for name in reversed(values)}
-            return next((values[name] for name, found in asked.items() if found and found.text == error.text), (0, len(line)))
+            values = [it for it in VALUE.finditer(line) if it[0] not in known]
+            names = {it[0] for it in values}
+            asked = (self.error(self.head + block.text + self.rest, names - {it[0]}) for it in values)
+            return next((it.span() for it, found in zip(values, asked) if found and found.text == error.text), (0, len(line)))
         if error.text not in ("bad option", "bad name"):
             return len(line) * (error.text == "missing option"), len(line)
         for span in words[1:] or words:  # the last one of the shortest beginning of the line that is rejected as the line is
