@@ -189,7 +189,7 @@ RULE_WORD = r"(?<![^\s,=])%s(?![^\s,=])"
 BEGIN = r"^(?P<begin>[ \t]*r\.mapcalc[ \t]+"
 END = r"[ \t\r]*(?P<mark>)$"
 CONTINUED = Cause("continued line", r"[ \t]*(?P<mark>\\)[ \t\r]*(?:\n[ \t]*|$)", (" ",))
-BLANKS = Cause("blanks", r"(?<!\S)[^\s=]+(?:[ \t]+=[ \t]*|=[ \t]+)[^\s=-][^\s=]*", ("{new}",), replaced((r"[ \t]+", "")))
+BLANKS = Cause("blanks", r"(?<!\S)\w+(?:[ \t]+=[ \t]*|=[ \t]+)[^\s=-][^\s=]*", ("{new}",), replaced((r"[ \t]+", "")))
 COMMA = Cause("comma and blank", r"(?<!\S)[^\s=]+=\S*(?:(?<=,)[ \t]+[^\s=-][^\s=]*)*", ("{new}",),
               replaced((r"[ \t]+", ""), ("=,+", "="), (",+(?=,|$)", "")))
 NEXT_COMMAND = Cause("next command", r"^(?P<mark>[ \t]*[rg]\.[A-Za-z].*)", ("end\n{mark}",))
@@ -245,7 +245,7 @@ CAUSES = {
         Cause("null text", r"(?<!\S)null_value=(?!\S)", ("",)),
         Cause("null colon", r"(?<!\S)null_value=\S*:\S*", ("null_value=NA",), shown=False),
         Cause("null text", r"(?<!\S)null_value=\S*", ("null_value=NA",), shown=False),
-        Cause("many maps", r"(?<!\S)input=(?P<first>[^\s,]+),\S*", ("input={first}",), shown=False),
+        Cause("many maps", r"(?<!\S)input=[^\s,]+,\S*", ("input={map}",), shown=False),
         Cause("no key", r"(?<!\S)(?P<word>[^\s=-][^\s=]*)(?!\S)", ("input={word}",)),
         Cause("no equals sign", r"(?<!\S)[^\s=-][^\s=]*(?!\S)"),
         Cause("unknown key", r"(?P<key>[^\s=]*)=\S*", values={"keys": keys}),

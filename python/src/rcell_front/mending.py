@@ -290,7 +290,7 @@ class Judge:
         """Return what the functions of a cause get, by the names that causes.py has for it."""
         first, (start, end) = block.text.rfind("\n", 0, found.start) + 1, span_of(match)
         line, groups = block.text[first:].partition("\n")[0].strip(" \t\r"), match.groupdict("")
-        return {"judge": self, "block": block.text, "mark": block.text[start:end], "all": match.group(), "before": block.text[first:start],
+        return {"judge": self, "map": self.map, "block": block.text, "mark": block.text[start:end], "all": match.group(), "before": block.text[first:start],
                 "after": block.text[start:], "line": line.replace(self.map, "NAME"),
                 "command": WORD.search(line).group(), "groups": groups, **groups}
 
