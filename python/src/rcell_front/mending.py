@@ -183,7 +183,8 @@ class Judge:
         last = shown(written[-1]) if written else ""
         for fault in faults:
             fault.values = {key: last if value == LINE else value for key, value in fault.values.items()}
-        left = block.text if is_proposed or not self.is_enough and self.first(block) is None else self.stand_in(number, text)
+        is_good = written and (is_proposed or not self.is_enough and self.first(block) is None)
+        left = block.text if is_good else self.stand_in(number, text)
         first, end = self.head.count("\n"), len(self.numbers) - self.rest.count("\n")
         self.head, self.numbers[first:end] = self.head + left, [number] * (left.count("\n") + 1)
         return Line(number, text.split("\n")[0], faults, written if is_proposed else [])
