@@ -275,7 +275,8 @@ CAUSES = {
     ("script", "bad combination"): [CONTINUED, Cause("bad combination", r"after=(?:(?:\*|[+-]?\d{1,9}),)*(?P<part>[^,\s]*)\S*")],
     ("script", "combination of another width"): [
         Cause("width", r"after=(?P<value>\S*)", ("after={new}",), lambda at: [",".join("*" * count) for count in range(1, MOST_MAPS + 1)],
-              {"parts": lambda at: 1 + at["value"].count(","), "maps": lambda at: 1 + at["new"].count(",")}, False)],
+              {"parts": lambda at: 1 + at["value"].count(","), "maps": lambda at: 1 + at["new"].count(",")}, False),
+        Cause("width", r"after=\S*", values={"parts": lambda at: 1 + at["mark"].count(","), "maps": "another number"})],
     ("script", "bad rule"): [
         Cause("end with more", r"^(?P<end>[ \t]*end)\b(?P<mark>[^=\n]*[^=\s])[ \t\r]*$", ("{end}",)),
         NEXT_COMMAND,

@@ -97,7 +97,7 @@ class Judge:
         self.ask, self.has_names, self.names, self.head, self.rest = ask, names is not None, list(names or ()), "", text
         self.given = text.split("\n")
         self.numbers = list(range(1, len(self.given) + 1))  # the given line of each line
-        self.bytes, self.has_rules = 0, True
+        self.bytes, self.is_enough, self.has_rules = 0, False, True
         self.map, self.spare, self.spares = self.unused("map"), "", set()
         self.left_out = []  # lines without a correction, with their numbers
         self.answers = {}
@@ -111,7 +111,7 @@ class Judge:
         """Return the first error that the program reports in a text, or None; `more` maps are given."""
         names = [*self.names, self.map, *more]
         self.bytes += BYTES_OF_A_QUESTION + len(text) + BYTES_OF_A_NAME * len(names)
-        self.statements, found = self.ask(names, text)
+        self.is_enough, (self.statements, found) = self.bytes > MOST_BYTES, self.ask(names, text)
         return found
 
     def answer(self, line):
@@ -120,10 +120,6 @@ class Judge:
             _, error = self.ask([self.map], line.replace("{map}", self.map))
             self.answers[line] = key_of(error)[1] if error else ""
         return self.answers[line]
-
-    @property
-    def is_enough(self):
-        return self.bytes > MOST_BYTES
 
     def maps(self):
         """Return the maps that are known before the line of the error, with where they come from."""
