@@ -357,7 +357,7 @@ def warnings(ask, script, names):
     for it in statements:
         lines = it.text.split("\n")
         for label in it.labels.values():
-            number = it.line + next(at for at, line in enumerate(lines) if line.rstrip(" \t\r").endswith(label))
+            number = it.line + next((at for at, line in enumerate(lines) if line.rstrip(" \t\r").endswith(label)), 0)
             comment = re.search(r"(?:^|[ \t])(#.*)", label)
             found += [(number, "label comment", comment[1])] if comment else [(number, "label quotes", label)] if QUOTED.fullmatch(label) else []
         found += [] if it.made else [(it.line, "null quotes", word) for word in QUOTED.findall(lines[0])]

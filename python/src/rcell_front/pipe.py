@@ -21,7 +21,7 @@ from .advice import lines_of_error
 from .programs import WATCH_SECONDS, Started, close, pipe
 
 __all__ = [
-    "NULL", "Block", "Buffer", "Call", "Fault", "Frame", "GridFrame", "Killed", "Map", "Margin", "NoAnswer", "NotStarted", "Rejected", "Statement", "TableFrame", "is_known", "plan", "request",
+    "COMMANDS", "NULL", "Block", "Buffer", "Call", "Fault", "Frame", "GridFrame", "Killed", "Map", "Margin", "NoAnswer", "NotStarted", "Rejected", "Statement", "TableFrame", "is_known", "plan", "request",
     "run",
     "script_bytes",
     "text",
@@ -36,9 +36,11 @@ NULL_BYTE = 255
 CELL_BYTES = {"u8": 1, "i8": 1, "u16": 2, "i16": 2, "u32": 4, "i32": 4, "i64": 8}
 """The types of cells that go in, in the order of their codes, which begin at 1."""
 
+COMMANDS = ("r.mapcalc", "r.reclass", "r.clump", "r.stats", "r.out.ascii")
+"""The commands, in the order of their codes, which begin at 1."""
+
 _CODES = {name: code for code, name in enumerate(CELL_BYTES, 1)}
 _SOURCES = {1: "request", 2: "script"}
-COMMANDS = ("r.mapcalc", "r.reclass", "r.clump", "r.stats", "r.out.ascii")
 _OPTIONS = "cl1nN"
 _CALLED = ("row", "col", "nrows", "ncols")
 _NO_MEMORY = 3  # a status
