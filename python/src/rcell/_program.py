@@ -23,9 +23,9 @@ from rcell_front.programs import Started, close, found_on_path, pipe
 
 from ._arrays import NDArray
 from ._errors import Killed, MissingProgram, OutOfMemory, RcellError, Refused, WrongProgram
-from ._maps import Source
+from ._maps import ArrayMap, Source
 
-__all__ = ["Output", "candidates", "execute", "find_beside", "find_pipe", "find_program", "grid_text", "known_after", "planned", "printed"]
+__all__ = ["Output", "candidates", "execute", "find_beside", "find_pipe", "find_program", "grid_text", "grids", "known_after", "planned", "printed"]
 
 PROBE_SECONDS = 60
 """So long a program may take for a map of three cells, on a machine that has much else to do."""
@@ -217,6 +217,13 @@ def printed(script: str, maps: Mapping[str, Source], *, program: str | os.PathLi
     """Return what rcell prints for a script; arguments and errors are the same as in `execute`."""
     with _told(script, list(maps), path := find_pipe(program)):
         return b"".join(front.text(path, [_sent(name, source) for name, source in maps.items()], front.script_bytes(script)))
+
+
+def grids(script: str, maps: Mapping[str, Source], wanted: Sequence[str]) -> list[ArrayMap]:
+    """Return maps of a script that writes nothing, of the type in which the program sends them; all else is as in `execute`."""
+    region = next(iter(maps.values())).region
+    frames = (frame for frame in _frames(script, maps, wanted) if isinstance(frame, front.GridFrame))
+    return [ArrayMap(frame.name, np.asarray(frame.cells).reshape(region.shape), region, nodata_value=frame.null) for frame in frames]
 
 
 def grid_text(source: Source) -> bytes:

@@ -40,8 +40,6 @@ def mosaic_of(scheduler: str, size: int = 16, **maps: Any) -> rcell.tiles.Mosaic
     ("r.stats -1 input=lc", "-1 lists cells, of which there is no table to merge", 1),
     ("r.clump input=lc output=p\nr.stats -c input=p",
      "patches continue outside a tile: Mosaic.clump writes them, Mosaic.patches counts them", 1),
-    ("r.mapcalc x = lc[0,1]\nr.stats -c input=" + ",".join(["x"] * 16),
-     "16 maps, where an expression with offsets leaves room for 15 when it is done by tiles", 2),
 ])
 def test_scripts_of_tables_are_refused(tif: MakeTif, scheduler: str, script: str, text: str, line: int) -> None:
     with mosaic_of(scheduler, lc=tif("lc", CELLS)) as mosaic, pytest.raises(rcell.Refused) as refusal:

@@ -19,6 +19,7 @@ def test_bytes_grow_with_cells_maps_and_runs() -> None:
     table = table_demand(1, 1, NO_REACH)
     assert table.bytes(1000, 1000) == 165_000_000 + 5_150_000
     assert table.bytes(1000, 1000, runs=0.1) == 165_000_000 + 1_830_000
+    assert table_demand(1, 2, Reach(1, 1, 2, 2), made=1).bytes(998, 996) == 165_000_000 + 13_300_000
     assert grid_demand(1, 2, Reach(1, 1, 2, 2)).bytes(998, 996) == 165_000_000 + 13_300_000
     assert clump_demand(1).bytes(1000, 1000) > clump_demand(1).bytes(1000, 1000, runs=0.2)
     assert clump_demand(1).bytes(1000, 1000) == 165_000_000 + 13_300_000

@@ -13,6 +13,7 @@ from hypothesis.extra.numpy import arrays
 
 import rcell
 import rcell.tiles
+from rcell._labels import write_labels
 from rcell.tiles.joining import Rectangle
 from tests.tiles import whole
 from tests.tiles.conftest import MakeTif, read_tif, write_tif
@@ -153,6 +154,40 @@ def test_tables_have_labels_areas_and_percentages(tif: MakeTif, scheduler: str) 
         found = mosaic.table(script, area="ha", percent=True)
     assert found.equals(expected)
     assert list(found.columns) == ["lc", "lc_label", "k", "k_label", "cells", "area_ha", "percent"] or "k_label" in found.columns
+
+
+HALO_MAKERS = ("r.mapcalc x = nmax(a[-1,0], a[1,2]) + row()\nr.reclass input=x output=y\n1 thru 9 = 1 few\n* = 2 many, or null\nend\n"
+               "r.mapcalc here = col() % 2\nr.mapcalc z = here[1,-1]\n")
+
+
+@pytest.mark.parametrize("size", [(4, 5), (1, 99), (99, 3), (99, 99)], ids=str)
+@pytest.mark.parametrize("options", [
+    "input=x,a", "-l input=y,a", "-c input=y,x,a,y", "-cl input=b,y separator=comma null_value=1", "-cn input=y,a after=1,2", "-clN input=z,y,b",
+    "-c input=z", "-cN input=z,z after=*,*", f"-c input={','.join('xyzabyza' * 2)}", f"-cl input={','.join('y' * 16)} after={','.join('1' * 16)}",
+])
+def test_tables_of_maps_with_halos_equal_one_run(tmp_path: Path, scheduler: str, size: tuple[int, int], options: str) -> None:
+    rng = np.random.default_rng(9)
+    a, b = (write_tif(tmp_path / f"{name}.tif", rng.choice([1, 1, 2, 3, NULL], (11, 13)).astype(np.int16), NULL) for name in "ab")
+    write_labels(a, {1: "wood", 3: "lake, or sea"})
+    script = f"{HALO_MAKERS}r.stats {options}"
+    expected = rcell.table(script, a=a, b=b)
+    with rcell.tiles.open(size=size, scheduler=scheduler, a=a, b=b) as mosaic:
+        found = mosaic.table(script)
+    assert found.equals(expected)
+    assert list(found.columns) == list(expected.columns)
+    assert [found.attrs, *found.dtypes] == [expected.attrs, *expected.dtypes]
+
+
+def test_masks_have_halos_too(tif: MakeTif, scheduler: str) -> None:
+    import rasterio
+
+    cells = np.random.default_rng(3).integers(0, 9, (11, 13)).astype(np.uint8)
+    path = tif("lc", cells)
+    with rasterio.open(path, "r+") as dataset:
+        dataset.write_mask(cells > 2)
+    script = "r.mapcalc x = lc[1,0] - lc[0,-2]\nr.stats -c input=lc,x"
+    with rcell.tiles.open(size=(4, 5), scheduler=scheduler, lc=path) as mosaic:
+        assert mosaic.table(script).equals(rcell.table(script, lc=path))
 
 
 def test_a_reclass_writes_its_labels(tif: MakeTif, tmp_path: Path, scheduler: str) -> None:

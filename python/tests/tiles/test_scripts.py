@@ -5,7 +5,7 @@ from __future__ import annotations
 import pytest
 
 from rcell._program import planned
-from rcell.tiles._scripts import Reach, TileScript, counting, spare_name
+from rcell.tiles._scripts import Reach, TileScript, counting
 from rcell.tiles.joining import Rectangle
 
 
@@ -48,7 +48,6 @@ def test_lines_are_the_callers_own() -> None:
     *made, stats = tile_script(script, "a").statements
     assert [each.text for each in made] == [" r.reclass  output=b input=a\n# note\n\n 1 thru 3 = 7 low # class\n end \r", "r.mapcalc x\t=  a==b"]
     assert counting(stats).text == "r.stats -cn input=b,x after=1,*"
-    assert counting(stats, "inside").text == "r.stats -cn input=inside,b,x after=1,1,*"
     assert counting(planned("r.stats -N input=a,a", ["a"])[0]).text == "r.stats -Nc input=a,a"
 
 
@@ -80,5 +79,5 @@ def test_only_what_the_last_line_depends_on_is_run() -> None:
 
 
 def test_spare_names_are_spare() -> None:
-    assert spare_name("inside", []) == "inside"
-    assert spare_name("inside", ["inside", "inside_", "other"]) == "inside__"
+    script = tile_script("r.mapcalc _aaab = lc\nr.mapcalc x = _aaab", "lc", "_aaaa", "_aaad")
+    assert (script.row, script.col, script.spare) == ("_aaac", "_aaae", "_aaaf")

@@ -87,9 +87,9 @@ class Demand:
         return WORKER + math.ceil(cells * max(beside, afterwards))
 
 
-def table_demand(read: int, maps: int, reach: Reach) -> Demand:
-    """Return the demand of a table, whose result is small."""
-    return Demand(read, maps, reach=reach)
+def table_demand(read: int, maps: int, reach: Reach, made: int = 0) -> Demand:
+    """Return the demand of a table, which is small; a halo is cut off the maps that are made for it, so many."""
+    return Demand(read, maps, answer=0 if reach == NO_REACH else 4 * made, reach=reach)
 
 
 def grid_demand(read: int, maps: int, reach: Reach) -> Demand:

@@ -13,25 +13,18 @@ from rcell_front.pipe import Margin as Reach
 
 from .joining import Rectangle
 
-__all__ = ["NO_REACH", "Reach", "Statement", "TileScript", "counting", "spare_name"]
+__all__ = ["NO_REACH", "Reach", "Statement", "TileScript", "counting"]
 
 NO_REACH = Reach()
 
 
-def counting(stats: Statement, inside: str | None = None) -> Statement:
-    """Return an r.stats that prints plain categories and counts, with `inside` as an additional first map that must be 1."""
+def counting(stats: Statement) -> Statement:
+    """Return an r.stats that prints plain categories and counts."""
     flags = "".join(sorted({*stats.options, "c"} - {"l"}))
     after = ["*" if category == NULL else str(category) for category in stats.after]
-    more = [] if inside is None else [inside]
-    words = ["r.stats", f"-{flags}", f"input={','.join([*more, *stats.inputs])}"]
-    words += [f"after={','.join([*('1' for _ in more), *after])}"] if after else []
+    words = ["r.stats", f"-{flags}", f"input={','.join(stats.inputs)}"]
+    words += [f"after={','.join(after)}"] if after else []
     return replace(stats, text=" ".join(words))
-
-
-def spare_name(base: str, taken: Iterable[str]) -> str:
-    """Return a name that no map has."""
-    known = set(taken)
-    return next(name for name in (base + "_" * count for count in range(len(known) + 1)) if name not in known)
 
 
 def short_names(taken: Iterable[str]) -> Iterator[str]:
@@ -61,13 +54,14 @@ class TileScript:
     ----------
     statements : tuple of Statement
         The last one, and those before it that it depends on.
-    row, col : str
+    row, col, spare : str
         Names that no map of the script has.
     """
 
     statements: tuple[Statement, ...]
     row: str
     col: str
+    spare: str
 
     @classmethod
     def of(cls, plan: Sequence[Statement], last: Statement, names: Iterable[str]) -> TileScript:
@@ -78,11 +72,11 @@ class TileScript:
                 used.insert(0, each)
                 wanted |= set(each.reads)
         spare = short_names([*names, *(each.made for each in plan)])
-        return cls(tuple(used), next(spare), next(spare))
+        return cls(tuple(used), next(spare), next(spare), next(spare))
 
-    def with_last(self, statement: Statement) -> TileScript:
-        """Return this script with another last statement."""
-        return replace(self, statements=(*self.statements[:-1], statement))
+    def with_last(self, *statements: Statement) -> TileScript:
+        """Return this script with other statements, or none, in place of the last."""
+        return replace(self, statements=(*self.statements[:-1], *statements))
 
     @property
     def reach(self) -> Reach:

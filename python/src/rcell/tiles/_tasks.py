@@ -16,10 +16,10 @@ from .._counts import counts_of
 from .._errors import OutOfMemory
 from .._joiner import border_of, joined
 from .._maps import ArrayMap, Source
-from .._program import execute, printed
+from .._program import execute, grids, printed
 from .._region import Region
 from .._table import StatsTable
-from ._scripts import NO_REACH, Reach, Statement, TileScript, counting
+from ._scripts import NO_REACH, Reach, Statement, TileScript
 from ._sheet import MapCells, MapFile, Sheet
 from .joining import Joined, Rectangle, TileNumbers, join, renumber, sizes
 
@@ -27,9 +27,6 @@ __all__ = ["ClumpRun", "TableForm", "TileRun", "clumps_table", "grid_cells", "jo
            "patches_frame", "tile_border", "tile_table"]
 
 Integers = npt.NDArray[Any]
-
-ALL_NULL = re.compile(rb"(?:\* )+[0-9]+\n")
-"""The line of a table of r.stats -c for the cells that are null in all maps."""
 
 CATEGORY_OF_CLUMP = re.compile(rb"^([0-9]+) \S+", re.MULTILINE)
 """The start of a line in a table of clumps and categories."""
@@ -58,8 +55,6 @@ class TileRun:
     sheet: Sheet
     files: tuple[MapFile | MapCells, ...]
     script: TileScript
-    inside: str
-    """The name of a map that is 1 in a tile and null in its halo; no other map has it."""
 
     @property
     def reach(self) -> Reach:
@@ -68,16 +63,15 @@ class TileRun:
 
     @property
     def made(self) -> int:
-        """The number of maps that the program holds for a tile: those that it reads or makes, and the mask of the halo."""
-        has_halo = self.script.statements[-1].command == "r.stats" and self.script.reach != NO_REACH
-        return len(self.files) + self.script.made + has_halo
+        """The number of maps that the program holds for a tile: those that it reads or makes."""
+        return len(self.files) + self.script.made
 
-    def maps(self, outer: Rectangle, cells: Sequence[Any]) -> dict[str, Source]:
+    def maps(self, outer: Rectangle, cells: Sequence[Any]) -> dict[str, ArrayMap]:
         """Return the maps in a rectangle."""
         given = iter(cells)
-        found: dict[str, Source] = {file.name: read(file, outer, self.sheet, given) for file in self.files}
+        found = {file.name: read(file, outer, self.sheet, given) for file in self.files}
         if not found:  # a script of row() and similar calls reads no map, but its region has to come from one
-            found[self.inside] = ArrayMap(self.inside, np.broadcast_to(np.uint8(0), outer[2:]), Region.of_cells(*outer[2:]))
+            found[self.script.spare] = ArrayMap(self.script.spare, np.broadcast_to(np.uint8(0), outer[2:]), Region.of_cells(*outer[2:]))
         return found
 
 
@@ -103,7 +97,7 @@ class ClumpRun:
 
 
 @contextmanager
-def told_of_size(maps: dict[str, Source]) -> Iterator[None]:
+def told_of_size(maps: Mapping[str, Source]) -> Iterator[None]:
     """Add the size of the tile to the error if memory runs out."""
     try:
         yield
@@ -112,7 +106,7 @@ def told_of_size(maps: dict[str, Source]) -> Iterator[None]:
         raise OutOfMemory(f"{fault.text} for a tile of {rows} x {cols} cells: give a smaller size", fault.source, 0, 3) from None
 
 
-def made_cells(text: str, maps: dict[str, Source], name: str) -> Integers:
+def made_cells(text: str, maps: Mapping[str, Source], name: str) -> Integers:
     """Return the cells of a map that a script makes from a tile."""
     with told_of_size(maps):
         cells: Integers = execute(text, maps, wanted=[name])[-1].values
@@ -121,36 +115,28 @@ def made_cells(text: str, maps: dict[str, Source], name: str) -> Integers:
 
 def tile_table(task: TileRun, place: Rectangle, cells: Sequence[Any]) -> bytes:
     """Return the table of a tile without its halo, as the program prints it."""
-    stats = task.script.statements[-1]
-    outer = with_halo(place, task.script.reach, task.sheet)
+    script, stats = task.script, task.script.statements[-1]
+    outer = with_halo(place, task.reach, task.sheet)
     maps = task.maps(outer, cells)
-    script = task.script
-    if outer != place:
-        # Other tiles count the cells of the halo: a mask is added as the first map, and only the entries with mask 1 are kept.
-        script = script.with_last(counting(stats, task.inside))
-        maps[task.inside] = ArrayMap(task.inside, mask_of(place, outer), Region.of_cells(*outer[2:]), nodata_value=0)
     with told_of_size(maps):
-        text = printed(script.text(outer, task.sheet.rows, task.sheet.cols), maps)
-    return text if outer == place else without_halo(text, "N" in stats.options)
+        if outer != place:  # other tiles count the cells of the halo, so it is cut off the maps that the table reads
+            made = grids(script.with_last().text(outer, task.sheet.rows, task.sheet.cols), maps, sorted({*stats.inputs} - {*maps}))
+            maps = {each.name: cut(each, place, outer) for each in (*maps.values(), *made) if each.name in stats.inputs}
+            script = replace(script, statements=(stats,))
+        return printed(script.text(place, task.sheet.rows, task.sheet.cols), maps)
 
 
-def without_halo(text: bytes, leaves_out_null: bool) -> bytes:
-    """Return the lines of a table that begin with 1, without the 1; the line of null in all other maps may be left out."""
-    lines = re.findall(rb"^1 (.*\n)", text, re.MULTILINE)
-    if leaves_out_null and lines and ALL_NULL.fullmatch(lines[-1]):
-        lines.pop()
-    return b"".join(lines)
-
-
-def mask_of(place: Rectangle, outer: Rectangle) -> npt.NDArray[np.uint8]:
-    """Return an array that is 1 in a tile and 0 in its halo."""
-    mask = np.zeros(outer[2:], dtype=np.uint8)
-    inner(mask, place, outer)[:] = 1
-    return mask
+def cut(given: ArrayMap, place: Rectangle, outer: Rectangle) -> ArrayMap:
+    """Return a map of a tile from a map of the tile and its halo."""
+    null = None if given.null is None else inner(given.null, place, outer)
+    return replace(given, array=inner(given.array, place, outer), region=Region.of_cells(place.rows, place.cols), null=null)
 
 
 def inner(cells: Integers, place: Rectangle, outer: Rectangle) -> Integers:
-    """Return the cells of a tile from the cells of the tile and its halo."""
+    """Return the cells of a tile from the cells of the tile and its halo.
+
+    They are the full map's, by the law `halo_is_enough`, or `reach_is_enough` if the script uses rows and columns.
+    """
     top, left = place.top - outer.top, place.left - outer.left
     return cells[top:top + place.rows, left:left + place.cols]
 
@@ -186,8 +172,6 @@ def grid_cells(task: TileRun, place: Rectangle, cells: Sequence[Any]) -> Integer
     """Return the map that a script makes last, for a tile: int32, with `NULL` for null."""
     outer = with_halo(place, task.script.reach, task.sheet)
     text = task.script.text(outer, task.sheet.rows, task.sheet.cols)
-    # By the law `halo_is_enough`, or `reach_is_enough` if the script uses rows and columns, the values inside the halo are
-    # the full map's.
     made = made_cells(text, task.maps(outer, cells), task.script.statements[-1].made)
     return np.ascontiguousarray(inner(made, place, outer))
 
@@ -197,7 +181,7 @@ def clumps_table(task: ClumpRun, place: Rectangle, cells: Sequence[Any]) -> tupl
 
     The program prints numbers and categories. A clump has one category, so the categories can be left out of the table.
     """
-    maps: dict[str, Source] = {"cells": task.tile(place, cells)}
+    maps = {"cells": task.tile(place, cells)}
     with told_of_size(maps):
         text = printed(f"{task.line}\nr.stats -c -n input=clumps,cells", maps)
     return CATEGORY_OF_CLUMP.sub(rb"\1", text), counts_of(text, 2).combinations[:, 1].astype(np.int32)

@@ -30,7 +30,7 @@ from ._engine import Engine, Progress
 from ._graph import Cuts, cuts_for, cuts_of, merged, over_tiles, places_of
 from ._memory import Demand, clump_demand, grid_demand, patches_demand, size_for, table_demand
 from ._output import tile_writer
-from ._scripts import NO_REACH, Statement, TileScript, counting, spare_name
+from ._scripts import Statement, TileScript, counting
 from ._sheet import MapCells, MapFile, Maps, open_maps
 from .joining import Joined, Rectangle
 
@@ -276,7 +276,7 @@ class Mosaic:
         stats, run = self._table_run(script)
         labels = self._labels(run.script.statements) if "l" in stats.options else None
         form = _tasks.TableForm(stats, labels, self.sheet, area, percent)
-        tiles = self._tiles(table_demand(self._read(run), run.made, run.reach), compute)
+        tiles = self._tiles(table_demand(self._read(run), run.made, run.reach, len({*stats.inputs} - {*self._files})), compute)
         find_joiner()  # it is needed at the end, and missed at the beginning
         parts = _parts(self._over(_tasks.tile_table, run, tiles))
         text = merged(_tasks.join_tables, parts)
@@ -459,10 +459,7 @@ class Mosaic:
         if "1" in stats.options:
             raise refused(script, stats, "-1 lists cells, of which there is no table to merge")
         run = self._run(script, plan, stats)
-        run = replace(run, script=run.script.with_last(counting(stats)))
-        if run.reach != NO_REACH and len(stats.inputs) > 15:
-            raise refused(script, stats, "16 maps, where an expression with offsets leaves room for 15 when it is done by tiles")
-        return stats, run
+        return stats, replace(run, script=run.script.with_last(counting(stats)))
 
     def _labels(self, script: Sequence[Statement]) -> dict[str, Mapping[int, str]]:
         """Return the labels of the maps that the last statement reads."""
@@ -493,8 +490,7 @@ class Mosaic:
             if statement.command == "r.clump":
                 raise refused(script, statement, "patches continue outside a tile: Mosaic.clump writes them, Mosaic.patches counts them")
         files = tuple(file for name, file in self._files.items() if name in last.needs)
-        taken = {*self._files, run.row, run.col, *(statement.made for statement in plan)}
-        return _tasks.TileRun(self.sheet, files, run, spare_name("inside", taken))
+        return _tasks.TileRun(self.sheet, files, run)
 
     # Tiles
 
