@@ -88,7 +88,7 @@ class Demand:
 
 
 def table_demand(read: int, maps: int, reach: Reach, made: int = 0) -> Demand:
-    """Return the demand of a table, which is small; a halo is cut off the maps that are made for it, so many."""
+    """Return the demand of a table, which is small; a halo is cut off so many maps that are made for it."""
     return Demand(read, maps, answer=0 if reach == NO_REACH else 4 * made, reach=reach)
 
 
