@@ -1,8 +1,11 @@
 -- Rows by rules, one more at a time.
-use Rattle.std.proofs.Common.{◌≡◌, ℕ, ◌+◌, ◌<◌, List, [], ◌∷◌, ◌++◌, length, take, get_or, drop, replicate, zero, suc, refl, ap, sym, ◌∙◌, arith, append_assoc, length-append, length-drop, Some, None, Result, Ok, Err}
-use Rattle.std.proofs.lemmas.List.{take_more, map-append, take_at, length-take-le, length-replicate}
+use Rattle.std.proofs.Common.{◌≡◌, ◌≢◌, ℕ, ◌+◌, ◌<◌, List, All, subst, [], ◌∷◌, ◌++◌, length, take, get_or, replicate}
+use Rattle.std.proofs.Common.{zero, suc, refl, ap, sym, ◌∙◌, arith, append_assoc, length-append, Some, None, Result}
+use Rattle.std.proofs.Common.{Ok, Err}
+use Rattle.std.proofs.lemmas.List.{take_more, map-append, append-nil, length-replicate, replicate-append-replicate}
+use Rattle.std.proofs.lemmas.Grind.{flat_map-append}
 use Rattle.cell_core.specs.Grid.{CellValue, Grid, row_at}
-use Rattle.cell_core.specs.Runs.{RunValue, written_out}
+use Rattle.cell_core.specs.Runs.{RunValue, AreApart, written_out}
 use Rattle.cell_cats.specs.Rule.{RuleValue, new_category}
 use Rattle.cell_cats.specs.Reclass.{new_row, new_rows}
 use Rattle.cell_cats.specs.RulesLaw.{StarKeeps}
@@ -48,26 +51,72 @@ new_row-replicate : (rules : List RuleValue) (n : ℕ) (cell : CellValue) → ne
 new_row-replicate rules zero cell = refl
 new_row-replicate rules (suc n) cell = ap (λ (l : List CellValue). new_category rules cell ∷ l) (new_row-replicate rules n cell)
 
--- a run more of a row
-module _ (row new : List CellValue) (at n : ℕ) (cell x : CellValue) (old rest : List RunValue) (next : old ≡ (cell, n) ∷ rest) (within : at + length (written_out old) ≡ length row) (filled : new ≡ take at row ++ replicate n x ++ drop (at + n) row) where
-  count : length (written_out old) ≡ n + length (written_out rest)
-  count = ap (λ l. length (written_out l)) next ∙ length-append (replicate n cell) (written_out rest) ∙ ap (λ k. k + length (written_out rest)) (length-replicate n cell)
+-- a run more after others
+out-more : (made : List RunValue) (run : RunValue) → written_out (made ++ run ∷ []) ≡ written_out made ++ replicate run.1 run.0
+out-more made run =
+    flat_map-append (λ (r : RunValue). replicate r.1 r.0) made (run ∷ [])
+    ∙ ap (λ (l : List CellValue). written_out made ++ l) (append-nil (replicate run.1 run.0))
 
-  done : length (take at row ++ replicate n x) ≡ at + n
-  done = length-append (take at row) (replicate n x) ∙ omega (arith, length-take-le at row (omega (arith, within, count)), length-replicate n x)
+-- the first of the runs that are left is read
+module _ (read : RunValue) (old rest : List RunValue) (next : old ≡ read ∷ rest) where
+  pub count : length (written_out old) ≡ read.1 + length (written_out rest)
+  count =
+      ap (λ l. length (written_out l)) next ∙ length-append (replicate read.1 read.0) (written_out rest)
+      ∙ ap (λ k. k + length (written_out rest)) (length-replicate read.1 read.0)
 
-  pub width-more : at + n + length (written_out rest) ≡ length new
-  width-more =
-      let wide : length new ≡ (at + n) + length (drop (at + n) row) = ap length filled ∙ length-append (take at row ++ replicate n x) (drop (at + n) row) ∙ ap (λ k. k + length (drop (at + n) row)) done in
-      omega (arith, wide, within, count, length-drop (at + n) row)
+  pub first-some : All (λ run. 0 < run.1) old → 0 < read.1
+  first-some all = all-of 0 read (omega arith)
+    where
+      all-of : All (λ run. 0 < run.1) (read ∷ rest)
+      all-of = subst (All (λ (run : RunValue). 0 < run.1)) next all
 
-  module _ (rules : List RuleValue) (all : List CellValue) (applied : x ≡ new_category rules cell) (whole : take at row ++ new_row rules (written_out old) ≡ all) where
-    run : new_row rules (written_out old) ≡ replicate n x ++ new_row rules (written_out rest)
+  pub others-some : All (λ run. 0 < run.1) old → All (λ run. 0 < run.1) rest
+  others-some all i d within = all-of (suc i) d (omega (arith, within))
+    where
+      all-of : All (λ run. 0 < run.1) (read ∷ rest)
+      all-of = subst (All (λ (run : RunValue). 0 < run.1)) next all
+
+  module _ (rules : List RuleValue) (x : CellValue) (applied : x ≡ new_category rules read.0) where
+    run : new_row rules (written_out old) ≡ replicate read.1 x ++ new_row rules (written_out rest)
     run =
-        ap (λ l. new_row rules (written_out l)) next ∙ map-append (new_category rules) (replicate n cell) (written_out rest)
-        ∙ ap (λ l. l ++ new_row rules (written_out rest)) (new_row-replicate rules n cell ∙ ap (replicate n) (sym applied))
+        ap (λ l. new_row rules (written_out l)) next
+        ∙ map-append (new_category rules) (replicate read.1 read.0) (written_out rest)
+        ∙ ap (λ l. l ++ new_row rules (written_out rest))
+        (new_row-replicate rules read.1 read.0 ∙ ap (replicate read.1) (sym applied))
 
-    pub run-more : take (at + n) new ++ new_row rules (written_out rest) ≡ all
-    run-more =
-        let first : take (at + n) new ≡ take at row ++ replicate n x = ap (take (at + n)) filled ∙ take_at (take at row ++ replicate n x) (drop (at + n) row) (at + n) done in
-        ap (λ l. l ++ new_row rules (written_out rest)) first ∙ append_assoc (take at row) (replicate n x) (new_row rules (written_out rest)) ∙ ap (λ l. take at row ++ l) (sym run) ∙ whole
+    -- it begins the row, or is after the others
+    pub run-next : (made : List RunValue) (all : List CellValue)
+        → written_out made ++ new_row rules (written_out old) ≡ all
+        → written_out (made ++ (x, read.1) ∷ []) ++ new_row rules (written_out rest) ≡ all
+    run-next made all whole =
+        ap (λ l. l ++ new_row rules (written_out rest)) (out-more made (x, read.1))
+        ∙ append_assoc (written_out made) (replicate read.1 x) (new_row rules (written_out rest))
+        ∙ ap (λ l. written_out made ++ l) (sym run) ∙ whole
+
+    -- it continues the last
+    pub run-on : (made : List RunValue) (k : ℕ) (all : List CellValue)
+        → written_out (made ++ (x, k) ∷ []) ++ new_row rules (written_out old) ≡ all
+        → written_out (made ++ (x, k + read.1) ∷ []) ++ new_row rules (written_out rest) ≡ all
+    run-on made k all whole =
+        let longer : written_out (made ++ (x, k + read.1) ∷ [])
+        ≡ written_out (made ++ (x, k) ∷ []) ++ replicate read.1 x =
+        out-more made (x, k + read.1) ∙ ap (λ l. written_out made ++ l) (sym (replicate-append-replicate k read.1 x))
+        ∙ sym (append_assoc (written_out made) (replicate k x) (replicate read.1 x))
+        ∙ ap (λ l. l ++ replicate read.1 x) (sym (out-more made (x, k))) in
+        ap (λ l. l ++ new_row rules (written_out rest)) longer
+        ∙ append_assoc (written_out (made ++ (x, k) ∷ [])) (replicate read.1 x) (new_row rules (written_out rest))
+        ∙ ap (λ l. written_out (made ++ (x, k) ∷ []) ++ l) (sym run) ∙ whole
+
+-- the last run may be longer
+pub apart-on : (made : List RunValue) (x : CellValue) (k n : ℕ)
+    → AreApart (made ++ (x, k) ∷ []) → AreApart (made ++ (x, n) ∷ [])
+apart-on [] x k n apart = tt
+apart-on (a ∷ []) x k n apart = (apart.0, tt)
+apart-on (a ∷ b ∷ made) x k n apart = (apart.0, apart-on (b ∷ made) x k n apart.1)
+
+-- a run of another cell may come after it
+pub apart-next : (made : List RunValue) (last more : RunValue) → last.0 ≢ more.0
+    → AreApart (made ++ last ∷ []) → AreApart ((made ++ last ∷ []) ++ more ∷ [])
+apart-next [] last more other apart = (other, tt)
+apart-next (a ∷ []) last more other apart = (apart.0, (other, tt))
+apart-next (a ∷ b ∷ made) last more other apart = (apart.0, apart-next (b ∷ made) last more other apart.1)

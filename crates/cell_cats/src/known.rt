@@ -9,8 +9,13 @@ use cell_core::cell::Cell;
 use cell_core::memory::Memory;
 use std::alloc::Global;
 
-// How many cells are known at a time. All that clauses say of them is that each is right, so the number can be tuned.
-const PLACES: usize = 1024;
+// A place for so many cells of a map, at least and at most so many: a large map may have many categories, and places take time to
+// make. All that clauses say of the places is that each is right, so the numbers can be tuned.
+const CELLS_A_PLACE: u64 = 8;
+
+const FEWEST: u64 = 64;
+
+const MOST: u64 = 32_768;
 
 // A cell, and what the rules make of it.
 #[derive(Clone, Copy)]
@@ -19,21 +24,28 @@ pub(crate) struct Known {
     reclassed: Cell,
 }
 
-// The place of a cell among so many. Their number is a power of two, so that no division is needed.
+// How many places there are for a map of so many cells: a power of two, so that no division is needed.
+fn places_for(cells: u64) -> usize
+    ensures { 0 < result }
+{
+    (cells / CELLS_A_PLACE)
+        .clamp(FEWEST, MOST)
+        .next_power_of_two() as usize
+}
+
+// The place of a cell among so many.
 fn category_place(cell: Cell, places: usize) -> usize
     requires { 0 < places }
     ensures { result < places }
 {
-    let number = match cell.get() {
-        Some(category) => (i64::from(category) + 2147483648) as usize,
-        None => 0,
-    };
+    // The number that is kept for null, so that it needs no case of its own.
+    let number = cell.get().unwrap_or(i32::MIN);
     let last = places - 1;
-    (number & last).min(last)
+    (number.cast_unsigned() as usize & last).min(last)
 }
 
-// Places in which only null is known: every list of rules keeps it.
-pub(crate) fn only_null(alloc: Global) -> Result<Vec<Known>, Memory>
+// Places for a map of so many cells, in which only null is known: every list of rules keeps it.
+pub(crate) fn only_null(alloc: Global, cells: u64) -> Result<Vec<Known>, Memory>
     ensures some { IfOk result (λ known. 0 < length known.items) }
     ensures right { IfOk result (λ known. (rules : List RuleValue) → AreRight rules known.items) }
 {
@@ -42,7 +54,7 @@ pub(crate) fn only_null(alloc: Global) -> Result<Vec<Known>, Memory>
         cell,
         reclassed: cell,
     };
-    let known = vec![in alloc; null; PLACES]?;
+    let known = vec![in alloc; null; places_for(cells)]?;
     Ok(known)
 }
 

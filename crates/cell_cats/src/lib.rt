@@ -21,6 +21,7 @@
 //! ```
 #![tactic(auto)]
 
+mod byte_table;
 mod known;
 pub mod law;
 mod line;

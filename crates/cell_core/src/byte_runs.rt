@@ -3,9 +3,9 @@
 ghost use Rattle.std.specs.Prelude.{◌≡◌, ◌<◌, ◌≤◌, ◌^◌, length, IfOk};
 ghost use Rattle.cell_core_values.specs.SmallCells.{cells_of_bytes};
 ghost use Rattle.cell_core.specs.Runs.{AreRuns, written_out};
-ghost use Rattle.cell_core.specs.parts.RowForms.{alike, runs_in, mark_bits};
+ghost use Rattle.cell_core.specs.parts.RowForms.{alike, runs_in};
 
-use crate::runs::{BLOCK, push_last, push_marked, set_bits};
+use crate::runs::runs_of;
 use cell_core_values::cell::Cell;
 use cell_core_values::memory::Memory;
 use cell_core_values::small_cells::{cell_of_byte, write_byte_cells};
@@ -46,24 +46,8 @@ pub(crate) fn number_of_byte_runs(bytes: &[u8]) -> usize
     bytes.len() - alike as usize + 1
 }
 
-// Which bytes of a block stand for another cell than the one before, the first than a cell: bit k stands for the byte at place k.
-#[inline(always)]
-fn byte_breaks_in(cell: Cell, block: &[u8]) -> u64
-    requires { length block.now ≡ 64 }
-    ensures { result ≡ mark_bits cell (cells_of_bytes block.now) }
-{
-    let mut flags = [0u8; 64];
-    let mut last = block[0];
-    flags[0] = (cell_of_byte(last) != cell) as u8;
-    for j in 1..BLOCK {
-        let next = block[j];
-        flags[j] = (next != last) as u8;
-        last = next;
-    }
-    set_bits(&flags)
-}
-
-// The runs of the cells that bytes stand for, which are so many. Takes memory once.
+// The runs of the cells that bytes stand for, which are so many. It writes
+// out the cells, since runs of cells are found faster.
 pub(crate) fn runs_of_bytes(
     alloc: Global,
     bytes: &[u8],
@@ -73,21 +57,7 @@ pub(crate) fn runs_of_bytes(
     ensures written { IfOk result (λ runs. written_out runs.items ≡ cells_of_bytes bytes.now) }
     ensures runs { IfOk result (λ runs. AreRuns runs.items) }
 {
-    let mut runs = Vec::with_capacity(alloc, count_of_runs)?;
-    if let Some((first, others)) = bytes.split_first() {
-        let mut cells = [Cell::null(); 64];
-        let mut run = (cell_of_byte(*first), 1);
-        let mut at = 0;
-        'parts: while others.len() - at >= BLOCK {
-            let block = &others[at..at + BLOCK];
-            write_byte_cells(block, &mut cells);
-            run = push_marked(&mut runs, run, &cells, byte_breaks_in(run.0, block))?;
-            at += BLOCK;
-        }
-        let left = &others[at..];
-        let last = &mut cells[..left.len()];
-        write_byte_cells(left, last);
-        push_last(&mut runs, run, last)?;
-    }
-    Ok(runs)
+    let mut cells = vec![in alloc; Cell::null(); bytes.len()]?;
+    write_byte_cells(bytes, &mut cells);
+    runs_of(alloc, &cells, count_of_runs)
 }

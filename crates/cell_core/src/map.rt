@@ -218,6 +218,24 @@ impl MapBuilder {
         self.push(row)
     }
 
+    /// Puts the row that runs make below the others, as [`MapBuilder::push_row`] does. It is kept as these runs, which takes less
+    /// memory than its cells if they are at most half as many.
+    ///
+    /// # Errors
+    ///
+    /// [`Memory`] if memory for the row runs out: nothing is changed.
+    pub fn push_runs(&mut self, runs: &[(Cell, u32)]) -> Result<(), Memory>
+        requires runs { AreRuns runs.now }
+        requires width { length (written_out runs.now) ≡ self.old.region.cols }
+        requires room { length self.old.rows < self.old.region.rows }
+        ensures ok { OnOk result
+            (self.new ≡ record self.old { rows = self.old.rows ++ written_out runs.now ∷ [] }) }
+        ensures err { OnErr result (self.new ≡ self.old) }
+    {
+        let row = Row::of_runs(self.alloc, runs)?;
+        self.push(row)
+    }
+
     // Puts a row below the others.
     fn push(&mut self, row: Row) -> Result<(), Memory>
         requires width { length row ≡ self.old.region.cols }

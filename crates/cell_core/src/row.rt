@@ -6,7 +6,7 @@ ghost use Rattle.cell_core_values.specs.SmallCells.{cells_of_bytes};
 ghost use Rattle.cell_core.specs.Runs.{AreRuns, written_out};
 
 use crate::byte_runs::{number_of_byte_runs, runs_of_bytes};
-use crate::runs::{Runs, cell_of_runs, number_of_runs, runs_of, write_out};
+use crate::runs::{Runs, category_of, cell_of_runs, number_of_runs, runs_of, write_out};
 use crate::stretches::Stretches;
 use cell_core_values::cell::Cell;
 use cell_core_values::memory::Memory;
@@ -76,6 +76,22 @@ impl Row {
             RowForm::Bytes(Vec::from_slice(alloc, bytes)?)
         };
         Ok(Row { kept })
+    }
+
+    // Keeps the row that runs make. Takes memory once.
+    pub(crate) fn of_runs(alloc: Global, runs: &[(Cell, u32)]) -> Result<Row, Memory>
+        requires { AreRuns runs.now }
+        ensures value { IfOk result (λ row. row ≡ written_out runs.now) }
+        ensures cells { IfOk result (λ row. All IsCell row) }
+    {
+        for run in runs {
+            // The proof looks at each category.
+            let _ = category_of(run.0);
+        }
+        let kept = Vec::from_slice(alloc, runs)?;
+        Ok(Row {
+            kept: RowForm::Runs(kept),
+        })
     }
 
     // The cell at a column, or null after the end.

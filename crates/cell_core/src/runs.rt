@@ -17,10 +17,10 @@ use std::marker::Model;
 use std::simd::prelude::*;
 
 // So many cells are looked at together.
-pub(crate) const BLOCK: usize = 64;
+const BLOCK: usize = 64;
 
 // Its category, or None for null: it is one of them.
-fn category_of(cell: Cell) -> Option<i32>
+pub(crate) fn category_of(cell: Cell) -> Option<i32>
     ensures value { result ≡ cell }
     ensures cell { IsCell cell }
 {
@@ -52,7 +52,7 @@ pub(crate) fn number_of_runs(row: &[Cell]) -> usize
 
 // Which of 64 bytes are not 0, as bits.
 #[inline(always)]
-pub(crate) fn set_bits(flags: &[u8]) -> u64
+fn set_bits(flags: &[u8]) -> u64
     requires { length flags.now ≡ 64 }
     ensures { result ≡ flag_bits flags.now }
 {
@@ -91,28 +91,10 @@ fn push_block(
         ≡ runs.old.items ++ runs_from run (block.now ++ more)) }
     ensures count { IfOk result (λ last. last.1 ≤ run.1 + 64) }
 {
-    push_marked(runs, run, block, breaks_in(run.0, block))
-}
-
-// The same, if it is known which cells of the block differ from the one before.
-pub(crate) fn push_marked(
-    runs: &mut Vec<(Cell, u32)>,
-    run: (Cell, u32),
-    block: &[Cell],
-    marks: u64,
-) -> Result<(Cell, u32), Memory>
-    requires size { length block.now ≡ 64 }
-    requires room { run.1 + 64 < 2 ^ 32 }
-    requires marks { marks ≡ mark_bits run.0 block.now }
-    ensures runs { IfOk result (λ last. (more : List CellValue)
-        → runs.new.items ++ runs_from last more
-        ≡ runs.old.items ++ runs_from run (block.now ++ more)) }
-    ensures count { IfOk result (λ last. last.1 ≤ run.1 + 64) }
-{
     let mut cell = run.0;
     let mut count = run.1;
     let mut at = 0;
-    let mut breaks = marks;
+    let mut breaks = breaks_in(run.0, block);
     'breaks: while breaks != 0 {
         let alike = breaks.trailing_zeros();
         runs.push((cell, count + alike))?;
@@ -126,11 +108,7 @@ pub(crate) fn push_marked(
 }
 
 // Pushes the runs of the last cells of a row, the first of which may have begun before them.
-pub(crate) fn push_last(
-    runs: &mut Vec<(Cell, u32)>,
-    run: (Cell, u32),
-    cells: &[Cell],
-) -> Result<(), Memory>
+fn push_last(runs: &mut Vec<(Cell, u32)>, run: (Cell, u32), cells: &[Cell]) -> Result<(), Memory>
     requires { run.1 + length cells.now < 2 ^ 32 }
     ensures { OnOk result (runs.new.items ≡ runs.old.items ++ runs_from run cells.now) }
 {

@@ -1,4 +1,5 @@
 use Rattle.std.proofs.Common.{◌≡◌, ◌∙◌, length, ap, arith, sym, subst}
+use Rattle.std.proofs.lemmas.List.{length-replicate}
 use Rattle.std.proofs.lemmas.List.Elements.{All-replicate}
 use Rattle.cell_cats.specs.Rule.{new_category}
 use Rattle.cell_cats.specs.parts.KnownCategories.{AreRight}
@@ -7,10 +8,12 @@ use Rattle.cell_cats.proofs.known.only_null.Goals as goal
 
 pub returns-clause-some : goal.returns-clause-some
 returns-clause-some c =
-    let size : length c.in_ok-known.known.items ≡ 1024 = ap length (c.in_ok-known.ensures.items_if_clones_equal (λ y h. h)) in
-    omega (arith, size)
+    let null : Known = record { cell = c.null-cell.result; reclassed = c.null-cell.result } in
+    let size : length c.in_ok-known.known.items ≡ c.places_for.result =
+    ap length (c.in_ok-known.ensures.items_if_clones_equal (λ y h. h)) ∙ length-replicate c.places_for.result null in
+    omega (arith, size, c.places_for.ensures)
 
 pub returns-clause-right : goal.returns-clause-right
 returns-clause-right c = λ rules.
     subst (AreRight rules) (sym (c.in_ok-known.ensures.items_if_clones_equal (λ y h. h)))
-    (All-replicate (λ (k : Known). k.reclassed ≡ new_category rules k.cell) 1024 _ (c.null-cell.ensures ∙ sym (ap (new_category rules) c.null-cell.ensures)))
+    (All-replicate (λ (k : Known). k.reclassed ≡ new_category rules k.cell) c.places_for.result _ (c.null-cell.ensures ∙ sym (ap (new_category rules) c.null-cell.ensures)))

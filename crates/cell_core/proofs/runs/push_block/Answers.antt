@@ -1,6 +1,6 @@
 use Rattle.std.proofs.Common.{arith}
 use Rattle.cell_core.proofs.MarkLemmas.{first-below, bits-next, runs-next, runs-end}
-use Rattle.cell_core.proofs.runs.push_marked.Goals as goal
+use Rattle.cell_core.proofs.runs.push_block.Goals as goal
 
 pub overflow_add-count : goal.overflow_add-count
 overflow_add-count c =

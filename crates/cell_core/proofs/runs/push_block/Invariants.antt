@@ -1,7 +1,7 @@
 use Rattle.std.proofs.Common.{◌≡◌, ◌+◌, ◌-◌, ◌≤◌, ◌++◌, List, drop}
 use Rattle.cell_core.specs.Grid.{CellValue}
 use Rattle.cell_core.specs.parts.RowForms.{mark_bits, runs_from}
-use Rattle.cell_core.proofs.runs.push_marked.Given as goal
+use Rattle.cell_core.proofs.runs.push_block.Given as goal
 
 abbrev pub invariant-breaks : goal.invariant-breaks
 invariant-breaks l = record {

@@ -1,7 +1,7 @@
 use Rattle.std.proofs.Common.{◌≡◌, ◌<◌, length, take}
 use Rattle.cell_cats.specs.Reclass.{new_rows}
 use Rattle.cell_cats.specs.parts.KnownCategories.{AreRight}
-use Rattle.cell_cats.proofs.reclassing.reclass.Given as goal
+use Rattle.cell_cats.proofs.reclassing.reclass_cells.Given as goal
 
 abbrev pub invariant-loop-r : goal.invariant-loop-r
 invariant-loop-r l = record {
@@ -9,6 +9,7 @@ invariant-loop-r l = record {
   region : l.builder.region ≡ l.given.region;
   count : length l.builder.rows ≡ l.r;
   width : length l.row ≡ l.given.region.cols;
+  byte_width : length l.byte_row ≡ l.given.region.cols;
   some : 0 < length l.known;
   right : AreRight l.rules l.known;
 }

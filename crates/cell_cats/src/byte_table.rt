@@ -1,0 +1,57 @@
+//! The new categories of the cells that a byte stands for, in bytes too.
+
+ghost use Rattle.std.specs.Prelude.{◌≡◌, length, List, IfOk, IfSome};
+ghost use Rattle.cell_core_values.specs.SmallCells.{cells_of_bytes};
+ghost use Rattle.cell_cats.specs.Rule.{RuleValue};
+ghost use Rattle.cell_cats.specs.Reclass.{new_row};
+ghost use Rattle.cell_cats.specs.parts.ByteTables.{IsByteTable};
+ghost use Rattle.cell_cats.specs.parts.Pieces.{AreOfRules};
+
+use crate::pieces::Pieces;
+use cell_core::cell::Cell;
+use cell_core::memory::Memory;
+use cell_core_values::small_cells::{are_small, bytes_of, cell_of_byte};
+use std::alloc::Global;
+
+// How many bytes there are.
+const BYTES: usize = 256;
+
+// A map of fewer cells takes less time without a table.
+const FEWEST_CELLS: u64 = 65_536;
+
+// For each byte the byte of its new category: None if bytes do not stand for all of these, or for a map of few cells.
+pub(crate) fn byte_table(
+    alloc: Global,
+    pieces: &Pieces,
+    cells_of_map: u64,
+) -> Result<Option<Vec<u8>>, Memory>
+    ensures size { IfOk result (λ table. IfSome table (λ bytes. length bytes.items ≡ 256)) }
+    ensures right { IfOk result (λ table. IfSome table
+        (λ bytes. (rules : List RuleValue) → AreOfRules rules pieces.now
+        → IsByteTable rules bytes.items)) }
+{
+    if cells_of_map < FEWEST_CELLS {
+        return Ok(None);
+    }
+    let mut cells = vec![in alloc; Cell::null(); BYTES]?;
+    for byte in 0..BYTES {
+        cells[byte] = pieces.apply(cell_of_byte(byte as u8));
+    }
+    if !are_small(&cells) {
+        return Ok(None);
+    }
+    let table = bytes_of(alloc, &cells)?;
+    Ok(Some(table))
+}
+
+// Writes the new categories of the cells that bytes stand for, into a slice of as many.
+pub(crate) fn write_by_table(table: &[u8], bytes: &[u8], row: &mut [u8])
+    requires size { length table.now ≡ 256 }
+    requires width { length row.old ≡ length bytes.now }
+    ensures { (rules : List RuleValue) → IsByteTable rules table.now
+        → cells_of_bytes row.new ≡ new_row rules (cells_of_bytes bytes.now) }
+{
+    for i in 0..row.len() {
+        row[i] = table[bytes[i] as usize];
+    }
+}

@@ -1,0 +1,33 @@
+use Rattle.std.proofs.Common.{◌<◌, ◌++◌, [], ◌∷◌, suc, List, All, length, take, replicate, ap, sym, ◌∙◌, arith}
+use Rattle.std.proofs.Common.{take_all}
+use Rattle.std.proofs.lemmas.List.{take_more}
+use Rattle.std.proofs.lemmas.List.Elements.{All-append, All-nil, All-push, All-replicate, All-same}
+use Rattle.cell_core_values.specs.Cell.{IsCell}
+use Rattle.cell_core.specs.Runs.{RunValue, written_out}
+use Rattle.cell_core.proofs.row.Row.of_runs.Goals as goal
+
+cells_of : (runs : List RunValue) → All (λ run. IsCell run.0) runs → All IsCell (written_out runs)
+cells_of [] all = All-nil IsCell
+cells_of (run ∷ runs) all =
+    All-append IsCell (replicate run.1 run.0) (written_out runs)
+    (All-replicate IsCell run.1 run.0 (all 0 run (omega arith)))
+    (cells_of runs (λ i d within. all (suc i) d (omega (arith, within))))
+
+pub loop-run-preserved : goal.loop-run-preserved
+loop-run-preserved c =
+    let runs = c.args.runs.now in
+    let i = c.loop-run.run-index in
+    let run = c.run-item.result in
+    let within : i < length runs = omega arith in
+    All-same (λ (r : RunValue). IsCell r.0) _ _ (take_more runs i run within
+    ∙ ap (λ r. take i runs ++ r ∷ []) (sym c.run-item.is))
+    (All-push (λ (r : RunValue). IsCell r.0) (take i runs) run c.loop-run.invariant c.category_of.ensures.cell)
+
+pub returns-clause-cells : goal.returns-clause-cells
+returns-clause-cells c =
+    let runs = c.args.runs.now in
+    let i = c.loop-run.run-index in
+    let all : All (λ run. IsCell run.0) runs =
+    All-same (λ (r : RunValue). IsCell r.0) runs (take i runs)
+    (sym (take_all i runs (omega arith))) c.loop-run.invariant in
+    All-same IsCell _ _ (ap written_out c.in_ok-kept.ensures.items) (cells_of runs all)
