@@ -6,5 +6,6 @@ pub mod GatheredLemmas
 pub mod HeldLemmas
 pub mod JoinLemmas
 pub mod PairedLemmas
+pub mod RowLemmas
 pub mod RunCountLemmas
 pub mod WalkLemmas

@@ -6,3 +6,4 @@ pub mod ByteCounts
 pub mod GatheredCounts
 pub mod HeldPlaces
 pub mod Joined
+pub mod RowCells

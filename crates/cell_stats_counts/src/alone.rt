@@ -15,6 +15,7 @@ use crate::combination::Combo;
 use crate::counting::{CountPlaces, add_count};
 use crate::gathered::Gathered;
 use crate::skip::{Skip, is_left_out};
+use crate::varied::{count_varied_alone, is_varied};
 use cell_core::map::CellMap;
 use cell_core::memory::Memory;
 use cell_core::stretches::Stretches;
@@ -118,6 +119,11 @@ pub(crate) fn count_alone(
         if bytes.len() >= BYTES {
             return count_bytes(alloc, bytes, skip, spare, places, counted);
         }
+    }
+    if is_varied(grid, row) {
+        let table = &mut places.pairs;
+        let entries = &mut counted.entries;
+        return count_varied_alone(alloc, grid, row, skip, table, entries);
     }
     count_stretches(alloc, grid.stretches(row), skip, spare, places, counted)
 }

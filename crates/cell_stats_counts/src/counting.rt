@@ -1,12 +1,13 @@
 //! Counts of combinations: in an ordered map, and some that are on their way to it.
 
 ghost use Rattle.std.specs.Prelude.{◌≡◌, ◌+◌, ◌-◌, ◌<◌, ◌≤◌, ◌^◌, ◌↔◌, length, take, OnOk, IfOk, IsTrue};
-ghost use Rattle.cell_stats_counts.specs.Combinations.{Combination};
+ghost use Rattle.cell_stats_counts.specs.Combinations.{ArePicks, Combination};
 ghost use Rattle.cell_stats_counts.specs.parts.HeldPlaces.{held_by, wide_total, gathered_of, AreEmpty, AreFree, GathersNoZero, HasWideRoom, IsWideCounting, HasWideCounted, AreFlushed, IsCounting, HasRoom, HasCounted};
 
 use crate::combination::Combo;
 use crate::gathered::{Gathered, code_of, merge, settle};
 use crate::paired::{PAIR, PairTable, add_pair};
+use crate::ranges::layout_for;
 use cell_core::cell::Cell;
 use cell_core::memory::Memory;
 use cell_core::shelf::Shelf;
@@ -41,7 +42,7 @@ pub(crate) struct CountPlace {
     cells: [Cell; WIDEST],
 }
 
-// Combinations of two maps are counted in the table, all others in the places.
+// Combinations of one map or two are counted in the table, all others in the places.
 #[derive(Drop)]
 pub(crate) struct CountPlaces {
     pub(crate) wide: Vec<CountPlace>,
@@ -165,7 +166,7 @@ fn add_near(
     Ok(())
 }
 
-// Counts cells of a combination of one map, or of more than two.
+// Counts cells of a combination of more than two maps.
 #[inline(always)]
 fn add_wide(
     alloc: Global,
@@ -204,7 +205,7 @@ pub(crate) fn add_count(
     ensures { OnOk result (HasCounted cells.now count places.old counted.old
         spare.new places.new counted.new) }
 {
-    if cells.len() == PAIR {
+    if cells.len() <= PAIR {
         add_pair(alloc, cells, count, &mut places.pairs, &mut counted.entries)?;
         return Ok(());
     }
@@ -246,16 +247,22 @@ fn empty_places(alloc: Global, many: usize) -> Result<Vec<CountPlace>, Memory>
 pub(crate) fn first_places(
     alloc: Global,
     shelf: &Shelf,
-    width: usize,
+    picks: &[usize],
 ) -> Result<CountPlaces, Memory>
+    requires { ArePicks shelf.now picks.now }
     ensures some { IfOk result (λ places. 0 < length places.wide.items) }
     ensures nothing { IfOk result (λ places. AreEmpty places.wide.items) }
     ensures some_pairs { IfOk result (λ places. 0 < length places.pairs.places.items) }
     ensures no_pairs { IfOk result (λ places. AreFree places.pairs.places.items) }
 {
     let many = places_for(shelf);
-    let wide = empty_places(alloc, if width == PAIR { 1 } else { many })?;
-    let pairs = PairTable::new(alloc, if width == PAIR { many } else { 1 })?;
+    let width = picks.len();
+    let wide = empty_places(alloc, if width <= PAIR { 1 } else { many })?;
+    let pairs = PairTable::new(
+        alloc,
+        layout_for(shelf, picks),
+        if width <= PAIR { many } else { 1 },
+    )?;
     Ok(CountPlaces { wide, pairs })
 }
 
@@ -280,7 +287,7 @@ pub(crate) fn flush_all(
 
 // Whether the places are too few for the combinations of so many maps, by how many of these are new in the map.
 fn are_crowded(width: usize, places: usize, new: usize) -> bool {
-    width != PAIR && places < MOST && new > places / CROWD
+    width > PAIR && places < MOST && new > places / CROWD
 }
 
 // Makes more places if there are too few. `before` is how many combinations the map had when the places were made;

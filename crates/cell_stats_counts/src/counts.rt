@@ -17,6 +17,7 @@ use crate::gathered::{Gathered, ordered_entries};
 use crate::paired::list_pairs;
 use crate::selection::Selection;
 use crate::skip::{Skip, is_left_out};
+use crate::varied::{count_varied, is_varied};
 use cell_core::cell::Cell;
 use cell_core::memory::Memory;
 use cell_core::shelf::Shelf;
@@ -92,11 +93,22 @@ fn count_row<'a>(
         return Ok(());
     }
     if let [first, second] = selection.picks {
+        let one = selection.shelf.map(*first);
+        let other = selection.shelf.map(*second);
+        if is_varied(one, row) || is_varied(other, row) {
+            count_varied(
+                alloc,
+                one,
+                other,
+                row,
+                selection.skip,
+                &mut places.pairs,
+                &mut counted.entries,
+            )?;
+            return Ok(());
+        }
         // Of a length that the compiler knows, so that it unrolls what goes over them.
-        let mut two = [
-            start(selection.shelf.map(*first), row),
-            start(selection.shelf.map(*second), row),
-        ];
+        let mut two = [start(one, row), start(other, row)];
         let mut cells = [Cell::null(); 2];
         return count_columns(
             alloc, selection, row, &mut two, &mut cells, spare, places, counted,
@@ -128,7 +140,7 @@ pub fn count_cells(
     let width = picks.len();
     let mut cells = vec![in alloc; Cell::null(); width]?;
     let mut spare = Combo::from_cells(alloc, &cells)?;
-    let mut places = first_places(alloc, shelf, width)?;
+    let mut places = first_places(alloc, shelf, picks)?;
     let mut counted = Gathered::new(alloc);
     let mut started = cursors_of(alloc, shelf, picks)?;
     let cursors = started.as_mut_slice();

@@ -1,6 +1,7 @@
 //! Counts of combinations in a list, in which each is found by a number of it.
 
 ghost use Rattle.std.specs.Prelude.{◌≡◌, ◌+◌, ◌<◌, ◌^◌, [], OnOk, false, cond, length, take};
+ghost use Rattle.std.specs.List.Sorted.{IsPermutation};
 ghost use Rattle.cell_stats_counts.specs.Combinations.{Combination};
 ghost use Rattle.cell_stats_counts.specs.Listed.{listed_of, HasNoZero, AreAscending};
 ghost use Rattle.cell_stats_counts.specs.parts.HeldPlaces.{is_same, gathered_of, GathersNoZero, Grows};
@@ -8,6 +9,8 @@ ghost use Rattle.cell_stats_counts.specs.parts.GatheredCounts.{GatheredFits, Gat
 ghost use Rattle.cell_stats_counts.specs.parts.Joined.{AreOfOne, CanAddUp, IsRising, JoinsMore};
 
 use crate::combination::Combo;
+use crate::paired::PAIR;
+use crate::scattered::{number_in, ranges_of};
 use cell_core::cell::Cell;
 use cell_core::memory::Memory;
 use std::alloc::Global;
@@ -275,6 +278,21 @@ fn join(entries: &mut [(Combo, u64)]) -> usize
     last + 1
 }
 
+// Moves entries of more than two maps about, so that there is little left to sort. Those of fewer maps are in order already.
+fn presorted(mut entries: Vec<(Combo, u64)>) -> Vec<(Combo, u64)>
+    ensures { IsPermutation entries.items result.items }
+{
+    if let Some(entry) = entries.first() {
+        if entry.0.len() <= PAIR {
+            return entries;
+        }
+    }
+    let ranges = ranges_of(&entries);
+    // Without memory for the numbers, the entries stay as they were.
+    let _ = entries.sort_by_cached_key(|entry| number_in(&ranges, entry.0.cells()));
+    entries
+}
+
 // Puts the list in order, with one entry for each combination.
 pub(crate) fn ordered_entries(counted: Gathered) -> Vec<(Combo, u64)>
     requires fits { GatheredFits counted }
@@ -284,7 +302,7 @@ pub(crate) fn ordered_entries(counted: Gathered) -> Vec<(Combo, u64)>
     ensures counts { (k : Combination) → listed_of k result.items ≡ gathered_of k counted }
     ensures no_zero { HasNoZero result.items }
 {
-    let mut entries = counted.entries;
+    let mut entries = presorted(counted.entries);
     entries.sort_unstable();
     let kept = join(entries.as_mut_slice());
     entries.truncate(kept);

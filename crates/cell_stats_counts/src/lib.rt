@@ -8,8 +8,9 @@
 //! - `counts`: `count_cells`, the counts of a selection
 //! - `cursor`: `Cursor`, a walk along a row by runs; `pass_all`, over several maps at once
 //! - `law`: a text is read as a combination exactly if it spells one
-//! - private: `counting`, which counts combinations of two maps in a table (`paired`, sorted by
-//!   `scattered`), others in places and a list with an index (`gathered`); `alone`, one map by itself
+//! - private: `counting`, which counts combinations of one map or two in a table (`paired`, laid out
+//!   by `ranges` and sorted by `scattered`), others in places and a list with an index (`gathered`);
+//!   `alone`, one map by itself; `varied`, rows cell by cell
 //!
 //! Two categories, or null, from `text`:
 //!
@@ -31,6 +32,8 @@ pub mod cursor;
 mod gathered;
 pub mod law;
 mod paired;
+mod ranges;
 mod scattered;
 pub mod selection;
 pub mod skip;
+mod varied;

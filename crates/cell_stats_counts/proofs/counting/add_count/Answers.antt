@@ -1,4 +1,4 @@
-use Rattle.std.proofs.Common.{◌≡◌, ◌<◌, ◌≤◌, ◌+◌, ◌^◌, ℕ, arith}
+use Rattle.std.proofs.Common.{◌<◌, ◌+◌, ◌^◌, ℕ, arith}
 use Rattle.cell_stats_counts.proofs.counting.add_count.Goals as goal
 
 -- what the table counts, and what is listed, are a part of all
@@ -6,11 +6,8 @@ part : (paired held listed pending count : ℕ) → paired + (held + (listed + p
     → paired + listed + count < 2 ^ 64
 part paired held listed pending count all = omega arith
 
-two : {n : ℕ} → n ≡ 2 → n ≤ 2
-two same = omega arith
-
 pub add_pair-requires-clause-width : goal.add_pair-requires-clause-width
-add_pair-requires-clause-width c = two c.if-cells-eq-PAIR.true
+add_pair-requires-clause-width c = c.if-cells-le-PAIR.true
 
 pub add_pair-requires-clause-places : goal.add_pair-requires-clause-places
 add_pair-requires-clause-places c = c.requires.going.pairs

@@ -1,0 +1,146 @@
+-- A row whose cells are counted one by one.
+use Rattle.std.proofs.Common.{◌≡◌, ℕ, zero, suc, ◌+◌, ◌<◌, ◌≤◌, List, [], ◌∷◌, length, drop, map, get_or, Bool, true}
+use Rattle.std.proofs.Common.{false, cond, Some, None, refl, ap, sym, ◌∙◌, arith, add-one, add-zero, zero-add}
+use Rattle.std.proofs.lemmas.List.{drop_more}
+use Rattle.std.proofs.Math.ListN.{drop_of_length-le}
+use Rattle.std.specs.List.{range_with_len}
+use Rattle.std.specs.Prelude.{slice_get}
+use Rattle.cell_core.specs.Grid.{Grid, CellValue, row_at}
+use Rattle.cell_stats_counts.specs.declared.skip.Skip.{Skip}
+use Rattle.cell_stats_counts.specs.Combinations.{Combination, cell_of_map, combination_at, all_combinations}
+use Rattle.cell_stats_counts.specs.Combinations.{row_combinations}
+use Rattle.cell_stats_counts.specs.Counts.{count_of}
+use Rattle.cell_stats_counts.specs.Cursors.{row_in}
+use Rattle.cell_stats_counts.specs.parts.HeldPlaces.{is_same}
+use Rattle.cell_stats_counts.specs.parts.Alone.{alone}
+use Rattle.cell_stats_counts.specs.parts.RowCells.{both, count_from}
+use Rattle.cell_stats_counts.specs.LeftOut.{kept_cells, is_left_out}
+use Rattle.cell_stats_counts.proofs.RunCountLemmas.{count-both, count-stretch}
+use Rattle.cell_stats_counts.proofs.WalkLemmas.{all_combinations_more, cell-row}
+use Rattle.cell_stats_counts.proofs.CursorLemmas.{row-of}
+
+-- the cell at a column, and those after it
+pub count_from-step : (skip : Skip) (k : Combination) (cells : List Combination) (col : ℕ) (q : Combination) (b : Bool)
+    → col < length cells → get_or cells col [] ≡ q → is_left_out skip q ≡ b
+    → count_from skip k cells col ≡ cond b 0 (cond (is_same k q) 1 0) + count_from skip k cells (col + 1)
+count_from-step skip k cells col q b within here left =
+    let split : drop col cells ≡ q ∷ drop (col + 1) cells =
+    drop_more cells col [] within ∙ ap (λ (x : Combination). x ∷ drop (col + 1) cells) here in
+    ap (λ (l : List Combination). count_of k (kept_cells skip l)) split
+    ∙ count-both skip k (q ∷ []) (drop (col + 1) cells)
+    ∙ ap (λ m. m + count_from skip k cells (col + 1)) (count-stretch skip k q 1 b left)
+
+-- no cell is left
+pub count_from-end : (skip : Skip) (k : Combination) (cells : List Combination) (col : ℕ) → length cells ≤ col
+    → count_from skip k cells col ≡ 0
+count_from-end skip k cells col ended =
+    ap (λ (l : List Combination). count_of k (kept_cells skip l)) (drop_of_length-le cells ended)
+
+pub length-both : (xs ys : List CellValue) → length ys ≡ length xs → length (both xs ys) ≡ length xs
+length-both [] ys e = refl
+length-both (x ∷ xs) [] e = absurd (omega (arith, e))
+length-both (x ∷ xs) (y ∷ ys) e =
+    let rest : length ys ≡ length xs = omega (arith, e) in
+    omega (arith, length-both xs ys rest)
+
+pub get-both : (xs ys : List CellValue) (i : ℕ) (d e : CellValue) → i < length xs → length ys ≡ length xs
+    → get_or (both xs ys) i [] ≡ get_or xs i d ∷ get_or ys i e ∷ []
+get-both [] ys i d e within same = absurd (omega (arith, within))
+get-both (x ∷ xs) [] i d e within same = absurd (omega (arith, same))
+get-both (x ∷ xs) (y ∷ ys) zero d e within same = refl
+get-both (x ∷ xs) (y ∷ ys) (suc i) d e within same =
+    let rest : length ys ≡ length xs = omega (arith, same) in
+    get-both xs ys i d e (omega (arith, within)) rest
+
+-- the pair at a column
+pub pair-at : (xs ys : List CellValue) (i : ℕ) (x y : CellValue) → i < length xs → length ys ≡ length xs
+    → x ≡ get_or xs i x → y ≡ get_or ys i y → get_or (both xs ys) i [] ≡ x ∷ y ∷ []
+pair-at xs ys i x y within same first second =
+    get-both xs ys i x y within same ∙ ap (λ (c : CellValue). c ∷ get_or ys i y ∷ []) (sym first)
+    ∙ ap (λ (c : CellValue). x ∷ c ∷ []) (sym second)
+
+-- the cell at a column by itself
+pub alone-at : (xs : List CellValue) (i : ℕ) (x : CellValue) → i < length xs → x ≡ get_or xs i x
+    → get_or (map alone xs) i [] ≡ alone x
+alone-at [] i x within is = absurd (omega (arith, within))
+alone-at (y ∷ xs) zero x within is = ap alone (sym is)
+alone-at (y ∷ xs) (suc i) x within is = alone-at xs i x (omega (arith, within)) is
+
+both-get : (xs ys : List CellValue) (a : ℕ) (f : ℕ → Combination) → length ys ≡ length xs
+    → ((j : ℕ) → f (a + j) ≡ get_or xs j None ∷ get_or ys j None ∷ [])
+    → map f (range_with_len a (length xs)) ≡ both xs ys
+both-get [] ys a f e h = refl
+both-get (x ∷ xs) [] a f e h = absurd (omega (arith, e))
+both-get (x ∷ xs) (y ∷ ys) a f e h =
+    let here : f a ≡ x ∷ y ∷ [] = ap f (sym (add-zero a)) ∙ h 0 in
+    let behind : (j : ℕ) → f (a + 1 + j) ≡ get_or xs j None ∷ get_or ys j None ∷ [] =
+    λ j. ap f (next j) ∙ h (suc j) in
+    let rest : length ys ≡ length xs = omega (arith, e) in
+    ap (λ (z : Combination). z ∷ map f (range_with_len (a + 1) (length xs))) here
+    ∙ ap (λ (t : List Combination). (x ∷ y ∷ []) ∷ t) (both-get xs ys (a + 1) f rest behind)
+  where
+    next : (j : ℕ) → a + 1 + j ≡ a + suc j
+    next j = omega arith
+
+-- the combinations of a row of two maps
+pub row-both : (maps : List Grid) (row p q cols : ℕ) → length (row_in maps row p) ≡ cols
+    → length (row_in maps row q) ≡ cols
+    → row_combinations maps (p ∷ q ∷ []) cols row ≡ both (row_in maps row p) (row_in maps row q)
+row-both maps row p q cols wide wide_too =
+    let at = combination_at maps (p ∷ q ∷ []) row in
+    ap (λ n. map at (range_with_len 0 n)) (sym wide)
+    ∙ both-get (row_in maps row p) (row_in maps row q) 0 at (wide_too ∙ sym wide) (λ j. ap at (zero-add j)
+    ∙ ap (λ (c : CellValue). c ∷ cell_of_map maps row j q ∷ []) (cell-row maps row j p)
+    ∙ ap (λ (c : CellValue). get_or (row_in maps row p) j None ∷ c ∷ []) (cell-row maps row j q))
+
+-- the two places
+pub twin : (places : List ℕ) (d : ℕ) → length places ≡ 2 → places ≡ get_or places 0 d ∷ get_or places 1 d ∷ []
+twin [] d e = absurd (omega (arith, e))
+twin (p ∷ []) d e = absurd (omega (arith, e))
+twin (p ∷ q ∷ []) d e = refl
+twin (p ∷ q ∷ r ∷ places) d e = absurd (omega (arith, e))
+
+cond-le : (b : Bool) → cond b 1 0 ≤ 1
+cond-le true = omega arith
+cond-le false = omega arith
+
+module _ (skip : Skip) (k : Combination) (cells : List Combination) (col : ℕ) (q : Combination)
+    (within : col < length cells)
+    (here : get_or cells col [] ≡ q) where
+  -- a cell that is left out adds nothing
+  pub cell-left : (now all : ℕ) → is_left_out skip q ≡ true → now + count_from skip k cells col ≡ all
+      → now + count_from skip k cells (col + 1) ≡ all
+  cell-left now all left e = omega (arith, e, count_from-step skip k cells col q true within here left)
+
+  -- another is counted
+  pub cell-more : (now new all : ℕ) → is_left_out skip q ≡ false → new ≡ now + cond (is_same k q) 1 0
+      → now + count_from skip k cells col ≡ all → new + count_from skip k cells (col + 1) ≡ all
+  cell-more now new all kept grown e =
+      omega (arith, e, grown, count_from-step skip k cells col q false within here kept)
+
+  -- and no combination has more than one cell more
+  pub cell-few : (now new from old : ℕ) → new ≡ now + cond (is_same k q) 1 0 → now + from ≤ old + col
+      → new + from ≤ old + (col + 1)
+  cell-few now new from old grown few = omega (arith, few, grown, cond-le (is_same k q))
+
+-- a row more of two maps is counted
+pub counted-both : (skip : Skip) (k : Combination) (maps : List Grid) (picks : List ℕ) (row p q cols : ℕ)
+    (one other : Grid)
+    (old new : ℕ) → picks ≡ p ∷ q ∷ [] → slice_get maps p ≡ Some one → slice_get maps q ≡ Some other
+    → length (row_at one row) ≡ cols → length (row_at other row) ≡ cols
+    → old ≡ count_of k (kept_cells skip (all_combinations maps picks row cols))
+    → new ≡ old + count_from skip k (both (row_at one row) (row_at other row)) 0
+    → new ≡ count_of k (kept_cells skip (all_combinations maps picks (row + 1) cols))
+counted-both skip k maps picks row p q cols one other old new twins first second wide wide_too was grown =
+    let base = all_combinations maps picks row cols in
+    let same : row_in maps row p ≡ row_at one row = row-of maps row p one first in
+    let same_too : row_in maps row q ≡ row_at other row = row-of maps row q other second in
+    let line : both (row_at one row) (row_at other row) ≡ row_combinations maps picks cols row =
+    ap (λ l. both l (row_at other row)) (sym same) ∙ ap (both (row_in maps row p)) (sym same_too)
+    ∙ sym (row-both maps row p q cols (ap length same ∙ wide) (ap length same_too ∙ wide_too))
+    ∙ ap (λ (l : List ℕ). row_combinations maps l cols row) (sym twins) in
+    grown ∙ ap (λ n. n + count_of k (kept_cells skip (both (row_at one row) (row_at other row)))) was
+    ∙ ap (λ (l : List Combination). count_of k (kept_cells skip base) + count_of k (kept_cells skip l)) line
+    ∙ sym (count-both skip k base (row_combinations maps picks cols row))
+    ∙ ap (λ (l : List Combination). count_of k (kept_cells skip l)) (sym (all_combinations_more maps picks cols row))
+    ∙ ap (λ r. count_of k (kept_cells skip (all_combinations maps picks r cols))) (sym (add-one row))

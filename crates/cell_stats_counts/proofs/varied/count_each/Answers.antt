@@ -1,0 +1,102 @@
+use Rattle.std.proofs.Common.{◌≡◌, ◌+◌, ◌<◌, ◌≤◌, ℕ, length, map, true, false, arith, sym, ap, ◌∙◌}
+use Rattle.std.specs.Vec.{with_items}
+use Rattle.std.proofs.lemmas.List.{length-map, with_items_is}
+use Rattle.cell_stats_counts.specs.Combinations.{Combination}
+use Rattle.cell_stats_counts.specs.LeftOut.{is_left_out}
+use Rattle.cell_stats_counts.specs.Listed.{listed_of}
+use Rattle.cell_stats_counts.specs.parts.HeldPlaces.{paired_of}
+use Rattle.cell_stats_counts.specs.parts.RowCells.{count_from}
+use Rattle.cell_stats_counts.specs.parts.Alone.{alone}
+use Rattle.cell_stats_counts.proofs.RowLemmas.{count_from-end, alone-at, cell-left, cell-more, cell-few}
+use Rattle.cell_stats_counts.proofs.varied.count_each.Goals as goal
+use Rattle.cell_stats_counts.proofs.varied.count_each.Goals.{then-not-is_left_out+in_ok-add_pair, else-not-is_left_out}
+
+-- what is counted after the cells that the places held
+joined : {now list old was : ℕ} (listed rest left all : ℕ) → now ≡ list → list + left ≡ old + rest → old ≡ was
+    → was + listed + rest ≡ all → now + listed + left ≡ all
+joined listed rest left all same counts value before = omega arith
+
+joined_few : {now list old was : ℕ} (listed col next most : ℕ) → now ≡ list → list + col ≤ old + next → old ≡ was
+    → was + listed ≤ most + col → now + listed ≤ most + next
+joined_few listed col next most same few value before = omega arith
+
+none : (n : ℕ) {m : ℕ} → n ≤ m → n + 0 ≤ m
+none n le = omega arith
+
+one_more : (n : ℕ) {m : ℕ} → n + 0 ≤ m → n ≤ m
+one_more n le = omega arith
+
+next_few : {n : ℕ} (most col : ℕ) → n ≤ most + col → n ≤ most + (col + 1)
+next_few most col le = omega arith
+
+inside : {col wide all : ℕ} → col < wide → all ≡ wide → col < all
+inside small same = omega arith
+
+before_end : {col wide : ℕ} → col < wide → col + 1 ≤ wide
+before_end small = omega arith
+
+still_some : {n m : ℕ} → n ≡ m → 0 < m → 0 < n
+still_some same some = omega arith
+
+past : {all wide col : ℕ} → all ≡ wide → wide ≤ col → all ≤ col
+past same ended = omega arith
+
+-- no cell is left
+at_end : {now left : ℕ} (all : ℕ) → left ≡ 0 → now + left ≡ all → now ≡ all
+at_end all none counted = omega arith
+
+pub loop-col-preserved-then-col-cells : goal.loop-col-preserved-then-col-cells
+loop-col-preserved-then-col-cells c =
+    let inv = c.loop-col.invariant in
+    let skip = c.args.skip in
+    let row = c.args.cells.now in
+    let cells = map alone row in
+    let col = c.join_alone_from-col.result in
+    let table = c.loop-col.table in
+    let listed : Combination → ℕ = λ k. listed_of k c.loop-col.entries.items in
+    let new = c.join_alone_from-col.new.places in
+    let same = with_items_is table.places new (c.join_alone_from-col.auto.places ∙ c.as_mut_slice.ensures.len) in
+    let q = alone c.index-cells-col.result in
+    let within : col < length cells = inside c.if-col-cells.true (length-map row alone) in
+    let here = alone-at row col _ c.if-col-cells.true c.index-cells-col.is in
+    let counts : (k : Combination) → paired_of 1 k (with_items table.places new).items + listed k
+    + count_from skip k cells col
+    ≡ paired_of 1 k c.args.table.now.places.items + listed_of k c.args.entries.now.items
+    + count_from skip k cells 0 = λ k.
+    joined (listed k) (count_from skip k cells c.loop-col.col) (count_from skip k cells col) _ (ap (paired_of 1 k) same)
+    (c.join_alone_from-col.ensures.counts k) (ap (paired_of 1 k) c.as_mut_slice.ensures.value) (inv.counts k) in
+    let few : (k : Combination) → paired_of 1 k (with_items table.places new).items + listed k
+    ≤ paired_of 1 k c.args.table.now.places.items + listed_of k c.args.entries.now.items + col = λ k.
+    joined_few (listed k) c.loop-col.col col _ (ap (paired_of 1 k) same)
+    (c.join_alone_from-col.ensures.few k) (ap (paired_of 1 k) c.as_mut_slice.ensures.value) (inv.few k) in
+    elim c.if-not-is_left_out.branch [
+      | then-not-is_left_out+in_ok-add_pair w ↦
+          let kept : is_left_out skip q ≡ false = sym c.is_left_out.ensures ∙ w.if-not-is_left_out.true in
+          let grown = w.in_ok-add_pair.ensures.ok in
+          record {
+            counts = λ k. rw w.table-is (rw w.entries-is
+                (cell-more skip k cells col q within here _ _ _ kept (grown k) (counts k)));
+            few = λ k. rw w.table-is (rw w.entries-is (one_more _
+                (cell-few skip k cells col q within here _ _ 0 _ (grown k) (none _ (few k)))));
+            some = rw w.table-is w.in_ok-add_pair.ensures.places;
+            no_zero = rw w.entries-is w.in_ok-add_pair.ensures.no_zero;
+            within = before_end c.if-col-cells.true;
+          }
+      | else-not-is_left_out w ↦
+          let left : is_left_out skip q ≡ true = sym c.is_left_out.ensures ∙ w.if-not-is_left_out.false in
+          record {
+            counts = λ k. rw w.table-is (rw w.entries-is
+                (cell-left skip k cells col q within here _ _ left (counts k)));
+            few = λ k. rw w.table-is (rw w.entries-is (next_few _ col (few k)));
+            some = rw w.table-is (still_some
+                (ap length same ∙ c.join_alone_from-col.auto.places ∙ ap length c.as_mut_slice.ensures.value) inv.some);
+            no_zero = rw w.entries-is inv.no_zero;
+            within = before_end c.if-col-cells.true;
+          }
+    ]
+
+pub returns-clause-ok : goal.returns-clause-ok
+returns-clause-ok c = λ k.
+    let row = c.args.cells.now in
+    let ended = past (length-map row alone) c.loop-col-test.false in
+    at_end _ (count_from-end c.args.skip k (map alone row) c.loop-col.col ended) (c.loop-col.invariant.counts k)

@@ -1,0 +1,17 @@
+-- The cells of a row, one by one.
+use Rattle.std.specs.Prelude.{ℕ, List, [], ◌∷◌, drop}
+use Rattle.cell_core.specs.Grid.{CellValue}
+use Rattle.cell_stats_counts.specs.declared.skip.Skip.{Skip}
+use Rattle.cell_stats_counts.specs.Combinations.{Combination}
+use Rattle.cell_stats_counts.specs.Counts.{count_of}
+use Rattle.cell_stats_counts.specs.LeftOut.{kept_cells}
+
+-- the combinations of the cells of two rows
+abbrev pub both : List CellValue → List CellValue → List Combination
+both [] ys = []
+both (x ∷ xs) [] = []
+both (x ∷ xs) (y ∷ ys) = (x ∷ y ∷ []) ∷ both xs ys
+
+-- how many cells from a column on have a combination and are not left out
+abbrev pub count_from : Skip → Combination → List Combination → ℕ → ℕ
+count_from skip k cells col = count_of k (kept_cells skip (drop col cells))
