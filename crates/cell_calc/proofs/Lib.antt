@@ -11,3 +11,4 @@ pub mod Operands
 pub mod StretchSteps
 pub mod Values
 pub mod Written
+pub mod CategoryValues

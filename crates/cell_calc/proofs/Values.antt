@@ -23,7 +23,7 @@ use Rattle.cell_calc.proofs.Rings.{held_row}
 use Rattle.cell_calc_binding.proofs.Steps.{proper_steps, below_greatest, top-postfix, up-postfix, down-postfix}
 
 -- what a step makes of cells over maps
-abbrev over_maps : List Grid → GridPosition → Step ℕ → List CellValue → CellValue
+abbrev pub over_maps : List Grid → GridPosition → Step ℕ → List CellValue → CellValue
 over_maps maps s (step.Number n) xs = Some (pos n)
 over_maps maps s (step.Map i down right) xs = cell_in (slice_get maps i) (pos s.row +ℤ down) (pos s.col +ℤ right)
 over_maps maps s step.Negated xs = negated_cell (slice_index_or xs 0 None)
@@ -36,7 +36,7 @@ values-listed maps s NoTrees = refl
 values-listed maps s (Then a xs) = ap (λ l. value a maps s ∷ l) (values-listed maps s xs)
 
 -- the steps of an expression make its value
-value_after : (maps : List Grid) (s : GridPosition) (f : Formula) → values_after (over_maps maps s) (postfix f) [] ≡ value f maps s ∷ []
+pub value_after : (maps : List Grid) (s : GridPosition) (f : Formula) → values_after (over_maps maps s) (postfix f) [] ≡ value f maps s ∷ []
 value_after maps s f =
     let is : IsMeaning ℕ CellValue (over_maps maps s) (λ a. value a maps s) =
     record {

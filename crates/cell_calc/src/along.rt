@@ -61,24 +61,14 @@ fn step_value(
             right,
         }),
         Step::Negated => {
-            let mut row = row_of(
-                alloc,
-                pop_operand(operands),
-                strip,
-                windows,
-                &mut spare.free,
-            )?;
+            let last = pop_operand(operands);
+            let mut row = row_of(alloc, last, strip, windows, &mut spare.free)?;
             rows::negate(row.as_mut_slice());
             Ok(Operand::Row(row))
         }
         Step::Not => {
-            let mut row = row_of(
-                alloc,
-                pop_operand(operands),
-                strip,
-                windows,
-                &mut spare.free,
-            )?;
+            let last = pop_operand(operands);
+            let mut row = row_of(alloc, last, strip, windows, &mut spare.free)?;
             rows::invert(row.as_mut_slice());
             Ok(Operand::Row(row))
         }
@@ -119,35 +109,20 @@ fn call_value(
 {
     match (function, count) {
         (Function::If, 1) => {
-            let mut row = row_of(
-                alloc,
-                pop_operand(operands),
-                strip,
-                windows,
-                &mut spare.free,
-            )?;
+            let last = pop_operand(operands);
+            let mut row = row_of(alloc, last, strip, windows, &mut spare.free)?;
             rows::one_or_zero(row.as_mut_slice());
             Ok(row)
         }
         (Function::IsNull, 1) => {
-            let mut row = row_of(
-                alloc,
-                pop_operand(operands),
-                strip,
-                windows,
-                &mut spare.free,
-            )?;
+            let last = pop_operand(operands);
+            let mut row = row_of(alloc, last, strip, windows, &mut spare.free)?;
             rows::row_nullness(row.as_mut_slice());
             Ok(row)
         }
         (Function::Abs, 1) => {
-            let mut row = row_of(
-                alloc,
-                pop_operand(operands),
-                strip,
-                windows,
-                &mut spare.free,
-            )?;
+            let last = pop_operand(operands);
+            let mut row = row_of(alloc, last, strip, windows, &mut spare.free)?;
             rows::size(row.as_mut_slice());
             Ok(row)
         }
@@ -208,13 +183,8 @@ fn gather_arguments(
 {
     spare.arguments.clear();
     'operands: for _ in 0..count {
-        let row = row_of(
-            alloc,
-            pop_operand(operands),
-            strip,
-            windows,
-            &mut spare.free,
-        )?;
+        let last = pop_operand(operands);
+        let row = row_of(alloc, last, strip, windows, &mut spare.free)?;
         spare.arguments.push(row)?;
     }
     // the last one came first

@@ -7,6 +7,7 @@
 //!   map its cells are null (profile); private `window_rows` keeps them
 //! - `rows`, `calls`: operators and functions on rows of cells; private `modes` for `mode`
 //! - `common_stretches`: spans of columns in which no map changes; one value each is enough
+//! - `by_category`: expressions whose value depends on the category of one cell alone
 //! - private: `along`, the steps of an expression one after another, in strips of 1,024 columns,
 //!   with a stack of operands (`operand`, `strip`); `in_place`, whether one value for each span is
 //!   enough
@@ -22,6 +23,7 @@
 #![tactic(auto)]
 
 mod along;
+pub mod by_category;
 pub mod calls;
 pub mod common_stretches;
 mod in_place;

@@ -29,7 +29,7 @@ use std::alloc::Global;
 const STRIP: usize = 1024;
 
 // The values of an expression along the first columns of a row, strip by strip.
-fn along_columns(
+pub(crate) fn along_columns(
     alloc: Global,
     steps: &[Step<usize>],
     region: Region,

@@ -3,11 +3,13 @@
 ghost use Rattle.std.specs.Prelude.{◌≡◌, ◌<◌, ◌≤◌, ◌+◌, length, slice_get, Some, IfOk};
 ghost use Rattle.cell_calc_binding.specs.Reach.{top_of};
 ghost use Rattle.rcell.specs.Making.{AreValues};
-ghost use Rattle.rcell.specs.parts.WindowsSet.{AreMapPlaces, AreSet, HasValues, picked_maps};
+ghost use Rattle.rcell.specs.parts.WindowsSet.{AreMapPlaces, AreSet, picked_maps};
+ghost use Rattle.cell_calc_categories.specs.MapValues.{HasValues};
 
 use cell_calc::rows_of_values::eval_row;
 use cell_calc::window::RowWindow;
 use cell_calc_binding::bound::Bound;
+use cell_calc_categories::map_by_category::map_by_category;
 use cell_core::cell::Cell;
 use cell_core::map::{CellMap, MapBuilder};
 use cell_core::memory::Memory;
@@ -101,6 +103,26 @@ fn evaluate_over(
     Ok(builder.finish())
 }
 
+// The same by a table of values, if that is possible and costs less.
+fn evaluate_fast(
+    alloc: Global,
+    bound: &Bound,
+    places: &[usize],
+    shelf: &Shelf,
+) -> Result<CellMap, Memory>
+    requires places { top_of bound.now ≡ length places.now }
+    requires within { AreMapPlaces shelf.now places.now }
+    ensures { IfOk result (HasValues bound.now shelf.now.region
+        (picked_maps places.now shelf.now.maps)) }
+{
+    if !places.is_empty() {
+        if let Some(made) = map_by_category(alloc, bound, map_at(shelf, places, 0))? {
+            return Ok(made);
+        }
+    }
+    evaluate_over(alloc, bound, places, shelf)
+}
+
 /// The map of an expression's values over a shelf's maps, without labels.
 ///
 /// # Errors
@@ -112,7 +134,7 @@ pub fn evaluate(alloc: Global, bound: &Bound, shelf: &Shelf) -> Result<CellMap, 
 {
     // Only the maps that are read have windows.
     let (compact, places) = bound.over_read_maps(alloc)?;
-    let map = evaluate_over(alloc, &compact, places.as_slice(), shelf)?;
+    let map = evaluate_fast(alloc, &compact, places.as_slice(), shelf)?;
     let _region = map.region();
     Ok(map)
 }

@@ -1,10 +1,7 @@
 -- Windows of the maps that an expression reads.
 use Rattle.std.specs.Prelude.{◌≡◌, ◌<◌, ℕ, List, [], ◌∷◌, length, All, Option, Some, None, slice_get}
-use Rattle.cell_core.specs.Grid.{Grid, cell_at, no_labels}
+use Rattle.cell_core.specs.Grid.{Grid}
 use Rattle.cell_core.specs.Shelf.{ShelfValue}
-use Rattle.cell_core_values.specs.Region.{RegionValue}
-use Rattle.cell_calc_binding.specs.Applied.{grid_position}
-use Rattle.cell_calc_binding.specs.Value.{value}
 use Rattle.cell_calc_binding.specs.Formula.{Formula}
 use Rattle.cell_calc_binding.specs.Reach.{up_of, down_of}
 use Rattle.cell_calc.specs.Window.{Window, IsWindowOf}
@@ -32,9 +29,3 @@ then_maps (Some m) maps = m ∷ maps
 abbrev pub picked_maps : List ℕ → List Grid → List Grid
 picked_maps [] maps = []
 picked_maps (i ∷ places) maps = then_maps (slice_get maps i) (picked_maps places maps)
-
--- a map of a region without labels, with the value of an expression over maps at each cell
-pub record HasValues (f : Formula) (r : RegionValue) (maps : List Grid) (m : Grid) : Type 0 where
-  pub region : m.region ≡ r
-  pub labels : m.labels ≡ no_labels
-  pub cells : (row col : ℕ) → row < r.rows → col < r.cols → cell_at m row col ≡ value f maps (grid_position r row col)

@@ -8,15 +8,15 @@ use Rattle.cell_calc.proofs.Operands.{front_is, back_is, more_before, of_last, o
 use Rattle.cell_calc.proofs.Written.{changed_width, changed}
 use Rattle.cell_calc.proofs.along.call_value.Goals as goal
 
-pub pop_operand-requires : goal.pop_operand-requires
-pop_operand-requires c = rw c.in-If-eq1.is-1 at c.requires.enough
+pub pop_operand-last-requires : goal.pop_operand-last-requires
+pop_operand-last-requires c = rw c.in-If-eq1.is-1 at c.requires.enough
 
 pub row_of-requires-clause-strip : goal.row_of-requires-clause-strip
 row_of-requires-clause-strip c = c.requires.strip
 
 pub row_of-requires-clause-ready : goal.row_of-requires-clause-ready
 row_of-requires-clause-ready c =
-    of_last (IsOperandReady c.args.windows.now c.args.strip.now) c.args.operands.now.items c.pop_operand.new.operands.items c.pop_operand.result c.pop_operand.ensures
+    of_last (IsOperandReady c.args.windows.now c.args.strip.now) c.args.operands.now.items c.pop_operand-last.new.operands.items c.pop_operand-last.result c.pop_operand-last.ensures
     c.requires.ready
 
 pub returns-in_err-row-in-If-eq1 : goal.returns-in_err-row-in-If-eq1
@@ -24,7 +24,7 @@ returns-in_err-row-in-If-eq1 c = IfOk-from_err c.from_residual.result _ c.from_r
 
 pub returns-in_ok-row-in-If-eq1 : goal.returns-in_ok-row-in-If-eq1
 returns-in_ok-row-in-If-eq1 c = record {
-  rest = rw c.in-If-eq1.is-1 (front_is c.args.operands.now.items c.pop_operand.new.operands.items (c.pop_operand.result ∷ []) 1 c.pop_operand.ensures refl);
+  rest = rw c.in-If-eq1.is-1 (front_is c.args.operands.now.items c.pop_operand-last.new.operands.items (c.pop_operand-last.result ∷ []) 1 c.pop_operand-last.ensures refl);
   width =
       let row = c.in_ok-row-in-If-eq1.row in
       let all : row.len ≡ length row.items = search rules in
@@ -33,23 +33,24 @@ returns-in_ok-row-in-If-eq1 c = record {
   each =
       let row = c.in_ok-row-in-If-eq1.row in
       let all : row.len ≡ length row.items = search rules in
-      let last = back_is c.args.operands.now.items c.pop_operand.new.operands.items (c.pop_operand.result ∷ []) 1 c.pop_operand.ensures refl in
+      let last = back_is c.args.operands.now.items c.pop_operand-last.new.operands.items (c.pop_operand-last.result ∷ []) 1 c.pop_operand-last.ensures refl in
       rw (c.in-If-eq1.is-0, c.in-If-eq1.is-1, ← last) (λ k h. changed (λ v. chosen_cell v (Some (pos 1)) (Some (pos 0))) row.len c.args.strip.now.width k
       row.items c.as_mut_slice.result.now c.one_or_zero.new.row
-      (operand_at c.args.windows.now c.args.strip.now k c.pop_operand.result) all c.as_mut_slice.ensures.value c.one_or_zero.auto.row c.one_or_zero.ensures
+      (operand_at c.args.windows.now c.args.strip.now k c.pop_operand-last.result) all c.as_mut_slice.ensures.value c.one_or_zero.auto.row c.one_or_zero.ensures
       c.in_ok-row-in-If-eq1.ensures.width h (c.in_ok-row-in-If-eq1.ensures.each k h));
 }
 
-pub pop_operand-requires-in-IsNull-eq1 : goal.pop_operand-requires-in-IsNull-eq1
-pop_operand-requires-in-IsNull-eq1 c = rw c.in-IsNull-eq1.is-1 at c.requires.enough
+pub pop_operand-last-requires-in-IsNull-eq1 : goal.pop_operand-last-requires-in-IsNull-eq1
+pop_operand-last-requires-in-IsNull-eq1 c = rw c.in-IsNull-eq1.is-1 at c.requires.enough
 
 pub row_of-requires-in-IsNull-eq1-clause-strip : goal.row_of-requires-in-IsNull-eq1-clause-strip
 row_of-requires-in-IsNull-eq1-clause-strip c = c.requires.strip
 
 pub row_of-requires-in-IsNull-eq1-clause-ready : goal.row_of-requires-in-IsNull-eq1-clause-ready
 row_of-requires-in-IsNull-eq1-clause-ready c =
-    of_last (IsOperandReady c.args.windows.now c.args.strip.now) c.args.operands.now.items c.pop_operand-in-IsNull-eq1.new.operands.items
-    c.pop_operand-in-IsNull-eq1.result c.pop_operand-in-IsNull-eq1.ensures c.requires.ready
+    of_last (IsOperandReady c.args.windows.now c.args.strip.now) c.args.operands.now.items
+    c.pop_operand-last-in-IsNull-eq1.new.operands.items
+    c.pop_operand-last-in-IsNull-eq1.result c.pop_operand-last-in-IsNull-eq1.ensures c.requires.ready
 
 pub returns-in_err-row-in-IsNull-eq1 : goal.returns-in_err-row-in-IsNull-eq1
 returns-in_err-row-in-IsNull-eq1 c =
@@ -58,8 +59,8 @@ returns-in_err-row-in-IsNull-eq1 c =
 pub returns-in_ok-row-in-IsNull-eq1 : goal.returns-in_ok-row-in-IsNull-eq1
 returns-in_ok-row-in-IsNull-eq1 c = record {
   rest =
-      rw c.in-IsNull-eq1.is-1 (front_is c.args.operands.now.items c.pop_operand-in-IsNull-eq1.new.operands.items (c.pop_operand-in-IsNull-eq1.result ∷ []) 1
-      c.pop_operand-in-IsNull-eq1.ensures refl);
+      rw c.in-IsNull-eq1.is-1 (front_is c.args.operands.now.items c.pop_operand-last-in-IsNull-eq1.new.operands.items (c.pop_operand-last-in-IsNull-eq1.result ∷ []) 1
+      c.pop_operand-last-in-IsNull-eq1.ensures refl);
   width =
       let row = c.in_ok-row-in-IsNull-eq1.row in
       let all : row.len ≡ length row.items = search rules in
@@ -68,24 +69,24 @@ returns-in_ok-row-in-IsNull-eq1 c = record {
   each =
       let row = c.in_ok-row-in-IsNull-eq1.row in
       let all : row.len ≡ length row.items = search rules in
-      let last = back_is c.args.operands.now.items c.pop_operand-in-IsNull-eq1.new.operands.items (c.pop_operand-in-IsNull-eq1.result ∷ []) 1
-      c.pop_operand-in-IsNull-eq1.ensures refl in
+      let last = back_is c.args.operands.now.items c.pop_operand-last-in-IsNull-eq1.new.operands.items (c.pop_operand-last-in-IsNull-eq1.result ∷ []) 1
+      c.pop_operand-last-in-IsNull-eq1.ensures refl in
       rw (c.in-IsNull-eq1.is-0, c.in-IsNull-eq1.is-1, ← last) (λ k h. changed (λ v. truth (is_null v)) row.len c.args.strip.now.width k row.items
       c.as_mut_slice-in-IsNull-eq1.result.now c.row_nullness.new.row
-      (operand_at c.args.windows.now c.args.strip.now k c.pop_operand-in-IsNull-eq1.result) all c.as_mut_slice-in-IsNull-eq1.ensures.value
+      (operand_at c.args.windows.now c.args.strip.now k c.pop_operand-last-in-IsNull-eq1.result) all c.as_mut_slice-in-IsNull-eq1.ensures.value
       c.row_nullness.auto.row c.row_nullness.ensures c.in_ok-row-in-IsNull-eq1.ensures.width h (c.in_ok-row-in-IsNull-eq1.ensures.each k h));
 }
 
-pub pop_operand-requires-in-Abs-eq1 : goal.pop_operand-requires-in-Abs-eq1
-pop_operand-requires-in-Abs-eq1 c = rw c.in-Abs-eq1.is-1 at c.requires.enough
+pub pop_operand-last-requires-in-Abs-eq1 : goal.pop_operand-last-requires-in-Abs-eq1
+pop_operand-last-requires-in-Abs-eq1 c = rw c.in-Abs-eq1.is-1 at c.requires.enough
 
 pub row_of-requires-in-Abs-eq1-clause-strip : goal.row_of-requires-in-Abs-eq1-clause-strip
 row_of-requires-in-Abs-eq1-clause-strip c = c.requires.strip
 
 pub row_of-requires-in-Abs-eq1-clause-ready : goal.row_of-requires-in-Abs-eq1-clause-ready
 row_of-requires-in-Abs-eq1-clause-ready c =
-    of_last (IsOperandReady c.args.windows.now c.args.strip.now) c.args.operands.now.items c.pop_operand-in-Abs-eq1.new.operands.items c.pop_operand-in-Abs-eq1.result
-    c.pop_operand-in-Abs-eq1.ensures c.requires.ready
+    of_last (IsOperandReady c.args.windows.now c.args.strip.now) c.args.operands.now.items c.pop_operand-last-in-Abs-eq1.new.operands.items c.pop_operand-last-in-Abs-eq1.result
+    c.pop_operand-last-in-Abs-eq1.ensures c.requires.ready
 
 pub returns-in_err-row-in-Abs-eq1 : goal.returns-in_err-row-in-Abs-eq1
 returns-in_err-row-in-Abs-eq1 c =
@@ -94,8 +95,8 @@ returns-in_err-row-in-Abs-eq1 c =
 pub returns-in_ok-row-in-Abs-eq1 : goal.returns-in_ok-row-in-Abs-eq1
 returns-in_ok-row-in-Abs-eq1 c = record {
   rest =
-      rw c.in-Abs-eq1.is-1 (front_is c.args.operands.now.items c.pop_operand-in-Abs-eq1.new.operands.items (c.pop_operand-in-Abs-eq1.result ∷ []) 1
-      c.pop_operand-in-Abs-eq1.ensures refl);
+      rw c.in-Abs-eq1.is-1 (front_is c.args.operands.now.items c.pop_operand-last-in-Abs-eq1.new.operands.items (c.pop_operand-last-in-Abs-eq1.result ∷ []) 1
+      c.pop_operand-last-in-Abs-eq1.ensures refl);
   width =
       let row = c.in_ok-row-in-Abs-eq1.row in
       let all : row.len ≡ length row.items = search rules in
@@ -104,11 +105,11 @@ returns-in_ok-row-in-Abs-eq1 c = record {
   each =
       let row = c.in_ok-row-in-Abs-eq1.row in
       let all : row.len ≡ length row.items = search rules in
-      let last = back_is c.args.operands.now.items c.pop_operand-in-Abs-eq1.new.operands.items (c.pop_operand-in-Abs-eq1.result ∷ []) 1
-      c.pop_operand-in-Abs-eq1.ensures refl in
+      let last = back_is c.args.operands.now.items c.pop_operand-last-in-Abs-eq1.new.operands.items (c.pop_operand-last-in-Abs-eq1.result ∷ []) 1
+      c.pop_operand-last-in-Abs-eq1.ensures refl in
       rw (c.in-Abs-eq1.is-0, c.in-Abs-eq1.is-1, ← last) (λ k h. changed (λ v. size_of v) row.len c.args.strip.now.width k row.items
       c.as_mut_slice-in-Abs-eq1.result.now c.size.new.row
-      (operand_at c.args.windows.now c.args.strip.now k c.pop_operand-in-Abs-eq1.result) all c.as_mut_slice-in-Abs-eq1.ensures.value c.size.auto.row
+      (operand_at c.args.windows.now c.args.strip.now k c.pop_operand-last-in-Abs-eq1.result) all c.as_mut_slice-in-Abs-eq1.ensures.value c.size.auto.row
       c.size.ensures c.in_ok-row-in-Abs-eq1.ensures.width h (c.in_ok-row-in-Abs-eq1.ensures.each k h));
 }
 

@@ -15,8 +15,8 @@ operands-init c =
       each = λ k h. rw (none, none_left old) refl;
     }
 
-pub pop_operand-requires : goal.pop_operand-requires
-pop_operand-requires c =
+pub pop_operand-last-requires : goal.pop_operand-last-requires
+pop_operand-last-requires c =
     more_left c.args.operands.now.items c.operands.operands.items c.operands.counter c.args.count c.operands-test.true c.requires.enough c.operands.invariant.rest
 
 pub row_of-requires-clause-strip : goal.row_of-requires-clause-strip
@@ -25,7 +25,7 @@ row_of-requires-clause-strip c = c.requires.strip
 pub row_of-requires-clause-ready : goal.row_of-requires-clause-ready
 row_of-requires-clause-ready c =
     let is = IsOperandReady c.args.windows.now c.args.strip.now in
-    of_last is c.operands.operands.items c.pop_operand.new.operands.items c.pop_operand.result c.pop_operand.ensures
+    of_last is c.operands.operands.items c.pop_operand-last.new.operands.items c.pop_operand-last.result c.pop_operand-last.ensures
     (rw c.operands.invariant.rest (All-take is _ c.args.operands.now.items c.requires.ready))
 
 pub returns-in_err-row : goal.returns-in_err-row
@@ -40,10 +40,10 @@ operands-preserved c =
     let old = c.args.operands.now.items in
     let le : c.operands.counter ≤ length old = omega (arith, c.operands-test.true, c.requires.enough) in
     record {
-      rest = front_more old c.operands.operands.items c.pop_operand.new.operands.items c.pop_operand.result c.operands.counter le so_far.rest c.pop_operand.ensures;
+      rest = front_more old c.operands.operands.items c.pop_operand-last.new.operands.items c.pop_operand-last.result c.operands.counter le so_far.rest c.pop_operand-last.ensures;
       width = rw c.in_ok-push.ensures.items (All-push (λ cells. length cells.items ≡ c.args.strip.now.width) c.operands.spare.arguments.items c.in_ok-row.row so_far.width c.in_ok-row.ensures.width);
-      each = λ k h. rw c.in_ok-push.ensures.items (gather_more (λ cells. cells.items) c.args.windows.now c.args.strip.now k old c.operands.operands.items c.pop_operand.new.operands.items c.pop_operand.result
-          c.operands.counter c.operands.spare.arguments.items c.in_ok-row.row le so_far.rest c.pop_operand.ensures (so_far.each k h) (c.in_ok-row.ensures.each k h));
+      each = λ k h. rw c.in_ok-push.ensures.items (gather_more (λ cells. cells.items) c.args.windows.now c.args.strip.now k old c.operands.operands.items c.pop_operand-last.new.operands.items c.pop_operand-last.result
+          c.operands.counter c.operands.spare.arguments.items c.in_ok-row.row le so_far.rest c.pop_operand-last.ensures (so_far.each k h) (c.in_ok-row.ensures.each k h));
     }
 
 pub returns : goal.returns

@@ -7,15 +7,15 @@ use Rattle.cell_calc.proofs.Operands.{front_is, back_is, none_taken, more_before
 use Rattle.cell_calc.proofs.Written.{changed_width, changed}
 use Rattle.cell_calc.proofs.along.step_value.Goals as goal
 
-pub pop_operand-requires : goal.pop_operand-requires
-pop_operand-requires c = rw c.in-Negated.is at c.requires.operands.enough
+pub pop_operand-last-requires : goal.pop_operand-last-requires
+pop_operand-last-requires c = rw c.in-Negated.is at c.requires.operands.enough
 
 pub row_of-requires-clause-strip : goal.row_of-requires-clause-strip
 row_of-requires-clause-strip c = c.requires.operands.strip
 
 pub row_of-requires-clause-ready : goal.row_of-requires-clause-ready
 row_of-requires-clause-ready c =
-    of_last (IsOperandReady c.args.windows.now c.args.strip.now) c.args.operands.now.items c.pop_operand.new.operands.items c.pop_operand.result c.pop_operand.ensures
+    of_last (IsOperandReady c.args.windows.now c.args.strip.now) c.args.operands.now.items c.pop_operand-last.new.operands.items c.pop_operand-last.result c.pop_operand-last.ensures
     c.requires.operands.ready
 
 pub returns-in_err-row-in-Negated : goal.returns-in_err-row-in-Negated
@@ -23,7 +23,7 @@ returns-in_err-row-in-Negated c = IfOk-from_err c.from_residual.result _ c.from_
 
 pub returns-in_ok-row-in-Negated : goal.returns-in_ok-row-in-Negated
 returns-in_ok-row-in-Negated c = record {
-  rest = rw c.in-Negated.is (front_is c.args.operands.now.items c.pop_operand.new.operands.items (c.pop_operand.result ∷ []) 1 c.pop_operand.ensures refl);
+  rest = rw c.in-Negated.is (front_is c.args.operands.now.items c.pop_operand-last.new.operands.items (c.pop_operand-last.result ∷ []) 1 c.pop_operand-last.ensures refl);
   ready =
       let row = c.in_ok-row-in-Negated.row in
       let all : row.len ≡ length row.items = search rules in
@@ -32,22 +32,22 @@ returns-in_ok-row-in-Negated c = record {
   each =
       let row = c.in_ok-row-in-Negated.row in
       let all : row.len ≡ length row.items = search rules in
-      let last = back_is c.args.operands.now.items c.pop_operand.new.operands.items (c.pop_operand.result ∷ []) 1 c.pop_operand.ensures refl in
+      let last = back_is c.args.operands.now.items c.pop_operand-last.new.operands.items (c.pop_operand-last.result ∷ []) 1 c.pop_operand-last.ensures refl in
       rw (c.in-Negated.is, ← last) (λ k h. changed (λ v. negated_cell v) row.len c.args.strip.now.width k row.items c.as_mut_slice.result.now c.negate.new.row
-      (operand_at c.args.windows.now c.args.strip.now k c.pop_operand.result) all c.as_mut_slice.ensures.value
+      (operand_at c.args.windows.now c.args.strip.now k c.pop_operand-last.result) all c.as_mut_slice.ensures.value
       c.negate.auto.row c.negate.ensures c.in_ok-row-in-Negated.ensures.width h (c.in_ok-row-in-Negated.ensures.each k h));
 }
 
-pub pop_operand-requires-in-Not : goal.pop_operand-requires-in-Not
-pop_operand-requires-in-Not c = rw c.in-Not.is at c.requires.operands.enough
+pub pop_operand-last-requires-in-Not : goal.pop_operand-last-requires-in-Not
+pop_operand-last-requires-in-Not c = rw c.in-Not.is at c.requires.operands.enough
 
 pub row_of-requires-in-Not-clause-strip : goal.row_of-requires-in-Not-clause-strip
 row_of-requires-in-Not-clause-strip c = c.requires.operands.strip
 
 pub row_of-requires-in-Not-clause-ready : goal.row_of-requires-in-Not-clause-ready
 row_of-requires-in-Not-clause-ready c =
-    of_last (IsOperandReady c.args.windows.now c.args.strip.now) c.args.operands.now.items c.pop_operand-in-Not.new.operands.items c.pop_operand-in-Not.result
-    c.pop_operand-in-Not.ensures c.requires.operands.ready
+    of_last (IsOperandReady c.args.windows.now c.args.strip.now) c.args.operands.now.items c.pop_operand-last-in-Not.new.operands.items c.pop_operand-last-in-Not.result
+    c.pop_operand-last-in-Not.ensures c.requires.operands.ready
 
 pub returns-in_err-row-in-Not : goal.returns-in_err-row-in-Not
 returns-in_err-row-in-Not c =
@@ -55,7 +55,7 @@ returns-in_err-row-in-Not c =
 
 pub returns-in_ok-row-in-Not : goal.returns-in_ok-row-in-Not
 returns-in_ok-row-in-Not c = record {
-  rest = rw c.in-Not.is (front_is c.args.operands.now.items c.pop_operand-in-Not.new.operands.items (c.pop_operand-in-Not.result ∷ []) 1 c.pop_operand-in-Not.ensures refl);
+  rest = rw c.in-Not.is (front_is c.args.operands.now.items c.pop_operand-last-in-Not.new.operands.items (c.pop_operand-last-in-Not.result ∷ []) 1 c.pop_operand-last-in-Not.ensures refl);
   ready =
       let row = c.in_ok-row-in-Not.row in
       let all : row.len ≡ length row.items = search rules in
@@ -64,9 +64,9 @@ returns-in_ok-row-in-Not c = record {
   each =
       let row = c.in_ok-row-in-Not.row in
       let all : row.len ≡ length row.items = search rules in
-      let last = back_is c.args.operands.now.items c.pop_operand-in-Not.new.operands.items (c.pop_operand-in-Not.result ∷ []) 1 c.pop_operand-in-Not.ensures refl in
+      let last = back_is c.args.operands.now.items c.pop_operand-last-in-Not.new.operands.items (c.pop_operand-last-in-Not.result ∷ []) 1 c.pop_operand-last-in-Not.ensures refl in
       rw (c.in-Not.is, ← last) (λ k h. changed (λ v. inverted_cell v) row.len c.args.strip.now.width k row.items c.as_mut_slice-in-Not.result.now c.invert.new.row
-      (operand_at c.args.windows.now c.args.strip.now k c.pop_operand-in-Not.result) all c.as_mut_slice-in-Not.ensures.value
+      (operand_at c.args.windows.now c.args.strip.now k c.pop_operand-last-in-Not.result) all c.as_mut_slice-in-Not.ensures.value
       c.invert.auto.row c.invert.ensures c.in_ok-row-in-Not.ensures.width h (c.in_ok-row-in-Not.ensures.each k h));
 }
 

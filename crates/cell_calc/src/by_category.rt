@@ -1,0 +1,66 @@
+//! Expressions whose value depends on the category of one cell alone.
+
+ghost use Rattle.std.specs.Prelude.{◌≡◌, ◌≤◌, length, map, IfOk, true};
+ghost use Rattle.cell_calc.specs.ByCategory.{IsCategoryStep, IsByCategory, value_of_cell};
+
+use crate::rows_of_values::along_columns;
+use crate::window::RowWindow;
+use cell_calc_binding::bound::Bound;
+use cell_calc_grammar::function::Function;
+use cell_calc_grammar::step::Step;
+use cell_core::cell::Cell;
+use cell_core::memory::Memory;
+use cell_core::region::Region;
+use std::alloc::Global;
+
+// Looking a value up costs as much as so few steps.
+const FEW_STEPS: usize = 4;
+
+// Whether a step reads no map but the first, at the cell itself, and does not ask where the cell is.
+fn is_category_step(step: Step<usize>) -> bool
+    ensures { result ≡ true → IsCategoryStep step }
+{
+    match step {
+        Step::Map { leaf, down, right } => leaf == 0 && down == 0 && right == 0,
+        Step::Call(Function::Row, _) => false,
+        Step::Call(Function::Column, _) => false,
+        _ => true,
+    }
+}
+
+/// Whether an expression is such a one, and takes longer than looking a value up.
+pub fn is_by_category(bound: &Bound) -> bool
+    ensures { result ≡ true → IsByCategory bound.now }
+{
+    let steps = bound.steps();
+    for step in steps {
+        if !is_category_step(*step) {
+            return false;
+        }
+    }
+    steps.len() >= FEW_STEPS
+}
+
+/// The values of an expression where the first map has these cells.
+///
+/// # Errors
+///
+/// [`Memory`] if memory runs out.
+pub fn values_of_cells(
+    alloc: Global,
+    bound: &Bound,
+    region: Region,
+    cells: Vec<Cell>,
+) -> Result<Vec<Cell>, Memory>
+    requires by_category { IsByCategory bound.now }
+    requires width { length cells.items ≤ region.cols }
+    ensures { IfOk result
+        (λ values. values.items ≡ map (value_of_cell region bound.now) cells.items) }
+{
+    let (_rows, _cols) = (region.rows(), region.cols());
+    let width = cells.len();
+    let window = RowWindow::of_row(alloc, cells)?;
+    let windows = vec![in alloc; window]?;
+    let values = along_columns(alloc, bound.steps(), region, 0, width, windows.as_slice())?;
+    Ok(values)
+}

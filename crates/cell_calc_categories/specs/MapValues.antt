@@ -1,0 +1,13 @@
+-- Maps of the values of expressions.
+use Rattle.std.specs.Prelude.{◌≡◌, ◌<◌, ℕ, List}
+use Rattle.cell_core.specs.Grid.{Grid, cell_at, no_labels}
+use Rattle.cell_core_values.specs.Region.{RegionValue}
+use Rattle.cell_calc_binding.specs.Applied.{grid_position}
+use Rattle.cell_calc_binding.specs.Formula.{Formula}
+use Rattle.cell_calc_binding.specs.Value.{value}
+
+-- a map of a region without labels, with the value of an expression over maps at each cell
+pub record HasValues (f : Formula) (r : RegionValue) (maps : List Grid) (m : Grid) : Type 0 where
+  pub region : m.region ≡ r
+  pub labels : m.labels ≡ no_labels
+  pub cells : (row col : ℕ) → row < r.rows → col < r.cols → cell_at m row col ≡ value f maps (grid_position r row col)
