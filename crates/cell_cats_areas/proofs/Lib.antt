@@ -9,4 +9,6 @@ pub mod NumberLemmas
 pub mod NumberedLemmas
 pub mod PathLemmas
 pub mod ReadLemmas
+pub mod RunLemmas
+pub mod RunNumberLemmas
 pub mod StartLemmas

@@ -123,6 +123,12 @@ module _ (j : Joining) (m : Grid) (table : List ℕ) (line : List Labelled) (r c
         beside = beside_next m (length old) (length more) (area_label_at m old) (area_label_at m more) (omega arith) same r c z here after reading_near;
       }
 
+  pub reading_next_labels : (new : List ℕ) (z : Labelled) (cell : z.cell ≡ cell_at_position m (position r c))
+      (has_read : HasRead j m new (h.cells.labels ++ z.label ∷ []))
+      → (reading_next new z cell has_read).cells.labels ≡ h.cells.labels ++ z.label ∷ []
+  unfolding reading_next
+  reading_next_labels new z cell has_read = refl
+
 pub cells_down : (j : Joining) (m : Grid) (table : List ℕ) (line : List Labelled) (r c : ℕ) → c ≡ m.region.cols → HaveCells j m table line r c → HaveCells j m table line (r + 1) 0
 cells_down j m table line r c e h = record {
   labels = h.labels;
@@ -132,6 +138,11 @@ cells_down j m table line r c e h = record {
       omega arith;
   is_line = line_down m (length h.labels) (area_label_at m h.labels) r line (subst (λ (k : ℕ). IsLine m (length h.labels) (area_label_at m h.labels) r k line) e h.is_line);
 }
+
+pub cells_down_labels : (j : Joining) (m : Grid) (table : List ℕ) (line : List Labelled) (r c : ℕ)
+    (e : c ≡ m.region.cols) (h : HaveCells j m table line r c) → (cells_down j m table line r c e h).labels ≡ h.labels
+unfolding cells_down
+cells_down_labels j m table line r c e h = refl
 
 -- a cell of a row that was copied
 pub copied : (m : Grid) (r c : ℕ) (cells : List CellValue) (x : CellValue) → cells ≡ row_at m r → c < length cells → x ≡ get_or cells c x → x ≡ cell_at_position m (position r c)

@@ -33,7 +33,7 @@ count_step j m labels k =
     ⊎_elim (λ yes'. let e = count_more j m labels k yes' in omega arith)
     (λ no'. let e = ap (length {A = Position}) (firsts_same j m labels k no') in omega arith) (cases_Bool (is_first labels k))
 
-count_most : (j : Joining) (m : Grid) (labels : List ℕ) (k : ℕ) → length (firsts_below j m labels k) ≤ k
+pub count_most : (j : Joining) (m : Grid) (labels : List ℕ) (k : ℕ) → length (firsts_below j m labels k) ≤ k
 count_most j m labels zero = omega arith
 count_most j m labels (suc k) =
     let before = count_most j m labels k in

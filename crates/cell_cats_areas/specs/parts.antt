@@ -6,3 +6,4 @@ pub mod CellPlaces
 pub mod AreasRead
 pub mod Starts
 pub mod LabelTables
+pub mod RunsOfLabels

@@ -35,7 +35,7 @@ fn number_label(table: &mut [u32], place: u32, count: u32) -> u32
 }
 
 // Replaces each label of a table by the number of its area.
-fn number_labels(table: &mut [u32])
+pub(crate) fn number_labels(table: &mut [u32])
     requires down { PointDown table.old }
     requires short { length table.old < 2147483648 }
     ensures numbered { NumbersLabels table.old table.new }
@@ -50,7 +50,7 @@ fn number_labels(table: &mut [u32])
 const NO_NUMBER: u32 = 1 << 31;
 
 // The cell of a number.
-fn number_cell(number: u32) -> Cell
+pub(crate) fn number_cell(number: u32) -> Cell
     ensures within { number < 2147483648 → result ≡ Some (pos number) }
     ensures past { 2147483648 ≤ number → result ≡ None }
 {

@@ -5,9 +5,11 @@ ghost use Rattle.cell_cats_areas.specs.Areas.{IsClumping};
 ghost use Rattle.cell_cats_areas.specs.declared.clump.Joining.TheVariants.{Edges};
 
 use crate::area_numbers::number_cells;
+use crate::run_numbers::number_runs;
 use crate::scan::label_cells;
 use cell_core::map::CellMap;
 use cell_core::memory::Memory;
+use cell_core::region::Region;
 use std::alloc::Global;
 
 /// Which cells are adjacent (r.clump manual, four neighbours, or with the flag `d` eight).
@@ -17,6 +19,23 @@ pub enum Joining {
     Edges,
     /// Cells that share an edge or touch at a corner.
     EdgesAndCorners,
+}
+
+// A map goes run by run if it has so many cells to a run: cell by cell is faster where runs are shorter.
+const CELLS_A_RUN: usize = 4;
+
+// How many runs a map has.
+fn number_of_runs(map: &CellMap) -> usize {
+    let mut count: usize = 0;
+    for row in 0..map.region().rows() {
+        count = count.saturating_add(map.runs(row).len());
+    }
+    count
+}
+
+// Whether a map of so many runs goes run by run.
+fn is_by_runs(region: Region, count_of_runs: usize) -> bool {
+    count_of_runs <= (region.rows() as usize * region.cols() as usize) / CELLS_A_RUN
 }
 
 /// The map in which each cell that is not null has the number of its area, over the same region and
@@ -35,7 +54,11 @@ pub enum Joining {
 pub fn clump_with(alloc: Global, map: &CellMap, joining: Joining) -> Result<CellMap, Memory>
     ensures { IfOk result (IsClumping joining map.now) }
 {
-    let mut table = label_cells(alloc, map, joining)?;
+    let count_of_runs = number_of_runs(map);
+    if is_by_runs(map.region(), count_of_runs) {
+        return number_runs(alloc, map, joining, count_of_runs);
+    }
+    let mut table = label_cells(alloc, map, joining, count_of_runs)?;
     number_cells(alloc, map, joining, table.as_mut_slice())
 }
 

@@ -22,7 +22,9 @@ pub fn open_label(table: &mut [u32], label: u32) -> u32
     at
 }
 
-/// Joins two labels: of the open labels that they lead to the larger is closed, and points to the smaller.
+/// Joins two labels: of the open labels that they lead to the larger is closed, and points to the smaller. It is seldom called,
+/// and stays out of the loops over cells, which the compiler makes faster without it.
+#[inline(never)]
 pub fn join_labels(table: &mut [u32], one: u32, other: u32)
     requires down { PointDown table.old }
     requires one_inside { one < length table.old }

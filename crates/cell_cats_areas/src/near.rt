@@ -1,10 +1,12 @@
 //! The neighbours of a cell that come before it in row order, and the label that it shares with them.
 
-ghost use Rattle.std.specs.Prelude.{◌≡◌, ◌<◌, ◌≤◌, ◌+◌, ◌^◌, length, None, IfSome, IfOk, OnOk};
+ghost use Rattle.std.specs.Prelude.{◌≡◌, ◌<◌, ◌≤◌, ◌+◌, ◌^◌, length, All, None, Some, IsSome, IfSome, IfOk, OnOk, slice_index_or};
 ghost use Rattle.cell_cats_areas.specs.declared.clump.Joining.TheVariants.{Edges, EdgesAndCorners};
 ghost use Rattle.cell_cats_areas.specs.parts.Labels.{PointDown};
+ghost use Rattle.cell_cats_areas.specs.parts.RunsOfLabels.{IsAt, near_under, no_neighbour, cells_to_come};
 ghost use Rattle.cell_cats_areas.specs.parts.AreasRead.{AreInside, CanShare, HasEarlier, HasNoneEarlier, LabelsNext, SharesLabel, SharesLabelAtCorners, near_at};
 
+use crate::above::Above;
 use crate::clump::Joining;
 use crate::labels::join_labels;
 use cell_core::cell::Cell;
@@ -17,13 +19,16 @@ pub(crate) struct Labelled {
     pub(crate) label: u32,
 }
 
+// What null has for a label: no table is so long.
+pub(crate) const NO_LABEL: u32 = u32::MAX;
+
 // What is where the map ends.
 pub(crate) fn outside() -> Labelled
-    ensures { result.cell ≡ None }
+    ensures { result ≡ no_neighbour }
 {
     Labelled {
         cell: Cell::null(),
-        label: 0,
+        label: NO_LABEL,
     }
 }
 
@@ -37,7 +42,7 @@ pub(crate) struct Near {
 }
 
 impl Near {
-    // The neighbours before the first cell of a row: nothing is there.
+    // The neighbours before the first cell of a row: no_neighbour is there.
     #[inline(always)]
     pub(crate) fn at_the_edge() -> Near
         ensures left { result.left.cell ≡ None }
@@ -69,13 +74,30 @@ impl Near {
             upper_right: line[col + 1],
         }
     }
+
+    // The neighbours of the next cell, of those in hand at the one before it, and of what is to come of the row above.
+    #[inline(always)]
+    pub(crate) fn under(self, coming: &Above, line: &[(Labelled, u32)]) -> Near
+        requires at { IsAt coming.now line.now }
+        requires lengths { All (λ run. 0 < run.1) line.now }
+        ensures { result ≡ near_under self (cells_to_come coming.now line.now) }
+    {
+        Near {
+            left: self.left,
+            upper_left: self.above,
+            above: coming.first(line),
+            upper_right: coming.second(line),
+        }
+    }
 }
 
 // The label that a cell shares with a neighbour on an edge, if there is one. If there are two and no other cell has joined
 // them, their labels are joined.
+#[inline(always)]
 fn shared_by_edges(table: &mut [u32], cell: Cell, near: &Near) -> Option<u32>
     requires { CanShare cell table.old near.now }
     ensures down { PointDown table.new }
+    ensures left { near.now.left.cell ≡ cell → result ≡ Some near.now.left.label }
     ensures label { SharesLabel Edges cell near.now table.old table.new result }
 {
     if near.left.cell != cell {
@@ -93,24 +115,27 @@ fn shared_by_edges(table: &mut [u32], cell: Cell, near: &Near) -> Option<u32>
 
 // The label that a cell shares with a neighbour on an edge or at a corner, if there is one. If there are two that no other
 // cell has joined, their labels are joined. The one above touches each of the others.
+#[inline(always)]
 fn shared_by_corners(table: &mut [u32], cell: Cell, near: &Near) -> Option<u32>
     requires { CanShare cell table.old near.now }
     ensures down { PointDown table.new }
+    ensures left { near.now.left.cell ≡ cell → result ≡ Some near.now.left.label }
     ensures label { SharesLabel EdgesAndCorners cell near.now table.old table.new result }
 {
-    if near.above.cell == cell {
-        return Some(near.above.label);
-    }
     if near.left.cell != cell {
+        if near.above.cell == cell {
+            return Some(near.above.label);
+        }
         return shared_at_corners(table, cell, near);
     }
-    if near.upper_right.cell == cell {
+    if near.upper_right.cell == cell && near.above.cell != cell {
         join_labels(table, near.upper_right.label, near.left.label);
     }
     Some(near.left.label)
 }
 
 // The label that a cell shares with a neighbour at a corner, if there is one. If there are two, their labels are joined.
+#[inline(always)]
 fn shared_at_corners(table: &mut [u32], cell: Cell, near: &Near) -> Option<u32>
     requires { CanShare cell table.old near.now }
     ensures down { PointDown table.new }
@@ -130,9 +155,11 @@ fn shared_at_corners(table: &mut [u32], cell: Cell, near: &Near) -> Option<u32>
 }
 
 // The label that a cell shares with its neighbours, if it does.
+#[inline(always)]
 fn shared_label(table: &mut [u32], joining: Joining, cell: Cell, near: &Near) -> Option<u32>
     requires { CanShare cell table.old near.now }
     ensures down { PointDown table.new }
+    ensures left { near.now.left.cell ≡ cell → result ≡ Some near.now.left.label }
     ensures label { SharesLabel joining cell near.now table.old table.new result }
 {
     match joining {
@@ -142,6 +169,7 @@ fn shared_label(table: &mut [u32], joining: Joining, cell: Cell, near: &Near) ->
 }
 
 // The label of a cell: one that it shares with its neighbours, or else the next one. Null has none.
+#[inline(always)]
 pub(crate) fn label_cell(
     table: &mut Vec<u32>,
     joining: Joining,
@@ -154,9 +182,12 @@ pub(crate) fn label_cell(
     ensures down { OnOk result (PointDown table.new.items) }
     ensures long { OnOk result (length table.new.items ≤ length table.old.items + 1) }
     ensures read { IfOk result (LabelsNext joining cell near.now table.old.items table.new.items) }
+    ensures alike { IfOk result (λ label. near.now.left.cell ≡ cell → IsSome cell
+        → label ≡ near.now.left.label) }
+    ensures null { IfOk result (λ label. cell ≡ None → label ≡ 4294967295) }
 {
     if !cell.get().is_some() {
-        return Ok(0);
+        return Ok(NO_LABEL);
     }
     if let Some(label) = shared_label(table.as_mut_slice(), joining, cell, near) {
         return Ok(label);

@@ -12,15 +12,6 @@ use cell_core::map::CellMap;
 use cell_core::memory::Memory;
 use std::alloc::Global;
 
-// How many labels a map may need: one a run.
-fn most_labels(map: &CellMap) -> usize {
-    let mut most: usize = 0;
-    for row in 0..map.region().rows() {
-        most = most.saturating_add(map.runs(row).len());
-    }
-    most
-}
-
 // Labels the cells of a row. The line holds the row above it, and then the row; what is after it is null.
 #[inline(never)]
 fn label_row(
@@ -57,12 +48,17 @@ fn label_row(
 ///
 /// No cell's label is kept. `number_cells` walks the map again, and meets the cells that share no label with earlier neighbours
 /// in the same order. The table says which labels are joined, so no row of labels is rewritten.
-pub fn label_cells(alloc: Global, map: &CellMap, joining: Joining) -> Result<Vec<u32>, Memory>
+pub fn label_cells(
+    alloc: Global,
+    map: &CellMap,
+    joining: Joining,
+    count_of_runs: usize,
+) -> Result<Vec<u32>, Memory>
     ensures { IfOk result (λ table. AreLabels joining map.now table.items) }
 {
     let region = map.region();
     let cols = region.cols() as usize;
-    let mut table = Vec::with_capacity(alloc, most_labels(map))?;
+    let mut table = Vec::with_capacity(alloc, count_of_runs)?;
     let mut buffer = vec![in alloc; Cell::null(); cols]?;
     let cells = buffer.as_mut_slice();
     let mut whole = vec![in alloc; outside(); cols + 1]?;

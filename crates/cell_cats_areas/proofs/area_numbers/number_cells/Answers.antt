@@ -27,7 +27,8 @@ loop-row-init c =
       region = ap (λ b. b.region) c.new-builder.ensures ∙ c.region-region.ensures.value;
       pushed = rw c.new-builder.ensures refl;
       filled = rw c.new-builder.ensures (λ k d lt. absurd (omega arith));
-      numbers = λ labels h n. numbers_first c.args.joining m labels h c.as_mut_slice-line.result.now c.outside.result line c.outside.ensures;
+      numbers = λ labels h n. numbers_first c.args.joining m labels h c.as_mut_slice-line.result.now c.outside.result
+          line (ap (λ x. x.cell) c.outside.ensures);
       cells = λ labels h n r col lt. absurd (omega arith);
     }
 

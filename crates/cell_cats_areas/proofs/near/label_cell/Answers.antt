@@ -1,5 +1,7 @@
-use Rattle.std.proofs.Common.{◌≡◌, ◌++◌, ◌∷◌, [], List, ℕ, is_some, IsSome, false, length, arith, ap, sym, subst, ◌∙◌}
+use Rattle.std.proofs.Common.{◌≡◌, ◌++◌, ◌∷◌, [], List, ℕ, is_some, IsSome, false, length, arith, refl, ap, sym}
+use Rattle.std.proofs.Common.{subst, ◌∙◌}
 use Rattle.std.proofs.lemmas.List.{length_push}
+use Rattle.std.proofs.lemmas.Bool.{both_ways}
 use Rattle.cell_cats_areas.proofs.LabelLemmas.{down_more}
 use Rattle.cell_cats_areas.proofs.MeetingLemmas.{some_of, none_of, no_label}
 use Rattle.cell_cats_areas.proofs.ReadLemmas.{read_null, read_shared, read_new, written_back}
@@ -12,7 +14,12 @@ returns-then-not-is_some c = record {
   long = omega arith;
   read = λ m r col labels is col_in count near h.
       let none : is_some c.args.cell ≡ false = ap (λ x. is_some x) (sym c.get.ensures.value) ∙ sym c.is_some.ensures ∙ c.if-not-is_some.true in
-      read_null c.args.joining m c.args.table.now.items labels h.open_of h.read r col 0 col_in count (sym is ∙ none_of c.args.cell none);
+      read_null c.args.joining m c.args.table.now.items labels h.open_of h.read r col 4294967295 col_in count
+          (sym is ∙ none_of c.args.cell none);
+  alike = λ same some.
+      let none : is_some c.args.cell ≡ false = ap (λ x. is_some x) (sym c.get.ensures.value) ∙ sym c.is_some.ensures ∙ c.if-not-is_some.true in
+      absurd (both_ways (is_some c.args.cell) none some);
+  null = λ _. refl;
 }
 
 pub shared_label-requires : goal.shared_label-requires
@@ -36,6 +43,10 @@ returns-in-Some c =
           let here = sym is ∙ v.1 in
           let shares = c.in-Some.ensures.label m r col v.0 labels h.open_of v.1 here near (rw items h.read) in
           rw back (read_shared c.args.joining m c.args.table.now.items labels h.open_of h.read r col c.in-Some.label col_in count c.shared_label.new.table v.0 here long shares);
+      alike = λ same some. let is = c.in-Some.ensures.left same in cc;
+      null = λ none.
+          let some : IsSome c.args.cell = ap (λ x. is_some x) (sym c.get.ensures.value) ∙ sym c.is_some.ensures ∙ c.if-not-is_some.false in
+          absurd (both_ways (is_some c.args.cell) (ap (λ x. is_some x) none) some);
     }
 
 pub returns : goal.returns
@@ -54,4 +65,8 @@ returns c =
           let v = some_of c.args.cell some in
           rw pushed (read_new c.args.joining m table labels h.open_of h.read r col c.len-label.result col_in count v.0 (sym is ∙ v.1) c.requires.down
           (none.1 m r col v.0 _ _ v.1 near) own);
+      alike = λ same some. absurd (c.in_default.not-Some c.args.near.now.left.label (c.shared_label.ensures.left same));
+      null = λ no.
+          let some : IsSome c.args.cell = ap (λ x. is_some x) (sym c.get.ensures.value) ∙ sym c.is_some.ensures ∙ c.if-not-is_some.false in
+          absurd (both_ways (is_some c.args.cell) (ap (λ x. is_some x) no) some);
     }

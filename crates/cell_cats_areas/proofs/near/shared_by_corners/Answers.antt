@@ -2,7 +2,9 @@ use Rattle.std.proofs.Common.{⊎_elim, rules}
 use Rattle.cell_cats_areas.proofs.MeetingLemmas.{some_of}
 use Rattle.cell_cats_areas.proofs.NearLemmas.{is_alike, is_unlike, ne_alike, ne_unlike, label_above, label_left, corners_above, corners_left, corners_joined_left, corners_only}
 use Rattle.cell_cats_areas.proofs.near.shared_by_corners.Goals as goal
-use Rattle.cell_cats_areas.proofs.near.shared_by_corners.Goals.{then-eq-2, else-eq-2}
+use Rattle.cell_cats_areas.proofs.near.shared_by_corners.Goals.{then-eq-2+then-ne-2, else-eq-2}
+use Rattle.cell_cats_areas.proofs.near.shared_by_corners.Goals.{else-eq-2-via-then-eq-2+else-ne-2}
+use Rattle.cell_cats_areas.proofs.near.shared_by_corners.Goals.{else-eq-2-via-else-eq-2}
 
 pub returns-then-eq-clause-label : goal.returns-then-eq-clause-label
 returns-then-eq-clause-label c = λ m r col v labels open_of is here near read.
@@ -25,11 +27,16 @@ join_labels-requires c =
 
 pub returns-clause-label : goal.returns-clause-label
 returns-clause-label c = λ m r col v labels open_of is here near read.
-    let not_above = is_unlike _ _ v _ is c.eq.ensures.value c.if-eq.false in
     let left = ne_alike _ _ v _ is c.ne.ensures c.if-ne.false in
     elim c.if-eq-2.branch [
-      | then-eq-2 w ↦ rw w.table-is (corners_joined_left m r col v c.args.table.now labels open_of c.args.near.now near read _ here not_above left
+      | then-eq-2+then-ne-2 w ↦ rw w.table-is
+          (corners_joined_left m r col v c.args.table.now labels open_of c.args.near.now near read _ here
+          (ne_unlike _ _ v _ is w.ne-then-eq-2.ensures w.if-ne-2.true) left
           (is_alike _ _ v _ is c.eq-2.ensures.value w.if-eq-2.true) w.join_labels.auto.table (w.join_labels.ensures.reports open_of read.sound.reports))
-      | else-eq-2 w ↦ rw w.table-is (corners_left m r col v c.args.table.now labels open_of c.args.near.now near read not_above left
-          (is_unlike _ _ v _ is c.eq-2.ensures.value w.if-eq-2.false))
+      | else-eq-2 w ↦ rw w.table-is (corners_left m r col v c.args.table.now labels open_of c.args.near.now near read
+          left
+          (λ upper_right. elim w.else-eq-2.branch [
+            | else-eq-2-via-then-eq-2+else-ne-2 u ↦ ne_alike _ _ v _ is u.ne-then-eq-2.ensures u.if-ne-2.false
+            | else-eq-2-via-else-eq-2 u ↦ absurd (is_unlike _ _ v _ is c.eq-2.ensures.value u.if-eq-2.false upper_right)
+          ]))
     ]

@@ -15,7 +15,7 @@ loop-row-init c =
       down = rw none (λ k. search rules);
       most = rw none (omega arith);
       read = rw none (cells_first c.args.joining m c.as_mut_slice-line.result.now c.outside.result
-          c.region-region.ensures.filled line c.outside.ensures);
+          c.region-region.ensures.filled line (ap (λ x. x.cell) c.outside.ensures));
     }
 
 pub label_row-requires : goal.label_row-requires

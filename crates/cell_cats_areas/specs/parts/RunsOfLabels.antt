@@ -1,0 +1,80 @@
+-- A row as its labelled runs, and the row above while the runs of a row are labelled.
+use Rattle.std.specs.Prelude.{ℕ, ℤ, pos, ◌+◌, ◌*◌, ◌<◌, ◌≤◌, ◌≡◌, ◌⊎◌, List, [], ◌∷◌, ◌++◌, All, length, map, replicate, drop, flat_map, Some, None, slice_index_or}
+use Rattle.cell_core.specs.Grid.{Grid, CellValue}
+use Rattle.cell_core.specs.Runs.{RunValue}
+use Rattle.cell_cats_areas.specs.declared.clump.Joining.{Joining}
+use Rattle.cell_cats_areas.specs.declared.clump.Joining.TheVariants.{Edges}
+use Rattle.cell_cats_areas.specs.declared.near.Labelled.{Labelled}
+use Rattle.cell_cats_areas.specs.declared.near.Near.{Near}
+use Rattle.cell_cats_areas.specs.declared.above.Above.{Above}
+use Rattle.cell_cats_areas.specs.Areas.{cell_at_position}
+use Rattle.cell_cats_areas.specs.parts.AreasRead.{HaveCells, IsAreaReading, WasRead, area_label_at}
+use Rattle.cell_cats_areas.specs.parts.CellPlaces.{position}
+use Rattle.cell_cats_areas.specs.parts.LabelTables.{AreLabels}
+
+-- what is where a map ends
+abbrev pub no_neighbour : Labelled
+no_neighbour = record { cell = None; label = 4294967295 }
+
+-- the cells of labelled runs, from left to right
+abbrev pub line_of_runs : List (Labelled × ℕ) → List Labelled
+line_of_runs = flat_map (λ run. replicate run.1 run.0)
+
+-- the labels of such runs
+abbrev pub labels_along : List (ℕ × ℕ) → List ℕ
+labels_along = flat_map (λ run. replicate run.1 run.0)
+
+-- what is still to come of the row above
+abbrev pub cells_to_come : Above → List (Labelled × ℕ) → List Labelled
+cells_to_come above line = replicate above.count above.cell ++ line_of_runs (drop above.place line)
+
+-- a cell is in hand unless the row has come to its end
+abbrev pub IsAt : Above → List (Labelled × ℕ) → Type 0
+IsAt above line = above.count ≡ 0 → length line ≤ above.place
+
+-- cells alike that have like neighbours above: by corners another one comes after them, or it is one alone
+abbrev pub HaveLikeNeighbours : Joining → Above → ℕ → Type 0
+HaveLikeNeighbours j above n = (n ≤ above.count) × ((j ≡ Edges) ⊎ ((n ≡ 1) ⊎ (n < above.count)))
+
+-- the neighbours of the next cell, of those in hand at the one before it, and of what is to come of the row above
+abbrev pub near_under : Near → List Labelled → Near
+near_under near coming = record { left = near.left; upper_left = near.above; above = slice_index_or coming 0 no_neighbour; upper_right = slice_index_or coming 1 no_neighbour }
+
+-- the labels of the rows read that are kept: of each cell, or the largest number for null
+pub record AreKeptLabels (m : Grid) (labels : List ℕ) (kept : List (List (ℕ × ℕ))) : Type 0 where
+  pub wide : (r : ℕ) → r < length kept → length (labels_along (slice_index_or kept r [])) ≡ m.region.cols
+  pub read : (r c : ℕ) → r < length kept → c < m.region.cols → WasRead m labels (position r c)
+  pub some : (r c : ℕ) (v : ℤ) → r < length kept → c < m.region.cols → cell_at_position m (position r c) ≡ Some v → slice_index_or (labels_along (slice_index_or kept r [])) c 0 ≡ area_label_at m labels (position r c)
+  pub null : (r c : ℕ) → r < length kept → c < m.region.cols → cell_at_position m (position r c) ≡ None → slice_index_or (labels_along (slice_index_or kept r [])) c 0 ≡ 4294967295
+
+-- the cells before a column of a row were read, and the labels of the rows before it are kept
+pub record AreWalked (j : Joining) (m : Grid) (kept : List (List (ℕ × ℕ))) (table : List ℕ) (line : List Labelled) (r c : ℕ) (near : Near) : Type 0 where
+  pub reading : IsAreaReading j m table line r c near
+  pub kept_are : AreKeptLabels m reading.cells.labels kept
+
+-- the same, while so many cells of a row were read and others are still to come of the one above
+abbrev pub IsWalked : Joining → Grid → List (List (ℕ × ℕ)) → List ℕ → List Labelled → List Labelled → ℕ → Near → Type 0
+IsWalked j m kept table done coming r near = AreWalked j m kept table (done ++ (coming ++ no_neighbour ∷ [])) r (length done) near
+
+-- the rows before one were read, of which the last is a line of runs, and their labels are kept
+pub record HaveRuns (j : Joining) (m : Grid) (kept : List (List (ℕ × ℕ))) (table : List ℕ) (line : List (Labelled × ℕ)) (r : ℕ) : Type 0 where
+  pub cells : HaveCells j m table (line_of_runs line ++ no_neighbour ∷ []) r 0
+  pub kept_are : AreKeptLabels m cells.labels kept
+
+-- the labels of one more row are kept
+abbrev pub KeepsRow : Joining → Grid → ℕ → List ℕ → List (Labelled × ℕ) → List ℕ → List (Labelled × ℕ) → List (ℕ × ℕ) → Type 0
+KeepsRow j m r old above new below row = (kept : List (List (ℕ × ℕ))) → length kept ≡ r → HaveRuns j m kept old above r → HaveRuns j m (kept ++ row ∷ []) new below (r + 1)
+
+-- the labels of a map of which each two adjacent cells of one category were joined, and of each row the labels that are kept
+pub record AreRunLabels (j : Joining) (m : Grid) (table : List ℕ) (kept : List (List (ℕ × ℕ))) : Type 0 where
+  pub labels : AreLabels j m table
+  pub kept_are : AreKeptLabels m labels.labels kept
+  pub count : length kept ≡ m.region.rows
+
+-- what is written for a label by a table of numbers: null if the table has none
+abbrev pub number_for : List ℕ → ℕ → CellValue
+number_for table label = slice_index_or (map (λ n. Some (pos n)) table) label None
+
+-- and for the labels of a row
+abbrev pub numbers_along : List ℕ → List (ℕ × ℕ) → List CellValue
+numbers_along table = flat_map (λ run. replicate run.1 (number_for table run.0))
