@@ -7,17 +7,12 @@ use Rattle.std.proofs.lemmas.Simd.{trailing_mask_l, ones-mask_l, mask_l-mod}
 use Rattle.std.proofs.lemmas.Nat.{and_block, and_mask, one_shl, mod-pow-add, field_of, shl-shr}
 use Rattle.std.proofs.lemmas.List.{length-map, take-map, take-take, drop-take, get_or-take}
 use Rattle.std.specs.Int.Bits.{bit_and, bit_or, and_self}
+pub use Rattle.cell_ascii_lanes.proofs.ByteBitLemmas.{bit, turned, mask-take, below}
 use Rattle.cell_ascii_meaning.specs.GridTokens.{is_line_feed, is_space, is_word_byte, newlines}
 use Rattle.cell_ascii_writer.proofs.ByteLemmas.{digits-mod, digits-number}
 use Rattle.cell_ascii.specs.TableWords.{blanks, feeds, cleared_front, kept_bytes}
 use lib.Count.{count_trailing_zeros}
 use lib.Lanes.{mask_l, number_l, digits_l, top, zip2}
-
-abbrev pub bit : Bool → ℕ
-bit b = cond b 1 0
-
-pub turned : (a : Bool) (m : ℕ) → bit a + 2 * m ≡ m * 2 ^ 1 + bit a
-turned a m = omega arith
 
 -- how many of the first lanes are false
 abbrev pub unset : List Bool → ℕ
@@ -193,30 +188,6 @@ next_end bs at e buffered some is =
       blank = ap is_space (sym (get_or-take 64 bs k 0 ahead.0)) ∙ ahead.1.blank;
       next = next_ends bs buffered at set;
     })
-
--- the lower bits of a mask
-pub mask-take : (k : ℕ) (ms : List Bool) → mask_l ms % 2 ^ k ≡ mask_l (take k ms)
-mask-take zero ms = omega arith
-mask-take (suc k) [] = mask_l-mod [] (suc k) (omega arith)
-mask-take (suc k) (m ∷ ms) =
-    let n = bit m + 2 * mask_l ms in
-    let next : suc k ≡ k + 1 = omega arith in
-    let lowest : n % 2 ^ 1 ≡ bit m = by_bit m in
-    let higher : n / 2 ^ 1 ≡ mask_l ms = by_half m in
-    ap (λ (j : ℕ). n % 2 ^ j) next ∙ mod-pow-add n k 1 ∙ ap₂ (λ (a : ℕ) (b : ℕ). a % 2 ^ k * 2 ^ 1 + b) higher lowest
-    ∙ ap (λ (a : ℕ). a * 2 ^ 1 + bit m) (mask-take k ms) ∙ sym (turned m (mask_l (take k ms)))
-  where
-    by_bit : (b : Bool) → (bit b + 2 * mask_l ms) % 2 ^ 1 ≡ bit b
-    by_bit true = omega arith
-    by_bit false = omega arith
-
-    by_half : (b : Bool) → (bit b + 2 * mask_l ms) / 2 ^ 1 ≡ mask_l ms
-    by_half true = omega arith
-    by_half false = omega arith
-
--- the bits below a place
-pub below : (bits n : ℕ) → n < 64 → count_ones (bit_and bits (1 * 2 ^ n % 18446744073709551616 - 1)) ≡ count_ones (bits % 2 ^ n)
-below bits n within = ap (λ (k : ℕ). count_ones (bit_and bits (k - 1))) (one_shl n 64 within) ∙ ap count_ones (and_mask bits n)
 
 -- so many line feeds come before a place
 pub feeds_before : (n : ℕ) (bs : List ℕ) → n ≤ 64 → count_ones (mask_l (feeds bs) % 2 ^ n) ≡ newlines (take n bs)

@@ -72,7 +72,7 @@ no_minus b e = grind (arith, nat_tests)
 no_plus : (b : ℕ) → is_digit b ≡ true → (b == 43) ≡ false
 no_plus b e = grind (arith, nat_tests)
 
-digits_number : (b : ℕ) (bs : List ℕ) → list_all is_digit (b ∷ bs) ≡ true → whole_number (b ∷ bs) ≡ Some (pos (value_of_digits (b ∷ bs)))
+pub digits_number : (b : ℕ) (bs : List ℕ) → list_all is_digit (b ∷ bs) ≡ true → whole_number (b ∷ bs) ≡ Some (pos (value_of_digits (b ∷ bs)))
 digits_number b bs e =
     let parts = both (is_digit b) (list_all is_digit bs) e in
     rw (no_minus b parts.0, no_plus b parts.0, e) refl

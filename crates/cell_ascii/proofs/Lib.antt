@@ -3,6 +3,8 @@ pub mod BufferedLemmas
 pub mod BufferedRowLemmas
 pub mod AgainLemmas
 pub mod LaneLemmas
+pub mod ByteEndLemmas
+pub mod ByteBlockLemmas
 pub mod BitLemmas
 pub mod DigitLemmas
 pub mod RunLemmas

@@ -14,7 +14,7 @@ use Rattle.cell_ascii_law_faults.proofs.PlaceDataLemmas.{fault_in}
 use Rattle.cell_ascii_law_faults.proofs.RowPlaceLemmas.{cells_reported, end_reported}
 use Rattle.cell_ascii_law_faults.proofs.PlaceKeptLemmas.{cells_kept}
 use Rattle.cell_ascii_law_faults.proofs.GridFaultLemmas.{opening_keeps_places}
-use Rattle.cell_ascii.proofs.ManyLemmas.{many_cut, many_snoc, with_last}
+use Rattle.cell_ascii.proofs.ManyLemmas.{many_cut, many_snoc, with_last, many_add, and_then, glue}
 
 -- what a known source gives, gives more
 pub implied : {A : Type 0} (P Q : A → Type 0) (a : Option A) → ((c : A) → P c → Q c) → IfSome a P → IfSome a Q
@@ -37,6 +37,29 @@ row_cut h here mid (Some c) (Some m) (Some z) i f old row lower kept e o =
     let cells : many (cell_from h) i (here c) ≡ Ok (take i row, mid m) = cc in
     let stop : cell_from h (mid m) ≡ Err f = cc in
     record { count = i; fewer = lower; rest = mid m; cells = cells; stop = stop; kept = kept }
+
+-- an error after some cells of a row is its error
+pub row_fails : (h : HeaderValue) (here mid : Coming → At) (a b d : Option Coming) (i n : ℕ) (f : GridFault) (front : List CellValue) → i < n
+    → option_map (λ c. many (cell_from h) i (here c)) a ≡ option_map (λ c. Ok (front, mid c)) b → option_map (λ c. cell_from h (mid c)) b ≡ option_map (λ c. Err f) d
+    → IfSome a (λ c. many (cell_from h) n (here c) ≡ Err f)
+row_fails h here mid None b d i n f front lower e o = tt
+row_fails h here mid (Some c) None d i n f front lower e o = cc
+row_fails h here mid (Some c) (Some m) None i n f front lower e o = cc
+row_fails h here mid (Some c) (Some m) (Some z) i n f front lower e o =
+    let cells : many (cell_from h) i (here c) ≡ Ok (front, mid m) = cc in
+    let stop : cell_from h (mid m) ≡ Err f = cc in
+    many_cut (cell_from h) i n (here c) (mid m) front f lower cells stop
+
+-- and an error of the others is too
+pub others_fail : (h : HeaderValue) (here mid : Coming → At) (a b : Option Coming) (i n : ℕ) (f : GridFault) (front : List CellValue)
+    → option_map (λ c. many (cell_from h) i (here c)) a ≡ option_map (λ c. Ok (front, mid c)) b → IfSome b (λ c. many (cell_from h) n (mid c) ≡ Err f)
+    → IfSome a (λ c. many (cell_from h) (i + n) (here c) ≡ Err f)
+others_fail h here mid None b i n f front e stop = tt
+others_fail h here mid (Some c) None i n f front e stop = cc
+others_fail h here mid (Some c) (Some m) i n f front e stop =
+    let cells : many (cell_from h) i (here c) ≡ Ok (front, mid m) = cc in
+    many_add (cell_from h) i n (here c) ∙ ap (λ (r : Reading (List CellValue)). r >>= and_then (cell_from h) n) cells
+    ∙ ap (λ (r : Reading (List CellValue)). r >>= glue (cell_from h) front) stop
 
 -- the error of the row
 pub cut_fails : (h : HeaderValue) (at : At) (f : GridFault) (old row : List CellValue) → IsCutRow h at f old row → many (cell_from h) (length old) at ≡ Err f

@@ -1,6 +1,6 @@
 //! Whole grids, read row by row.
 
-ghost use Rattle.std.specs.Prelude.{◌≡◌, ◌≢◌, ◌+◌, ◌*◌, ◌^◌, ◌<◌, ◌≤◌, ◌||◌, true, false, length, take, drop, Option, Some, Ok, Err, OnOk, OnErr, IfOk, IfErr, IfSome};
+ghost use Rattle.std.specs.Prelude.{◌≡◌, ◌≢◌, ◌+◌, ◌*◌, ◌++◌, [], ◌∷◌, ◌^◌, ◌<◌, ◌≤◌, ◌||◌, true, false, length, take, drop, Option, Some, Ok, Err, OnOk, OnErr, IfOk, IfErr, IfSome};
 ghost use Rattle.std.specs.Option.{option_map};
 ghost use Rattle.std.specs.Result.{is_err};
 ghost use Rattle.cell_core_devices.specs.Device.{Coming};
@@ -16,8 +16,12 @@ ghost use Rattle.cell_ascii_meaning.specs.RowPlaces.{cells_fault};
 ghost use Rattle.cell_ascii.specs.Reader.{ReaderPlace, at_place, token_read, token_seen, reading_seen, always, rows_from};
 ghost use Rattle.cell_ascii.specs.GridReaders.{reader_place, IsOpened, fault_of_reading, reader_has_failed, AnswersGrid, IsCutRow, IsChangedInFront, IsOfReading, ReportsEnd};
 ghost use Rattle.cell_ascii_reading.specs.Scan.{Hears, FailsInText};
+ghost use Rattle.cell_core_values.specs.SmallCells.{byte_cell, cells_of_bytes};
+ghost use Rattle.cell_ascii.specs.parts.ByteWords.{IsPlain};
+ghost use Rattle.cell_ascii.specs.parts.FrontCells.{front_cells, IsFront};
 ghost use Rattle.cell_ascii.specs.parts.Unread.{IsUnread, IsAtData, IsBehindHeader, HasRows};
 
+use crate::byte_words::{BLOCK, MORE_BYTES, bytes_in, has_short_runs};
 use crate::pace::Pace;
 use crate::short_cells::cells_in;
 use crate::word_table::WordTable;
@@ -28,8 +32,10 @@ use cell_ascii_reading::keys::HeaderKeys;
 use cell_ascii_reading::scanner::{Next, Scanner};
 use cell_core::cell::Cell;
 use cell_core::map::{CellMap, MapBuilder};
+use cell_core::memory::Memory;
 use cell_core::region::Region;
 use cell_core::source::Source;
+use cell_core_values::small_cells::write_byte_cells;
 use std::alloc::Global;
 use std::marker::Model;
 
@@ -184,6 +190,37 @@ impl<R: Source> CellReader<R> {
         count
     }
 
+    // Reads cells whose bytes are held, at most so many, into the start of a row of the bytes that stand for them. Returns
+    // their number.
+    #[tactic(auto, using(crate::proofs::WordLemmas::lines_buffered))]
+    fn buffered_bytes(&mut self, row: &mut [u8], most: usize) -> usize
+        requires plain { IsPlain self.old.header }
+        requires lines { self.old.line + most * 64 < 2 ^ 64 }
+        requires room { most + 72 ≤ length row.old }
+        ensures cells { Agrees (λ c. many (cell_from self.old.header) result (at_place self.old c))
+            self.old.ahead (λ d. Ok (cells_of_bytes (take result row.new), at_place self.new d))
+            self.new.ahead }
+        ensures count { result ≤ most }
+        ensures header { self.new.header ≡ self.old.header }
+        ensures lines { self.new.line ≤ self.old.line + result * 64 }
+        ensures heard { self.new.ahead.heard ≡ self.old.ahead.heard }
+    {
+        if self.waiting || !self.scanner.is_behind_word() {
+            return 0;
+        }
+        let (count, size, lines) = bytes_in(self.scanner.buffered_bytes(), row, most);
+        if count > 0 {
+            self.scanner.pass(size);
+            self.scanner.count_lines(lines);
+        }
+        count
+    }
+
+    // Whether too few bytes are held to read words 64 bytes at a time.
+    fn is_at_seam(&self) -> bool {
+        self.waiting || self.scanner.buffered_bytes().len() < BLOCK
+    }
+
     // Reads the next cell, byte by byte.
     fn next_cell(&mut self) -> Result<Cell, GridFault>
         requires room { self.old.line + 1048576 < 2 ^ 64 }
@@ -248,6 +285,121 @@ fn read_row<R: Source>(cells: &mut CellReader<R>, row: &mut [Cell]) -> Result<()
         row[i] = cell;
         i += 1;
     }
+}
+
+// The byte that stands for a cell, if one does.
+fn byte_of(cell: Cell) -> Option<u8>
+    ensures { IfSome result (λ byte. byte_cell byte ≡ cell) }
+{
+    match cell.get() {
+        None => Some(u8::MAX),
+        Some(category) if category >= 0 && category < u8::MAX as i32 => Some(category as u8),
+        Some(_) => None,
+    }
+}
+
+// Reads cells at the start of a row as bytes, as long as their words are short and bytes stand for them. Returns how many
+// they are, and whether they are all of the row and kept as bytes. Else the row begins with them.
+fn read_front<R: Source>(
+    cells: &mut CellReader<R>,
+    bytes: &mut [u8],
+    row: &mut [Cell],
+) -> Result<(usize, bool), GridFault>
+    requires plain { IsPlain cells.old.header }
+    requires lines { cells.old.line + length row.old * 1048577 < 2 ^ 63 }
+    requires bytes { length row.old + 72 ≤ length bytes.old }
+    requires heard { cells.old.ahead.heard.failed ≡ false }
+    ensures cells { IfOk result (λ front. Agrees
+        (λ c. many (cell_from cells.old.header) front.0 (at_place cells.old c)) cells.old.ahead
+        (λ d. Ok (front_cells front bytes.new row.new, at_place cells.new d)) cells.new.ahead) }
+    ensures front { IfOk result (IsFront (length row.old) cells.old.line cells.new.line) }
+    ensures fault { IfErr result (λ f. IfSome (bytes_to_come cells.old.ahead)
+        (λ c. many (cell_from cells.old.header) (length row.old) (at_place cells.old c) ≡ Err f)) }
+    ensures header { cells.new.header ≡ cells.old.header }
+    ensures kind { FailsInText result }
+    ensures heard { Hears result cells.old.ahead cells.new.ahead }
+{
+    let mut count = 0;
+    'cells: loop {
+        count += cells.buffered_bytes(&mut bytes[count..], row.len() - count);
+        if count == row.len() {
+            return Ok((count, true));
+        }
+        if !cells.is_at_seam() {
+            write_byte_cells(&bytes[..count], &mut row[..count]);
+            return Ok((count, false));
+        }
+        let cell = cells.next_cell()?;
+        let Some(byte) = byte_of(cell) else {
+            write_byte_cells(&bytes[..count], &mut row[..count]);
+            row[count] = cell;
+            return Ok((count + 1, false));
+        };
+        bytes[count] = byte;
+        count += 1;
+    }
+}
+
+// The same if it is of use, and else no cells.
+fn read_bytes<R: Source>(
+    cells: &mut CellReader<R>,
+    bytes: &mut [u8],
+    row: &mut [Cell],
+) -> Result<(usize, bool), GridFault>
+    requires lines { cells.old.line + length row.old * 1048577 < 2 ^ 63 }
+    requires some { 0 < length row.old }
+    requires bytes { length row.old + 72 ≤ length bytes.old }
+    requires heard { cells.old.ahead.heard.failed ≡ false }
+    ensures cells { IfOk result (λ front. Agrees
+        (λ c. many (cell_from cells.old.header) front.0 (at_place cells.old c)) cells.old.ahead
+        (λ d. Ok (front_cells front bytes.new row.new, at_place cells.new d)) cells.new.ahead) }
+    ensures front { IfOk result (IsFront (length row.old) cells.old.line cells.new.line) }
+    ensures fault { IfErr result (λ f. IfSome (bytes_to_come cells.old.ahead)
+        (λ c. many (cell_from cells.old.header) (length row.old) (at_place cells.old c) ≡ Err f)) }
+    ensures header { cells.new.header ≡ cells.old.header }
+    ensures kind { FailsInText result }
+    ensures heard { Hears result cells.old.ahead cells.new.ahead }
+{
+    if !cells.words.is_plain() || !cells.pace.is_for_bytes() {
+        cells.pace.pass_row(row.len());
+        return Ok((0, false));
+    }
+    let front = read_front(cells, bytes, row)?;
+    cells
+        .pace
+        .end_bytes(front.1 && has_short_runs(&bytes[..row.len()]));
+    Ok(front)
+}
+
+// Reads a row of cells, as bytes or else as cells. Returns whether as bytes.
+fn read_either<R: Source>(
+    cells: &mut CellReader<R>,
+    bytes: &mut [u8],
+    row: &mut [Cell],
+) -> Result<bool, GridFault>
+    requires lines { cells.old.line + length row.old * 1048577 < 2 ^ 63 }
+    requires some { 0 < length row.old }
+    requires bytes { length row.old + 72 ≤ length bytes.old }
+    requires heard { cells.old.ahead.heard.failed ≡ false }
+    ensures row { IfOk result (λ is_bytes. Agrees
+        (λ c. many (cell_from cells.old.header) (length row.old) (at_place cells.old c))
+        cells.old.ahead
+        (λ d. Ok (front_cells (length row.old, is_bytes) bytes.new row.new, at_place cells.new d))
+        cells.new.ahead) }
+    ensures fault { IfErr result (λ f. IfSome (bytes_to_come cells.old.ahead)
+        (λ c. many (cell_from cells.old.header) (length row.old) (at_place cells.old c) ≡ Err f)) }
+    ensures header { cells.new.header ≡ cells.old.header }
+    ensures lines { OnOk result
+        (cells.new.line ≤ cells.old.line + length row.old * 1048577) }
+    ensures kind { FailsInText result }
+    ensures heard { Hears result cells.old.ahead cells.new.ahead }
+{
+    let (count, is_bytes) = read_bytes(cells, bytes, row)?;
+    if is_bytes {
+        return Ok(is_bytes);
+    }
+    read_row(cells, &mut row[count..])?;
+    Ok(false)
 }
 
 /// A grid text whose header was read, and whose cells are read row by row from the north.
@@ -400,6 +552,65 @@ impl<R: Source> GridReader<R> {
     }
 }
 
+// Reads the next row, of which there is one, as bytes or else as cells. Returns whether as bytes.
+fn next_either<R: Source>(
+    reader: &mut GridReader<R>,
+    bytes: &mut [u8],
+    row: &mut [Cell],
+) -> Result<bool, GridFault>
+    requires live { reader.old.failed ≡ false }
+    requires some { 0 < reader.old.rows_left }
+    requires width { length row.old ≡ reader.old.header.region.cols }
+    requires bytes { length row.old + 72 ≤ length bytes.old }
+    ensures row { IfOk result (λ is_bytes. option_map
+        (λ c. many (cell_from reader.old.header) (length row.old) (reader_place reader.old c))
+        reader.old.coming
+        ≡ option_map (λ d. Ok (
+          front_cells (length row.old, is_bytes) bytes.new row.new,
+          reader_place reader.new d,
+        )) reader.new.coming) }
+    ensures fault { IfErr result (λ f. IfSome reader.old.coming (λ c.
+        many (cell_from reader.old.header) (length row.old) (reader_place reader.old c)
+        ≡ Err f)) }
+    ensures left { OnOk result (reader.new.rows_left + 1 ≡ reader.old.rows_left) }
+    ensures live { OnOk result (reader.new.failed ≡ false) }
+    ensures header { reader.new.header ≡ reader.old.header }
+    ensures kinds { FailsInText result }
+    ensures heard { reader.new.heard ≡ hears (reports_read result) reader.old.heard }
+{
+    match read_either(&mut reader.cells, bytes, row) {
+        Ok(is_bytes) => {
+            reader.rows_left -= 1;
+            Ok(is_bytes)
+        }
+        Err(fault) => {
+            reader.failed = true;
+            Err(fault)
+        }
+    }
+}
+
+// Puts a row below the others of a map, by its bytes or by its cells.
+fn push_either(
+    builder: &mut MapBuilder,
+    is_bytes: bool,
+    bytes: &[u8],
+    row: &[Cell],
+) -> Result<(), Memory>
+    requires width { length row.now ≡ builder.old.region.cols }
+    requires bytes { length row.now ≤ length bytes.now }
+    requires room { length builder.old.rows < builder.old.region.rows }
+    ensures ok { OnOk result (builder.new ≡ record builder.old {
+      rows = builder.old.rows ++ front_cells (length row.now, is_bytes) bytes.now row.now ∷ [];
+    }) }
+    ensures err { OnErr result (builder.new ≡ builder.old) }
+{
+    if is_bytes {
+        return builder.push_bytes(&bytes[..row.len()]);
+    }
+    builder.push_row(row)
+}
+
 // Reads the rows that are left into a map.
 fn read_rows<R: Source>(alloc: Global, reader: &mut GridReader<R>) -> Result<CellMap, GridFault>
     requires { IsUnread reader.old }
@@ -410,13 +621,19 @@ fn read_rows<R: Source>(alloc: Global, reader: &mut GridReader<R>) -> Result<Cel
     ensures heard { reader.new.heard ≡ hears (reports_read result) reader.old.heard }
 {
     let region = reader.region();
-    let Ok(mut buffer) = vec![in alloc; Cell::null(); region.cols() as usize] else {
+    let cols = region.cols() as usize;
+    let Ok(mut cell_buffer) = vec![in alloc; Cell::null(); cols] else {
         return Err(NO_MEMORY);
     };
-    let row = buffer.as_mut_slice();
+    let Ok(mut byte_buffer) = vec![in alloc; 0u8; cols + MORE_BYTES] else {
+        return Err(NO_MEMORY);
+    };
+    let row = cell_buffer.as_mut_slice();
+    let bytes = byte_buffer.as_mut_slice();
     let mut builder = MapBuilder::new(alloc, region);
-    'rows: while reader.next_row(row)? {
-        match builder.push_row(row) {
+    'rows: while reader.rows_left() > 0 {
+        let is_bytes = next_either(reader, bytes, row)?;
+        match push_either(&mut builder, is_bytes, bytes, row) {
             Ok(()) => {}
             Err(_) => return Err(NO_MEMORY),
         }

@@ -8,6 +8,7 @@
 //! - `short_cells`, `word_table`, `pace`: the fast ways to read cells that are in the buffer: words
 //!   in place, words that occurred before, numbers by their digits, and which way is next. They
 //!   change no result.
+//! - `byte_words`: rows of short words, read as bytes by vectors
 //!
 //! `GRID` is a text of three rows and four columns, here in pieces of seven bytes:
 //!
@@ -18,6 +19,7 @@
 //! ```
 #![tactic(auto)]
 
+pub mod byte_words;
 pub mod grid_reader;
 pub mod law;
 pub mod pace;

@@ -5,6 +5,11 @@ const FIRST_WAIT: usize = 16;
 
 const LAST_WAIT: usize = 4096;
 
+// The same for cells of rows that may be read as bytes.
+const FIRST_BYTES_WAIT: usize = 1 << 14;
+
+const LAST_BYTES_WAIT: usize = 1 << 18;
+
 // Words come again often if so many cells were read so.
 const MANY_CELLS: usize = 64;
 
@@ -31,25 +36,30 @@ struct Pause {
     left: usize,
     // For how many from the next time on that it is of no use.
     next: usize,
+    // For how many at least, and at most.
+    first: usize,
+    last: usize,
 }
 
 impl Pause {
-    fn new() -> Pause {
+    fn new(first: usize, last: usize) -> Pause {
         Pause {
             left: 0,
-            next: FIRST_WAIT,
+            next: first,
+            first,
+            last,
         }
     }
 
     // The way was tried.
     fn end_trial(&mut self, is_of_use: bool) {
         if is_of_use {
-            self.next = FIRST_WAIT;
+            self.next = self.first;
             return;
         }
         self.left = self.next;
-        if self.next < LAST_WAIT {
-            self.next *= 2;
+        if self.next < self.last {
+            self.next = self.next.saturating_add(self.next);
         }
     }
 
@@ -64,15 +74,32 @@ impl Pause {
 pub struct Pace {
     repeated: Pause,
     sought: Pause,
+    bytes: Pause,
 }
 
 impl Pace {
     /// The pace of a reader that has read nothing yet.
     pub fn new() -> Pace {
         Pace {
-            repeated: Pause::new(),
-            sought: Pause::new(),
+            repeated: Pause::new(FIRST_WAIT, LAST_WAIT),
+            sought: Pause::new(FIRST_WAIT, LAST_WAIT),
+            bytes: Pause::new(FIRST_BYTES_WAIT, LAST_BYTES_WAIT),
         }
+    }
+
+    /// Whether the next row is read as bytes.
+    pub(crate) fn is_for_bytes(&self) -> bool {
+        self.bytes.left == 0
+    }
+
+    /// A row was read as bytes, or not, and that was of use, or not.
+    pub(crate) fn end_bytes(&mut self, is_of_use: bool) {
+        self.bytes.end_trial(is_of_use);
+    }
+
+    /// A row of so many cells was not read as bytes.
+    pub(crate) fn pass_row(&mut self, cols: usize) {
+        self.bytes.pass(cols);
     }
 
     /// The way to read next, and how many cells at most. One by one if the last try but one found nothing.

@@ -10,6 +10,7 @@ ghost use Rattle.cell_ascii_meaning.specs.CellTexts.{cell_of_word};
 ghost use Rattle.cell_ascii_meaning.specs.EdgeNumbers.{digits_of, is_digit, value_of_digits, whole_number};
 ghost use Rattle.cell_ascii.specs.TableWords.{HoldsLines, IsEntry, IsCellPut, blanks, feeds, kept_bytes, AreCellsRead};
 ghost use Rattle.cell_ascii.specs.parts.WordPlaces.{CanPut};
+ghost use Rattle.cell_ascii.specs.parts.ByteWords.{IsPlain};
 ghost use Rattle.cell_ascii.specs.parts.BlankRuns.{IsAtBlank, IsBehindBlanks};
 
 use crate::short_cells::{MOST_DIGITS, negative};
@@ -43,7 +44,7 @@ struct WordEntry {
 
 // Which of the first 64 bytes are blanks or line feeds, from the lowest bit on.
 #[inline(always)]
-fn blanks_in(buffered: &[u8]) -> u64
+pub(crate) fn blanks_in(buffered: &[u8]) -> u64
     requires { 64 ≤ length buffered.now }
     ensures { result ≡ mask_l (blanks buffered.now) }
 {
@@ -55,7 +56,7 @@ fn blanks_in(buffered: &[u8]) -> u64
 
 // Which of them are line feeds.
 #[inline(always)]
-fn feeds_in(buffered: &[u8]) -> u64
+pub(crate) fn feeds_in(buffered: &[u8]) -> u64
     requires { 64 ≤ length buffered.now }
     ensures { result ≡ mask_l (feeds buffered.now) }
 {
@@ -66,7 +67,7 @@ fn feeds_in(buffered: &[u8]) -> u64
 
 // How many of the lowest n bits are set.
 #[inline(always)]
-fn ones_below(bits: u64, n: usize) -> u64
+pub(crate) fn ones_below(bits: u64, n: usize) -> u64
     requires { n < 64 }
     ensures value { result ≡ count_ones (bits % 2 ^ n) }
     ensures few { result ≤ 64 }
@@ -80,7 +81,7 @@ fn ones_below(bits: u64, n: usize) -> u64
 
 // Bits without the lowest that is set.
 #[inline(always)]
-fn next_bits(bits: u64) -> u64
+pub(crate) fn next_bits(bits: u64) -> u64
     requires { 0 < bits }
     ensures { result ≡ bit_and bits (bits - 1) }
 {
@@ -341,15 +342,30 @@ fn block_cells_in<const SOUGHT: bool>(
     (i, last)
 }
 
+// Whether a header says that a star is null, and each other word its number.
+fn is_plain(header: &Header) -> bool
+    ensures { result ≡ true → IsPlain header.now }
+{
+    let Ok(star) = header.cell_of_word(b"*") else {
+        return false;
+    };
+    let Ok(one) = header.cell_of_word(b"1") else {
+        return false;
+    };
+    star.get().is_none() && one.get() == Some(1)
+}
+
 /// What the header of a grid text says of its cells, and words that were read under it. It grows by no call.
 #[derive(Drop)]
 pub struct WordTable {
     header: Header,
     entries: Vec<WordEntry>,
+    is_plain: bool,
 }
 
 impl Model for WordTable {
-    ghost use Rattle.std.specs.Prelude.{◌≡◌, length};
+    ghost use Rattle.std.specs.Prelude.{◌≡◌, length, true};
+    ghost use Rattle.cell_ascii.specs.parts.ByteWords.{IsPlain};
     ghost use Rattle.std.specs.List.{All, list_all};
     ghost use Rattle.cell_ascii_meaning.specs.Header.{HeaderValue};
     ghost use Rattle.cell_ascii.specs.TableWords.{IsEntry};
@@ -358,7 +374,8 @@ impl Model for WordTable {
 
     ghost view = { λ t. t.header };
 
-    ghost invariant = { λ t. (length t.entries.items ≡ 4096) × All (IsEntry t.header) t.entries.items };
+    ghost invariant = { λ t. (length t.entries.items ≡ 4096) × All (IsEntry t.header) t.entries.items
+        × (t.is_plain ≡ true → IsPlain t.header) };
 }
 
 // The cells whose words are held one after another, apart by blanks and line feeds, up to the length of a row: they
@@ -405,7 +422,19 @@ impl WordTable {
             cell: Cell::null(),
         };
         let entries = vec![in alloc; free; ENTRIES]?;
-        Ok(WordTable { header, entries })
+        let is_plain = is_plain(&header);
+        Ok(WordTable {
+            header,
+            entries,
+            is_plain,
+        })
+    }
+
+    /// Whether a star is null, and each other word its number.
+    pub(crate) fn is_plain(&self) -> bool
+        ensures { result ≡ true → IsPlain self.now }
+    {
+        self.is_plain
     }
 
     /// The header by which words are read as cells.

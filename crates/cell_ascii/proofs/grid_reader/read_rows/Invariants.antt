@@ -18,6 +18,7 @@ invariant-rows g l =
       region : l.builder.region ≡ h.region;
       count : length l.builder.rows + l.reader.rows_left ≡ h.region.rows;
       width : length l.row ≡ h.region.cols;
+      bytes : length l.bytes ≡ h.region.cols + 72;
       live : l.reader.failed ≡ false;
       heard : l.reader.heard ≡ hears false s.heard;
     }

@@ -1,0 +1,477 @@
+-- The cells of the short words of a block.
+use Rattle.std.proofs.Common.{◌≡◌, ℕ, zero, suc, ◌+◌, ◌-◌, ◌*◌, ◌^◌, ◌<◌, ◌≤◌, w64, eqb, leb, cond, Bool, true, false, not, pos, List, [], ◌∷◌, ◌++◌, Some, None, Ok, map, length, take, drop, get_or, refl, sym, ap, ap₂, ◌∙◌, arith, subst, length-take, length-drop, append-nil}
+use Rattle.std.specs.Prelude.{◌&&◌, ◌==◌, bytes_eq}
+use Rattle.std.specs.List.{list_all}
+use Rattle.std.proofs.lemmas.List.{take_more, drop_more, get_or-drop, get_or-take, drop-take, take-take, get_or-map, length-map, get_or_past}
+use Rattle.std.proofs.lemmas.List.{map-append}
+use Rattle.std.proofs.lemmas.Bool.{eqb-true, eqb-false}
+use Rattle.std.proofs.lemmas.Bool.Decides.{nat_tests}
+use Rattle.cell_core_values.specs.SmallCells.{byte_cell, cells_of_bytes}
+use Rattle.cell_core.specs.Grid.{CellValue}
+use Rattle.cell_ascii_meaning.specs.GridTokens.{is_space, is_word_byte, newlines}
+use Rattle.cell_ascii_meaning.specs.EdgeNumbers.{is_digit, value_of_digits, whole_number, is_in_range}
+use Rattle.cell_ascii_meaning.specs.Header.{HeaderValue}
+use Rattle.cell_ascii_meaning.specs.CellTexts.{cell_of_word, cell_of_number}
+use Rattle.cell_ascii.specs.TableWords.{HoldsLines, blanks}
+use Rattle.cell_ascii.specs.parts.ByteWords.{IsPlain}
+use Rattle.cell_ascii_lanes.specs.WordLanes.{AreWordValues, AreShortWords, is_null_star, kept}
+use Rattle.cell_ascii.proofs.BufferedLemmas.{both, digits_number}
+use Rattle.cell_ascii_lanes.proofs.ByteBitLemmas.{trues, ones_are}
+use Rattle.std.specs.Int.{bit_at}
+use Rattle.std.specs.Int.RustNames.{count_ones}
+use Rattle.std.specs.Int.Count.{count_leading_zeros}
+use Rattle.std.proofs.lemmas.Simd.{bit_mask_l, mask_l-lt}
+use Rattle.std.proofs.lemmas.Nat.Bits.{bit_at_not}
+use lib.Lanes.{mask_l}
+use Rattle.cell_ascii.proofs.ByteEndLemmas.{ends_of, ends_at, top, top-le, top-set, top-unset, top_is, length-ends, front, length-front, front-mask, front-trues, front-kept, front-top}
+use Rattle.cell_ascii.proofs.WordLemmas.{word-more, gap-more, gap-one, HoldsLines-none}
+
+-- ---- cells of words
+
+in_range : (v : ℕ) → v < 255 → is_in_range (pos v) ≡ true
+in_range v lt = grind (arith, nat_tests)
+
+digit_no_star : (b : ℕ) → is_digit b ≡ true → eqb b 42 ≡ false
+digit_no_star b e = grind (arith, nat_tests)
+
+-- a number that a byte stands for
+pub number_word : (h : HeaderValue) → IsPlain h → (b : ℕ) (word : List ℕ) (v : ℕ) → list_all is_digit (b ∷ word) ≡ true → is_digit b ≡ true → v ≡ value_of_digits (b ∷ word) → v < 255
+    → cell_of_word h (b ∷ word) ≡ Ok (byte_cell v)
+number_word h plain b word v digits first is small =
+    let no_star = digit_no_star b first in
+    let other : eqb v 255 ≡ false = grind (arith, nat_tests) in
+    let number : whole_number (b ∷ word) ≡ Some (pos v) = digits_number b word digits ∙ ap (λ n. Some (pos n)) (sym is) in
+    let one : v * 1 ≡ v = omega arith in
+    rw (plain.null, plain.multiplier, no_star, number, in_range v small, one, in_range v small, other) refl
+
+pub star_word : (h : HeaderValue) → IsPlain h → (b : ℕ) → is_null_star b ≡ true → cell_of_word h (b ∷ []) ≡ Ok None
+star_word h plain b star = rw (plain.null, eqb-true b 42 star) refl
+
+-- ---- what is known of the bytes of a block
+
+-- words are stars and numbers of at most three digits, and a blank comes first
+pub record IsShortBlock (bs : List ℕ) : Type 0 where
+  pub first : is_space (get_or bs 0 0) ≡ true
+  pub known : (i : ℕ) → i < 64 → is_space (get_or bs i 0) ≡ false → is_digit (get_or bs i 0) ≡ false → is_null_star (get_or bs i 0) ≡ true
+  pub before : (i : ℕ) → i + 1 < 64 → is_null_star (get_or bs (i + 1) 0) ≡ true → is_space (get_or bs i 0) ≡ true
+  pub behind : (i : ℕ) → i + 1 < 64 → is_null_star (get_or bs i 0) ≡ true → is_space (get_or bs (i + 1) 0) ≡ true
+  pub few : (i : ℕ) → i + 3 < 64 → is_space (get_or bs i 0) ≡ false → is_space (get_or bs (i + 1) 0) ≡ false → is_space (get_or bs (i + 2) 0) ≡ false → is_space (get_or bs (i + 3) 0) ≡ true
+
+-- the bytes of cells at the last bytes of words
+pub record AreCellBytes (bs vs : List ℕ) : Type 0 where
+  pub stars : (p : ℕ) → p < 64 → is_null_star (get_or bs p 0) ≡ true → get_or vs p 0 ≡ 255
+  pub numbers : (at n : ℕ) → n < 3 → at + 1 + n < 64 → is_digit (get_or bs at 0) ≡ false → list_all is_digit (take (n + 1) (drop (at + 1) bs)) ≡ true
+      → (get_or vs (at + 1 + n) 0 ≡ value_of_digits (take (n + 1) (drop (at + 1) bs))) × (get_or vs (at + 1 + n) 0 < 255)
+
+-- from each to all
+all_from : (f : ℕ → Bool) (n : ℕ) (xs : List ℕ) → n ≤ length xs → ((i : ℕ) → i < n → f (get_or xs i 0) ≡ true) → list_all f (take n xs) ≡ true
+all_from f zero xs le each = refl
+all_from f (suc n) [] le each = absurd (omega arith)
+all_from f (suc n) (x ∷ xs) le each = rw (each 0 (omega arith)) (all_from f n xs (omega arith) (λ i lt. each (suc i) (omega arith)))
+
+-- and back
+one_from : (f : ℕ → Bool) (n : ℕ) (xs : List ℕ) → n ≤ length xs → list_all f (take n xs) ≡ true → (i : ℕ) → i < n → f (get_or xs i 0) ≡ true
+one_from f zero xs le all i lt = absurd (omega arith)
+one_from f (suc n) [] le all i lt = absurd (omega arith)
+one_from f (suc n) (x ∷ xs) le all zero lt = (both (f x) (list_all f (take n xs)) all).0
+one_from f (suc n) (x ∷ xs) le all (suc i) lt = one_from f n xs (omega arith) (both (f x) (list_all f (take n xs)) all).1 i (omega arith)
+
+pub space_no_digit : (b : ℕ) → is_space b ≡ true → is_digit b ≡ false
+space_no_digit b e = grind (arith, nat_tests)
+
+apart : (b : Bool) → b ≡ true → b ≡ false → ⊥
+apart true e f = cc
+apart false e f = cc
+
+and-false : (a : Bool) → (a && false) ≡ false
+and-false true = refl
+and-false false = refl
+
+module _ (bs : List ℕ) (long : 64 ≤ length bs) where
+  abbrev ends : List Bool
+  ends = ends_of (blanks bs)
+
+  pub sixty_four_ends : length (blanks bs) ≡ 64
+  sixty_four_ends = omega (arith, length-map (take 64 bs) is_space, length-take 64 bs)
+
+  long_ends : length ends ≡ 64
+  long_ends = length-ends (blanks bs) ∙ sixty_four_ends
+
+  -- one lane more
+  more_end : (k : ℕ) → k < 64 → take (k + 1) ends ≡ take k ends ++ get_or ends k false ∷ []
+  more_end k lt = take_more ends k false (omega (arith, long_ends))
+
+  top_stay : (k last : ℕ) → k < 64 → get_or ends k false ≡ false → last ≡ top (take k ends) → last ≡ top (take (k + 1) ends)
+  top_stay k last lt off is = is ∙ sym (ap top (more_end k lt ∙ ap (λ m. take k ends ++ m ∷ []) off) ∙ top-unset (take k ends))
+
+  last_end : get_or ends 63 false ≡ false
+  last_end =
+      let past : get_or (blanks bs) (63 + 1) false ≡ false = get_or_past (blanks bs) 64 false (omega (arith, sixty_four_ends)) in
+      ends_at (blanks bs) 63 (omega (arith, sixty_four_ends)) ∙ ap (λ x. not (get_or (blanks bs) 63 false) && x) past ∙ and-false (not (get_or (blanks bs) 63 false))
+
+  top_low : (q : ℕ) → q ≤ 64 → top (take q ends) < 64
+  top_low q le = by (leb q 63) refl
+    where
+      by : (b : Bool) → leb q 63 ≡ b → top (take q ends) < 64
+      by true e = let low : q ≤ 63 = grind (arith, nat_tests) in omega (arith, top-le (take q ends), length-take q ends)
+      by false e =
+          let more : 63 < q = grind (arith, nat_tests) in
+          let all : q ≡ 63 + 1 = omega arith in
+          let same = top_stay 63 (top (take 63 ends)) (omega arith) last_end refl ∙ ap (λ j. top (take j ends)) (sym all) in
+          omega (arith, same, top-le (take 63 ends), length-take 63 ends)
+
+  pub put_low : (q : ℕ) → q ≤ 64 → (e : ℕ) → e ≡ mask_l (take q ends) → 64 - count_leading_zeros 64 e < 64
+  put_low q le e is =
+      let ms = front q ends in
+      let wide : length ms ≡ 64 = length-front q ends ∙ long_ends in
+      let place : 64 - count_leading_zeros 64 e ≡ top (take q ends) =
+      ap (λ m. 64 - count_leading_zeros 64 m) (is ∙ front-mask q ends) ∙ top_is ms (omega (arith, wide)) ∙ front-top q ends in
+      omega (arith, place, top_low q le)
+
+module _ (h : HeaderValue) (plain : IsPlain h) (bs : List ℕ) (long : 64 ≤ length bs) (block : IsShortBlock bs) (vs : List ℕ) (size : length vs ≡ 64) (bytes : AreCellBytes bs vs) where
+  abbrev byte : ℕ → ℕ
+  byte p = get_or bs p 0
+
+  abbrev es : List Bool
+  es = ends_of (blanks bs)
+
+  abbrev Cells : ℕ → ℕ → Type 0
+  Cells k last = HoldsLines h bs (cells_of_bytes (kept (take k es) vs)) (trues (take k es)) last (newlines (take last bs))
+
+  blank_at : (i : ℕ) → i < 64 → get_or (blanks bs) i false ≡ is_space (byte i)
+  blank_at i lt = get_or-map is_space (take 64 bs) i 0 false (omega (arith, length-take 64 bs)) ∙ ap is_space (get_or-take 64 bs i 0 lt)
+
+  sixty_four : length (blanks bs) ≡ 64
+  sixty_four = sixty_four_ends bs long
+
+  long-es : length es ≡ 64
+  long-es = long_ends bs long
+
+  more_ends : (k : ℕ) → k < 64 → take (k + 1) es ≡ take k es ++ get_or es k false ∷ []
+  more_ends = more_end bs long
+
+  top_stays : (k last : ℕ) → k < 64 → get_or es k false ≡ false → last ≡ top (take k es) → last ≡ top (take (k + 1) es)
+  top_stays = top_stay bs long
+
+  last_off : get_or es 63 false ≡ false
+  last_off = last_end bs long
+
+  end_at : (i : ℕ) → i + 1 < 64 → get_or es i false ≡ (not (is_space (byte i)) && is_space (byte (i + 1)))
+  end_at i lt =
+      ends_at (blanks bs) i (omega (arith, sixty_four))
+      ∙ ap₂ (λ (a : Bool) (b : Bool). not a && b) (blank_at i (omega arith)) (blank_at (i + 1) lt)
+
+  trues-snoc : (ms : List Bool) (m : Bool) → trues (ms ++ m ∷ []) ≡ trues ms + cond m 1 0
+  trues-snoc [] m = omega arith
+  trues-snoc (t ∷ ms) m = omega (arith, trues-snoc ms m)
+
+  kept-set : (k : ℕ) (ms : List Bool) (xs : List ℕ) → length ms ≡ k → k < length xs → kept (ms ++ true ∷ []) xs ≡ kept ms xs ++ get_or xs k 0 ∷ []
+  kept-set zero [] [] e lt = absurd (omega arith)
+  kept-set zero [] (x ∷ xs) e lt = refl
+  kept-set (suc k) [] xs e lt = absurd (omega arith)
+  kept-set zero (m ∷ ms) xs e lt = absurd (omega arith)
+  kept-set (suc k) (m ∷ ms) [] e lt = absurd (omega arith)
+  kept-set (suc k) (true ∷ ms) (x ∷ xs) e lt = ap (λ (l : List ℕ). x ∷ l) (kept-set k ms xs (omega arith) (omega arith))
+  kept-set (suc k) (false ∷ ms) (x ∷ xs) e lt = kept-set k ms xs (omega arith) (omega arith)
+
+  kept-unset : (ms : List Bool) (xs : List ℕ) → kept (ms ++ false ∷ []) xs ≡ kept ms xs
+  kept-unset [] [] = refl
+  kept-unset [] (x ∷ xs) = refl
+  kept-unset (m ∷ ms) [] = refl
+  kept-unset (true ∷ ms) (x ∷ xs) = ap (λ (l : List ℕ). x ∷ l) (kept-unset ms xs)
+  kept-unset (false ∷ ms) (x ∷ xs) = kept-unset ms xs
+
+  -- no word ends there
+  cells_stay : (k last : ℕ) → k < 64 → get_or es k false ≡ false → Cells k last → Cells (k + 1) last
+  cells_stay k last lt off so_far =
+      let more = more_ends k lt ∙ ap (λ m. take k es ++ m ∷ []) off in
+      let count : trues (take k es ++ false ∷ []) ≡ trues (take k es) = omega (arith, trues-snoc (take k es) false) in
+      rw (more, count, kept-unset (take k es) vs) so_far
+
+  -- the state after some bytes: the last word that ended, the last blank, and what comes between and after them
+  pub record State (k : ℕ) : Type 0 where
+    pub last : ℕ
+    pub blank : ℕ
+    pub order : last ≤ blank
+    pub inside : blank ≤ k
+    pub space : is_space (byte blank) ≡ true
+    pub gap : list_all is_space (take (blank + 1 - last) (drop last bs)) ≡ true
+    pub word : (i : ℕ) → blank < i → i ≤ k → is_space (byte i) ≡ false
+    pub cells : Cells k last
+    pub top : last ≡ top (take k es)
+
+  start : State 0
+  start = record {
+    last = 0;
+    blank = 0;
+    order = omega arith;
+    inside = omega arith;
+    space = block.first;
+    gap = gap-one bs 0 (omega (arith, long)) block.first;
+    word = λ i a b. absurd (omega arith);
+    cells = HoldsLines-none h bs;
+    top = refl;
+  }
+
+  -- ---- one byte more
+
+  byte_word : (b : ℕ) → is_space b ≡ false → is_word_byte b ≡ true
+  byte_word b e = ap not e
+
+  word_bytes : (k : ℕ) → k < 64 → (s : State k) → (n : ℕ) → s.blank + n ≤ k → list_all is_word_byte (take n (drop (s.blank + 1) bs)) ≡ true
+  word_bytes k lt s n le =
+      all_from is_word_byte n (drop (s.blank + 1) bs) (omega (arith, length-drop (s.blank + 1) bs, s.inside))
+      (λ i less. ap is_word_byte (get_or-drop (s.blank + 1) bs i 0) ∙ byte_word (byte (s.blank + 1 + i)) (s.word (s.blank + 1 + i) (omega arith) (omega arith)))
+
+  -- a pending word has at most three bytes
+  few_bytes : (k : ℕ) → k < 64 → (s : State k) → k ≤ s.blank + 3
+  few_bytes k lt s = by (leb k (s.blank + 3)) refl
+    where
+      by : (b : Bool) → leb k (s.blank + 3) ≡ b → k ≤ s.blank + 3
+      by true e = grind (arith, nat_tests)
+      by false e =
+          let more : s.blank + 3 < k = grind (arith, nat_tests) in
+          let i = s.blank + 1 in
+          let last : is_space (byte (i + 3)) ≡ false = s.word (i + 3) (omega arith) (omega arith) in
+          absurd (apart (is_space (byte (i + 3)))
+          (block.few i (omega arith) (s.word i (omega arith) (omega arith)) (s.word (i + 1) (omega arith) (omega arith)) (s.word (i + 2) (omega arith) (omega arith))) last)
+
+  -- a byte of a word with a neighbour is a digit
+  digit_beside : (k : ℕ) → k < 64 → (s : State k) → s.blank + 1 < k → (i : ℕ) → s.blank < i → i ≤ k → is_digit (byte i) ≡ true
+  digit_beside k lt s more i above le = by (is_digit (byte i)) refl
+    where
+      by : (b : Bool) → is_digit (byte i) ≡ b → is_digit (byte i) ≡ true
+      by true e = e
+      by false e =
+          let star = block.known i (omega arith) (s.word i above le) e in
+          absurd (side (leb (i + 1) k) refl star)
+        where
+          side : (t : Bool) → leb (i + 1) k ≡ t → is_null_star (byte i) ≡ true → ⊥
+          side true o star =
+              let next : i + 1 ≤ k = grind (arith, nat_tests) in
+              apart (is_space (byte (i + 1))) (block.behind i (omega arith) star) (s.word (i + 1) (omega arith) next)
+          side false o star =
+              let whole : k < i + 1 = grind (arith, nat_tests) in
+              let same : i - 1 + 1 ≡ i = omega arith in
+              let here : is_null_star (byte (i - 1 + 1)) ≡ true = ap (λ j. is_null_star (byte j)) same ∙ star in
+              apart (is_space (byte (i - 1))) (block.before (i - 1) (omega arith) here) (s.word (i - 1) (omega arith) (omega arith))
+
+  -- the cell of a word that ends
+  cell_ends : (k : ℕ) → k < 64 → (s : State k) → s.blank < k → cell_of_word h (take (k + 1 - (s.blank + 1)) (drop (s.blank + 1) bs)) ≡ Ok (byte_cell (get_or vs k 0))
+  cell_ends k lt s some =
+      let n = k - (s.blank + 1) in
+      let count : k + 1 - (s.blank + 1) ≡ n + 1 = omega arith in
+      let place : s.blank + 1 + n ≡ k = omega arith in
+      ap (λ m. cell_of_word h (take m (drop (s.blank + 1) bs))) count ∙ by n refl place
+    where
+      first : ℕ
+      first = s.blank + 1
+
+      digits : (n : ℕ) → first + n ≡ k → ((i : ℕ) → i < n + 1 → is_digit (byte (first + i)) ≡ true) → cell_of_word h (take (n + 1) (drop first bs)) ≡ Ok (byte_cell (get_or vs k 0))
+      digits n place each =
+          let within : n + 1 ≤ length (drop first bs) = omega (arith, length-drop first bs) in
+          let all = all_from is_digit (n + 1) (drop first bs) within (λ i less. ap is_digit (get_or-drop first bs i 0) ∙ each i less) in
+          let few : n < 3 = omega (arith, few_bytes k lt s) in
+          let value = bytes.numbers s.blank n few (omega arith) (space_no_digit (byte s.blank) s.space) all in
+          let here : get_or vs (first + n) 0 ≡ get_or vs k 0 = ap (λ j. get_or vs j 0) place in
+          let front : drop first bs ≡ byte first ∷ drop (first + 1) bs = drop_more bs first 0 (omega arith) in
+          let next : n + 1 ≡ suc n = omega arith in
+          let word : take (n + 1) (drop first bs) ≡ byte first ∷ take n (drop (first + 1) bs) = ap₂ take next front in
+          let zero-here : first + 0 ≡ first = omega arith in
+          let one = ap (λ j. is_digit (byte j)) (sym zero-here) ∙ each 0 (omega arith) in
+          ap (cell_of_word h) word
+          ∙ number_word h plain (byte first) (take n (drop (first + 1) bs)) (get_or vs k 0)
+          (sym (ap (list_all is_digit) word) ∙ all) one (sym here ∙ value.0 ∙ ap value_of_digits word) (rw here at value.1)
+
+      by : (n : ℕ) → k - first ≡ n → first + n ≡ k → cell_of_word h (take (n + 1) (drop first bs)) ≡ Ok (byte_cell (get_or vs k 0))
+      by zero e place = kind (is_digit (byte first)) refl
+        where
+          here : first ≡ k
+          here = omega arith
+
+          kind : (b : Bool) → is_digit (byte first) ≡ b → cell_of_word h (take (zero + 1) (drop first bs)) ≡ Ok (byte_cell (get_or vs k 0))
+          kind true d = digits zero place (λ i less. let none : first + i ≡ first = omega arith in ap (λ j. is_digit (byte j)) none ∙ d)
+          kind false d =
+              let star = block.known first (omega arith) (s.word first (omega arith) (omega arith)) d in
+              let front : drop first bs ≡ byte first ∷ drop (first + 1) bs = drop_more bs first 0 (omega arith) in
+              let there : is_null_star (byte k) ≡ true = ap (λ j. is_null_star (byte j)) (sym here) ∙ star in
+              let null : get_or vs k 0 ≡ 255 = bytes.stars k lt there in
+              ap (λ l. cell_of_word h (take 1 l)) front ∙ star_word h plain (byte first) star ∙ ap (λ v. Ok (byte_cell v)) (sym null)
+      by (suc n) e place =
+          digits (suc n) place (λ i less. digit_beside k lt s (omega arith) (first + i) (omega arith) (omega arith))
+
+  step : (k : ℕ) → k + 1 < 64 → State k → State (k + 1)
+  step k lt s = by (is_space (byte (k + 1))) refl (leb k s.blank) refl
+    where
+      here : k < 64
+      here = omega arith
+
+      inside : k + 1 < length bs
+      inside = omega (arith, long)
+
+      by : (b : Bool) → is_space (byte (k + 1)) ≡ b → (t : Bool) → leb k s.blank ≡ t → State (k + 1)
+      by false e t o =
+          let off : get_or es k false ≡ false = end_at k lt ∙ ap (λ x. not (is_space (byte k)) && x) e ∙ and-false (not (is_space (byte k))) in
+          record {
+            last = s.last;
+            blank = s.blank;
+            order = s.order;
+            inside = omega (arith, s.inside);
+            space = s.space;
+            gap = s.gap;
+            word = λ i above le. kind i above le (leb i k) refl;
+            cells = cells_stay k s.last here off s.cells;
+            top = top_stays k s.last here off s.top;
+          }
+        where
+          kind : (i : ℕ) → s.blank < i → i ≤ k + 1 → (u : Bool) → leb i k ≡ u → is_space (byte i) ≡ false
+          kind i above le true v = s.word i above (grind (arith, nat_tests))
+          kind i above le false v =
+              let more : k < i = grind (arith, nat_tests) in
+              let same : i ≡ k + 1 = omega arith in
+              ap (λ j. is_space (byte j)) same ∙ e
+      by true e true o =
+          let le : k ≤ s.blank = grind (arith, nat_tests) in
+          let same : s.blank ≡ k = omega (arith, s.inside) in
+          let before : is_space (byte k) ≡ true = ap (λ j. is_space (byte j)) (sym same) ∙ s.space in
+          let off : get_or es k false ≡ false = end_at k lt ∙ ap (λ x. not x && is_space (byte (k + 1))) before in
+          let gap : list_all is_space (take (k + 1 - s.last) (drop s.last bs)) ≡ true = ap (λ j. list_all is_space (take (j + 1 - s.last) (drop s.last bs))) (sym same) ∙ s.gap in
+          record {
+            last = s.last;
+            blank = k + 1;
+            order = omega (arith, s.order, same);
+            inside = omega arith;
+            space = e;
+            gap = gap-more bs s.last (k + 1) (k + 1 + 1) (omega (arith, s.order, same)) (omega arith) gap (gap-one bs (k + 1) inside e);
+            word = λ i a b. absurd (omega arith);
+            cells = cells_stay k s.last here off s.cells;
+            top = top_stays k s.last here off s.top;
+          }
+      by true e false o =
+          let some : s.blank < k = grind (arith, nat_tests) in
+          let before : is_space (byte k) ≡ false = s.word k some (omega arith) in
+          let on : get_or es k false ≡ true = end_at k lt ∙ ap₂ (λ (x : Bool) (y : Bool). not x && y) before e in
+          let v = get_or vs k 0 in
+          let more = more_ends k here ∙ ap (λ m. take k es ++ m ∷ []) on in
+          let wide : length (take k es) ≡ k = omega (arith, length-take k es, long-es) in
+          let bytes_more = kept-set k (take k es) vs wide (omega (arith, size)) in
+          let cells_more : cells_of_bytes (kept (take k es ++ true ∷ []) vs) ≡ cells_of_bytes (kept (take k es) vs) ++ byte_cell v ∷ [] =
+          ap cells_of_bytes bytes_more ∙ map-append byte_cell (kept (take k es) vs) (v ∷ []) in
+          let count = trues-snoc (take k es) true in
+          let n : k + 1 - (s.blank + 1) ≡ k - s.blank = omega arith in
+          let word = ap (λ j. list_all is_word_byte (take j (drop (s.blank + 1) bs))) n ∙ word_bytes k here s (k - s.blank) (omega (arith, s.inside)) in
+          let all = word-more h bs (cells_of_bytes (kept (take k es) vs)) (trues (take k es)) s.last (s.blank + 1) (k + 1) (byte_cell v)
+          (omega (arith, s.order)) (omega arith) lt inside s.gap word e (cell_ends k here s some) s.cells in
+          record {
+            last = k + 1;
+            blank = k + 1;
+            order = omega arith;
+            inside = omega arith;
+            space = e;
+            gap = gap-one bs (k + 1) inside e;
+            word = λ i a b. absurd (omega arith);
+            cells = rw (more, cells_more, count) all;
+            top = sym (ap top more ∙ top-set (take k es) ∙ omega (arith, wide));
+          }
+
+  states : (k : ℕ) → k < 64 → State k
+  states zero lt = start
+  states (suc k) lt = let next : k + 1 ≡ suc k = omega arith in subst State next (step k (omega arith) (states k (omega arith)))
+
+  abbrev Holds : ℕ → Type 0
+  Holds q = Cells q (top (take q es))
+
+  low_holds : (q : ℕ) → q < 64 → Holds q
+  low_holds q lt = let s = states q lt in subst (Cells q) s.top s.cells
+
+  pub holds : (q : ℕ) → q ≤ 64 → Holds q
+  holds q le = by (leb q 63) refl
+    where
+      by : (b : Bool) → leb q 63 ≡ b → Holds q
+      by true e = low_holds q (grind (arith, nat_tests))
+      by false e =
+          let more : 63 < q = grind (arith, nat_tests) in
+          let all : 63 + 1 ≡ q = omega arith in
+          let here : 63 < 64 = omega arith in
+          let so_far = cells_stay 63 (top (take 63 es)) here last_off (low_holds 63 here) in
+          subst Holds all (subst (Cells (63 + 1)) (top_stays 63 (top (take 63 es)) here last_off refl) so_far)
+
+  -- what was put to a row
+  pub put_holds : (q : ℕ) → q ≤ 64 → (ends count : ℕ) (row : List ℕ) → ends ≡ mask_l (take q es)
+      → ((ms : List Bool) → length ms ≡ 64 → ends ≡ mask_l ms → (count ≡ count_ones ends) × (take count row ≡ kept ms vs))
+      → HoldsLines h bs (cells_of_bytes (take count row)) count (64 - count_leading_zeros 64 ends) (newlines (take (64 - count_leading_zeros 64 ends) bs))
+  put_holds q le ends count row is put =
+      let ms = front q es in
+      let wide : length ms ≡ 64 = length-front q es ∙ long-es in
+      let mask = is ∙ front-mask q es in
+      let done = put ms wide mask in
+      let place : 64 - count_leading_zeros 64 ends ≡ top (take q es) = ap (λ m. 64 - count_leading_zeros 64 m) mask ∙ top_is ms (omega (arith, wide)) ∙ front-top q es in
+      let number : count ≡ trues (take q es) = done.0 ∙ ap count_ones mask ∙ ones_are ms ∙ front-trues q es in
+      let cells = done.1 ∙ front-kept q es vs in
+      rw (cells, number, place) (holds q le)
+
+-- ---- from bits to bytes
+
+abbrev bit : Bool → ℕ
+bit b = cond b 1 0
+
+module _ (bs : List ℕ) (long : 64 ≤ length bs) where
+  wide : length (take 64 bs) ≡ 64
+  wide = omega (arith, length-take 64 bs)
+
+  pub bit_of : (f : ℕ → Bool) (i : ℕ) → i < 64 → bit_at (mask_l (map f (take 64 bs))) i ≡ bit (f (get_or bs i 0))
+  bit_of f i lt =
+      bit_mask_l (map f (take 64 bs)) i ∙ ap bit (get_or-map f (take 64 bs) i 0 false (omega (arith, wide)) ∙ ap f (get_or-take 64 bs i 0 lt))
+
+  abbrev words : ℕ
+  words = 18446744073709551615 - mask_l (blanks bs)
+
+  mask-small : mask_l (blanks bs) < 2 ^ 64
+  mask-small = let size : length (blanks bs) ≡ 64 = length-map (take 64 bs) is_space ∙ wide in rw size at (mask_l-lt (blanks bs))
+
+  pub word_at : (i : ℕ) → i < 64 → bit_at words i ≡ 1 - bit (is_space (get_or bs i 0))
+  word_at i lt = bit_at_not w64 (mask_l (blanks bs)) i mask-small lt ∙ ap (λ n. 1 - n) (bit_of is_space i lt)
+
+  on : (b : Bool) → bit b ≡ 1 → b ≡ true
+  on true e = refl
+  on false e = absurd (omega arith)
+
+  off : (b : Bool) → 1 - bit b ≡ 0 → b ≡ true
+  off true e = refl
+  off false e = absurd (omega arith)
+
+  pub short_block : AreShortWords words (mask_l (map is_digit (take 64 bs))) (mask_l (map is_null_star (take 64 bs))) → IsShortBlock bs
+  short_block is = record {
+    first = off (is_space (get_or bs 0 0)) (sym (word_at 0 (omega arith)) ∙ is.first);
+    known = λ i lt space digit.
+        on (is_null_star (get_or bs i 0)) (sym (bit_of is_null_star i lt) ∙ is.known i lt (word_at i lt ∙ ap (λ b. 1 - bit b) space) (bit_of is_digit i lt ∙ ap bit digit));
+    before = λ i lt star.
+        off (is_space (get_or bs i 0)) (sym (word_at i (omega arith)) ∙ is.before i lt (bit_of is_null_star (i + 1) lt ∙ ap bit star));
+    behind = λ i lt star.
+        off (is_space (get_or bs (i + 1) 0)) (sym (word_at (i + 1) lt) ∙ is.behind i (bit_of is_null_star i (omega arith) ∙ ap bit star));
+    few = λ i lt a b d.
+        off (is_space (get_or bs (i + 3) 0)) (sym (word_at (i + 3) lt) ∙ is.few i lt (word_at i (omega arith) ∙ ap (λ x. 1 - bit x) a)
+        (word_at (i + 1) (omega arith) ∙ ap (λ x. 1 - bit x) b) (word_at (i + 2) (omega arith) ∙ ap (λ x. 1 - bit x) d));
+  }
+
+  -- the bytes of cells, from the values of words and 255 for stars
+  pub cell_bytes_are : (values lanes : List ℕ) → AreWordValues (take 64 bs) values
+      → ((p : ℕ) → p < 64 → get_or lanes p 0 ≡ cond (is_null_star (get_or (take 64 bs) p 0)) 255 (get_or values p 0)) → AreCellBytes bs (take 64 lanes)
+  cell_bytes_are values lanes is each = record {
+    stars = λ p lt star. lane p lt ∙ ap (λ b. cond b 255 (get_or values p 0)) star;
+    numbers = λ at n few lt none digits.
+        let p = at + 1 + n in
+        let short : at < 64 = omega arith in
+        let parts : 64 ≡ at + 1 + (64 - (at + 1)) = omega arith in
+        let less : n + 1 ≤ 64 - (at + 1) = omega arith in
+        let same : take (n + 1) (drop (at + 1) (take 64 bs)) ≡ take (n + 1) (drop (at + 1) bs) =
+        ap (λ m. take (n + 1) (drop (at + 1) (take m bs))) parts ∙ ap (take (n + 1)) (drop-take (at + 1) (64 - (at + 1)) bs) ∙ take-take (n + 1) (64 - (at + 1)) (drop (at + 1) bs) less in
+        let value = is at n few lt (ap is_digit (get_or-take 64 bs at 0 short) ∙ none) (ap (list_all is_digit) same ∙ digits) in
+        let within : n + 1 ≤ length (drop (at + 1) bs) = omega (arith, length-drop (at + 1) bs, long) in
+        let last = sym (ap is_digit (get_or-drop (at + 1) bs n 0)) ∙ one_from is_digit (n + 1) (drop (at + 1) bs) within digits n (omega arith) in
+        let here = lane p lt ∙ ap (λ b. cond b 255 (get_or values p 0)) (digit_no_star (get_or bs p 0) last) in
+        (here ∙ value.0 ∙ ap value_of_digits same, rw (sym here) at value.1);
+  }
+    where
+      lane : (p : ℕ) → p < 64 → get_or (take 64 lanes) p 0 ≡ cond (is_null_star (get_or bs p 0)) 255 (get_or values p 0)
+      lane p lt = get_or-take 64 lanes p 0 lt ∙ each p lt ∙ ap (λ b. cond (is_null_star b) 255 (get_or values p 0)) (get_or-take 64 bs p 0 lt)

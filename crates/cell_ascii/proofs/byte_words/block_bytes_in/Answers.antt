@@ -1,0 +1,68 @@
+use Rattle.std.proofs.Common.{◌≡◌, ◌<◌, ◌≤◌, ◌+◌, ◌-◌, ◌/◌, ◌%◌, ◌^◌, ℕ, List, Bool, true, false, map, length, take, drop, get_or, cond, arith, ap, ap₂, sym, refl, ◌∙◌, length-take}
+use Rattle.std.specs.Int.{bit_at}
+use Rattle.std.specs.Int.RustNames.{count_ones}
+use Rattle.std.proofs.lemmas.List.{get_or-take}
+use Rattle.cell_ascii_meaning.specs.GridTokens.{is_space}
+use Rattle.cell_ascii_meaning.specs.EdgeNumbers.{is_digit}
+use Rattle.cell_ascii.specs.TableWords.{blanks}
+use Rattle.cell_ascii_lanes.specs.WordLanes.{AreShortWords, is_null_star}
+use Rattle.cell_ascii.proofs.BitLemmas.{mask-take}
+use Rattle.cell_ascii.proofs.ByteEndLemmas.{ends_of, ends_mask, front, length-front, front-mask, length-ends}
+use Rattle.cell_ascii.proofs.ByteBlockLemmas.{short_block, cell_bytes_are, put_holds, put_low, word_at, space_no_digit, sixty_four_ends}
+use Rattle.cell_ascii.proofs.byte_words.block_bytes_in.Goals as goal
+use lib.Bits.{bit_and}
+use lib.Lanes.{mask_l}
+
+digit_no_space : (b : ℕ) → is_digit b ≡ true → is_space b ≡ false
+digit_no_space b e = by (is_space b) refl
+  where
+    by : (s : Bool) → is_space b ≡ s → is_space b ≡ false
+    by true o = let no = space_no_digit b o in cc
+    by false o = o
+
+-- the ends of words, from the bits of blanks
+ends_are : (bs : List ℕ) → 64 ≤ length bs → (m ends q : ℕ) → m ≡ mask_l (blanks bs) → ends ≡ bit_and (18446744073709551615 - m) (m / 2) % 2 ^ q → ends ≡ mask_l (take q (ends_of (blanks bs)))
+ends_are bs long m ends q is cut =
+    cut ∙ ap (λ n. bit_and (18446744073709551615 - n) (n / 2) % 2 ^ q) is
+    ∙ ap (λ n. n % 2 ^ q) (ends_mask (blanks bs) (sixty_four_ends bs long)) ∙ mask-take q (ends_of (blanks bs))
+
+short_from : (bs : List ℕ) (m d s : ℕ) → m ≡ mask_l (blanks bs) → d ≡ mask_l (map is_digit (take 64 bs)) → s ≡ mask_l (map is_null_star (take 64 bs))
+    → AreShortWords (18446744073709551615 - m) d s → AreShortWords (18446744073709551615 - mask_l (blanks bs)) (mask_l (map is_digit (take 64 bs))) (mask_l (map is_null_star (take 64 bs)))
+short_from bs m d s a b e is = rw (a, b, e) at is
+
+pub word_values-are_small-requires : goal.word_values-are_small-requires
+word_values-are_small-requires c = λ p lt digit.
+    let bs = c.args.buffered.now in
+    let long = c.requires.buffered in
+    let space : is_space (get_or bs p 0) ≡ false = digit_no_space (get_or bs p 0) (sym (ap is_digit (get_or-take 64 bs p 0 lt)) ∙ digit) in
+    ap (λ n. bit_at (18446744073709551615 - n) p) c.blanks_in-blanks.ensures ∙ word_at bs long p lt ∙ ap (λ b. 1 - cond b 1 0) space
+
+pub returns-clause-cells : goal.returns-clause-cells
+returns-clause-cells c = λ h plain.
+    let bs = c.args.buffered.now in
+    let long = c.requires.buffered in
+    let lanes = c.cell_bytes.new.lanes in
+    let short = short_from bs c.blanks_in-blanks.result c.digit_mask.result c.star_mask.result c.blanks_in-blanks.ensures c.digit_mask.ensures c.star_mask.ensures (c.are_short.ensures c.if-not-are_short.false) in
+    let block = short_block bs long short in
+    let bytes = cell_bytes_are bs long c.word_values-are_small.result.0 lanes (c.word_values-are_small.ensures c.if-not-are_small.false) c.cell_bytes.ensures in
+    let size : length (take 64 lanes) ≡ 64 = omega (arith, length-take 64 lanes, c.cell_bytes.auto.lanes) in
+    let low = c.lowest_bits-ends.ensures in
+    put_holds h plain bs long block (take 64 lanes) size bytes low.place low.within c.lowest_bits-ends.result c.put_lanes-count.result c.put_lanes-count.new.row
+    (ends_are bs long c.blanks_in-blanks.result c.lowest_bits-ends.result low.place c.blanks_in-blanks.ensures low.is) c.put_lanes-count.ensures
+
+pub returns-clause-count : goal.returns-clause-count
+returns-clause-count c =
+    let bs = c.args.buffered.now in
+    let low = c.lowest_bits-ends.ensures in
+    let es = ends_of (blanks bs) in
+    let ms = front low.place es in
+    let wide : length ms ≡ 64 = length-front low.place es ∙ length-ends (blanks bs) ∙ sixty_four_ends bs c.requires.buffered in
+    let is = ends_are bs c.requires.buffered c.blanks_in-blanks.result c.lowest_bits-ends.result low.place c.blanks_in-blanks.ensures low.is in
+    omega (arith, (c.put_lanes-count.ensures ms wide (is ∙ front-mask low.place es)).0, low.few)
+
+pub returns-clause-within : goal.returns-clause-within
+returns-clause-within c =
+    let bs = c.args.buffered.now in
+    let low = c.lowest_bits-ends.ensures in
+    put_low bs c.requires.buffered low.place low.within c.lowest_bits-ends.result
+    (ends_are bs c.requires.buffered c.blanks_in-blanks.result c.lowest_bits-ends.result low.place c.blanks_in-blanks.ensures low.is)

@@ -1,0 +1,47 @@
+use Rattle.std.proofs.Common.{◌≡◌, ◌≤◌, ◌<◌, ◌+◌, ◌-◌, ◌^◌, ◌%◌, ◌++◌, ◌∙◌, ap, sym, arith, length, take, drop, length-drop, length-take, length-append, ℕ, List}
+use Rattle.std.proofs.lemmas.List.{take_rest, take-append-le, map-append}
+use Rattle.std.proofs.Math.Seq.{take-append-add}
+use Rattle.std.specs.Int.RustNames.{count_ones}
+use Rattle.cell_core_values.specs.SmallCells.{byte_cell, cells_of_bytes}
+use Rattle.cell_ascii_meaning.specs.GridTokens.{newlines}
+use Rattle.cell_ascii.proofs.BitLemmas.{feeds_before}
+use Rattle.cell_ascii.proofs.WordLemmas.{HoldsLines-append, newlines-few, HoldsLines-none}
+use Rattle.cell_ascii_lanes.proofs.ByteLaneLemmas.{more_bytes}
+use Rattle.cell_ascii.proofs.byte_words.bytes_in.Goals as goal
+
+pub overflow_add-lines : goal.overflow_add-lines
+overflow_add-lines c =
+    record { fits = omega (arith, c.blocks-2.invariant.fewer, c.blocks-2.invariant.within, c.if-buffered-passed-ge-BLOCK.true, c.ones_below-lines.ensures.few) }
+
+pub blocks-2-preserved : goal.blocks-2-preserved
+blocks-2-preserved c =
+    let buffered = c.args.buffered.now in
+    let row = c.blocks-2.row in
+    let i = c.blocks-2.i in
+    let passed = c.blocks-2.passed in
+    let found = c.block_bytes_in-found in
+    let k = found.result.0 in
+    let n = found.result.1 in
+    let part = found.new.row in
+    let inv = c.blocks-2.invariant in
+    let after = drop (length row - i) (drop i row) in
+    let size : length part ≡ length row - i = omega (arith, found.auto.row, length-drop i row, length-take (length row - i) (drop i row)) in
+    let room : c.args.most + 72 ≤ length row = omega (arith, c.requires.room, c.blocks-2.auto.row) in
+    let within : i ≤ length row = omega (arith, inv.count, room) in
+    let few : k ≤ length part = omega (arith, size, found.ensures.count, inv.count, room) in
+    let front = more_bytes i k row part after within few in
+    let here = take_rest buffered passed in
+    let rest = drop passed buffered in
+    let below : n ≤ 64 = omega (arith, found.ensures.within) in
+    let lines : c.ones_below-lines.result ≡ newlines (take n rest) =
+    c.ones_below-lines.ensures.value ∙ ap (λ (m : ℕ). count_ones (m % 2 ^ n)) (rw here at c.feeds_in.ensures) ∙ feeds_before n rest below in
+    let cells = ap cells_of_bytes front ∙ map-append byte_cell (take i row) (take k part) in
+    record {
+      count = omega (arith, found.ensures.count, inv.count);
+      within = omega (arith, c.if-buffered-passed-ge-BLOCK.true, inv.within, found.ensures.within);
+      cells = λ h plain.
+          let next = rw here at (found.ensures.cells h plain) in
+          rw (cells, lines) (HoldsLines-append h buffered (cells_of_bytes (take i row)) (cells_of_bytes (take k part)) i k passed n c.blocks-2.lines (newlines (take n rest)) (inv.cells h plain) next);
+      fewer = omega (arith, lines, newlines-few rest n, inv.fewer);
+      few = omega (arith, c.ones_below-lines.ensures.few, inv.few, c.if-found-eq0.false);
+    }

@@ -1,0 +1,3 @@
+pub mod ByteLaneLemmas
+pub mod ByteBitLemmas
+pub mod ByteValueLemmas

@@ -1,0 +1,2 @@
+-- What bytes add to the values of words.
+pub mod LaneTables

@@ -1,0 +1,305 @@
+//! Words of stars and of numbers of at most three digits, by the lanes of vectors.
+//!
+//! Each lane takes the value of the word that would end there, from its byte and the two before it. The lanes where words
+//! end are then moved together, by a table of the places of bits.
+
+ghost use Rattle.std.specs.Prelude.{ℕ, Bool, List, if◌then◌else◌, true, false, ◌≡◌, ◌+◌, ◌*◌, ◌%◌, ◌^◌, ◌<◌, ◌≤◌, length, take, map, bit_and, slice_index_or};
+ghost use Rattle.std.specs.Int.{bit_at};
+ghost use Rattle.std.specs.Int.RustNames.{count_ones};
+ghost use Rattle.std.specs.Simd.Lanes.{mask_l};
+ghost use Rattle.cell_core_values.specs.Digits.{is_digit};
+ghost use Rattle.cell_ascii_lanes.specs.WordLanes.{AreWordValues, AreShortWords, AreLowest, kept, is_null_star};
+ghost use Rattle.cell_ascii_lanes.specs.parts.LaneTables.{IsLaneTable, table_place, place_at, more_at, as_one, as_ten, capped_sum, lane_before, ones_of_digit};
+
+use std::simd::prelude::*;
+
+// The places of the set bits of a number below 256, and zeros after them: eight bytes for each number, and eight more, so
+// that a vector can be loaded from each.
+static PLACES: [u8; 2056] = [
+    0, 0, 0, 0, 0, 0, 0, 0, 0, 0, 0, 0, 0, 0, 0, 0, 1, 0, 0, 0, 0, 0, 0, 0, 0, 1, 0, 0, 0, 0, 0, 0,
+    2, 0, 0, 0, 0, 0, 0, 0, 0, 2, 0, 0, 0, 0, 0, 0, 1, 2, 0, 0, 0, 0, 0, 0, 0, 1, 2, 0, 0, 0, 0, 0,
+    3, 0, 0, 0, 0, 0, 0, 0, 0, 3, 0, 0, 0, 0, 0, 0, 1, 3, 0, 0, 0, 0, 0, 0, 0, 1, 3, 0, 0, 0, 0, 0,
+    2, 3, 0, 0, 0, 0, 0, 0, 0, 2, 3, 0, 0, 0, 0, 0, 1, 2, 3, 0, 0, 0, 0, 0, 0, 1, 2, 3, 0, 0, 0, 0,
+    4, 0, 0, 0, 0, 0, 0, 0, 0, 4, 0, 0, 0, 0, 0, 0, 1, 4, 0, 0, 0, 0, 0, 0, 0, 1, 4, 0, 0, 0, 0, 0,
+    2, 4, 0, 0, 0, 0, 0, 0, 0, 2, 4, 0, 0, 0, 0, 0, 1, 2, 4, 0, 0, 0, 0, 0, 0, 1, 2, 4, 0, 0, 0, 0,
+    3, 4, 0, 0, 0, 0, 0, 0, 0, 3, 4, 0, 0, 0, 0, 0, 1, 3, 4, 0, 0, 0, 0, 0, 0, 1, 3, 4, 0, 0, 0, 0,
+    2, 3, 4, 0, 0, 0, 0, 0, 0, 2, 3, 4, 0, 0, 0, 0, 1, 2, 3, 4, 0, 0, 0, 0, 0, 1, 2, 3, 4, 0, 0, 0,
+    5, 0, 0, 0, 0, 0, 0, 0, 0, 5, 0, 0, 0, 0, 0, 0, 1, 5, 0, 0, 0, 0, 0, 0, 0, 1, 5, 0, 0, 0, 0, 0,
+    2, 5, 0, 0, 0, 0, 0, 0, 0, 2, 5, 0, 0, 0, 0, 0, 1, 2, 5, 0, 0, 0, 0, 0, 0, 1, 2, 5, 0, 0, 0, 0,
+    3, 5, 0, 0, 0, 0, 0, 0, 0, 3, 5, 0, 0, 0, 0, 0, 1, 3, 5, 0, 0, 0, 0, 0, 0, 1, 3, 5, 0, 0, 0, 0,
+    2, 3, 5, 0, 0, 0, 0, 0, 0, 2, 3, 5, 0, 0, 0, 0, 1, 2, 3, 5, 0, 0, 0, 0, 0, 1, 2, 3, 5, 0, 0, 0,
+    4, 5, 0, 0, 0, 0, 0, 0, 0, 4, 5, 0, 0, 0, 0, 0, 1, 4, 5, 0, 0, 0, 0, 0, 0, 1, 4, 5, 0, 0, 0, 0,
+    2, 4, 5, 0, 0, 0, 0, 0, 0, 2, 4, 5, 0, 0, 0, 0, 1, 2, 4, 5, 0, 0, 0, 0, 0, 1, 2, 4, 5, 0, 0, 0,
+    3, 4, 5, 0, 0, 0, 0, 0, 0, 3, 4, 5, 0, 0, 0, 0, 1, 3, 4, 5, 0, 0, 0, 0, 0, 1, 3, 4, 5, 0, 0, 0,
+    2, 3, 4, 5, 0, 0, 0, 0, 0, 2, 3, 4, 5, 0, 0, 0, 1, 2, 3, 4, 5, 0, 0, 0, 0, 1, 2, 3, 4, 5, 0, 0,
+    6, 0, 0, 0, 0, 0, 0, 0, 0, 6, 0, 0, 0, 0, 0, 0, 1, 6, 0, 0, 0, 0, 0, 0, 0, 1, 6, 0, 0, 0, 0, 0,
+    2, 6, 0, 0, 0, 0, 0, 0, 0, 2, 6, 0, 0, 0, 0, 0, 1, 2, 6, 0, 0, 0, 0, 0, 0, 1, 2, 6, 0, 0, 0, 0,
+    3, 6, 0, 0, 0, 0, 0, 0, 0, 3, 6, 0, 0, 0, 0, 0, 1, 3, 6, 0, 0, 0, 0, 0, 0, 1, 3, 6, 0, 0, 0, 0,
+    2, 3, 6, 0, 0, 0, 0, 0, 0, 2, 3, 6, 0, 0, 0, 0, 1, 2, 3, 6, 0, 0, 0, 0, 0, 1, 2, 3, 6, 0, 0, 0,
+    4, 6, 0, 0, 0, 0, 0, 0, 0, 4, 6, 0, 0, 0, 0, 0, 1, 4, 6, 0, 0, 0, 0, 0, 0, 1, 4, 6, 0, 0, 0, 0,
+    2, 4, 6, 0, 0, 0, 0, 0, 0, 2, 4, 6, 0, 0, 0, 0, 1, 2, 4, 6, 0, 0, 0, 0, 0, 1, 2, 4, 6, 0, 0, 0,
+    3, 4, 6, 0, 0, 0, 0, 0, 0, 3, 4, 6, 0, 0, 0, 0, 1, 3, 4, 6, 0, 0, 0, 0, 0, 1, 3, 4, 6, 0, 0, 0,
+    2, 3, 4, 6, 0, 0, 0, 0, 0, 2, 3, 4, 6, 0, 0, 0, 1, 2, 3, 4, 6, 0, 0, 0, 0, 1, 2, 3, 4, 6, 0, 0,
+    5, 6, 0, 0, 0, 0, 0, 0, 0, 5, 6, 0, 0, 0, 0, 0, 1, 5, 6, 0, 0, 0, 0, 0, 0, 1, 5, 6, 0, 0, 0, 0,
+    2, 5, 6, 0, 0, 0, 0, 0, 0, 2, 5, 6, 0, 0, 0, 0, 1, 2, 5, 6, 0, 0, 0, 0, 0, 1, 2, 5, 6, 0, 0, 0,
+    3, 5, 6, 0, 0, 0, 0, 0, 0, 3, 5, 6, 0, 0, 0, 0, 1, 3, 5, 6, 0, 0, 0, 0, 0, 1, 3, 5, 6, 0, 0, 0,
+    2, 3, 5, 6, 0, 0, 0, 0, 0, 2, 3, 5, 6, 0, 0, 0, 1, 2, 3, 5, 6, 0, 0, 0, 0, 1, 2, 3, 5, 6, 0, 0,
+    4, 5, 6, 0, 0, 0, 0, 0, 0, 4, 5, 6, 0, 0, 0, 0, 1, 4, 5, 6, 0, 0, 0, 0, 0, 1, 4, 5, 6, 0, 0, 0,
+    2, 4, 5, 6, 0, 0, 0, 0, 0, 2, 4, 5, 6, 0, 0, 0, 1, 2, 4, 5, 6, 0, 0, 0, 0, 1, 2, 4, 5, 6, 0, 0,
+    3, 4, 5, 6, 0, 0, 0, 0, 0, 3, 4, 5, 6, 0, 0, 0, 1, 3, 4, 5, 6, 0, 0, 0, 0, 1, 3, 4, 5, 6, 0, 0,
+    2, 3, 4, 5, 6, 0, 0, 0, 0, 2, 3, 4, 5, 6, 0, 0, 1, 2, 3, 4, 5, 6, 0, 0, 0, 1, 2, 3, 4, 5, 6, 0,
+    7, 0, 0, 0, 0, 0, 0, 0, 0, 7, 0, 0, 0, 0, 0, 0, 1, 7, 0, 0, 0, 0, 0, 0, 0, 1, 7, 0, 0, 0, 0, 0,
+    2, 7, 0, 0, 0, 0, 0, 0, 0, 2, 7, 0, 0, 0, 0, 0, 1, 2, 7, 0, 0, 0, 0, 0, 0, 1, 2, 7, 0, 0, 0, 0,
+    3, 7, 0, 0, 0, 0, 0, 0, 0, 3, 7, 0, 0, 0, 0, 0, 1, 3, 7, 0, 0, 0, 0, 0, 0, 1, 3, 7, 0, 0, 0, 0,
+    2, 3, 7, 0, 0, 0, 0, 0, 0, 2, 3, 7, 0, 0, 0, 0, 1, 2, 3, 7, 0, 0, 0, 0, 0, 1, 2, 3, 7, 0, 0, 0,
+    4, 7, 0, 0, 0, 0, 0, 0, 0, 4, 7, 0, 0, 0, 0, 0, 1, 4, 7, 0, 0, 0, 0, 0, 0, 1, 4, 7, 0, 0, 0, 0,
+    2, 4, 7, 0, 0, 0, 0, 0, 0, 2, 4, 7, 0, 0, 0, 0, 1, 2, 4, 7, 0, 0, 0, 0, 0, 1, 2, 4, 7, 0, 0, 0,
+    3, 4, 7, 0, 0, 0, 0, 0, 0, 3, 4, 7, 0, 0, 0, 0, 1, 3, 4, 7, 0, 0, 0, 0, 0, 1, 3, 4, 7, 0, 0, 0,
+    2, 3, 4, 7, 0, 0, 0, 0, 0, 2, 3, 4, 7, 0, 0, 0, 1, 2, 3, 4, 7, 0, 0, 0, 0, 1, 2, 3, 4, 7, 0, 0,
+    5, 7, 0, 0, 0, 0, 0, 0, 0, 5, 7, 0, 0, 0, 0, 0, 1, 5, 7, 0, 0, 0, 0, 0, 0, 1, 5, 7, 0, 0, 0, 0,
+    2, 5, 7, 0, 0, 0, 0, 0, 0, 2, 5, 7, 0, 0, 0, 0, 1, 2, 5, 7, 0, 0, 0, 0, 0, 1, 2, 5, 7, 0, 0, 0,
+    3, 5, 7, 0, 0, 0, 0, 0, 0, 3, 5, 7, 0, 0, 0, 0, 1, 3, 5, 7, 0, 0, 0, 0, 0, 1, 3, 5, 7, 0, 0, 0,
+    2, 3, 5, 7, 0, 0, 0, 0, 0, 2, 3, 5, 7, 0, 0, 0, 1, 2, 3, 5, 7, 0, 0, 0, 0, 1, 2, 3, 5, 7, 0, 0,
+    4, 5, 7, 0, 0, 0, 0, 0, 0, 4, 5, 7, 0, 0, 0, 0, 1, 4, 5, 7, 0, 0, 0, 0, 0, 1, 4, 5, 7, 0, 0, 0,
+    2, 4, 5, 7, 0, 0, 0, 0, 0, 2, 4, 5, 7, 0, 0, 0, 1, 2, 4, 5, 7, 0, 0, 0, 0, 1, 2, 4, 5, 7, 0, 0,
+    3, 4, 5, 7, 0, 0, 0, 0, 0, 3, 4, 5, 7, 0, 0, 0, 1, 3, 4, 5, 7, 0, 0, 0, 0, 1, 3, 4, 5, 7, 0, 0,
+    2, 3, 4, 5, 7, 0, 0, 0, 0, 2, 3, 4, 5, 7, 0, 0, 1, 2, 3, 4, 5, 7, 0, 0, 0, 1, 2, 3, 4, 5, 7, 0,
+    6, 7, 0, 0, 0, 0, 0, 0, 0, 6, 7, 0, 0, 0, 0, 0, 1, 6, 7, 0, 0, 0, 0, 0, 0, 1, 6, 7, 0, 0, 0, 0,
+    2, 6, 7, 0, 0, 0, 0, 0, 0, 2, 6, 7, 0, 0, 0, 0, 1, 2, 6, 7, 0, 0, 0, 0, 0, 1, 2, 6, 7, 0, 0, 0,
+    3, 6, 7, 0, 0, 0, 0, 0, 0, 3, 6, 7, 0, 0, 0, 0, 1, 3, 6, 7, 0, 0, 0, 0, 0, 1, 3, 6, 7, 0, 0, 0,
+    2, 3, 6, 7, 0, 0, 0, 0, 0, 2, 3, 6, 7, 0, 0, 0, 1, 2, 3, 6, 7, 0, 0, 0, 0, 1, 2, 3, 6, 7, 0, 0,
+    4, 6, 7, 0, 0, 0, 0, 0, 0, 4, 6, 7, 0, 0, 0, 0, 1, 4, 6, 7, 0, 0, 0, 0, 0, 1, 4, 6, 7, 0, 0, 0,
+    2, 4, 6, 7, 0, 0, 0, 0, 0, 2, 4, 6, 7, 0, 0, 0, 1, 2, 4, 6, 7, 0, 0, 0, 0, 1, 2, 4, 6, 7, 0, 0,
+    3, 4, 6, 7, 0, 0, 0, 0, 0, 3, 4, 6, 7, 0, 0, 0, 1, 3, 4, 6, 7, 0, 0, 0, 0, 1, 3, 4, 6, 7, 0, 0,
+    2, 3, 4, 6, 7, 0, 0, 0, 0, 2, 3, 4, 6, 7, 0, 0, 1, 2, 3, 4, 6, 7, 0, 0, 0, 1, 2, 3, 4, 6, 7, 0,
+    5, 6, 7, 0, 0, 0, 0, 0, 0, 5, 6, 7, 0, 0, 0, 0, 1, 5, 6, 7, 0, 0, 0, 0, 0, 1, 5, 6, 7, 0, 0, 0,
+    2, 5, 6, 7, 0, 0, 0, 0, 0, 2, 5, 6, 7, 0, 0, 0, 1, 2, 5, 6, 7, 0, 0, 0, 0, 1, 2, 5, 6, 7, 0, 0,
+    3, 5, 6, 7, 0, 0, 0, 0, 0, 3, 5, 6, 7, 0, 0, 0, 1, 3, 5, 6, 7, 0, 0, 0, 0, 1, 3, 5, 6, 7, 0, 0,
+    2, 3, 5, 6, 7, 0, 0, 0, 0, 2, 3, 5, 6, 7, 0, 0, 1, 2, 3, 5, 6, 7, 0, 0, 0, 1, 2, 3, 5, 6, 7, 0,
+    4, 5, 6, 7, 0, 0, 0, 0, 0, 4, 5, 6, 7, 0, 0, 0, 1, 4, 5, 6, 7, 0, 0, 0, 0, 1, 4, 5, 6, 7, 0, 0,
+    2, 4, 5, 6, 7, 0, 0, 0, 0, 2, 4, 5, 6, 7, 0, 0, 1, 2, 4, 5, 6, 7, 0, 0, 0, 1, 2, 4, 5, 6, 7, 0,
+    3, 4, 5, 6, 7, 0, 0, 0, 0, 3, 4, 5, 6, 7, 0, 0, 1, 3, 4, 5, 6, 7, 0, 0, 0, 1, 3, 4, 5, 6, 7, 0,
+    2, 3, 4, 5, 6, 7, 0, 0, 0, 2, 3, 4, 5, 6, 7, 0, 1, 2, 3, 4, 5, 6, 7, 0, 0, 1, 2, 3, 4, 5, 6, 7,
+    0, 0, 0, 0, 0, 0, 0, 0,
+];
+
+// What the byte of a digit adds to the value of a word, by its distance from 48: as the last digit. Each table is there
+// four times, for the four parts of a vector.
+static ONES: [u8; 64] = [
+    0, 1, 2, 3, 4, 5, 6, 7, 8, 9, 0, 0, 0, 0, 0, 0, 0, 1, 2, 3, 4, 5, 6, 7, 8, 9, 0, 0, 0, 0, 0, 0,
+    0, 1, 2, 3, 4, 5, 6, 7, 8, 9, 0, 0, 0, 0, 0, 0, 0, 1, 2, 3, 4, 5, 6, 7, 8, 9, 0, 0, 0, 0, 0, 0,
+];
+
+// The same as the last digit but one.
+static TENS: [u8; 64] = [
+    0, 10, 20, 30, 40, 50, 60, 70, 80, 90, 0, 0, 0, 0, 0, 0, 0, 10, 20, 30, 40, 50, 60, 70, 80, 90,
+    0, 0, 0, 0, 0, 0, 0, 10, 20, 30, 40, 50, 60, 70, 80, 90, 0, 0, 0, 0, 0, 0, 0, 10, 20, 30, 40,
+    50, 60, 70, 80, 90, 0, 0, 0, 0, 0, 0,
+];
+
+// The same as the digit before that, or 255 if a word with it is above 254.
+static HUNDREDS: [u8; 64] = [
+    0, 100, 200, 255, 255, 255, 255, 255, 255, 255, 0, 0, 0, 0, 0, 0, 0, 100, 200, 255, 255, 255,
+    255, 255, 255, 255, 0, 0, 0, 0, 0, 0, 0, 100, 200, 255, 255, 255, 255, 255, 255, 255, 0, 0, 0,
+    0, 0, 0, 0, 100, 200, 255, 255, 255, 255, 255, 255, 255, 0, 0, 0, 0, 0, 0,
+];
+
+// All ones if it is a digit.
+static DIGITS: [u8; 64] = [
+    255, 255, 255, 255, 255, 255, 255, 255, 255, 255, 0, 0, 0, 0, 0, 0, 255, 255, 255, 255, 255,
+    255, 255, 255, 255, 255, 0, 0, 0, 0, 0, 0, 255, 255, 255, 255, 255, 255, 255, 255, 255, 255, 0,
+    0, 0, 0, 0, 0, 255, 255, 255, 255, 255, 255, 255, 255, 255, 255, 0, 0, 0, 0, 0, 0,
+];
+
+// The entries of a table at the places that lanes name.
+#[inline(always)]
+fn looked_up(table: &[u8; 64], places: u8x64) -> u8x64
+    requires { (k : ℕ) → slice_index_or places k 0 < 16 }
+    ensures { (f : ℕ → ℕ) → IsLaneTable f table.now → result ≡ map f places }
+{
+    u8x64::from_slice(table).swizzle_dyn_within::<16>(places)
+}
+
+// The places of bytes in the tables.
+#[inline(always)]
+fn places_of(bytes: u8x64) -> u8x64
+    ensures { result ≡ map table_place bytes }
+{
+    (bytes - u8x64::splat(b'0')).simd_min(u8x64::splat(15))
+}
+
+// Sums of lanes, or 255 where one is more.
+#[inline(always)]
+fn sums(a: u8x64, b: u8x64) -> u8x64
+    ensures { (p : ℕ) → p < 64
+        → slice_index_or result p 0 ≡ capped_sum (slice_index_or a p 0) (slice_index_or b p 0) }
+{
+    a.saturating_add(b)
+}
+
+// The lanes one further, in a round.
+#[inline(always)]
+fn moved_up(lanes: u8x64) -> u8x64
+    ensures { (p : ℕ) → p < 64
+        → slice_index_or result p 0 ≡ slice_index_or lanes (lane_before p) 0 }
+{
+    lanes.rotate_elements_right::<1>()
+}
+
+// The lanes of digits, by their places, and 0 elsewhere.
+#[inline(always)]
+fn of_digits(places: u8x64, lanes: u8x64) -> u8x64
+    requires { (k : ℕ) → slice_index_or places k 0 < 16 }
+    ensures { (p : ℕ) → p < 64 → slice_index_or result p 0
+        ≡ bit_and (ones_of_digit (slice_index_or places p 0)) (slice_index_or lanes p 0) }
+{
+    looked_up(&DIGITS, places) & lanes
+}
+
+// The values of words of one or two digits, at their last digits.
+#[inline(always)]
+fn two_digits(bytes: u8x64) -> u8x64
+    ensures { (p : ℕ) → p < 64 → slice_index_or result p 0
+        ≡ capped_sum (as_one (place_at bytes p)) (as_ten (place_at bytes (lane_before p))) }
+{
+    let places = places_of(bytes);
+    let tens = looked_up(&TENS, places);
+    sums(looked_up(&ONES, places), moved_up(tens))
+}
+
+// The values of words of one to three digits, at their last digits, or 255 if a value is more.
+#[inline(always)]
+fn three_digits(bytes: u8x64) -> u8x64
+    ensures { (p : ℕ) → p < 64 → slice_index_or result p 0
+        ≡ capped_sum (as_one (place_at bytes p)) (more_at bytes (lane_before p)) }
+{
+    let places = places_of(bytes);
+    let hundreds = of_digits(places, moved_up(looked_up(&HUNDREDS, places)));
+    let more = sums(looked_up(&TENS, places), hundreds);
+    sums(looked_up(&ONES, places), moved_up(more))
+}
+
+/// Which bytes are digits.
+#[inline(always)]
+pub fn digit_mask(bytes: u8x64) -> u64
+    ensures { result ≡ mask_l (map is_digit bytes) }
+{
+    (bytes - u8x64::splat(b'0'))
+        .simd_lt(u8x64::splat(10))
+        .to_bitmask()
+}
+
+// Whether a value at a digit is 255.
+#[inline(always)]
+fn has_large(bytes: u8x64, values: u8x64) -> bool
+    ensures { result ≡ false → (p : ℕ) → p < 64 → is_digit (slice_index_or bytes p 0) ≡ true
+        → slice_index_or values p 0 < 255 }
+{
+    let is_digit = (bytes - u8x64::splat(b'0')).simd_lt(u8x64::splat(10));
+    (is_digit & values.simd_eq(u8x64::splat(255))).to_bitmask() != 0
+}
+
+/// The values of words of at most three digits, and whether none of them is above 254.
+#[inline(always)]
+pub fn word_values(bytes: u8x64, words: u64) -> (u8x64, bool)
+    requires { (p : ℕ) → p < 64 → is_digit (slice_index_or bytes p 0) ≡ true → bit_at words p ≡ 1 }
+    ensures { result.1 ≡ true → AreWordValues bytes result.0 }
+{
+    if words & (words << 1) & (words << 2) == 0 {
+        return (two_digits(bytes), true);
+    }
+    let values = three_digits(bytes);
+    (values, !has_large(bytes, values))
+}
+
+/// Whether all words are stars and numbers of at most three digits, after a blank.
+#[inline(always)]
+pub fn are_short(words: u64, digits: u64, stars: u64) -> bool
+    ensures { result ≡ true → AreShortWords words digits stars }
+{
+    let two = words & (words << 1);
+    let other = words & !(digits | stars);
+    let joined = stars & ((words << 1) | (words >> 1));
+    (other | joined | (two & (two << 2)) | (words & 1)) == 0
+}
+
+// The first eight lanes that bits name, first.
+#[inline(always)]
+fn packed(values: u8x16, bits: u64) -> u8x16
+    requires { bits < 256 }
+    ensures lanes { (ms : List Bool) → length ms ≡ 8 → bits ≡ mask_l ms
+        → take (count_ones bits) result ≡ kept ms values }
+    ensures long { length result ≡ 16 }
+{
+    values.swizzle_dyn(u8x16::from_slice(&PLACES[8 * bits as usize..]))
+}
+
+/// Writes the bytes that bits name to a row. Returns how many they are.
+#[inline(always)]
+pub fn put_lanes(values: &[u8], bits: u64, row: &mut [u8]) -> usize
+    requires values { 72 ≤ length values.now }
+    requires room { 72 ≤ length row.old }
+    ensures { (ms : List Bool) → length ms ≡ 64 → bits ≡ mask_l ms
+        → (result ≡ count_ones bits) × (take result row.new ≡ kept ms (take 64 values.now)) }
+{
+    let mut i = 0;
+    for k in 0..8 {
+        let part = (bits >> (8 * k)) & 255;
+        packed(u8x16::from_slice(&values[8 * k..]), part).copy_to_slice(&mut row[i..]);
+        i += part.count_ones() as usize;
+    }
+    i
+}
+
+// A place, or one so many further if no more than so many bits below that are set.
+#[inline(always)]
+fn further(bits: u64, most: usize, place: usize, step: usize) -> usize
+    requires within { place + step < 64 }
+    requires few { count_ones (bits % 2 ^ place) ≤ most }
+    ensures within { result ≤ place + step }
+    ensures few { count_ones (bits % 2 ^ result) ≤ most }
+{
+    if (bits & ((1 << (place + step)) - 1)).count_ones() as usize <= most {
+        place + step
+    } else {
+        place
+    }
+}
+
+/// So many of the lowest bits that are set.
+#[inline(always)]
+pub fn lowest_bits(bits: u64, most: usize) -> u64
+    ensures { AreLowest bits most result }
+{
+    if bits.count_ones() as usize <= most {
+        return bits;
+    }
+    let place = further(bits, most, 0, 32);
+    let place = further(bits, most, place, 16);
+    let place = further(bits, most, place, 8);
+    let place = further(bits, most, place, 4);
+    let place = further(bits, most, place, 2);
+    let place = further(bits, most, place, 1);
+    bits & ((1 << place) - 1)
+}
+
+/// The bytes of cells: the values of words of digits, and 255 for stars.
+#[inline(always)]
+pub fn cell_bytes(bytes: u8x64, values: u8x64, lanes: &mut [u8])
+    requires { 64 ≤ length lanes.old }
+    ensures { (p : ℕ) → p < 64 → slice_index_or lanes.new p 0
+        ≡ (if is_null_star (slice_index_or bytes p 0) then 255 else slice_index_or values p 0) }
+{
+    bytes
+        .simd_eq(u8x64::splat(b'*'))
+        .select(u8x64::splat(255), values)
+        .copy_to_slice(lanes);
+}
+
+/// Which bytes are stars.
+#[inline(always)]
+pub fn star_mask(bytes: u8x64) -> u64
+    ensures { result ≡ mask_l (map is_null_star bytes) }
+{
+    bytes.simd_eq(u8x64::splat(b'*')).to_bitmask()
+}
