@@ -65,8 +65,6 @@ stored line at bytes size room few =
     ∙ take-append-add (take at line) (eight ++ drop (length eight) (drop at line)) size
     ∙ ap (λ (l : List ℕ). take at line ++ l) (take-append-le size eight (drop (length eight) (drop at line)) short ∙ digits-fewer size 8 (bytes + 0) few ∙ ap (digits_l 256 size) same)
 
--- ---- digits as bytes
-
 -- one byte more, below the others
 pub low_bytes-more : (bytes size d : ℕ) → d < 256 → low_bytes (bytes * 256 + d) (size + 1) ≡ d ∷ low_bytes bytes size
 low_bytes-more bytes size d small =
@@ -75,54 +73,3 @@ low_bytes-more bytes size d small =
     let rest : (bytes * 256 + d) / 256 ≡ bytes = omega arith in
     ap (λ (n : ℕ). digits_l 256 n (bytes * 256 + d)) count
     ∙ ap₂ (λ (x : ℕ) (l : List ℕ). x ∷ l) first (ap (digits_l 256 size) rest)
-
-length-low_bytes : (size bytes : ℕ) → length (low_bytes bytes size) ≡ size
-length-low_bytes zero bytes = refl
-length-low_bytes (suc size) bytes = ap suc (length-low_bytes size (bytes / 256))
-
-pub bytes-below : (bytes size d : ℕ) → d < 256 → bytes < 256 ^ size → bytes * 256 + d < 256 ^ (size + 1)
-bytes-below bytes size d small below =
-    let power : 256 ^ (size + 1) ≡ 256 ^ size * 256 = rw add-one (pow-suc 256 size) in
-    omega (arith, power, below, small)
-
-pub bytes-within : (bytes size most : ℕ) → bytes < 256 ^ size → size ≤ most → bytes < 256 ^ most
-bytes-within bytes size most below few =
-    let some : 0 < 256 = omega arith in
-    omega (arith, below, pow-le-pow_right {n = 256} some {i = size} {j = most} few)
-
-module _ (number rest bytes size : ℕ) (wide : rest < 2 ^ 64)
-    (reported : decimal rest ++ low_bytes bytes size ≡ decimal number) where
-  -- the last digit of the rest, before those that are reported
-  pub digits-more : 10 ≤ rest
-      → decimal (rest / 10) ++ low_bytes (bytes * 256 + (48 + rest % 10)) (size + 1) ≡ decimal number
-  digits-more more =
-      let small : 48 + rest % 10 < 256 = omega arith in
-      ap (λ (l : List ℕ). decimal (rest / 10) ++ l) (low_bytes-more bytes size (48 + rest % 10) small)
-      ∙ sym (append_assoc (decimal (rest / 10)) ((48 + rest % 10) ∷ []) (low_bytes bytes size))
-      ∙ ap (λ (l : List ℕ). l ++ low_bytes bytes size) (sym (decimal_step rest more wide))
-      ∙ reported
-
-  pub digits-last : rest < 10 → low_bytes (bytes * 256 + (48 + rest)) (size + 1) ≡ decimal number
-  digits-last one =
-      let small : 48 + rest < 256 = omega arith in
-      low_bytes-more bytes size (48 + rest) small
-      ∙ ap (λ (l : List ℕ). l ++ low_bytes bytes size) (sym (decimal_digit rest one))
-      ∙ reported
-
-  -- a number of seven digits has no more of them
-  whole : number < 10000000 → length (decimal rest) + size ≤ 7
-  whole few =
-      let some : 0 < 7 = omega arith in
-      let all = length-decimal-le 7 number some few (omega (arith, few)) in
-      let both = length-append (decimal rest) (low_bytes bytes size) in
-      omega (arith, all, ap length reported, both, length-low_bytes size bytes)
-
-  pub digits-few : number < 10000000 → size + 1 ≤ 7
-  digits-few few = omega (arith, whole few, decimal_nonempty rest wide)
-
-  pub digits-fewer_left : number < 10000000 → 10 ≤ rest → size + 2 ≤ 7
-  digits-fewer_left few more =
-      let front : rest / 10 < 2 ^ 64 = omega (arith, wide) in
-      let step = ap length (decimal_step rest more wide) in
-      let both = length-append (decimal (rest / 10)) ((48 + rest % 10) ∷ []) in
-      omega (arith, whole few, step, both, decimal_nonempty (rest / 10) front)

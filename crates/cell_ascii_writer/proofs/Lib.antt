@@ -4,3 +4,5 @@ pub mod WriterLemmas
 pub mod RunWritingLemmas
 pub mod ByteLemmas
 pub mod PendingLemmas
+pub mod DigitLemmas
+pub mod FieldLemmas

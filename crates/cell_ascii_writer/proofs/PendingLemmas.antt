@@ -1,13 +1,9 @@
 -- Text that is appended but for its last bytes.
-use Rattle.std.proofs.Common.{◌≡◌, ◌∙◌, ℕ, List, [], ◌++◌, Option, refl, sym, ap, append_assoc, append-nil, subst, arith, ◌<◌, ◌≤◌, length, replicate, get_or}
+use Rattle.std.proofs.Common.{◌≡◌, ◌∙◌, ℕ, List, [], ◌++◌, Option, refl, sym, ap, append_assoc, append-nil, subst}
 use Rattle.cell_core_devices.specs.Device.{Faults}
 use Rattle.cell_core_devices.specs.Blocks.{BlockValue, Appends}
 use Rattle.cell_core_devices.proofs.BlockLemmas.{appends_none, appends_then}
-use Rattle.std.specs.List.{All}
-use Rattle.std.proofs.lemmas.List.{length-replicate, get_or-replicate}
-use Rattle.cell_ascii_writer.specs.Fields.{IsField, AppendsBut}
-use Rattle.cell_ascii_writer.specs.declared.fields.Field.{Field}
-use Rattle.cell_ascii_writer.specs.parts.KeptFields.{AreKept}
+use Rattle.cell_ascii_writer.specs.Fields.{AppendsBut}
 
 module _ {S : Type 0} {taken : S → Option (List ℕ)} {faults : S → Faults} {old : S} {block : BlockValue} where
   -- nothing is appended yet
@@ -37,31 +33,3 @@ module _ {S : Type 0} {taken : S → Option (List ℕ)} {faults : S → Faults} 
       → Appends taken faults old block text now new
   pending_all {text} {pending} {mid} {now} {middle} {new} first second =
       subst (λ (t : List ℕ). Appends taken faults old block t now new) first.whole (appends_then first.appends second)
-
-  -- and none is left
-  pub pending_done : {text : List ℕ} {now : S} {new : BlockValue} → Appends taken faults old block text now new → AppendsBut taken faults old block text [] now new
-  pending_done {text} all = record { front = text; whole = append-nil text; appends = all }
-
--- free fields
-pub free_fields : (null : List ℕ) (n : ℕ) (field : Field) → field.size ≡ 0 → All (IsField null) (replicate n field)
-free_fields null n field free = λ k d within some.
-    let few : k < n = omega (arith, within, length-replicate n field) in
-    let same : get_or (replicate n field) k d ≡ field = get_or-replicate n k field d few in
-    absurd (omega (arith, some, ap (λ (f : Field). f.size) same, free))
-
-module _ {null_text : List ℕ} {fields more : List Field} {line : List ℕ} {start : ℕ}
-    (kept : AreKept null_text fields line start) (same : length more ≡ length fields)
-    (known : All (IsField null_text) more) where
-  -- another field was made, and the line was written on
-  pub kept_at : {new : List ℕ} {end : ℕ} → length new ≡ length line → end ≤ 1024 → AreKept null_text more new end
-  kept_at long within = record {
-    null = kept.null;
-    fields_kept = same ∙ kept.fields_kept;
-    known = known;
-    room = long ∙ kept.room;
-    within = within;
-  }
-
-  -- another field was made, and the line was pushed
-  pub kept_none : AreKept null_text more line 0
-  kept_none = kept_at refl (omega arith)

@@ -1,19 +1,13 @@
 -- The cells of a row, run by run.
 use Rattle.std.specs.List.{All}
 use Rattle.std.proofs.Common.{◌≡◌, ℕ, zero, suc, ◌+◌, ◌-◌, ◌<◌, List, [], ◌∷◌, ◌++◌, replicate, refl, ap, sym, ◌∙◌, arith, append_assoc, append-nil}
+use Rattle.std.proofs.lemmas.List.{replicate-append-replicate}
 use Rattle.std.proofs.lemmas.List.Concat.{flat_map-append}
 use Rattle.cell_core.specs.Grid.{CellValue}
 use Rattle.cell_core.specs.Runs.{RunValue, written_out}
 use Rattle.cell_core.specs.Text.{cell_text}
 use Rattle.cell_core.proofs.RunLemmas.{written_out-push}
 use Rattle.cell_ascii_writer.specs.WrittenRuns.{times, spaced_cells, joined_cells}
-
--- a text once more
-pub times-more : (n : ℕ) (text : List ℕ) → times (n + 1) text ≡ times n text ++ text
-times-more zero text = append-nil text
-times-more (suc n) text =
-    let count : suc n + 1 ≡ suc (n + 1) = omega arith in
-    rw count (ap (λ (t : List ℕ). text ++ t) (times-more n text) ∙ sym (append_assoc text (times n text) text))
 
 -- a run has a cell or more
 pub first-some : (runs rest : List RunValue) (cell : CellValue) (n : ℕ) → All (λ run. 0 < run.1) runs
@@ -26,15 +20,20 @@ module _ (null : List ℕ) where
   times_cells zero cell = refl
   times_cells (suc n) cell = ap (λ (t : List ℕ). (32 ∷ cell_text null cell) ++ t) (times_cells n cell)
 
-  both : (xs ys : List CellValue) → spaced_cells null (xs ++ ys) ≡ spaced_cells null xs ++ spaced_cells null ys
+  pub both : (xs ys : List CellValue) → spaced_cells null (xs ++ ys) ≡ spaced_cells null xs ++ spaced_cells null ys
   both xs ys = flat_map-append (λ cell. 32 ∷ cell_text null cell) xs ys
+
+  -- a cell, so many times more
+  pub spaced-more : (n m : ℕ) (cell : CellValue) → spaced_cells null (replicate (n + m) cell) ≡ spaced_cells null (replicate n cell) ++ spaced_cells null (replicate m cell)
+  spaced-more n m cell =
+      ap (spaced_cells null) (sym (replicate-append-replicate n m cell)) ∙ both (replicate n cell) (replicate m cell)
 
   -- one run more
   pub cells_text-more : (runs : List RunValue) (cell : CellValue) (n : ℕ) → spaced_cells null (written_out (runs ++ (cell, n) ∷ [])) ≡ spaced_cells null (written_out runs) ++ spaced_cells null (replicate n cell)
   cells_text-more runs cell n = ap (spaced_cells null) (written_out-push runs cell n) ∙ both (written_out runs) (replicate n cell)
 
   -- the first cell has no space before it
-  joined-first : (cell : CellValue) (cells : List CellValue) → joined_cells null (cell ∷ cells) ≡ cell_text null cell ++ spaced_cells null cells
+  pub joined-first : (cell : CellValue) (cells : List CellValue) → joined_cells null (cell ∷ cells) ≡ cell_text null cell ++ spaced_cells null cells
   joined-first cell [] = sym (append-nil (cell_text null cell))
   joined-first cell (next ∷ cells) = ap (λ (t : List ℕ). cell_text null cell ++ (32 ∷ t)) (joined-first next cells)
 

@@ -1,2 +1,2 @@
--- What is kept while rows are written.
-pub mod KeptFields
+-- What is made to write a map.
+pub mod MadeFields

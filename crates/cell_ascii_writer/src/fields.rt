@@ -1,141 +1,260 @@
-//! Fields of a grid text that were written before: each is made once, and then copied as eight bytes.
+//! Fields of a grid text: a space and the text of a cell, as the lowest bytes of a number.
 
-ghost use Rattle.std.specs.Prelude.{◌≡◌, ◌+◌, ◌<◌, ◌≤◌, ◌∷◌, ◌++◌, ◌^◌, ℕ, codes, decimal, length, take, IfSome};
-ghost use Rattle.std.specs.List.{All};
+ghost use Rattle.std.specs.Prelude.{pos, negsuc, ◌≤ℤ◌, ◌≡◌, ◌+◌, ◌<◌, ◌≤◌, ◌∷◌, ◌++◌, ◌^◌, true, codes, decimal, length, take};
+ghost use Rattle.std.specs.Fmt.{signed_decimal};
+ghost use Rattle.cell_core_values.specs.Letters.{byte};
 ghost use Rattle.cell_core.specs.Text.{cell_text};
-ghost use Rattle.cell_ascii_writer.specs.Fields.{IsField, IsFieldOf, low_bytes};
+ghost use Rattle.cell_core_values.specs.SmallCells.{byte_cell};
+ghost use Rattle.cell_ascii_writer.specs.Fields.{IsFieldOf, digit_values, low_bytes};
+ghost use Rattle.cell_ascii_writer.specs.parts.MadeFields.{AreTriples};
 
-use crate::writer::field_of_text;
-use cell_core::cell::Cell;
-use itoa::Buffer;
+use std::marker::Model;
 use std::simd::prelude::*;
 
-// How many fields are kept.
-pub(crate) const FIELDS: usize = 1024;
+// How many bytes there are, and the one that stands for null.
+const BYTES: usize = 256;
 
-// So many upper bits of a number of 32 bits are a place among them.
-const PLACE_BITS: u32 = 10;
+const NULL: usize = 255;
 
-// The most bytes of a text whose field is kept.
-const MOST_KEPT: usize = 7;
+const THOUSAND: usize = 1000;
 
-// The smallest and the largest category with so many bytes.
-const LEAST_KEPT: i32 = -999_999;
+const MILLION: u32 = 1_000_000;
 
-const GREATEST_KEPT: i32 = 9_999_999;
+// The most bytes of a text that has a field.
+const MOST_TEXT: usize = 7;
 
-// A space and the text of a cell, as the lowest bytes of a number, and how many these are. It is free if there are none.
+// Six digits 0.
+const ZEROS: u64 = 0x3030_3030_3030;
+
+// A space and a text, as the lowest bytes of a number, and how many these are.
 #[derive(Clone, Copy)]
 pub(crate) struct Field {
     pub(crate) bytes: u64,
-    pub(crate) size: u32,
-    pub(crate) cell: Cell,
+    pub(crate) size: usize,
 }
 
-// A field of no cell.
-pub(crate) fn free_field() -> Field
-    ensures { result.size ≡ 0 }
-{
-    Field {
-        bytes: 0,
-        size: 0,
-        cell: Cell::null(),
-    }
+// The three digits of each number below a thousand, in a byte each, the first one lowest.
+#[derive(Drop)]
+pub(crate) struct Triples {
+    digits: [u32; THOUSAND],
+    ghost made: { AreTriples digits },
 }
 
-// The place of a cell's field among those that are kept.
-#[inline(always)]
-fn field_place(cell: Cell) -> usize
-    ensures { result < 1024 }
-{
-    let number = cell.get().unwrap_or(i32::MIN);
-    (number.cast_unsigned().wrapping_mul(0x9E37_79B9) >> (32 - PLACE_BITS)) as usize
-}
-
-// A space and a short text, as the lowest bytes of a number, and how many they are.
-fn field_with(text: &[u8]) -> (u64, u32)
-    requires { length text.now ≤ 7 }
-    ensures size { result.1 ≡ length text.now + 1 }
-    ensures text { low_bytes result.0 result.1 ≡ codes " " ++ text.now }
-{
-    let field = field_of_text(text);
-    let [bytes] = u64x1::from_le_bytes(u8x8::from_slice(&field)).to_array();
-    (bytes, text.len() as u32 + 1)
-}
-
-// The digits of a number, as the lowest bytes of another, and how many they are.
-fn digit_bytes(number: u32) -> (u64, u32)
-    requires { number < 10000000 }
-    ensures few { result.1 ≤ 7 }
-    ensures small { result.0 < 256 ^ 7 }
-    ensures text { low_bytes result.0 result.1 ≡ decimal number }
-{
-    let mut rest = number;
-    let mut bytes: u64 = 0;
-    let mut size: u32 = 0;
-    while rest >= 10 {
-        bytes = bytes * 256 + (48 + rest % 10) as u64;
-        rest /= 10;
-        size += 1;
-    }
-    (bytes * 256 + (48 + rest) as u64, size + 1)
-}
-
-// A space and the text of a cell, or None if that is long.
-fn made_field(cell: Cell, null_text: &[u8]) -> Option<(u64, u32)>
-    ensures { IfSome result (λ field. IsFieldOf null_text.now cell field.0 field.1) }
-{
-    let Some(category) = cell.get() else {
-        if null_text.len() > MOST_KEPT {
-            return None;
+impl Triples {
+    fn new() -> Triples {
+        let mut digits = [0; THOUSAND];
+        for upper in 0..100u32 {
+            let front = upper / 10 + upper % 10 * 256;
+            for last in 0..10u32 {
+                digits[(upper * 10 + last) as usize] = front + last * 65536;
+            }
         }
-        return Some(field_with(null_text));
-    };
-    if category < LEAST_KEPT || category > GREATEST_KEPT {
-        return None;
+        Triples { digits }
     }
-    if category >= 0 {
-        let (digits, size) = digit_bytes(category.unsigned_abs());
-        return Some((digits * 256 + b' ' as u64, size + 1));
+
+    // The six digits of a number, in the same way.
+    #[inline(always)]
+    fn six_digits(&self, number: u32) -> u64
+        requires { number < 1000000 }
+        ensures { result ≡ digit_values 6 number }
+    {
+        let upper = self.digits[(number / 1000) as usize];
+        let lower = self.digits[(number % 1000) as usize];
+        upper as u64 + lower as u64 * 0x100_0000
     }
-    let mut buffer = Buffer::new();
-    let text = buffer.format(category).as_bytes();
-    if text.len() > MOST_KEPT {
-        return None;
+
+    // The digits of a number, as the lowest bytes of another, and how many they are.
+    #[inline(always)]
+    fn digits_of(&self, number: u32) -> (u64, usize)
+        requires some { 0 < number }
+        requires few { number < 1000000 }
+        ensures size { result.1 ≤ 6 }
+        ensures small { result.0 < 2 ^ 48 }
+        ensures text { low_bytes result.0 result.1 ≡ decimal number }
+    {
+        let digits = self.six_digits(number);
+        let zeros = digits.trailing_zeros() / 8;
+        ((digits + ZEROS) >> (8 * zeros), 6 - zeros as usize)
     }
-    Some(field_with(text))
+
+    // The field of a category from 1 to 999,999.
+    #[inline(always)]
+    fn field(&self, category: i32) -> Field
+        requires least { pos 1 ≤ℤ category }
+        requires most { category ≤ℤ pos 999999 }
+        ensures { IsFieldOf (signed_decimal category) result }
+    {
+        let (digits, size) = self.digits_of(category.unsigned_abs());
+        Field {
+            bytes: digits * 256 + 0x20,
+            size: size + 1,
+        }
+    }
+
+    // The field of a category from -999,999 to -1.
+    #[inline(always)]
+    fn negative_field(&self, category: i32) -> Field
+        requires least { negsuc 999998 ≤ℤ category }
+        requires most { category ≤ℤ negsuc 0 }
+        ensures { IsFieldOf (signed_decimal category) result }
+    {
+        let (digits, size) = self.digits_of(category.unsigned_abs());
+        Field {
+            bytes: digits * 65536 + 0x2d20,
+            size: size + 2,
+        }
+    }
+
+    // The field of a number of seven digits.
+    fn long_field(&self, number: u32) -> Field
+        requires many { 1000000 ≤ number }
+        requires few { number < 10000000 }
+        ensures { IsFieldOf (decimal number) result }
+    {
+        let digits = self.six_digits(number % MILLION) + ZEROS;
+        let first = (number / MILLION + 48) as u64;
+        Field {
+            bytes: (digits * 256 + first) * 256 + 0x20,
+            size: 8,
+        }
+    }
 }
 
-// Makes the field of a cell, and keeps it in the place of another, or returns None if its text is long.
-pub(crate) fn new_field(cell: Cell, null_text: &[u8], fields: &mut [Field]) -> Option<(u64, u32)>
-    requires room { length fields.old ≡ 1024 }
-    requires known { All (IsField null_text.now) fields.old }
-    ensures field { IfSome result (λ field. IsFieldOf null_text.now cell field.0 field.1) }
-    ensures known { All (IsField null_text.now) fields.new }
-{
-    let (bytes, size) = made_field(cell, null_text)?;
-    fields[field_place(cell)] = Field { bytes, size, cell };
-    Some((bytes, size))
-}
-
-// The field that is kept at the place of a cell. It may be free, or the field of another cell.
+// Whether a category is from 0 to 999,999.
 #[inline(always)]
-pub(crate) fn field_at(cell: Cell, null_text: &[u8], fields: &[Field]) -> Field
-    requires room { length fields.now ≡ 1024 }
-    requires known { All (IsField null_text.now) fields.now }
-    ensures { IsField null_text.now result }
+pub(crate) fn is_short_number(category: i32) -> bool
+    ensures { result ≡ true → (pos 0 ≤ℤ category) × (category ≤ℤ pos 999999) }
 {
-    fields[field_place(cell)]
+    category >= 0 && category < MILLION as i32
 }
 
-// Writes the lowest bytes of a number into a line from a place on. Eight are written, however many belong to it.
-#[inline(always)]
-pub(crate) fn put_field(line: &mut [u8], at: usize, bytes: u64)
-    requires { at + 8 ≤ length line.old }
-    ensures { (size : ℕ) → size ≤ 8
-        → take (at + size) line.new ≡ take at line.old ++ low_bytes bytes size }
+// Writes a space and a text into a line from a place on, and returns where they end.
+pub(crate) fn put_text(line: &mut [u8], at: usize, text: &[u8]) -> usize
+    requires { at + 1 + length text.now ≤ length line.old }
+    ensures end { result ≡ at + 1 + length text.now }
+    ensures text { take result line.new ≡ take at line.old ++ byte (codes " ") ∷ text.now }
 {
-    u64x1::from_array([bytes])
+    let end = at + 1 + text.len();
+    line[at] = b' ';
+    line[at + 1..end].copy_from_slice(text);
+    end
+}
+
+// The field of a short text.
+fn text_field(text: &[u8]) -> Field
+    requires { length text.now ≤ 7 }
+    ensures { IsFieldOf text.now result }
+{
+    let mut field = [b' '; 8];
+    let size = put_text(&mut field, 0, text);
+    let [bytes] = u64x1::from_le_bytes(u8x8::from_slice(&field)).to_array();
+    Field { bytes, size }
+}
+
+// What is made once to write a map. It is seen as the text that null is written as.
+#[derive(Drop)]
+pub(crate) struct Fields<'a> {
+    null_text: &'a [u8],
+    // The fields of the cells that bytes stand for, but of null only if its text is short.
+    small: [Field; BYTES],
+    triples: Triples,
+}
+
+impl<'a> Model for Fields<'a> {
+    ghost use Rattle.std.specs.Prelude.{pos, negsuc, ◌≤ℤ◌, List, ℕ};
+    ghost use Rattle.cell_ascii_writer.specs.parts.MadeFields.{AreMade};
+
+    ghost Value = { List ℕ };
+
+    ghost view = { λ fields. fields.null_text.now };
+
+    ghost invariant = { λ fields. AreMade fields.null_text.now fields.small };
+}
+
+impl<'a> Fields<'a> {
+    // The fields for a map whose nulls are written as a text.
+    pub(crate) fn new(null_text: &'a [u8]) -> Fields<'a>
+        requires { length null_text.now ≤ 64 }
+        ensures { result ≡ null_text.now }
+    {
+        let triples = Triples::new();
+        let mut small = [text_field(b"0"); BYTES];
+        for i in 1..NULL {
+            small[i] = triples.field(i as i32);
+        }
+        if null_text.len() <= MOST_TEXT {
+            small[NULL] = text_field(null_text);
+        }
+        Fields {
+            null_text,
+            small,
+            triples,
+        }
+    }
+
+    // What null is written as.
+    pub(crate) fn null_text(&self) -> &'a [u8]
+        ensures value { result.now ≡ self.now }
+        ensures few { length self.now ≤ 64 }
+    {
+        self.null_text
+    }
+
+    // Whether null has a field.
+    #[inline(always)]
+    pub(crate) fn has_null(&self) -> bool
+        ensures { result ≡ true → length self.now ≤ 7 }
+    {
+        self.null_text.len() <= MOST_TEXT
+    }
+
+    // The field of the cell that a byte stands for.
+    #[inline(always)]
+    pub(crate) fn of_byte(&self, byte: u8) -> Field
+        requires { length self.now ≤ 7 }
+        ensures { IsFieldOf (cell_text self.now (byte_cell byte)) result }
+    {
+        self.small[byte as usize]
+    }
+
+    // The field of a category from 0 to 999,999.
+    #[inline(always)]
+    pub(crate) fn of_number(&self, category: i32) -> Field
+        requires least { pos 0 ≤ℤ category }
+        requires most { category ≤ℤ pos 999999 }
+        ensures { IsFieldOf (signed_decimal category) result }
+    {
+        if category < NULL as i32 {
+            return self.small[category as usize];
+        }
+        self.triples.field(category)
+    }
+
+    // The field of a category from -999,999 to 9,999,999.
+    #[inline(always)]
+    pub(crate) fn of_category(&self, category: i32) -> Field
+        requires least { negsuc 999998 ≤ℤ category }
+        requires most { category ≤ℤ pos 9999999 }
+        ensures { IsFieldOf (signed_decimal category) result }
+    {
+        match category {
+            0..=999_999 => self.of_number(category),
+            1_000_000.. => self.triples.long_field(category.unsigned_abs()),
+            _ => self.triples.negative_field(category),
+        }
+    }
+}
+
+// Writes a field into a line from a place on, and returns where it ends. Eight bytes are written, however many belong to it.
+#[inline(always)]
+pub(crate) fn put_field(line: &mut [u8], at: usize, field: Field) -> usize
+    requires room { at + 8 ≤ length line.old }
+    requires few { field.size ≤ 8 }
+    ensures end { result ≡ at + field.size }
+    ensures text { take result line.new ≡ take at line.old ++ low_bytes field.bytes field.size }
+{
+    u64x1::from_array([field.bytes])
         .to_le_bytes()
         .copy_to_slice(&mut line[at..]);
+    at + field.size
 }

@@ -2,7 +2,7 @@
 //!
 //! - `writer`: `write_map`, the grid of a map on a sink, which returns the number of bytes;
 //!   `write_grid`, the same through an `OutputBlock`
-//! - private: `fields`, texts of cells that were written before, copied as eight bytes
+//! - private: `cells_in_line`, the cells of a row, one after another; `fields`, a space and the text of a cell as eight bytes
 //!
 //! `map` was read from `GRID`, which it reproduces:
 //!
@@ -12,5 +12,6 @@
 //! ```
 #![tactic(auto)]
 
+mod cells_in_line;
 mod fields;
 pub mod writer;

@@ -3,16 +3,17 @@
 ghost use Rattle.std.specs.Prelude.{◌≡◌, ◌+◌, ◌<◌, ◌≤◌, ◌==◌, ◌++◌, codes, decimal, drop, flat_map, All, length, replicate, reverse, take, OnOk, IfOk, IfErr, is_err};
 ghost use Rattle.std.specs.List.{prefix_len};
 ghost use Rattle.cell_core_values.specs.Letters.{byte};
+ghost use Rattle.cell_core_values.specs.SmallCells.{cells_of_bytes};
 ghost use Rattle.cell_core_devices.specs.Blocks.{Appends};
 ghost use Rattle.cell_core_devices.specs.Device.{append_known, after_put};
 ghost use Rattle.cell_core.specs.Grid.{row_at};
 ghost use Rattle.cell_core.specs.Runs.{written_out};
 ghost use Rattle.cell_ascii_meaning.specs.Writing.{IsNullText, coordinate_text, fraction_text, grid_text, line_of_key, null_line, region_text, row_text, units_text, without_zeros};
-ghost use Rattle.cell_ascii_writer.specs.Fields.{AppendsBut, low_bytes};
-ghost use Rattle.cell_ascii_writer.specs.WrittenRuns.{spaced_cells, joined_cells, times};
-ghost use Rattle.cell_ascii_writer.specs.parts.KeptFields.{AreKept};
+ghost use Rattle.cell_ascii_writer.specs.Fields.{AppendsBut};
+ghost use Rattle.cell_ascii_writer.specs.WrittenRuns.{spaced_cells, joined_cells};
 
-use crate::fields::{FIELDS, Field, field_at, free_field, new_field, put_field};
+use crate::cells_in_line::{CELLS, LINE, ROOM, put_bytes, put_cells, put_run};
+use crate::fields::Fields;
 use cell_core::block::OutputBlock;
 use cell_core::cell::Cell;
 use cell_core::map::CellMap;
@@ -20,19 +21,11 @@ use cell_core::printed_cell::write_cell;
 use cell_core::region::Region;
 use cell_core::sink::{Sink, WriteFault};
 use cell_core::stretches::Stretches;
+use cell_core_values::small_cells::cell_of_byte;
 use itoa::Buffer;
-
-// The bytes of a space and of the longest text of a cell.
-const FIELD: usize = 65;
 
 // How many units a coordinate of 1 has.
 const UNIT: u64 = 100000000;
-
-// How many bytes of a row are gathered before they are pushed.
-const LINE: usize = 1024;
-
-// The most bytes of a field that is kept.
-const MOST_FIELD: usize = 8;
 
 // How many zeros are at the end.
 fn zeros_at_end(digits: &[u8]) -> usize
@@ -150,54 +143,6 @@ fn write_null_line<W: Sink>(out: &mut W, block: &mut OutputBlock, null_text: &[u
     write_line(out, block, b"null", null_text);
 }
 
-// A space and a text, with spaces after them.
-pub(crate) fn field_of_text(text: &[u8]) -> [u8; FIELD]
-    requires { length text.now ≤ 64 }
-    ensures { take (length text.now + 1) result ≡ codes " " ++ text.now }
-{
-    let mut field = [b' '; FIELD];
-    field[1..=text.len()].copy_from_slice(text);
-    field
-}
-
-// Writes a field, so many times. It is inlined, so that a field of a known length is copied without a call.
-#[inline(always)]
-fn write_copies<W: Sink>(out: &mut W, block: &mut OutputBlock, field: &[u8], count: u32)
-    ensures { Appends W.taken W.faults out.old block.old (times count field.now) out.new block.new }
-{
-    for _ in 0..count {
-        block.push(out, field);
-    }
-}
-
-// Writes a space and a text, so many times.
-fn write_times<W: Sink>(out: &mut W, block: &mut OutputBlock, text: &[u8], count: u32)
-    requires { length text.now ≤ 64 }
-    ensures { Appends W.taken W.faults out.old block.old (times count (codes " " ++ text.now))
-        out.new block.new }
-{
-    let bytes = field_of_text(text);
-    write_copies(out, block, &bytes[..text.len() + 1], count);
-}
-
-// Writes a space and the cell of a run, for each cell of it, straight into the block. Its text is made once.
-fn write_long_run<W: Sink>(
-    out: &mut W,
-    block: &mut OutputBlock,
-    cell: Cell,
-    count: u32,
-    null_text: &[u8],
-)
-    requires { length null_text.now ≤ 64 }
-    ensures { Appends W.taken W.faults out.old block.old
-        (spaced_cells null_text.now (replicate count cell)) out.new block.new }
-{
-    match cell.get() {
-        None => write_times(out, block, null_text, count),
-        Some(category) => write_times(out, block, Buffer::new().format(category).as_bytes(), count),
-    }
-}
-
 // Pushes the bytes of a line up to a place. It is not inlined, as it would take registers from the loops over cells.
 #[inline(never)]
 fn push_line<W: Sink>(out: &mut W, block: &mut OutputBlock, line: &[u8], end: usize)
@@ -207,165 +152,177 @@ fn push_line<W: Sink>(out: &mut W, block: &mut OutputBlock, line: &[u8], end: us
     block.push(out, &line[..end]);
 }
 
-// Pushes the line if it has no room for a field. Returns where the bytes end that are left.
-#[inline(always)]
-fn make_room<W: Sink>(out: &mut W, block: &mut OutputBlock, line: &[u8], end: usize) -> usize
-    requires room { length line.now ≡ 1024 }
-    requires within { end ≤ 1024 }
-    ensures text { AppendsBut W.taken W.faults out.old block.old (take end line.now)
-        (take result line.now) out.new block.new }
-    ensures within { result ≤ 1016 }
-{
-    if end <= LINE - MOST_FIELD {
-        return end;
-    }
-    push_line(out, block, line, end);
-    0
-}
-
-// Writes a field, so many times, into a line from a place on, whose bytes before it are still to be pushed. Pushes the line
-// whenever it is full, and returns where the bytes end that are left.
-#[inline(always)]
-fn write_field<W: Sink>(
-    out: &mut W,
-    block: &mut OutputBlock,
-    line: &mut [u8],
-    start: usize,
-    field: (u64, u32),
-    count: u32,
-) -> usize
-    requires room { length line.old ≡ 1024 }
-    requires within { start ≤ 1024 }
-    requires few { field.1 ≤ 8 }
-    ensures text { AppendsBut W.taken W.faults out.old block.old
-        (take start line.old ++ times count (low_bytes field.0 field.1)) (take result line.new)
-        out.new block.new }
-    ensures within { result ≤ 1024 }
-{
-    let mut end = start;
-    for _ in 0..count {
-        let at = make_room(out, block, line, end);
-        put_field(line, at, field.0);
-        end = at + field.1 as usize;
-    }
-    end
-}
-
-// Writes a space and the cell of a run, for each cell of it, in the same way, if its field is not kept.
+// Writes a space and the cell of a run, for each cell of it, after the bytes of a line up to a place, which are still to be
+// pushed, if the line has no room for them. Returns where the bytes end that are left.
 #[inline(never)]
-fn write_new_run<W: Sink>(
+fn write_long_run<W: Sink>(
     out: &mut W,
     block: &mut OutputBlock,
-    fields: &mut [Field],
     line: &mut [u8],
     start: usize,
     run: (Cell, u32),
-    null_text: &[u8],
+    fields: &Fields<'_>,
 ) -> usize
-    requires { AreKept null_text.now fields.old line.old start }
+    requires room { length line.old ≡ 9216 }
+    requires start { start ≤ 9216 }
     ensures text { AppendsBut W.taken W.faults out.old block.old
-        (take start line.old ++ spaced_cells null_text.now (replicate run.1 run.0))
+        (take start line.old ++ spaced_cells fields.now (replicate run.1 run.0))
         (take result line.new) out.new block.new }
-    ensures kept { AreKept null_text.now fields.new line.new result }
+    ensures end { result ≤ 9216 }
 {
-    let Some(field) = new_field(run.0, null_text, fields) else {
-        push_line(out, block, line, start);
-        write_long_run(out, block, run.0, run.1, null_text);
-        return 0;
-    };
-    write_field(out, block, line, start, field, run.1)
+    push_line(out, block, line, start);
+    let mut left = run.1 as usize;
+    while left > CELLS {
+        let end = put_run(line, 0, run.0, CELLS, fields);
+        push_line(out, block, line, end);
+        left -= CELLS;
+    }
+    put_run(line, 0, run.0, left, fields)
 }
 
-// The same, whether its field is kept or not.
+// The same, whether the line has room or not.
 #[inline(always)]
 fn write_run<W: Sink>(
     out: &mut W,
     block: &mut OutputBlock,
-    fields: &mut [Field],
     line: &mut [u8],
     start: usize,
     run: (Cell, u32),
-    null_text: &[u8],
+    fields: &Fields<'_>,
 ) -> usize
-    requires { AreKept null_text.now fields.old line.old start }
+    requires room { length line.old ≡ 9216 }
+    requires start { start ≤ 9216 }
     ensures text { AppendsBut W.taken W.faults out.old block.old
-        (take start line.old ++ spaced_cells null_text.now (replicate run.1 run.0))
+        (take start line.old ++ spaced_cells fields.now (replicate run.1 run.0))
         (take result line.new) out.new block.new }
-    ensures kept { AreKept null_text.now fields.new line.new result }
+    ensures end { result ≤ 9216 }
 {
-    let field = field_at(run.0, null_text, fields);
-    if field.size > 0 && field.cell == run.0 {
-        return write_field(out, block, line, start, (field.bytes, field.size), run.1);
+    if start + ROOM * run.1 as usize <= LINE {
+        return put_run(line, start, run.0, run.1 as usize, fields);
     }
-    write_new_run(out, block, fields, line, start, run, null_text)
+    write_long_run(out, block, line, start, run, fields)
 }
 
-// Writes a space and a cell for each cell of the runs, after the bytes of a line that are still to be pushed.
+// Writes a space and a cell for each cell of the runs, after the bytes of a line up to a place.
 fn write_runs<W: Sink>(
     out: &mut W,
     block: &mut OutputBlock,
-    fields: &mut [Field],
     line: &mut [u8],
     start: usize,
     runs: Stretches<'_>,
-    null_text: &[u8],
+    fields: &Fields<'_>,
 )
-    requires { AreKept null_text.now fields.old line.old start }
-    ensures text { Appends W.taken W.faults out.old block.old
-        (take start line.old ++ spaced_cells null_text.now (written_out runs.entry))
+    requires room { length line.old ≡ 9216 }
+    requires start { start ≤ 9216 }
+    ensures { Appends W.taken W.faults out.old block.old
+        (take start line.old ++ spaced_cells fields.now (written_out runs.entry))
         out.new block.new }
-    ensures kept { AreKept null_text.now fields.new line.new 0 }
 {
     let mut end = start;
     for (cell, count) in runs {
-        end = write_run(out, block, fields, line, end, (cell, count), null_text);
+        end = write_run(out, block, line, end, (cell, count), fields);
     }
     push_line(out, block, line, end);
 }
 
 // Writes the cells of the runs of a row, with a space between each two.
-fn write_row_cells<W: Sink>(
+fn write_run_row<W: Sink>(
     out: &mut W,
     block: &mut OutputBlock,
-    fields: &mut [Field],
     line: &mut [u8],
     runs: Stretches<'_>,
-    null_text: &[u8],
+    fields: &Fields<'_>,
 )
     requires some { All (λ run. 0 < run.1) runs }
-    requires kept { AreKept null_text.now fields.old line.old 0 }
-    ensures text { Appends W.taken W.faults out.old block.old
-        (joined_cells null_text.now (written_out runs.entry)) out.new block.new }
-    ensures kept { AreKept null_text.now fields.new line.new 0 }
+    requires room { length line.old ≡ 9216 }
+    ensures { Appends W.taken W.faults out.old block.old
+        (joined_cells fields.now (written_out runs.entry)) out.new block.new }
 {
     let mut others = runs;
     let Some(first) = others.next() else {
         return;
     };
-    write_cell(out, block, first.0, null_text);
+    write_cell(out, block, first.0, fields.null_text());
     let others_alike = (first.0, first.1 - 1);
-    let end = write_run(out, block, fields, line, 0, others_alike, null_text);
-    write_runs(out, block, fields, line, end, others, null_text);
+    let end = write_run(out, block, line, 0, others_alike, fields);
+    write_runs(out, block, line, end, others, fields);
 }
 
-// Writes the line of a row.
-fn write_grid_row<W: Sink>(
+// Writes the cells of a row, with a space between each two.
+fn write_cell_row<W: Sink>(
     out: &mut W,
     block: &mut OutputBlock,
-    fields: &mut [Field],
+    line: &mut [u8],
+    cells: &[Cell],
+    fields: &Fields<'_>,
+)
+    requires { length line.old ≡ 9216 }
+    ensures { Appends W.taken W.faults out.old block.old (joined_cells fields.now cells.now)
+        out.new block.new }
+{
+    let Some((first, others)) = cells.split_first() else {
+        return;
+    };
+    write_cell(out, block, *first, fields.null_text());
+    let mut rest = others;
+    while rest.len() > CELLS {
+        let (part, after) = rest.split_at(CELLS);
+        let end = put_cells(line, part, fields);
+        push_line(out, block, line, end);
+        rest = after;
+    }
+    let end = put_cells(line, rest, fields);
+    push_line(out, block, line, end);
+}
+
+// Writes the cells that bytes stand for, with a space between each two.
+fn write_byte_row<W: Sink>(
+    out: &mut W,
+    block: &mut OutputBlock,
+    line: &mut [u8],
+    bytes: &[u8],
+    fields: &Fields<'_>,
+)
+    requires { length line.old ≡ 9216 }
+    ensures { Appends W.taken W.faults out.old block.old
+        (joined_cells fields.now (cells_of_bytes bytes.now)) out.new block.new }
+{
+    let Some((first, others)) = bytes.split_first() else {
+        return;
+    };
+    write_cell(out, block, cell_of_byte(*first), fields.null_text());
+    let mut rest = others;
+    while rest.len() > CELLS {
+        let (part, after) = rest.split_at(CELLS);
+        let end = put_bytes(line, part, fields);
+        push_line(out, block, line, end);
+        rest = after;
+    }
+    let end = put_bytes(line, rest, fields);
+    push_line(out, block, line, end);
+}
+
+// Writes the cells of a row, in the way that fits how they are kept.
+fn write_row_cells<W: Sink>(
+    out: &mut W,
+    block: &mut OutputBlock,
     line: &mut [u8],
     map: &CellMap,
     row: u32,
-    null_text: &[u8],
+    fields: &Fields<'_>,
 )
     requires row { row < map.now.region.rows }
-    requires kept { AreKept null_text.now fields.old line.old 0 }
-    ensures text { Appends W.taken W.faults out.old block.old
-        (row_text null_text.now (row_at map.now row)) out.new block.new }
-    ensures kept { AreKept null_text.now fields.new line.new 0 }
+    requires room { length line.old ≡ 9216 }
+    ensures { Appends W.taken W.faults out.old block.old
+        (joined_cells fields.now (row_at map.now row)) out.new block.new }
 {
-    write_row_cells(out, block, fields, line, map.stretches(row), null_text);
-    block.push(out, b"\n");
+    if let Some(cells) = map.cells(row) {
+        return write_cell_row(out, block, line, cells, fields);
+    }
+    if let Some(bytes) = map.bytes(row) {
+        return write_byte_row(out, block, line, bytes, fields);
+    }
+    write_run_row(out, block, line, map.stretches(row), fields);
 }
 
 // Writes the lines of all rows.
@@ -374,13 +331,14 @@ fn write_rows<W: Sink>(out: &mut W, block: &mut OutputBlock, map: &CellMap, null
     ensures { Appends W.taken W.faults out.old block.old
         (flat_map (row_text null_text.now) map.now.rows) out.new block.new }
 {
-    let mut fields = [free_field(); FIELDS];
+    let fields = Fields::new(null_text);
     let mut line = [0u8; LINE];
     for row in 0..map.region().rows() {
         if block.has_failed() {
             return;
         }
-        write_grid_row(out, block, &mut fields, &mut line, map, row, null_text);
+        write_row_cells(out, block, &mut line, map, row, &fields);
+        block.push(out, b"\n");
     }
 }
 

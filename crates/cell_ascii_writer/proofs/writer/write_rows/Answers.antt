@@ -7,7 +7,6 @@ use Rattle.cell_core_values.specs.Region.{RegionValue}
 use Rattle.cell_core_devices.proofs.PieceLemmas.{flat_map-take}
 use Rattle.cell_core_devices.proofs.BlockLemmas.{appends_cut, appends_none, appends_then}
 use Rattle.cell_ascii_meaning.specs.Writing.{row_text}
-use Rattle.cell_ascii_writer.proofs.PendingLemmas.{free_fields}
 use Rattle.cell_ascii_writer.proofs.WriterLemmas.{at_end}
 use Rattle.cell_ascii_writer.proofs.writer.write_rows.Goals as goal
 
@@ -30,8 +29,8 @@ loop-row-preserved g c =
     c.rows-row-end.ensures.value ∙ ap (λ (e : RegionValue). e.rows) c.region.ensures.value in
     let within : row < length rows = below _ _ _ _ c.loop-row-test.true height c.region.ensures.filled.count in
     record {
-      text = rw (flat_map-take (row_text c.args.null_text.now) rows row [] (row_at c.args.map.now row) within refl) (appends_then c.loop-row.invariant.text c.write_grid_row.ensures.text);
-      kept = c.write_grid_row.ensures.kept;
+      text = rw (flat_map-take (row_text c.args.null_text.now) rows row [] (row_at c.args.map.now row) within refl) (appends_then c.loop-row.invariant.text (appends_then (rw c.new-fields.ensures at c.write_row_cells.ensures) c.push.ensures));
+      room = search rules;
     }
 
 pub returns : goal.returns
@@ -43,15 +42,3 @@ returns g c =
     let all : row ≡ length rows =
     at_end _ _ c.loop-row-test.false c.loop-row.auto.row-end ∙ height ∙ sym c.region.ensures.filled.count in
     rw (all, take-length rows) at c.loop-row.invariant.text
-
-pub loop-row-init : goal.loop-row-init
-loop-row-init g c = record {
-  text = appends_none;
-  kept = record {
-    null = c.requires;
-    fields_kept = search rules;
-    known = free_fields c.args.null_text.now 1024 c.free_field-fields.result c.free_field-fields.ensures;
-    room = search rules;
-    within = omega arith;
-  };
-}

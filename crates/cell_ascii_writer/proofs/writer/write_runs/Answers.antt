@@ -9,12 +9,13 @@ pub loop-cell-init : goal.loop-cell-init
 loop-cell-init g c = record {
   text = rw append-nil (pending_none (take c.args.start c.args.line.now));
   whole = c.into_iter-cell-iterator.ensures.into_iter_gives;
-  kept = c.requires;
+  within = c.requires.start;
+  room = c.requires.room;
 }
 
 pub loop-cell-preserved : goal.loop-cell-preserved
 loop-cell-preserved g c =
-    let null = c.args.null_text.now in
+    let null = c.args.fields.now in
     let done : List RunValue = c.loop-cell.yielded in
     let rest : List RunValue = c.next.new.self in
     let run : RunValue = (c.in-Some.cell, c.in-Some.count) in
@@ -25,11 +26,12 @@ loop-cell-preserved g c =
           (pending_then (pending_more more c.loop-cell.invariant.text) c.write_run-end.ensures.text);
       whole = append_assoc done (run ∷ []) rest
           ∙ ap (λ (l : List RunValue). done ++ l) (sym c.in-Some.ensures.steps) ∙ c.loop-cell.invariant.whole;
-      kept = c.write_run-end.ensures.kept;
+      within = c.write_run-end.ensures.end;
+      room = c.write_run-end.auto.line ∙ c.loop-cell.invariant.room;
     }
 
-pub returns-clause-text : goal.returns-clause-text
-returns-clause-text g c =
+pub returns : goal.returns
+returns g c =
     let done : List RunValue = c.loop-cell.yielded in
     let all : done ≡ c.args.runs =
     sym (append-nil done) ∙ ap (λ (l : List RunValue). done ++ l) (sym c.in-None.ensures.steps.0) ∙

@@ -1,13 +1,13 @@
-use Rattle.std.proofs.Common.{◌≡◌, ◌++◌, take}
+use Rattle.std.proofs.Common.{◌≡◌, ◌≤◌, ◌++◌, length, take}
 use Rattle.cell_core.specs.Runs.{written_out}
 use Rattle.cell_ascii_writer.specs.Fields.{AppendsBut}
 use Rattle.cell_ascii_writer.specs.WrittenRuns.{spaced_cells}
 use Rattle.cell_ascii_writer.proofs.writer.write_runs.Given as goal
-use Rattle.cell_ascii_writer.specs.parts.KeptFields.{AreKept}
 
 abbrev pub invariant-loop-cell : goal.invariant-loop-cell
 invariant-loop-cell g l = record {
-  text : AppendsBut g.W.Sink.taken g.W.Sink.faults l.fn.out l.fn.block (take l.start l.fn.line ++ spaced_cells l.null_text (written_out l.yielded)) (take l.end l.line) l.out l.block;
+  text : AppendsBut g.W.Sink.taken g.W.Sink.faults l.fn.out l.fn.block (take l.start l.fn.line ++ spaced_cells l.fields (written_out l.yielded)) (take l.end l.line) l.out l.block;
   whole : l.yielded ++ l.cell-iterator ≡ l.fn.runs;
-  kept : AreKept l.null_text l.fields l.line l.end;
+  within : l.end ≤ 9216;
+  room : length l.line ≡ 9216;
 }

@@ -1,0 +1,43 @@
+-- Fields of the cells that bytes stand for.
+use Rattle.std.proofs.Common.{◌≡◌, ◌≢◌, ◌∙◌, ℕ, ◌<◌, ◌≤◌, ◌==◌, false, List, [], ◌∷◌, length, get_or, replicate, decimal, ap, refl, sym, subst, arith}
+use Rattle.std.proofs.Math.ListN.{set}
+use Rattle.std.proofs.lemmas.Bool.Decides.{nat_tests}
+use Rattle.std.proofs.lemmas.Fmt.{decimal_digit}
+use Rattle.std.proofs.lemmas.List.{get_or-replicate, get_or-set_other, get_or-set_same}
+use Rattle.cell_core_values.specs.SmallCells.{byte_cell}
+use Rattle.cell_core.specs.Text.{cell_text}
+use Rattle.cell_ascii_writer.specs.Fields.{IsFieldOf}
+use Rattle.cell_ascii_writer.specs.declared.fields.Field.{Field}
+use Rattle.cell_ascii_writer.specs.parts.MadeFields.{AreMade}
+
+-- the text of the cell that a byte other than 255 stands for
+small-text : (null : List ℕ) (i : ℕ) → i < 255 → cell_text null (byte_cell i) ≡ decimal i
+small-text null i below = let t : (i == 255) ≡ false = grind (arith, nat_tests) in rw t
+
+-- the field of 0 is the first
+pub first-made : (n : ℕ) (field : Field) → IsFieldOf (48 ∷ []) field → 0 < n → (k : ℕ) (d : Field) → k < 1
+    → IsFieldOf (decimal k) (get_or (replicate n field) k d)
+first-made n field is some k d below =
+    let first : k ≡ 0 = omega arith in
+    let digit : 0 < 10 = omega arith in
+    rw (first, get_or-replicate n 0 field d some, decimal_digit 0 digit) is
+
+module _ (null : List ℕ) (small : List Field) (short : length null ≤ 64)
+    (made : (k : ℕ) (d : Field) → k < 255 → IsFieldOf (decimal k) (get_or small k d)) where
+  -- null has no field
+  pub made-but_null : 7 < length null → AreMade null small
+  made-but_null long = record {
+    null = short;
+    categories = λ i d below. rw (small-text null i below) (made i d below);
+    null_field = λ d few. absurd (omega (arith, few, long));
+  }
+
+  -- it has one
+  pub made-all : (field : Field) → length small ≡ 256 → IsFieldOf null field → AreMade null (set small 255 field)
+  made-all field room is = record {
+    null = short;
+    categories = λ i d below.
+        let other : i ≢ 255 = omega arith in
+        rw (small-text null i below, get_or-set_other small 255 i field d other) (made i d below);
+    null_field = λ d few. let within : 255 < length small = omega arith in rw (get_or-set_same small 255 field d within) is;
+  }

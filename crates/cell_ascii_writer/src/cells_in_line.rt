@@ -1,0 +1,159 @@
+//! The cells of a row, written into a line.
+
+ghost use Rattle.std.specs.Prelude.{◌≡◌, ℕ, ◌+◌, ◌*◌, ◌<◌, ◌≤◌, ◌∷◌, ◌++◌, codes, length, replicate, take};
+ghost use Rattle.cell_core_values.specs.Letters.{byte};
+ghost use Rattle.cell_core_values.specs.SmallCells.{cells_of_bytes};
+ghost use Rattle.cell_core.specs.Text.{cell_text};
+ghost use Rattle.cell_ascii_writer.specs.Fields.{low_bytes};
+ghost use Rattle.cell_ascii_writer.specs.WrittenRuns.{spaced_cells, times};
+
+use crate::fields::{Field, Fields, is_short_number, put_field, put_text};
+use cell_core::cell::Cell;
+use cell_core_values::small_cells::cell_of_byte;
+use itoa::Buffer;
+
+// How many cells are gathered at most before they are pushed.
+pub(crate) const CELLS: usize = 128;
+
+// The room for a cell: its text has at most 64 bytes, and a space is before it. A number is multiplied faster by 72 than by 65.
+pub(crate) const ROOM: usize = 72;
+
+// The bytes of so many cells.
+pub(crate) const LINE: usize = CELLS * ROOM;
+
+// Writes a space and a cell into a line from a place on, and returns where they end. Its text may be long.
+fn put_long_cell(line: &mut [u8], at: usize, cell: Cell, fields: &Fields<'_>) -> usize
+    requires { at + 72 ≤ length line.old }
+    ensures end { result ≤ at + 72 }
+    ensures text { take result line.new
+        ≡ take at line.old ++ byte (codes " ") ∷ cell_text fields.now cell }
+{
+    match cell.get() {
+        None => put_text(line, at, fields.null_text()),
+        Some(category) => put_text(line, at, Buffer::new().format(category).as_bytes()),
+    }
+}
+
+// Writes a field, so many times, into a line from a place on, and returns where they end.
+#[inline(always)]
+fn put_fields(line: &mut [u8], start: usize, field: Field, count: usize) -> usize
+    requires room { start + 8 * count ≤ length line.old }
+    requires few { field.size ≤ 8 }
+    ensures end { result ≤ start + 8 * count }
+    ensures text { take result line.new
+        ≡ take start line.old ++ times count (low_bytes field.bytes field.size) }
+{
+    let mut end = start;
+    for _ in 0..count {
+        end = put_field(line, end, field);
+    }
+    end
+}
+
+// Writes a space and a cell, so many times, in the same way. Its text may be long.
+fn put_long_cells(
+    line: &mut [u8],
+    start: usize,
+    cell: Cell,
+    count: usize,
+    fields: &Fields<'_>,
+) -> usize
+    requires { start + 72 * count ≤ length line.old }
+    ensures end { result ≤ start + 72 * count }
+    ensures text { take result line.new
+        ≡ take start line.old ++ spaced_cells fields.now (replicate count cell) }
+{
+    let mut end = start;
+    for _ in 0..count {
+        end = put_long_cell(line, end, cell, fields);
+    }
+    end
+}
+
+// Writes a space and a cell, so many times, in the same way, if it is null or its text is long. It is not inlined, as it would
+// take registers from the loops over cells.
+#[inline(never)]
+fn put_other_cells(
+    line: &mut [u8],
+    start: usize,
+    cell: Cell,
+    count: usize,
+    fields: &Fields<'_>,
+) -> usize
+    requires { start + 72 * count ≤ length line.old }
+    ensures end { result ≤ start + 72 * count }
+    ensures text { take result line.new
+        ≡ take start line.old ++ spaced_cells fields.now (replicate count cell) }
+{
+    match cell.get() {
+        None if fields.has_null() => put_fields(line, start, fields.of_byte(255), count),
+        _ => put_long_cells(line, start, cell, count, fields),
+    }
+}
+
+// Writes a space and a cell, so many times, in the same way. Most cells are numbers of few digits, so that is asked first.
+#[inline(always)]
+pub(crate) fn put_run(
+    line: &mut [u8],
+    start: usize,
+    cell: Cell,
+    count: usize,
+    fields: &Fields<'_>,
+) -> usize
+    requires { start + 72 * count ≤ length line.old }
+    ensures end { result ≤ start + 72 * count }
+    ensures text { take result line.new
+        ≡ take start line.old ++ spaced_cells fields.now (replicate count cell) }
+{
+    let field = match cell.get() {
+        Some(category) if is_short_number(category) => fields.of_number(category),
+        Some(category @ -999_999..=9_999_999) => fields.of_category(category),
+        _ => return put_other_cells(line, start, cell, count, fields),
+    };
+    put_fields(line, start, field, count)
+}
+
+// Writes a space and a cell, for each cell, into a line, and returns where they end.
+#[inline(never)]
+pub(crate) fn put_cells(line: &mut [u8], cells: &[Cell], fields: &Fields<'_>) -> usize
+    requires { 72 * length cells.now ≤ length line.old }
+    ensures end { result ≤ length line.old }
+    ensures text { take result line.new ≡ spaced_cells fields.now cells.now }
+{
+    let mut end = 0;
+    for cell in cells {
+        end = put_run(line, end, *cell, 1, fields);
+    }
+    end
+}
+
+// The same for the cells that bytes stand for.
+#[inline(never)]
+fn put_byte_cells(line: &mut [u8], bytes: &[u8], fields: &Fields<'_>) -> usize
+    requires { 72 * length bytes.now ≤ length line.old }
+    ensures end { result ≤ length line.old }
+    ensures text { take result line.new ≡ spaced_cells fields.now (cells_of_bytes bytes.now) }
+{
+    let mut end = 0;
+    for byte in bytes {
+        end = put_run(line, end, cell_of_byte(*byte), 1, fields);
+    }
+    end
+}
+
+// The same. If null has a field, each of the cells has one.
+#[inline(never)]
+pub(crate) fn put_bytes(line: &mut [u8], bytes: &[u8], fields: &Fields<'_>) -> usize
+    requires { 72 * length bytes.now ≤ length line.old }
+    ensures end { result ≤ length line.old }
+    ensures text { take result line.new ≡ spaced_cells fields.now (cells_of_bytes bytes.now) }
+{
+    if !fields.has_null() {
+        return put_byte_cells(line, bytes, fields);
+    }
+    let mut end = 0;
+    for byte in bytes {
+        end = put_field(line, end, fields.of_byte(*byte));
+    }
+    end
+}
