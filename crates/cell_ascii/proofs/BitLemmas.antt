@@ -4,7 +4,7 @@ use Rattle.std.specs.Prelude.{◌||◌}
 use Rattle.std.specs.List.{prefix_len, list_all}
 use Rattle.std.specs.Int.RustNames.{count_ones}
 use Rattle.std.proofs.lemmas.Simd.{trailing_mask_l, ones-mask_l, mask_l-mod}
-use Rattle.std.proofs.lemmas.Nat.{and_block, and_mask, one_shl, mod-pow-add, field_of, shl-shr}
+use Rattle.std.proofs.lemmas.Nat.{and_block, field_of, shl-shr}
 use Rattle.std.proofs.lemmas.List.{length-map, take-map, take-take, drop-take, get_or-take}
 use Rattle.std.specs.Int.Bits.{bit_and, bit_or, and_self}
 pub use Rattle.cell_ascii_lanes.proofs.ByteBitLemmas.{bit, turned, mask-take, below}

@@ -1,17 +1,16 @@
 -- The cells of the short words of a block.
-use Rattle.std.proofs.Common.{◌≡◌, ℕ, zero, suc, ◌+◌, ◌-◌, ◌*◌, ◌^◌, ◌<◌, ◌≤◌, w64, eqb, leb, cond, Bool, true, false, not, pos, List, [], ◌∷◌, ◌++◌, Some, None, Ok, map, length, take, drop, get_or, refl, sym, ap, ap₂, ◌∙◌, arith, subst, length-take, length-drop, append-nil}
-use Rattle.std.specs.Prelude.{◌&&◌, ◌==◌, bytes_eq}
+use Rattle.std.proofs.Common.{◌≡◌, ℕ, zero, suc, ◌+◌, ◌-◌, ◌*◌, ◌^◌, ◌<◌, ◌≤◌, w64, eqb, leb, cond, Bool, true, false, not, pos, List, [], ◌∷◌, ◌++◌, Some, None, Ok, map, length, take, drop, get_or, refl, sym, ap, ap₂, ◌∙◌, arith, subst, length-take, length-drop}
+use Rattle.std.specs.Prelude.{◌&&◌}
 use Rattle.std.specs.List.{list_all}
 use Rattle.std.proofs.lemmas.List.{take_more, drop_more, get_or-drop, get_or-take, drop-take, take-take, get_or-map, length-map, get_or_past}
 use Rattle.std.proofs.lemmas.List.{map-append}
-use Rattle.std.proofs.lemmas.Bool.{eqb-true, eqb-false}
+use Rattle.std.proofs.lemmas.Bool.{eqb-true}
 use Rattle.std.proofs.lemmas.Bool.Decides.{nat_tests}
 use Rattle.cell_core_values.specs.SmallCells.{byte_cell, cells_of_bytes}
-use Rattle.cell_core.specs.Grid.{CellValue}
 use Rattle.cell_ascii_meaning.specs.GridTokens.{is_space, is_word_byte, newlines}
 use Rattle.cell_ascii_meaning.specs.EdgeNumbers.{is_digit, value_of_digits, whole_number, is_in_range}
 use Rattle.cell_ascii_meaning.specs.Header.{HeaderValue}
-use Rattle.cell_ascii_meaning.specs.CellTexts.{cell_of_word, cell_of_number}
+use Rattle.cell_ascii_meaning.specs.CellTexts.{cell_of_word}
 use Rattle.cell_ascii.specs.TableWords.{HoldsLines, blanks}
 use Rattle.cell_ascii.specs.parts.ByteWords.{IsPlain}
 use Rattle.cell_ascii_lanes.specs.WordLanes.{AreWordValues, AreShortWords, is_null_star, kept}

@@ -8,7 +8,7 @@
 //!   commas are our own choice (profile)
 //! - `law`: a line is read as a rule exactly if it spells one; `* = *` keeps every cell
 //! - private: `line` and `rule`, a line and its rule; `pieces`, the number line cut at the ends of
-//!   ranges; `known`, new categories that were found before
+//!   ranges; `byte_table`, the new categories of all bytes; `known`, those that were found before
 //!
 //! A case of the tests: lines, categories of a map, its new categories, and a label:
 //!

@@ -193,8 +193,11 @@ module _ (m : Grid) (r c : ℕ) (v : ℤ) (table labels : List ℕ) (f : ℕ →
       (area_label_at m labels) l v near.left → f (area_label_at m labels p) ≡ f near.left.label
   over_left p l h g s t =
       let a = h.0 in let b = h.1 in let z = g.0 in let w = g.1 in
-      met EdgesAndCorners m r c v table labels f rd p l near.above near.left (inr (inl (omega arith), inr
-          (omega arith))) s t
+      met EdgesAndCorners m r c v table labels f rd p l near.above near.left (inr (
+        inl (omega arith),
+        inr
+            (omega arith),
+      )) s t
 
   pub corners_left : near.left.cell ≡ Some v → (near.upper_right.cell ≡ Some v → near.above.cell ≡ Some v)
       → Shares EdgesAndCorners m table labels f r c v near.left.label
@@ -207,10 +210,10 @@ module _ (m : Grid) (r c : ℕ) (v : ℤ) (table labels : List ℕ) (f : ℕ →
       (λ p h s. over_left p t.0 h t.1 s t.2)
       (λ p h s. under_left p t.0 h t.1 s t.2)
       (λ p h s. let u = report m (length labels) (area_label_at m labels) (IsAbove r c) near.above v n.above
-          (between s.cell) in
+      (between s.cell) in
       let a = h.0 in let b = h.1 in let x = u.1.0 in let y = u.1.1 in
       sym (met EdgesAndCorners m r c v table labels f rd u.0 p near.above near.upper_right
-          (beside EdgesAndCorners u.0 p (omega arith) (omega arith)) u.2 s ∙ ap f s.label)
+      (beside EdgesAndCorners u.0 p (omega arith) (omega arith)) u.2 s ∙ ap f s.label)
       ∙ over_left u.0 t.0 u.1 t.1 u.2 t.2))
 
   pub corners_joined_left : (new : List ℕ) → cell_at_position m (position r c) ≡ Some v → (near.above.cell ≡ Some v → ⊥) → near.left.cell ≡ Some v → near.upper_right.cell ≡ Some v → length new ≡ length table → LeadsToOpen new (after_join f near.upper_right.label near.left.label) → Shares EdgesAndCorners m new labels f r c v near.left.label

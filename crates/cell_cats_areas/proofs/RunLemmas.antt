@@ -24,7 +24,7 @@ use Rattle.cell_cats_areas.specs.parts.AreasRead.{AreInside, AreNear, AreRowsRea
 use Rattle.cell_cats_areas.specs.parts.AreasRead.{IsLabelledCell, IsLine, LabelsNext, Shares, WasRead, area_label_at}
 use Rattle.cell_cats_areas.specs.parts.AreasRead.{near_at}
 use Rattle.cell_cats_areas.specs.parts.Starts.{IsCellAt}
-use Rattle.cell_cats_areas.specs.parts.RunsOfLabels.{HaveLikeNeighbours, AreKeptLabels, AreWalked, HaveRuns, IsAt}
+use Rattle.cell_cats_areas.specs.parts.RunsOfLabels.{HaveLikeNeighbours, AreKeptLabels, AreWalked, HaveRuns, HasCellInHand}
 use Rattle.cell_cats_areas.specs.parts.RunsOfLabels.{IsWalked, labels_along, line_of_runs, near_under, no_neighbour}
 use Rattle.cell_cats_areas.specs.parts.RunsOfLabels.{cells_to_come}
 use Rattle.cell_cats_areas.proofs.LineLemmas.{beside_first, cells_first, cells_down, cells_down_labels}
@@ -215,7 +215,7 @@ walked_inside j m kept table done (a ∷ rest) r near w c_in = reading_inside j 
     (a ∷ rest ++ no_neighbour ∷ [])) r (length done) near w.reading c_in
     (next_near j m kept table done a rest r near w c_in) (next_near_is j m kept table done a rest r near w c_in)
 
-pub in_hand : (above : Above) (line : List (Labelled × ℕ)) → IsAt above line → 0 < length (cells_to_come above line)
+pub in_hand : (above : Above) (line : List (Labelled × ℕ)) → HasCellInHand above line → 0 < length (cells_to_come above line)
     → 0 < above.count
 in_hand above line at some =
     ⊎_elim (λ e. absurd (

@@ -1,7 +1,7 @@
 //! The row above as labelled runs, walked from left to right.
 
 ghost use Rattle.std.specs.Prelude.{◌≡◌, ◌<◌, ◌≤◌, ◌+◌, length, drop, All, slice_index_or};
-ghost use Rattle.cell_cats_areas.specs.parts.RunsOfLabels.{HaveLikeNeighbours, IsAt, line_of_runs, no_neighbour, cells_to_come};
+ghost use Rattle.cell_cats_areas.specs.parts.RunsOfLabels.{HaveLikeNeighbours, HasCellInHand, line_of_runs, no_neighbour, cells_to_come};
 
 use crate::clump::Joining;
 use crate::near::{Labelled, outside};
@@ -18,7 +18,7 @@ impl Above {
     // The whole line.
     pub(crate) fn of(line: &[(Labelled, u32)]) -> Above
         requires { All (λ run. 0 < run.1) line.now }
-        ensures at { IsAt result line.now }
+        ensures at { HasCellInHand result line.now }
         ensures coming { cells_to_come result line.now ≡ line_of_runs line.now }
     {
         let start = Above {
@@ -32,7 +32,7 @@ impl Above {
     // The next cell.
     #[inline(always)]
     pub(crate) fn first(&self, line: &[(Labelled, u32)]) -> Labelled
-        requires at { IsAt self.now line.now }
+        requires at { HasCellInHand self.now line.now }
         ensures { result ≡ slice_index_or (cells_to_come self.now line.now) 0 no_neighbour }
     {
         if self.count == 0 {
@@ -45,7 +45,7 @@ impl Above {
     // The cell after the next.
     #[inline(always)]
     pub(crate) fn second(&self, line: &[(Labelled, u32)]) -> Labelled
-        requires at { IsAt self.now line.now }
+        requires at { HasCellInHand self.now line.now }
         requires lengths { All (λ run. 0 < run.1) line.now }
         ensures { result ≡ slice_index_or (cells_to_come self.now line.now) 1 no_neighbour }
     {
@@ -76,7 +76,7 @@ impl Above {
     pub(crate) fn after(&self, line: &[(Labelled, u32)], count: u32) -> Above
         requires within { count ≤ self.now.count }
         requires lengths { All (λ run. 0 < run.1) line.now }
-        ensures at { IsAt result line.now }
+        ensures at { HasCellInHand result line.now }
         ensures coming { cells_to_come result line.now
             ≡ drop count (cells_to_come self.now line.now) }
     {

@@ -46,7 +46,7 @@ fn is_by_runs(region: Region, count_of_runs: usize) -> bool {
 /// left (profile). The rows `1 2` and `2 1` give `1 2` and `3 4` by edges, and `1 2` and `2 1` by edges
 /// and corners.
 ///
-/// It takes four bytes for each run of equal cells side by side, and a few rows, besides the map that it returns.
+/// It takes at most twelve bytes for each run of equal cells side by side, and a few rows, besides the map that it returns.
 ///
 /// # Errors
 ///

@@ -3,7 +3,7 @@
 ghost use Rattle.std.specs.Prelude.{◌≡◌, ◌<◌, ◌≤◌, ◌+◌, ◌^◌, length, All, None, Some, IsSome, IfSome, IfOk, OnOk, slice_index_or};
 ghost use Rattle.cell_cats_areas.specs.declared.clump.Joining.TheVariants.{Edges, EdgesAndCorners};
 ghost use Rattle.cell_cats_areas.specs.parts.Labels.{PointDown};
-ghost use Rattle.cell_cats_areas.specs.parts.RunsOfLabels.{IsAt, near_under, no_neighbour, cells_to_come};
+ghost use Rattle.cell_cats_areas.specs.parts.RunsOfLabels.{HasCellInHand, near_under, no_neighbour, cells_to_come};
 ghost use Rattle.cell_cats_areas.specs.parts.AreasRead.{AreInside, CanShare, HasEarlier, HasNoneEarlier, LabelsNext, SharesLabel, SharesLabelAtCorners, near_at};
 
 use crate::above::Above;
@@ -78,7 +78,7 @@ impl Near {
     // The neighbours of the next cell, of those in hand at the one before it, and of what is to come of the row above.
     #[inline(always)]
     pub(crate) fn under(self, coming: &Above, line: &[(Labelled, u32)]) -> Near
-        requires at { IsAt coming.now line.now }
+        requires at { HasCellInHand coming.now line.now }
         requires lengths { All (λ run. 0 < run.1) line.now }
         ensures { result ≡ near_under self (cells_to_come coming.now line.now) }
     {

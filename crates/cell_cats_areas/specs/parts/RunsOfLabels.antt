@@ -29,8 +29,8 @@ abbrev pub cells_to_come : Above → List (Labelled × ℕ) → List Labelled
 cells_to_come above line = replicate above.count above.cell ++ line_of_runs (drop above.place line)
 
 -- a cell is in hand unless the row has come to its end
-abbrev pub IsAt : Above → List (Labelled × ℕ) → Type 0
-IsAt above line = above.count ≡ 0 → length line ≤ above.place
+abbrev pub HasCellInHand : Above → List (Labelled × ℕ) → Type 0
+HasCellInHand above line = above.count ≡ 0 → length line ≤ above.place
 
 -- cells alike that have like neighbours above: by corners another one comes after them, or it is one alone
 abbrev pub HaveLikeNeighbours : Joining → Above → ℕ → Type 0

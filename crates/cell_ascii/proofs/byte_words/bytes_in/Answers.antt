@@ -1,11 +1,10 @@
-use Rattle.std.proofs.Common.{◌≡◌, ◌≤◌, ◌<◌, ◌+◌, ◌-◌, ◌^◌, ◌%◌, ◌++◌, ◌∙◌, ap, sym, arith, length, take, drop, length-drop, length-take, length-append, ℕ, List}
-use Rattle.std.proofs.lemmas.List.{take_rest, take-append-le, map-append}
-use Rattle.std.proofs.Math.Seq.{take-append-add}
+use Rattle.std.proofs.Common.{◌≡◌, ◌≤◌, ◌+◌, ◌-◌, ◌^◌, ◌%◌, ◌∙◌, ap, arith, length, take, drop, length-drop, length-take, ℕ}
+use Rattle.std.proofs.lemmas.List.{take_rest, map-append}
 use Rattle.std.specs.Int.RustNames.{count_ones}
 use Rattle.cell_core_values.specs.SmallCells.{byte_cell, cells_of_bytes}
 use Rattle.cell_ascii_meaning.specs.GridTokens.{newlines}
 use Rattle.cell_ascii.proofs.BitLemmas.{feeds_before}
-use Rattle.cell_ascii.proofs.WordLemmas.{HoldsLines-append, newlines-few, HoldsLines-none}
+use Rattle.cell_ascii.proofs.WordLemmas.{HoldsLines-append, newlines-few}
 use Rattle.cell_ascii_lanes.proofs.ByteLaneLemmas.{more_bytes}
 use Rattle.cell_ascii.proofs.byte_words.bytes_in.Goals as goal
 

@@ -1,4 +1,4 @@
-use Rattle.std.proofs.Common.{◌≡◌, ◌≤◌, ◌-◌, ◌+◌, ◌*◌, length, take}
+use Rattle.std.proofs.Common.{◌≤◌, ◌-◌, ◌*◌, length, take}
 use Rattle.cell_core_values.specs.SmallCells.{cells_of_bytes}
 use Rattle.cell_ascii_meaning.specs.Header.{HeaderValue}
 use Rattle.cell_ascii.specs.TableWords.{HoldsLines}

@@ -1,11 +1,9 @@
-use Rattle.std.proofs.Common.{◌≡◌, ◌-◌, ◌+◌, ◌*◌, ◌^◌, ◌<◌, ◌∙◌, ℕ, zero, suc, Bool, true, false, Some, None, Result, Ok, Err, refl, length, ap, sym, subst, arith}
-use Rattle.std.specs.Option.{IfSome}
-use Rattle.cell_core_devices.specs.Asking.{Heard, hears}
+use Rattle.std.proofs.Common.{◌≡◌, ◌-◌, ◌+◌, ◌<◌, ◌∙◌, None, length, ap, sym, arith}
+use Rattle.cell_core_devices.specs.Asking.{Heard}
 use Rattle.cell_core_devices.specs.Device.{Coming}
 use Rattle.cell_ascii_reading.specs.Ahead.{bytes_to_come}
 use Rattle.cell_ascii.specs.Reader.{at_place}
-use Rattle.cell_ascii_meaning.specs.Kinds.{is_read}
-use Rattle.cell_ascii.specs.GridReaders.{ReaderValue, reader_place}
+use Rattle.cell_ascii.specs.GridReaders.{ReaderValue}
 use Rattle.cell_ascii.proofs.RowReadLemmas.{row_placed, rows_fit}
 use Rattle.cell_ascii.proofs.grid_reader.next_either.Goals as goal
 

@@ -1,10 +1,10 @@
 use Rattle.std.proofs.lemmas.Result.{err_from_is_err_and}
-use Rattle.std.proofs.Common.{◌≡◌, ◌+◌, ◌-◌, ◌≤◌, ◌∙◌, Err, ap, sym, arith, length, take, drop, ◌++◌, length-drop, length-take, take_all}
+use Rattle.std.proofs.Common.{◌≡◌, ◌+◌, ◌-◌, ◌≤◌, ◌∙◌, Err, ap, arith, length, take, drop, ◌++◌, length-drop, length-take, take_all}
 use Rattle.cell_ascii_reading.specs.Ahead.{bytes_to_come}
 use Rattle.cell_ascii_meaning.specs.CellTexts.{cell_from, many}
 use Rattle.cell_ascii.specs.GridReaders.{IsCutRow}
 use Rattle.cell_ascii.specs.Reader.{at_place}
-use Rattle.cell_ascii.proofs.BufferedRowLemmas.{filled, filled-length, part-front}
+use Rattle.cell_ascii.proofs.BufferedRowLemmas.{part-front}
 use Rattle.cell_ascii.proofs.ManyLemmas.{row_some}
 use Rattle.cell_ascii.proofs.RowReadLemmas.{implied, cut_fails, others_fail}
 use Rattle.cell_ascii.proofs.grid_reader.read_either.Goals as goal

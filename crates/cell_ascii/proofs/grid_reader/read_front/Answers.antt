@@ -2,7 +2,7 @@ use Rattle.std.proofs.lemmas.Result.{err_from_is_err_and}
 use Rattle.std.proofs.Common.{◌≡◌, ◌+◌, ◌-◌, ◌<◌, ◌≤◌, ◌∙◌, false, refl, ap, sym, arith, length, take, drop, set, ◌++◌, ◌∷◌, [], length-drop, length-set, length-take, length-append}
 use Rattle.std.proofs.lemmas.List.{take_more_set, take_at}
 use Rattle.cell_core_devices.specs.Asking.{hears}
-use Rattle.cell_core_values.specs.SmallCells.{byte_cell, cells_of_bytes}
+use Rattle.cell_core_values.specs.SmallCells.{cells_of_bytes}
 use Rattle.cell_ascii_reading.specs.Ahead.{bytes_to_come}
 use Rattle.cell_ascii_meaning.specs.CellTexts.{cell_from}
 use Rattle.cell_ascii.specs.Reader.{at_place}

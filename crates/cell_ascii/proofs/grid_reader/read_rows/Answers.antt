@@ -1,5 +1,5 @@
 use Rattle.std.proofs.lemmas.Result.{err_from_is_err_and}
-use Rattle.std.proofs.Common.{◌≡◌, ◌≢◌, ◌<◌, ◌+◌, ◌∙◌, zero, suc, ℕ, arith, Bool, true, false, Ok, Err, Result, List, refl, ap, sym, subst, length, length-append, ◌++◌, ◌∷◌, []}
+use Rattle.std.proofs.Common.{◌≡◌, ◌≢◌, ◌<◌, ◌+◌, ◌∙◌, zero, suc, ℕ, arith, Bool, false, Ok, Err, Result, List, refl, ap, sym, subst, length, length-append, ◌++◌, ◌∷◌, []}
 use Rattle.std.specs.Option.{option_map}
 use Rattle.cell_core_devices.specs.Asking.{hears}
 use Rattle.cell_core_devices.specs.Device.{Coming}
@@ -9,11 +9,10 @@ use Rattle.cell_ascii_meaning.specs.Kinds.{IsOfText}
 use Rattle.cell_ascii_meaning.specs.declared.grid_fault.GridKind.{GridKind}
 use Rattle.cell_ascii_meaning.specs.declared.grid_fault.GridKind.TheVariants.{Memory, Failed}
 use Rattle.cell_ascii.specs.Reader.{rows_from}
-use Rattle.cell_ascii.specs.GridReaders.{reader_place, IsCutRow, IsOfReading}
+use Rattle.cell_ascii.specs.GridReaders.{reader_place, IsOfReading}
 use Rattle.cell_ascii_meaning.specs.GridTokens.{grid_fault}
 use Rattle.cell_ascii.proofs.CellLemmas.{more_read, none_read, all_read}
 use Rattle.cell_ascii.proofs.DataLemmas.{rows_fail}
-use Rattle.cell_ascii.proofs.RowReadLemmas.{implied, cut_fails}
 use Rattle.cell_ascii.specs.parts.FrontCells.{front_cells}
 use Rattle.cell_ascii.proofs.grid_reader.read_rows.Goals as goal
 

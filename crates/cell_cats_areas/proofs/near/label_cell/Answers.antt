@@ -15,7 +15,7 @@ returns-then-not-is_some c = record {
   read = λ m r col labels is col_in count near h.
       let none : is_some c.args.cell ≡ false = ap (λ x. is_some x) (sym c.get.ensures.value) ∙ sym c.is_some.ensures ∙ c.if-not-is_some.true in
       read_null c.args.joining m c.args.table.now.items labels h.open_of h.read r col 4294967295 col_in count
-          (sym is ∙ none_of c.args.cell none);
+      (sym is ∙ none_of c.args.cell none);
   alike = λ same some.
       let none : is_some c.args.cell ≡ false = ap (λ x. is_some x) (sym c.get.ensures.value) ∙ sym c.is_some.ensures ∙ c.if-not-is_some.true in
       absurd (both_ways (is_some c.args.cell) none some);

@@ -3,13 +3,13 @@ use Rattle.cell_core.specs.Grid.{row_at}
 use Rattle.cell_core.specs.Runs.{written_out}
 use Rattle.cell_cats_areas.specs.declared.near.Labelled.{Labelled}
 use Rattle.cell_cats_areas.specs.parts.Labels.{PointDown}
-use Rattle.cell_cats_areas.specs.parts.RunsOfLabels.{HaveRuns, IsAt, IsWalked, labels_along, line_of_runs}
+use Rattle.cell_cats_areas.specs.parts.RunsOfLabels.{HaveRuns, HasCellInHand, IsWalked, labels_along, line_of_runs}
 use Rattle.cell_cats_areas.specs.parts.RunsOfLabels.{cells_to_come}
 use Rattle.cell_cats_areas.proofs.run_scan.label_runs_of_row.Given as goal
 
 abbrev pub invariant-loop-run : goal.invariant-loop-run
 invariant-loop-run l = record {
-  at : IsAt l.above l.line;
+  at : HasCellInHand l.above l.line;
   down : PointDown l.table.items;
   most : length l.table.items ≤ length l.fn.table.items + length (line_of_runs l.below.items);
   lengths : All (λ run. 0 < run.1) l.below.items;
@@ -25,7 +25,7 @@ invariant-loop-run l = record {
 
 abbrev pub invariant-cells : goal.invariant-cells
 invariant-cells l = record {
-  at : IsAt l.above l.line;
+  at : HasCellInHand l.above l.line;
   down : PointDown l.table.items;
   most : length l.table.items ≤ length l.fn.table.items + (length (line_of_runs l.below.items) + l.passed);
   within : l.passed ≤ l.run.1;

@@ -9,6 +9,6 @@ returns-then-count-self-clause-coming c =
     let above = c.args.self.now in
     let rest : List Labelled = line_of_runs (drop above.place c.args.line.now) in
     let le : c.args.count ≤ length (replicate above.count above.cell) = omega
-        (arith, length-replicate above.count above.cell, c.if-count-self.true) in
+    (arith, length-replicate above.count above.cell, c.if-count-self.true) in
     sym (drop-append-le c.args.count (replicate above.count above.cell) rest le
     ∙ ap (λ (l : List Labelled). l ++ rest) (drop-replicate c.args.count above.count above.cell))
