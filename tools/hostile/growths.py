@@ -50,8 +50,8 @@ def wrong_growth(program: Program, made: Made, expected: model.Answer, shim: str
         if asked < at:
             return ("" if got == expected else f"growth {at} was not asked for, and yet {got}"), refused
         refused += 1
-        goes_on = got == expected and asked > at  # the standard library asked once more
-        if not goes_on and not is_told_refusal(expected, got):
+        # A run that asks once more, or does without what only saves time, does all its work.
+        if got != expected and not is_told_refusal(expected, got):
             return f"with growth {at} refused: {got}", refused
     return "", refused
 
