@@ -6,9 +6,8 @@ pub mod LineLemmas
 pub mod MeetingLemmas
 pub mod NearLemmas
 pub mod NumberLemmas
-pub mod NumberedLemmas
 pub mod PathLemmas
 pub mod ReadLemmas
+pub mod RowNumberLemmas
 pub mod RunLemmas
-pub mod RunNumberLemmas
 pub mod StartLemmas

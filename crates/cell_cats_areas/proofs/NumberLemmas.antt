@@ -1,21 +1,19 @@
 -- Labels are replaced by numbers.
 use Rattle.std.proofs.Common.{◌≡◌, ℕ, zero, suc, ℤ, true, false, ◌+◌, ◌*◌, ◌<◌, ◌≤◌, ◌++◌, [], ◌∷◌, List, Some, None, is_some, pos, length, get_or, set, refl, ap, sym, ◌∙◌, arith, ⊎_elim, eq-eqb, add-one, get_or-set_other, get_or-set_same}
-use Rattle.std.proofs.lemmas.List.{length-set, length_push, get_or_push, get_or_append_left, get_or_past}
+use Rattle.std.proofs.lemmas.List.{length-set, length_push, get_or_past}
 use Rattle.std.proofs.lemmas.Bool.{cases_lt, cases_order, cases_Bool, ne_eqb, cond-true, cond-false}
 use Rattle.cell_core.specs.Grid.{Grid, CellValue}
 use Rattle.std.proofs.Math.Nat.{mul-le-mul_right}
 use Rattle.cell_core_values.specs.Region.{IsRegion, RegionValue}
 use Rattle.cell_cats_areas.specs.declared.clump.Joining.{Joining}
-use Rattle.cell_cats_areas.specs.Areas.{Position, cell_at_position, AreAdjacent}
+use Rattle.cell_cats_areas.specs.Areas.{Position, cell_at_position}
 use Rattle.cell_cats_areas.specs.parts.Labels.{PointDown}
 use Rattle.cell_cats_areas.specs.parts.Meetings.{AreSound}
-use Rattle.cell_cats_areas.specs.parts.CellPlaces.{position}
 use Rattle.cell_cats_areas.specs.parts.AreasRead.{WasRead, area_label_at}
-use Rattle.cell_cats_areas.specs.parts.Starts.{IsEarlier, begins, starts, start_of_run}
-use Rattle.cell_cats_areas.specs.parts.AreaNumbers.{is_first, firsts_below, area_number, area_number_at, AreNumbered, CanNumber, IsNumbered, cell_number}
+use Rattle.cell_cats_areas.specs.parts.Starts.{start_of_run}
+use Rattle.cell_cats_areas.specs.parts.AreaNumbers.{is_first, firsts_below, area_number, area_number_at, AreNumbered, CanNumber, cell_number}
 use Rattle.cell_cats_areas.specs.parts.LabelTables.{AreLabels}
-use Rattle.cell_cats_areas.proofs.NearLemmas.{label_below}
-use Rattle.cell_cats_areas.proofs.StartLemmas.{grows, place_inside, begins_from, count_begins, count_stays, starts_most}
+use Rattle.cell_cats_areas.proofs.StartLemmas.{grows, place_inside, starts_most}
 
 -- ---- the count of open labels, place by place
 
@@ -116,54 +114,6 @@ module _ (j : Joining) (m : Grid) (table : List ℕ) (h : AreLabels j m table) w
 
   pub read_all : (p : Position) (v : ℤ) → cell_at_position m p ≡ Some v → WasRead m h.labels p
   read_all p v is = let lt = place_inside m p (h.has_read.read.inside p v is) in let long = h.long in omega arith
-
-  pub number_met : (p q : Position) (v : ℤ) → AreAdjacent j p q → cell_at_position m p ≡ Some v → cell_at_position m q ≡ Some v → area_number_at j m table h p ≡ area_number_at j m table h q
-  number_met p q v near p_is q_is = number_is p ∙ ap (area_number j m table) (h.has_read.read.meet p q v near p_is q_is (read_all p v p_is) (read_all q v q_is)) ∙ sym (number_is q)
-
-  pub number_small : (p : Position) (v : ℤ) → cell_at_position m p ≡ Some v → length table < 2147483648 → area_number_at j m table h p < 2147483648
-  number_small p v is short =
-      let below = label_below j m table h.labels h.has_read.open_of h.has_read.read p v is (read_all p v is) in
-      let low = h.has_read.read.sound.reports.low (area_label_at m h.labels p) below in
-      let most = count_most j m table (suc (h.has_read.open_of (area_label_at m h.labels p))) in
-      let e = number_is p in
-      omega arith
-
-  -- the cell with a label of its own
-  module _ (numbers : List ℕ) (n : IsNumbered j m table h numbers) (r c : ℕ) (v : ℤ) (is : cell_at_position m (position r c) ≡ Some v) (none : (q : Position) → IsEarlier j r c q → cell_at_position m q ≡ Some v → ⊥) where
-    begun : begins j m (position r c) ≡ true
-    begun = begins_from j m r c v is none
-
-    own : area_label_at m h.labels (position r c) ≡ starts j m (r * m.region.cols + c)
-    own = h.has_read.read.own (position r c) (h.has_read.read.inside (position r c) v is) begun (read_all (position r c) v is)
-
-    own_below : starts j m (r * m.region.cols + c) < length table
-    own_below = (let below = label_below j m table h.labels h.has_read.open_of h.has_read.read (position r c) v is (read_all (position r c) v is) in let e = own in omega arith)
-
-    pub own_inside : starts j m (r * m.region.cols + c) < length numbers
-    own_inside = (let below = own_below in let long = n.long in omega arith)
-
-    pub number_own : get_or numbers (starts j m (r * m.region.cols + c)) 0 ≡ area_number_at j m table h (position r c)
-    number_own = n.done (starts j m (r * m.region.cols + c)) own_below ∙ ap (λ (k : ℕ). area_number j m table (h.has_read.open_of k)) (sym own) ∙ sym (number_is (position r c))
-
-    pub own_next : starts j m (r * m.region.cols + (c + 1)) ≡ starts j m (r * m.region.cols + c) + 1
-    own_next =
-        let e : r * m.region.cols + (c + 1) ≡ suc (r * m.region.cols + c) = omega arith in
-        ap (starts j m) e ∙ count_begins j m r c ((h.has_read.read.inside (position r c) v is).1) begun
-
--- a cell with none
-pub stays_next : (j : Joining) (m : Grid) (r c : ℕ) → c < m.region.cols → begins j m (position r c) ≡ false → starts j m (r * m.region.cols + (c + 1)) ≡ starts j m (r * m.region.cols + c)
-stays_next j m r c c_in none =
-    let e : r * m.region.cols + (c + 1) ≡ suc (r * m.region.cols + c) = omega arith in
-    ap (starts j m) e ∙ count_stays j m r c c_in none
-
--- one row more
-pub cells_more : (f : ℕ → ℕ → CellValue) (w r : ℕ) (rows : List (List CellValue)) (row : List CellValue) → length rows ≡ r → ((s c : ℕ) → s < r → c < w → get_or (get_or rows s []) c None ≡ f s c) → ((k : ℕ) → k < w → get_or row k None ≡ f r k) → (s c : ℕ) → s < r + 1 → c < w → get_or (get_or (rows ++ row ∷ []) s []) c None ≡ f s c
-cells_more f w r rows row long before here s c lt inside =
-    ⊎_elim
-    (λ below. ap (λ (xs : List CellValue). get_or xs c None) (get_or_append_left rows (row ∷ []) [] s (omega arith)) ∙ before s c below inside)
-    (λ le. let e : s ≡ r = omega arith in
-    ap (λ (n : ℕ). get_or (get_or (rows ++ row ∷ []) n []) c None) e ∙ ap (λ (xs : List CellValue). get_or xs c None) (get_or_push rows row [] r long) ∙ here c inside ∙ ap (λ (n : ℕ). f n c) (sym e))
-    (cases_lt s r)
 
 -- a table is no longer than a map has cells
 pub table_short : (j : Joining) (m : Grid) (table : List ℕ) → AreLabels j m table → IsRegion m.region → length table < 2147483648

@@ -1,6 +1,6 @@
 -- The runs of a row are labelled, one after another.
 use Rattle.std.proofs.Common.{◌≡◌, ℕ, zero, suc, ℤ, ◌+◌, ◌-◌, ◌*◌, ◌<◌, ◌≤◌, ◌⊎◌, List, [], ◌∷◌, ◌++◌, All, Some}
-use Rattle.std.proofs.Common.{None, length, replicate, flat_map, map, take, drop, get_or, set, refl, ap, sym, ◌∙◌}
+use Rattle.std.proofs.Common.{None, length, replicate, map, drop, get_or, set, refl, ap, sym, ◌∙◌}
 use Rattle.std.proofs.Common.{arith, subst, inl, inr, ⊎_elim, append_assoc, IsSome}
 use Rattle.std.proofs.lemmas.Bool.{cases_lt, cases_eq}
 use Rattle.std.proofs.lemmas.List.{append-nil, length_push, length-append, get_or_push, get_or_append_left}
@@ -18,18 +18,18 @@ use Rattle.cell_cats_areas.specs.declared.clump.Joining.TheVariants.{Edges, Edge
 use Rattle.cell_cats_areas.specs.declared.near.Labelled.{Labelled}
 use Rattle.cell_cats_areas.specs.declared.near.Near.{Near}
 use Rattle.cell_cats_areas.specs.declared.above.Above.{Above}
-use Rattle.cell_cats_areas.specs.Areas.{Position, cell_at_position}
+use Rattle.cell_cats_areas.specs.Areas.{cell_at_position}
 use Rattle.cell_cats_areas.specs.parts.CellPlaces.{position, cell_place}
-use Rattle.cell_cats_areas.specs.parts.AreasRead.{AreInside, AreNear, AreRowsRead, HasRead, HaveCells, IsAreaReading}
-use Rattle.cell_cats_areas.specs.parts.AreasRead.{IsLabelledCell, IsLine, LabelsNext, Shares, WasRead, area_label_at}
+use Rattle.cell_cats_areas.specs.parts.AreasRead.{AreInside, AreNear, AreRowsRead, HasRead}
+use Rattle.cell_cats_areas.specs.parts.AreasRead.{IsLabelledCell, IsLine, LabelsNext, Shares, area_label_at}
 use Rattle.cell_cats_areas.specs.parts.AreasRead.{near_at}
 use Rattle.cell_cats_areas.specs.parts.Starts.{IsCellAt}
-use Rattle.cell_cats_areas.specs.parts.RunsOfLabels.{HaveLikeNeighbours, AreKeptLabels, AreWalked, HaveRuns, HasCellInHand}
+use Rattle.cell_cats_areas.specs.parts.RunsOfLabels.{HaveLikeNeighbours, AreKeptLabels, AreWalked, HaveLine, HaveRuns, HasCellInHand}
 use Rattle.cell_cats_areas.specs.parts.RunsOfLabels.{IsWalked, labels_along, line_of_runs, near_under, no_neighbour}
 use Rattle.cell_cats_areas.specs.parts.RunsOfLabels.{cells_to_come}
 use Rattle.cell_cats_areas.proofs.LineLemmas.{beside_first, cells_first, cells_down, cells_down_labels}
 use Rattle.cell_cats_areas.proofs.LineLemmas.{reading_inside, reading_near, reading_next, reading_next_labels}
-use Rattle.cell_cats_areas.proofs.NearLemmas.{corners_above, corners_left, edges_left}
+use Rattle.cell_cats_areas.proofs.NearLemmas.{corners_left, edges_left}
 use Rattle.cell_cats_areas.proofs.ReadLemmas.{read_null, read_shared}
 use Rattle.cell_cats_areas.proofs.StartLemmas.{same_position}
 
@@ -55,7 +55,7 @@ alike_first n s a xs le =
 
 -- ---- one cell more
 
-kept_grown : (m : Grid) (labels : List ℕ) (l : ℕ) (kept : List (List (ℕ × ℕ))) → AreKeptLabels m labels kept
+kept_grown : (m : Grid) (labels : List ℕ) (l : ℕ) (kept : List (List ℕ)) → AreKeptLabels m labels kept
     → AreKeptLabels m (labels ++ l ∷ []) kept
 kept_grown m labels l kept k = record {
   wide = k.wide;
@@ -65,7 +65,20 @@ kept_grown m labels l kept k = record {
   null = k.null;
 }
 
-module _ (j : Joining) (m : Grid) (kept : List (List (ℕ × ℕ))) (table : List ℕ) (done : List Labelled) (a : Labelled)
+-- of a line
+pub walked_cell : (j : Joining) (m : Grid) (kept : List (List ℕ)) (table : List ℕ) (line : List Labelled) (r c : ℕ)
+    (near : Near) (w : AreWalked j m kept table line r c near) → c < m.region.cols → (after : Near)
+    → after ≡ near_at line c near → (new : List ℕ) (z : Labelled) → z.cell ≡ cell_at_position m (position r c)
+    → HasRead j m new (w.reading.cells.labels ++ z.label ∷ [])
+    → AreWalked j m kept new (set line c z) r (c + 1) (record after { left = z })
+walked_cell j m kept table line r c near w c_in after moved new z cell has_read = record {
+  reading = reading_next j m table line r c near w.reading c_in after moved new z cell has_read;
+  kept_are = subst (λ (l : List ℕ). AreKeptLabels m l kept)
+      (sym (reading_next_labels j m table line r c near w.reading c_in after moved new z cell has_read))
+      (kept_grown m w.reading.cells.labels z.label kept w.kept_are);
+}
+
+module _ (j : Joining) (m : Grid) (kept : List (List ℕ)) (table : List ℕ) (done : List Labelled) (a : Labelled)
     (rest : List Labelled) (r : ℕ) (near : Near) (w : IsWalked j m kept table done (a ∷ rest) r near)
     (c_in : length done < m.region.cols) where
   -- the neighbours of the next cell
@@ -104,14 +117,8 @@ module _ (j : Joining) (m : Grid) (kept : List (List (ℕ × ℕ))) (table : Lis
       (record next_near { left = z })
   walked_next new z cell has_read =
       let line : List Labelled = done ++ (a ∷ rest ++ no_neighbour ∷ []) in
-      let next : AreWalked j m kept new (set line (length done) z) r (length done + 1) (record next_near
-      { left = z }) = record {
-        reading = reading_next j m table line r
-            (length done) near w.reading c_in next_near next_near_is new z cell has_read;
-        kept_are = subst (λ (l : List ℕ). AreKeptLabels m l kept) (sym (reading_next_labels j m table line r
-            (length done) near w.reading c_in next_near next_near_is new z cell has_read))
-            (kept_grown m w.reading.cells.labels z.label kept w.kept_are);
-      } in
+      let next = walked_cell j m kept table line r (length done) near w c_in next_near next_near_is new z cell
+      has_read in
       let line_is : set line (length done) z ≡ (done ++ z ∷ []) ++
       (rest ++ no_neighbour ∷ []) = set-append_seam done a (rest ++ no_neighbour ∷ []) z
       ∙ sym (append_assoc done (z ∷ []) (rest ++ no_neighbour ∷ [])) in
@@ -132,7 +139,7 @@ shares_left EdgesAndCorners m table labels f r c v near n rd left same right = c
     (λ e. ⊎_elim (λ no. absurd (let other : EdgesAndCorners ≡ Edges = no in cc)) (λ also. ap (λ
     (x : Labelled). x.cell) (sym also) ∙ e) right)
 
-module _ (j : Joining) (m : Grid) (kept : List (List (ℕ × ℕ))) (table : List ℕ) (r : ℕ) (near : Near) where
+module _ (j : Joining) (m : Grid) (kept : List (List ℕ)) (table : List ℕ) (r : ℕ) (near : Near) where
   -- a cell like the one on its left
   walked_on : (done rest : List Labelled) → IsWalked j m kept table done (near.above ∷ rest) r near
       → length done < m.region.cols → near.left.cell ≡ cell_at_position m (position r (length done)) → (j ≡ Edges) ⊎
@@ -194,7 +201,7 @@ module _ (j : Joining) (m : Grid) (kept : List (List (ℕ × ℕ))) (table : Lis
 
 -- ---- the cells of a run that have like neighbours above
 
-module _ (j : Joining) (m : Grid) (kept : List (List (ℕ × ℕ))) (table : List ℕ) (done coming : List Labelled) (r : ℕ)
+module _ (j : Joining) (m : Grid) (kept : List (List ℕ)) (table : List ℕ) (done coming : List Labelled) (r : ℕ)
     (near : Near) (w : IsWalked j m kept table done coming r near) where
   -- as much is to come as the row is wider than what was read
   pub still_to_come : length done + length coming ≡ m.region.cols
@@ -206,7 +213,7 @@ module _ (j : Joining) (m : Grid) (kept : List (List (ℕ × ℕ))) (table : Lis
     length_push coming no_neighbour,
   )
 
-pub walked_inside : (j : Joining) (m : Grid) (kept : List (List (ℕ × ℕ))) (table : List ℕ)
+pub walked_inside : (j : Joining) (m : Grid) (kept : List (List ℕ)) (table : List ℕ)
     (done coming : List Labelled) (r : ℕ) (near : Near) → IsWalked j m kept table done coming r near
     → length done < m.region.cols → AreInside (length table) (near_under near coming)
 walked_inside j m kept table done [] r near w c_in = absurd
@@ -255,7 +262,7 @@ alike_after j above line s alike =
     ∙ get_or-replicate (n - suc s) 0 above.cell no_neighbour (omega arith)))))
     alike.1
 
-pub run_step : (j : Joining) (m : Grid) (kept : List (List (ℕ × ℕ))) (table : List ℕ) (done : List Labelled)
+pub run_step : (j : Joining) (m : Grid) (kept : List (List ℕ)) (table : List ℕ) (done : List Labelled)
     (above : Above) (line : List (Labelled × ℕ)) (r : ℕ) (near after : Near) (step : ℕ) (new : List ℕ)
     (z : Labelled) → IsWalked j m kept table done (cells_to_come above line) r near → 0 < step
     → HaveLikeNeighbours j above step → length done + step ≤ m.region.cols → after ≡ near_under near
@@ -333,20 +340,25 @@ run_past at n row rest x cells =
 
 -- ---- rows
 
-pub walked_first : (j : Joining) (m : Grid) (kept : List (List (ℕ × ℕ))) (table : List ℕ) (above : Above)
+pub line_walked : (j : Joining) (m : Grid) (kept : List (List ℕ)) (table : List ℕ) (line : List Labelled) (r : ℕ)
+    (near : Near) → near.left.cell ≡ None → near.above.cell ≡ None → HaveLine j m kept table line r
+    → AreWalked j m kept table line r 0 near
+line_walked j m kept table line r near left up h = record {
+  reading = record {
+    cells = h.cells;
+    beside = beside_first m (length h.cells.labels)
+        (area_label_at m h.cells.labels) r near left up;
+  };
+  kept_are = h.kept_are;
+}
+
+pub walked_first : (j : Joining) (m : Grid) (kept : List (List ℕ)) (table : List ℕ) (above : Above)
     (line : List (Labelled × ℕ)) (r : ℕ) (near : Near) → cells_to_come above line ≡ line_of_runs line
     → near.left.cell ≡ None → near.above.cell ≡ None → HaveRuns j m kept table line r → IsWalked j m kept table []
     (cells_to_come above line) r near
 walked_first j m kept table above line r near coming left up h =
     subst (λ (l : List Labelled). IsWalked j m kept table [] l r near) (sym coming)
-    (record {
-      reading = record {
-        cells = h.cells;
-        beside = beside_first m (length h.cells.labels)
-            (area_label_at m h.cells.labels) r near left up;
-      };
-      kept_are = h.kept_are;
-    })
+    (line_walked j m kept table (line_of_runs line ++ no_neighbour ∷ []) r near left up h)
 
 pub line_more : (runs : List (Labelled × ℕ)) (z : Labelled) (n : ℕ)
     → line_of_runs (runs ++ (z, n) ∷ []) ≡ line_of_runs runs ++ replicate n z
@@ -371,22 +383,23 @@ same_more runs line z n same =
     ∙ sym (map-append (λ (x : Labelled). x.label) line (replicate n z))
 
 -- one more row is kept
-kept_more : (j : Joining) (m : Grid) (labels table : List ℕ) (kept : List (List (ℕ × ℕ))) (row : List (ℕ × ℕ))
-    (done : List Labelled) (line : List Labelled) (r : ℕ) → line ≡ done ++ no_neighbour ∷ []
-    → length done ≡ m.region.cols → length labels ≡ r * m.region.cols + length done → IsLine m (length labels)
-    (area_label_at m labels) r (length done) line → length kept ≡ r → labels_along row ≡ map (λ
+kept_more : (j : Joining) (m : Grid) (labels table : List ℕ) (kept : List (List ℕ)) (row : List ℕ)
+    (done : List Labelled) (line : List Labelled) (r n : ℕ)
+    → ((c : ℕ) → c < m.region.cols → get_or line c no_neighbour ≡ get_or done c no_neighbour) → n ≡ m.region.cols
+    → length done ≡ m.region.cols → length labels ≡ r * m.region.cols + n → IsLine m (length labels)
+    (area_label_at m labels) r n line → length kept ≡ r → row ≡ map (λ
     (x : Labelled). x.label) done → All (λ (x : Labelled). x.cell ≡ None → x.label ≡ 4294967295) done
     → AreKeptLabels m labels kept → AreKeptLabels m labels (kept ++ row ∷ [])
-kept_more j m labels table kept row done line r is wide count is_line long same nulls k =
+kept_more j m labels table kept row done line r n is all wide count is_line long same nulls k =
     let more = length_push kept row in
     let Last : ℕ → Type 0 = λ s. s ≡ r in
     let last : get_or (kept ++ row ∷ []) r [] ≡ row = get_or_push kept row [] r long in
     let old : (s : ℕ) → s < r → get_or (kept ++ row ∷ []) s [] ≡ get_or kept s [] = λ s lt. get_or_append_left kept
     (row ∷ []) [] s (omega arith) in
-    let row_wide : length (labels_along row) ≡ m.region.cols = ap (length {A = ℕ}) same
+    let row_wide : length row ≡ m.region.cols = ap (length {A = ℕ}) same
     ∙ length-map done (λ (x : Labelled). x.label) ∙ wide in
     let at : (c : ℕ) → c < m.region.cols
-    → get_or (labels_along row) c 0 ≡ (get_or done c no_neighbour).label = λ c lt. ap (λ
+    → get_or row c 0 ≡ (get_or done c no_neighbour).label = λ c lt. ap (λ
     (l : List ℕ). get_or l c 0) same
     ∙ get_or_default (map (λ (x : Labelled). x.label) done) c 0 4294967295 (omega (
       arith,
@@ -396,17 +409,15 @@ kept_more j m labels table kept row done line r is wide count is_line long same 
     let here : (c : ℕ) → c < m.region.cols
     → IsLabelledCell m (length labels) (area_label_at m labels) (IsCellAt r c)
     (get_or done c no_neighbour) = λ c lt.
-    subst (IsLabelledCell m (length labels) (area_label_at m labels) (IsCellAt r c)) (ap (λ
-    (l : List Labelled). get_or l c no_neighbour) is
-    ∙ get_or_append_left done (no_neighbour ∷ []) no_neighbour c (omega arith)) (is_line.here c no_neighbour
-    (omega arith)) in
+    subst (IsLabelledCell m (length labels) (area_label_at m labels) (IsCellAt r c)) (is c lt)
+    (is_line.here c no_neighbour (omega arith)) in
     record {
-      wide = λ s lt. by_row s lt (λ x. length (labels_along x) ≡ m.region.cols) (λ s_lt. k.wide s (omega arith))
+      wide = λ s lt. by_row s lt (λ x. length x ≡ m.region.cols) (λ s_lt. k.wide s (omega arith))
           (λ _. row_wide);
       read = λ s c lt c_in. ⊎_elim (λ s_lt. k.read s c (omega arith) c_in)
           (λ ge. let e : s ≡ r = omega arith in let z = ap (λ (n : ℕ). n * m.region.cols) e in omega arith)
           (cases_lt s r);
-      some = λ s c v lt c_in v_is. by_row s lt (λ x. get_or (labels_along x) c 0 ≡ area_label_at m labels
+      some = λ s c v lt c_in v_is. by_row s lt (λ x. get_or x c 0 ≡ area_label_at m labels
           (position s c)) (λ s_lt. k.some s c v (omega arith) c_in v_is)
           (λ e. let v_here : cell_at_position m (position r c) ≡ Some v = ap (λ (n : ℕ). cell_at_position m
           (position n c)) (sym e) ∙ v_is in
@@ -414,7 +425,7 @@ kept_more j m labels table kept row done line r is wide count is_line long same 
           let t = (here c c_in).some v x_is in
           at c c_in ∙ t.3 ∙ ap (area_label_at m labels) (same_position t.0 r c t.1.0 t.1.1)
           ∙ ap (λ (n : ℕ). area_label_at m labels (position n c)) (sym e));
-      null = λ s c lt c_in none. by_row s lt (λ x. get_or (labels_along x) c 0 ≡ 4294967295) (λ s_lt. k.null s c
+      null = λ s c lt c_in none. by_row s lt (λ x. get_or x c 0 ≡ 4294967295) (λ s_lt. k.null s c
           (omega arith) c_in none)
           (λ e. let none_here : cell_at_position m (position r c) ≡ None = ap (λ (n : ℕ). cell_at_position m
           (position n c)) (sym e) ∙ none in
@@ -423,7 +434,7 @@ kept_more j m labels table kept row done line r is wide count is_line long same 
           (get_or done c no_neighbour).cell refl));
     }
   where
-    by_row : (s : ℕ) → s < length (kept ++ row ∷ []) → (P : List (ℕ × ℕ) → Type 0) → (s < r → P (get_or kept s []))
+    by_row : (s : ℕ) → s < length (kept ++ row ∷ []) → (P : List ℕ → Type 0) → (s < r → P (get_or kept s []))
         → (s ≡ r → P row) → P (get_or (kept ++ row ∷ []) s [])
     by_row s lt P before here = ⊎_elim
         (λ less. subst P (sym (get_or_append_left kept (row ∷ []) [] s (omega arith))) (before less))
@@ -440,26 +451,35 @@ kept_more j m labels table kept row done line r is wide count is_line long same 
         let both : None ≡ Some v = sym none ∙ ap (cell_at_position m) (sym (same_position t.0 r c t.1.0 t.1.1))
         ∙ t.2 in cc
 
-pub row_kept : (j : Joining) (m : Grid) (kept : List (List (ℕ × ℕ))) (table : List ℕ) (below : List (Labelled × ℕ))
-    (coming : List Labelled) (r : ℕ) (near : Near) (row : List (ℕ × ℕ))
+-- a line was read to its end
+pub line_kept : (j : Joining) (m : Grid) (kept : List (List ℕ)) (table : List ℕ) (line : List Labelled) (r c : ℕ)
+    (near : Near) (row : List ℕ) (done : List Labelled) → AreWalked j m kept table line r c near → c ≡ m.region.cols
+    → ((k : ℕ) → k < m.region.cols → get_or line k no_neighbour ≡ get_or done k no_neighbour)
+    → length done ≡ m.region.cols → length kept ≡ r → row ≡ map (λ (x : Labelled). x.label) done
+    → All (λ (x : Labelled). x.cell ≡ None → x.label ≡ 4294967295) done
+    → HaveLine j m (kept ++ row ∷ []) table line (r + 1)
+line_kept j m kept table line r c near row done w all is wide long same nulls = record {
+  cells = cells_down j m table line r c all w.reading.cells;
+  kept_are = subst (λ (l : List ℕ). AreKeptLabels m l (kept ++ row ∷ []))
+      (sym (cells_down_labels j m table line r c all w.reading.cells))
+      (kept_more j m w.reading.cells.labels table kept row done line r c is all wide w.reading.cells.count
+      w.reading.cells.is_line long same nulls w.kept_are);
+}
+
+pub row_kept : (j : Joining) (m : Grid) (kept : List (List ℕ)) (table : List ℕ) (below : List (Labelled × ℕ))
+    (coming : List Labelled) (r : ℕ) (near : Near) (row : List ℕ)
     → IsWalked j m kept table (line_of_runs below) coming r near → length (line_of_runs below) ≡ m.region.cols
-    → length kept ≡ r → labels_along row ≡ map (λ (x : Labelled). x.label) (line_of_runs below)
+    → length kept ≡ r → row ≡ map (λ (x : Labelled). x.label) (line_of_runs below)
     → All (λ (x : Labelled). x.cell ≡ None → x.label ≡ 4294967295) (line_of_runs below)
     → HaveRuns j m (kept ++ row ∷ []) table below (r + 1)
 row_kept j m kept table below coming r near row w wide long same nulls =
     let all = still_to_come j m kept table (line_of_runs below) coming r near w in
     let none : coming ≡ [] = nil_from_length coming (omega arith) in
-    let line : List Labelled = line_of_runs below ++ no_neighbour ∷ [] in
-    let v : IsWalked j m kept table (line_of_runs below) [] r near = subst (λ
-    (l : List Labelled). IsWalked j m kept table (line_of_runs below) l r near) none w in
-    record {
-      cells = cells_down j m table line r (length (line_of_runs below)) wide v.reading.cells;
-      kept_are = subst (λ (l : List ℕ). AreKeptLabels m l (kept ++ row ∷ [])) (sym
-          (cells_down_labels j m table line r (length (line_of_runs below)) wide v.reading.cells))
-          (kept_more j m v.reading.cells.labels table kept row
-          (line_of_runs below) line r refl wide v.reading.cells.count v.reading.cells.is_line long same nulls
-          v.kept_are);
-    }
+    line_kept j m kept table (line_of_runs below ++ no_neighbour ∷ []) r (length (line_of_runs below)) near row
+    (line_of_runs below) (subst (λ
+    (l : List Labelled). IsWalked j m kept table (line_of_runs below) l r near) none w) wide
+    (λ k lt. get_or_append_left (line_of_runs below) (no_neighbour ∷ []) no_neighbour k (omega arith)) wide long same
+    nulls
 
 -- no labels are kept yet
 pub kept_none : (m : Grid) (labels : List ℕ) → AreKeptLabels m labels []

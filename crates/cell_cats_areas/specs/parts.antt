@@ -7,3 +7,4 @@ pub mod AreasRead
 pub mod Starts
 pub mod LabelTables
 pub mod RunsOfLabels
+pub mod LabelForms

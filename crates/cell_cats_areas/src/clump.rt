@@ -3,10 +3,13 @@
 ghost use Rattle.std.specs.Prelude.{IfOk};
 ghost use Rattle.cell_cats_areas.specs.Areas.{IsClumping};
 ghost use Rattle.cell_cats_areas.specs.declared.clump.Joining.TheVariants.{Edges};
+ghost use Rattle.cell_cats_areas.specs.parts.RunsOfLabels.{AreMapLabels};
 
-use crate::area_numbers::number_cells;
-use crate::run_numbers::number_runs;
+use crate::area_numbers::number_labels;
+use crate::row_numbers::number_rows;
+use crate::run_scan::{MapLabels, label_runs};
 use crate::scan::label_cells;
+use cell_core::cell::Cell;
 use cell_core::map::CellMap;
 use cell_core::memory::Memory;
 use cell_core::region::Region;
@@ -38,6 +41,18 @@ fn is_by_runs(region: Region, count_of_runs: usize) -> bool {
     count_of_runs <= (region.rows() as usize * region.cols() as usize) / CELLS_A_RUN
 }
 
+// Labels a map, by runs or by cells, as is faster.
+fn label_map(alloc: Global, map: &CellMap, joining: Joining) -> Result<MapLabels, Memory>
+    ensures { IfOk result (λ labels. AreMapLabels joining map.now
+        labels.table.items labels.rows.items) }
+{
+    let count_of_runs = number_of_runs(map);
+    if is_by_runs(map.region(), count_of_runs) {
+        return label_runs(alloc, map, joining, count_of_runs);
+    }
+    label_cells(alloc, map, joining, count_of_runs)
+}
+
 /// The map in which each cell that is not null has the number of its area, over the same region and
 /// without labels. Null stays null.
 ///
@@ -46,7 +61,8 @@ fn is_by_runs(region: Region, count_of_runs: usize) -> bool {
 /// left (profile). The rows `1 2` and `2 1` give `1 2` and `3 4` by edges, and `1 2` and `2 1` by edges
 /// and corners.
 ///
-/// It takes at most twelve bytes for each run of equal cells side by side, and a few rows, besides the map that it returns.
+/// It takes at most twelve bytes for each run of equal cells side by side, or four for each cell if most runs are short, and a few
+/// rows, besides the map that it returns.
 ///
 /// # Errors
 ///
@@ -54,12 +70,12 @@ fn is_by_runs(region: Region, count_of_runs: usize) -> bool {
 pub fn clump_with(alloc: Global, map: &CellMap, joining: Joining) -> Result<CellMap, Memory>
     ensures { IfOk result (IsClumping joining map.now) }
 {
-    let count_of_runs = number_of_runs(map);
-    if is_by_runs(map.region(), count_of_runs) {
-        return number_runs(alloc, map, joining, count_of_runs);
-    }
-    let mut table = label_cells(alloc, map, joining, count_of_runs)?;
-    number_cells(alloc, map, joining, table.as_mut_slice())
+    let region = map.region();
+    let mut cells = vec![in alloc; Cell::null(); region.cols() as usize]?;
+    let MapLabels { mut table, rows } = label_map(alloc, map, joining)?;
+    let numbers = table.as_mut_slice();
+    number_labels(numbers);
+    number_rows(alloc, region, numbers, rows, cells.as_mut_slice())
 }
 
 /// The numbers of the areas that are joined by edges: [`clump_with`] by [`Joining::Edges`].

@@ -1,42 +1,79 @@
 //! The labels of a row, and the numbers in place of them.
 
-ghost use Rattle.std.specs.Prelude.{◌≡◌, ◌<◌, ℕ, List, All, length};
-ghost use Rattle.cell_cats_areas.specs.parts.RunsOfLabels.{number_for, numbers_along};
+ghost use Rattle.std.specs.Prelude.{◌≡◌, ◌<◌, All, IfOk, length, map};
+ghost use Rattle.cell_cats_areas.specs.parts.RunsOfLabels.{labels_along, number_for, numbers_along};
 
 use crate::area_numbers::number_cell;
+use crate::near::{Labelled, NO_LABEL};
 use cell_core::cell::Cell;
+use cell_core::memory::Memory;
 use cell_core::runs::fill_run;
+use std::alloc::Global;
 use std::marker::Model;
 
-// The labels of a row, each with how many cells side by side have it.
+// The labels of a row's cells, from left to right.
 #[derive(Debug, Drop)]
 pub(crate) struct KeptLabels {
-    runs: Vec<(u32, u32)>,
+    kept: LabelForm,
+}
+
+// The labels of a row: each with how many cells side by side have it, or one by one, which takes less memory if most runs are short.
+#[derive(Debug, Drop)]
+enum LabelForm {
+    Runs(Vec<(u32, u32)>),
+    Cells(Vec<u32>),
 }
 
 impl Model for KeptLabels {
     ghost use Rattle.std.specs.Prelude.{ℕ, List};
+    ghost use Rattle.cell_cats_areas.specs.parts.LabelForms.{labels_kept};
 
-    ghost Value = { List (ℕ × ℕ) };
+    ghost Value = { List ℕ };
 
-    ghost view = { λ row. row.runs.items };
+    ghost view = { λ row. labels_kept row.kept };
 }
 
 impl KeptLabels {
     // The labels of such runs.
-    pub(crate) fn of(runs: Vec<(u32, u32)>) -> KeptLabels
-        ensures { result ≡ runs.items }
+    pub(crate) fn of_runs(runs: Vec<(u32, u32)>) -> KeptLabels
+        ensures { result ≡ labels_along runs.items }
     {
-        KeptLabels { runs }
+        KeptLabels {
+            kept: LabelForm::Runs(runs),
+        }
+    }
+
+    // The labels of the cells of a line.
+    pub(crate) fn of_line(alloc: Global, line: &[Labelled]) -> Result<KeptLabels, Memory>
+        ensures { IfOk result (λ labels. labels ≡ map (λ x. x.label) line.now) }
+    {
+        let mut labels = vec![in alloc; NO_LABEL; line.len()]?;
+        copy_labels(line, labels.as_mut_slice());
+        Ok(KeptLabels {
+            kept: LabelForm::Cells(labels),
+        })
     }
 
     // Writes the numbers of a row's cells. The table has the number of each label, and none of what null has for one.
     pub(crate) fn write_numbers(&self, table: &[u32], cells: &mut [Cell])
         requires small { All (λ number. number < 2147483648) table.now }
-        requires wide { length (numbers_along table.now self.now) ≡ length cells.old }
-        ensures { cells.new ≡ numbers_along table.now self.now }
+        requires wide { length self.now ≡ length cells.old }
+        ensures { cells.new ≡ map (number_for table.now) self.now }
     {
-        write_numbers(&self.runs, table, cells);
+        match &self.kept {
+            LabelForm::Runs(runs) => write_run_numbers(runs, table, cells),
+            LabelForm::Cells(labels) => write_cell_numbers(labels, table, cells),
+        }
+    }
+}
+
+// Copies the labels of a line into a slice of as many.
+fn copy_labels(line: &[Labelled], labels: &mut [u32])
+    requires { length labels.old ≡ length line.now }
+    ensures { labels.new ≡ map (λ x. x.label) line.now }
+{
+    for i in 0..labels.len() {
+        labels[i] = line[i].label;
     }
 }
 
@@ -53,7 +90,7 @@ fn number_of_label(table: &[u32], label: u32) -> Cell
 
 // Writes the numbers of labels, each so many times.
 #[inline(never)]
-fn write_numbers(runs: &[(u32, u32)], table: &[u32], cells: &mut [Cell])
+fn write_run_numbers(runs: &[(u32, u32)], table: &[u32], cells: &mut [Cell])
     requires small { All (λ number. number < 2147483648) table.now }
     requires wide { length (numbers_along table.now runs.now) ≡ length cells.old }
     ensures { cells.new ≡ numbers_along table.now runs.now }
@@ -62,5 +99,17 @@ fn write_numbers(runs: &[(u32, u32)], table: &[u32], cells: &mut [Cell])
     for run in runs {
         fill_run(cells, at, (number_of_label(table, run.0), run.1));
         at += run.1 as usize;
+    }
+}
+
+// Writes the numbers of as many labels.
+#[inline(never)]
+fn write_cell_numbers(labels: &[u32], table: &[u32], cells: &mut [Cell])
+    requires small { All (λ number. number < 2147483648) table.now }
+    requires wide { length labels.now ≡ length cells.old }
+    ensures { cells.new ≡ map (number_for table.now) labels.now }
+{
+    for i in 0..cells.len() {
+        cells[i] = number_of_label(table, labels[i]);
     }
 }

@@ -9,9 +9,10 @@
 //! - `law`: there is one such map, and its numbers are 1 to the number of clumps
 //! - private, in the order of work: `scan`, a new label for each cell that shares none with an
 //!   earlier neighbour; `near`, the earlier neighbours of a cell; `labels`, the union-find over
-//!   labels; `area_numbers`, the second walk, which writes numbers in place of labels
+//!   labels; `kept_labels`, the labels of a row; `area_numbers`, the number of each label;
+//!   `row_numbers`, the numbers in place of labels
 //! - private, for maps of long runs: `run_scan`, a label for each run; `above`, the row above as
-//!   runs; `kept_labels`, the labels of a row; `run_numbers`, the numbers in place of labels
+//!   runs
 //!
 //! Categories 1 2 over 2 1 are four clumps by edges:
 //!
@@ -33,6 +34,6 @@ mod kept_labels;
 mod labels;
 pub mod law;
 mod near;
-mod run_numbers;
+mod row_numbers;
 mod run_scan;
 mod scan;

@@ -1,10 +1,10 @@
 //! The neighbours of a cell that come before it in row order, and the label that it shares with them.
 
-ghost use Rattle.std.specs.Prelude.{◌≡◌, ◌<◌, ◌≤◌, ◌+◌, ◌^◌, length, All, None, Some, IsSome, IfSome, IfOk, OnOk, slice_index_or};
+ghost use Rattle.std.specs.Prelude.{◌≡◌, ◌<◌, ◌≤◌, ◌+◌, ◌^◌, length, All, None, Some, IsSome, IfOk, OnOk, slice_index_or};
 ghost use Rattle.cell_cats_areas.specs.declared.clump.Joining.TheVariants.{Edges, EdgesAndCorners};
 ghost use Rattle.cell_cats_areas.specs.parts.Labels.{PointDown};
 ghost use Rattle.cell_cats_areas.specs.parts.RunsOfLabels.{HasCellInHand, near_under, no_neighbour, cells_to_come};
-ghost use Rattle.cell_cats_areas.specs.parts.AreasRead.{AreInside, CanShare, HasEarlier, HasNoneEarlier, LabelsNext, SharesLabel, SharesLabelAtCorners, near_at};
+ghost use Rattle.cell_cats_areas.specs.parts.AreasRead.{AreInside, CanShare, LabelsNext, SharesLabel, SharesLabelAtCorners, near_at};
 
 use crate::above::Above;
 use crate::clump::Joining;
@@ -195,26 +195,4 @@ pub(crate) fn label_cell(
     let label = table.len() as u32;
     table.push(label)?;
     Ok(label)
-}
-
-// The label or number of a neighbour of a cell's category, if there is one. Null is taken for a category.
-pub(crate) fn known_label(joining: Joining, cell: Cell, near: &Near) -> Option<u32>
-    ensures some { IfSome result (HasEarlier joining cell near.now) }
-    ensures none { result ≡ None → HasNoneEarlier joining cell near.now }
-{
-    if near.left.cell == cell {
-        return Some(near.left.label);
-    }
-    if near.above.cell == cell {
-        return Some(near.above.label);
-    }
-    if let Joining::EdgesAndCorners = joining {
-        if near.upper_left.cell == cell {
-            return Some(near.upper_left.label);
-        }
-        if near.upper_right.cell == cell {
-            return Some(near.upper_right.label);
-        }
-    }
-    None
 }

@@ -4,7 +4,7 @@ ghost use Rattle.std.specs.Prelude.{◌≡◌, ℕ, ◌<◌, ◌≤◌, ◌+◌,
 ghost use Rattle.cell_core.specs.Grid.{row_at};
 ghost use Rattle.cell_core.specs.Runs.{AreRuns, written_out};
 ghost use Rattle.cell_cats_areas.specs.parts.Labels.{PointDown};
-ghost use Rattle.cell_cats_areas.specs.parts.RunsOfLabels.{AreRunLabels, HaveRuns, KeepsRow};
+ghost use Rattle.cell_cats_areas.specs.parts.RunsOfLabels.{AreMapLabels, HaveRuns, KeepsRow};
 
 use crate::above::Above;
 use crate::clump::Joining;
@@ -56,7 +56,7 @@ fn label_runs_of_row(
         below.push((Labelled { cell: run.0, label }, run.1))?;
         runs.push((label, run.1))?;
     }
-    Ok(KeptLabels::of(runs))
+    Ok(KeptLabels::of_runs(runs))
 }
 
 // The table of the labels of a map, and the labels of its rows.
@@ -73,7 +73,7 @@ pub(crate) fn label_runs(
     joining: Joining,
     count_of_runs: usize,
 ) -> Result<MapLabels, Memory>
-    ensures { IfOk result (λ labels. AreRunLabels joining map.now
+    ensures { IfOk result (λ labels. AreMapLabels joining map.now
         labels.table.items labels.rows.items) }
 {
     let region = map.region();

@@ -1,12 +1,13 @@
 //! The labels of a map.
 
-ghost use Rattle.std.specs.Prelude.{◌≡◌, ◌<◌, ◌≤◌, ◌+◌, ◌^◌, IfOk, OnOk, length};
+ghost use Rattle.std.specs.Prelude.{◌≡◌, ◌<◌, ◌≤◌, ◌+◌, ◌^◌, [], All, None, IfOk, OnOk, length};
 ghost use Rattle.cell_cats_areas.specs.parts.Labels.{PointDown};
-ghost use Rattle.cell_cats_areas.specs.parts.AreasRead.{HaveCells};
-ghost use Rattle.cell_cats_areas.specs.parts.LabelTables.{AreLabels};
+ghost use Rattle.cell_cats_areas.specs.parts.RunsOfLabels.{AreMapLabels, HaveLine, KeepsLine};
 
 use crate::clump::Joining;
+use crate::kept_labels::KeptLabels;
 use crate::near::{Labelled, Near, label_cell, outside};
+use crate::run_scan::MapLabels;
 use cell_core::cell::Cell;
 use cell_core::map::CellMap;
 use cell_core::memory::Memory;
@@ -26,11 +27,14 @@ fn label_row(
     requires wide { length cells.old ≡ map.now.region.cols }
     requires down { PointDown table.old.items }
     requires short { length table.old.items + map.now.region.cols < 2 ^ 31 }
-    requires read { HaveCells joining map.now table.old.items line.old row 0 }
+    requires nulls { All (λ x. x.cell ≡ None → x.label ≡ 4294967295) line.old }
+    requires read { HaveLine joining map.now [] table.old.items line.old row }
     ensures down { OnOk result (PointDown table.new.items) }
     ensures long { OnOk result
         (length table.new.items ≤ length table.old.items + map.now.region.cols) }
-    ensures read { OnOk result (HaveCells joining map.now table.new.items line.new (row + 1) 0) }
+    ensures nulls { OnOk result (All (λ x. x.cell ≡ None → x.label ≡ 4294967295) line.new) }
+    ensures read { OnOk result (KeepsLine joining map.now row table.old.items line.old
+        table.new.items line.new) }
 {
     map.copy_row(row, cells);
     let mut near = Near::at_the_edge();
@@ -44,27 +48,27 @@ fn label_row(
     Ok(())
 }
 
-/// The table of the labels of a map, once the labels of each two adjacent cells of one category were joined.
-///
-/// No cell's label is kept. `number_cells` walks the map again, and meets the cells that share no label with earlier neighbours
-/// in the same order. The table says which labels are joined, so no row of labels is rewritten.
-pub fn label_cells(
+// Labels the cells of a map, once the labels of each two adjacent cells of one category were joined. It has so many runs.
+pub(crate) fn label_cells(
     alloc: Global,
     map: &CellMap,
     joining: Joining,
     count_of_runs: usize,
-) -> Result<Vec<u32>, Memory>
-    ensures { IfOk result (λ table. AreLabels joining map.now table.items) }
+) -> Result<MapLabels, Memory>
+    ensures { IfOk result (λ labels. AreMapLabels joining map.now
+        labels.table.items labels.rows.items) }
 {
     let region = map.region();
     let cols = region.cols() as usize;
     let mut table = Vec::with_capacity(alloc, count_of_runs)?;
+    let mut rows = Vec::with_capacity(alloc, region.rows() as usize)?;
     let mut buffer = vec![in alloc; Cell::null(); cols]?;
     let cells = buffer.as_mut_slice();
     let mut whole = vec![in alloc; outside(); cols + 1]?;
     let line = whole.as_mut_slice();
     for row in 0..region.rows() {
         label_row(map, row, joining, &mut table, cells, line)?;
+        rows.push(KeptLabels::of_line(alloc, &line[..cols])?)?;
     }
-    Ok(table)
+    Ok(MapLabels { table, rows })
 }

@@ -119,12 +119,6 @@ SharesAtCorners cell near table new label = (m : Grid) (r c : ℕ) (v : ℤ) (la
     → ((q : Position) → IsLeft r c q ⊎ IsAbove r c q → cell_at_position m q ≡ Some v → ⊥)
     → AreRowsRead EdgesAndCorners m table labels open_of → Shares EdgesAndCorners m new labels open_of r c v label
 
--- a cell that comes before it has its category, and what it is labelled with
-abbrev pub HasEarlier : Joining → CellValue → Near → ℕ → Type 0
-HasEarlier j cell near label = (m : Grid) (r c : ℕ) (v : ℤ) (count : ℕ) (label_of : Position → ℕ)
-    → cell ≡ Some v → AreNear m count label_of r c near
-    → (q : Position) × IsEarlier j r c q × (cell_at_position m q ≡ Some v) × (label ≡ label_of q)
-
 -- no cell that comes before it has its category
 abbrev pub HasNoneEarlier : Joining → CellValue → Near → Type 0
 HasNoneEarlier j cell near = (m : Grid) (r c : ℕ) (v : ℤ) (count : ℕ) (label_of : Position → ℕ)

@@ -1,7 +1,6 @@
--- A row as its labelled runs, and the row above while the runs of a row are labelled.
-use Rattle.std.specs.Prelude.{ℕ, ℤ, pos, ◌+◌, ◌*◌, ◌<◌, ◌≤◌, ◌≡◌, ◌⊎◌, List, [], ◌∷◌, ◌++◌, All, length, map, replicate, drop, flat_map, Some, None, slice_index_or}
+-- The labels that are kept of the rows of a map, and a row as its labelled runs.
+use Rattle.std.specs.Prelude.{ℕ, ℤ, pos, ◌+◌, ◌<◌, ◌≤◌, ◌≡◌, ◌⊎◌, List, [], ◌∷◌, ◌++◌, length, map, replicate, take, drop, flat_map, Some, None, slice_index_or}
 use Rattle.cell_core.specs.Grid.{Grid, CellValue}
-use Rattle.cell_core.specs.Runs.{RunValue}
 use Rattle.cell_cats_areas.specs.declared.clump.Joining.{Joining}
 use Rattle.cell_cats_areas.specs.declared.clump.Joining.TheVariants.{Edges}
 use Rattle.cell_cats_areas.specs.declared.near.Labelled.{Labelled}
@@ -41,32 +40,40 @@ abbrev pub near_under : Near → List Labelled → Near
 near_under near coming = record { left = near.left; upper_left = near.above; above = slice_index_or coming 0 no_neighbour; upper_right = slice_index_or coming 1 no_neighbour }
 
 -- the labels of the rows read that are kept: of each cell, or the largest number for null
-pub record AreKeptLabels (m : Grid) (labels : List ℕ) (kept : List (List (ℕ × ℕ))) : Type 0 where
-  pub wide : (r : ℕ) → r < length kept → length (labels_along (slice_index_or kept r [])) ≡ m.region.cols
+pub record AreKeptLabels (m : Grid) (labels : List ℕ) (kept : List (List ℕ)) : Type 0 where
+  pub wide : (r : ℕ) → r < length kept → length (slice_index_or kept r []) ≡ m.region.cols
   pub read : (r c : ℕ) → r < length kept → c < m.region.cols → WasRead m labels (position r c)
-  pub some : (r c : ℕ) (v : ℤ) → r < length kept → c < m.region.cols → cell_at_position m (position r c) ≡ Some v → slice_index_or (labels_along (slice_index_or kept r [])) c 0 ≡ area_label_at m labels (position r c)
-  pub null : (r c : ℕ) → r < length kept → c < m.region.cols → cell_at_position m (position r c) ≡ None → slice_index_or (labels_along (slice_index_or kept r [])) c 0 ≡ 4294967295
+  pub some : (r c : ℕ) (v : ℤ) → r < length kept → c < m.region.cols → cell_at_position m (position r c) ≡ Some v → slice_index_or (slice_index_or kept r []) c 0 ≡ area_label_at m labels (position r c)
+  pub null : (r c : ℕ) → r < length kept → c < m.region.cols → cell_at_position m (position r c) ≡ None → slice_index_or (slice_index_or kept r []) c 0 ≡ 4294967295
 
 -- the cells before a column of a row were read, and the labels of the rows before it are kept
-pub record AreWalked (j : Joining) (m : Grid) (kept : List (List (ℕ × ℕ))) (table : List ℕ) (line : List Labelled) (r c : ℕ) (near : Near) : Type 0 where
+pub record AreWalked (j : Joining) (m : Grid) (kept : List (List ℕ)) (table : List ℕ) (line : List Labelled) (r c : ℕ) (near : Near) : Type 0 where
   pub reading : IsAreaReading j m table line r c near
   pub kept_are : AreKeptLabels m reading.cells.labels kept
 
 -- the same, while so many cells of a row were read and others are still to come of the one above
-abbrev pub IsWalked : Joining → Grid → List (List (ℕ × ℕ)) → List ℕ → List Labelled → List Labelled → ℕ → Near → Type 0
+abbrev pub IsWalked : Joining → Grid → List (List ℕ) → List ℕ → List Labelled → List Labelled → ℕ → Near → Type 0
 IsWalked j m kept table done coming r near = AreWalked j m kept table (done ++ (coming ++ no_neighbour ∷ [])) r (length done) near
 
--- the rows before one were read, of which the last is a line of runs, and their labels are kept
-pub record HaveRuns (j : Joining) (m : Grid) (kept : List (List (ℕ × ℕ))) (table : List ℕ) (line : List (Labelled × ℕ)) (r : ℕ) : Type 0 where
-  pub cells : HaveCells j m table (line_of_runs line ++ no_neighbour ∷ []) r 0
+-- the rows before one were read, of which the last is a line, and their labels are kept
+pub record HaveLine (j : Joining) (m : Grid) (kept : List (List ℕ)) (table : List ℕ) (line : List Labelled) (r : ℕ) : Type 0 where
+  pub cells : HaveCells j m table line r 0
   pub kept_are : AreKeptLabels m cells.labels kept
 
+-- the same if the line is one of runs
+abbrev pub HaveRuns : Joining → Grid → List (List ℕ) → List ℕ → List (Labelled × ℕ) → ℕ → Type 0
+HaveRuns j m kept table line r = HaveLine j m kept table (line_of_runs line ++ no_neighbour ∷ []) r
+
 -- the labels of one more row are kept
-abbrev pub KeepsRow : Joining → Grid → ℕ → List ℕ → List (Labelled × ℕ) → List ℕ → List (Labelled × ℕ) → List (ℕ × ℕ) → Type 0
-KeepsRow j m r old above new below row = (kept : List (List (ℕ × ℕ))) → length kept ≡ r → HaveRuns j m kept old above r → HaveRuns j m (kept ++ row ∷ []) new below (r + 1)
+abbrev pub KeepsRow : Joining → Grid → ℕ → List ℕ → List (Labelled × ℕ) → List ℕ → List (Labelled × ℕ) → List ℕ → Type 0
+KeepsRow j m r old above new below row = (kept : List (List ℕ)) → length kept ≡ r → HaveRuns j m kept old above r → HaveRuns j m (kept ++ row ∷ []) new below (r + 1)
+
+-- the same if the row is a line of cells
+abbrev pub KeepsLine : Joining → Grid → ℕ → List ℕ → List Labelled → List ℕ → List Labelled → Type 0
+KeepsLine j m r old above new below = (kept : List (List ℕ)) → length kept ≡ r → HaveLine j m kept old above r → HaveLine j m (kept ++ map (λ x. x.label) (take m.region.cols below) ∷ []) new below (r + 1)
 
 -- the labels of a map of which each two adjacent cells of one category were joined, and of each row the labels that are kept
-pub record AreRunLabels (j : Joining) (m : Grid) (table : List ℕ) (kept : List (List (ℕ × ℕ))) : Type 0 where
+pub record AreMapLabels (j : Joining) (m : Grid) (table : List ℕ) (kept : List (List ℕ)) : Type 0 where
   pub labels : AreLabels j m table
   pub kept_are : AreKeptLabels m labels.labels kept
   pub count : length kept ≡ m.region.rows

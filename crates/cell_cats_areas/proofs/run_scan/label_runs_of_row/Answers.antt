@@ -1,16 +1,15 @@
-use Rattle.std.proofs.Common.{◌≡◌, ℕ, ◌+◌, ◌++◌, ◌∷◌, ◌<◌, ◌≤◌, ◌⊎◌, List, [], All, None, IsSome, length, map, drop}
-use Rattle.std.proofs.Common.{replicate, get_or, refl, ap, sym, ◌∙◌, arith, subst, inl, inr, ⊎_elim, append_assoc}
+use Rattle.std.proofs.Common.{◌≡◌, ℕ, ◌+◌, ◌++◌, ◌∷◌, ◌<◌, ◌≤◌, ◌⊎◌, List, [], All, None, length, drop}
+use Rattle.std.proofs.Common.{replicate, refl, ap, sym, ◌∙◌, arith, subst, inl, inr, ⊎_elim}
 use Rattle.std.proofs.Common.{length-append}
-use Rattle.std.proofs.lemmas.List.{append-nil, length-replicate, drop-drop, length_push}
+use Rattle.std.proofs.lemmas.List.{append-nil, length-replicate}
 use Rattle.std.proofs.lemmas.List.Elements.{All-nil, All-push, All-head, All-tail, All-append, All-replicate}
-use Rattle.std.proofs.Math.Seq.{drop-append_seam}
-use Rattle.cell_core.specs.Grid.{CellValue, row_at}
+use Rattle.cell_core.specs.Grid.{row_at}
 use Rattle.cell_core.specs.Runs.{RunValue, written_out}
 use Rattle.cell_cats_areas.specs.declared.near.Labelled.{Labelled}
 use Rattle.cell_cats_areas.specs.Areas.{cell_at_position}
 use Rattle.cell_cats_areas.specs.parts.CellPlaces.{position}
 use Rattle.cell_cats_areas.specs.parts.AreasRead.{AreInside}
-use Rattle.cell_cats_areas.specs.parts.RunsOfLabels.{HaveRuns, IsWalked, labels_along, line_of_runs, cells_to_come}
+use Rattle.cell_cats_areas.specs.parts.RunsOfLabels.{labels_along, line_of_runs, cells_to_come}
 use Rattle.cell_cats_areas.proofs.RunLemmas.{alike_less, done_more, in_hand, line_more, row_kept, run_step}
 use Rattle.cell_cats_areas.proofs.RunLemmas.{same_label, same_more, still_to_come, walked_first, walked_inside}
 use Rattle.cell_cats_areas.proofs.RunLemmas.{run_here, run_ahead, run_past}
@@ -173,6 +172,6 @@ returns-clause-read c = λ kept count h.
     let inv = c.loop-run.invariant in
     let none : length (written_out c.loop-run.run-iterator) ≡ 0 = ap (λ (l : List RunValue). length
     (written_out l)) c.in-None.ensures.steps.0 in
-    rw c.of.ensures (row_kept c.args.joining c.args.map.now kept c.loop-run.table.items c.loop-run.below.items
-    (cells_to_come c.loop-run.above c.args.line.now) c.args.row c.loop-run.near c.loop-run.runs.items
+    rw c.of_runs.ensures (row_kept c.args.joining c.args.map.now kept c.loop-run.table.items c.loop-run.below.items
+    (cells_to_come c.loop-run.above c.args.line.now) c.args.row c.loop-run.near (labels_along c.loop-run.runs.items)
     (inv.walked kept h) (omega (arith, inv.within)) count inv.same inv.nulls)

@@ -1,4 +1,4 @@
-use Rattle.std.proofs.Common.{◌≡◌, ℕ, ◌+◌, ◌-◌, ◌++◌, ◌<◌, ◌≤◌, ◌⊎◌, List, [], All, None, length, map, drop, replicate}
+use Rattle.std.proofs.Common.{◌≡◌, ℕ, ◌+◌, ◌-◌, ◌++◌, ◌<◌, ◌≤◌, ◌⊎◌, List, All, None, length, map, drop, replicate}
 use Rattle.cell_core.specs.Grid.{row_at}
 use Rattle.cell_core.specs.Runs.{written_out}
 use Rattle.cell_cats_areas.specs.declared.near.Labelled.{Labelled}
@@ -18,7 +18,7 @@ invariant-loop-run l = record {
   within : length (line_of_runs l.below.items) + length (written_out l.run-iterator) ≡ l.map.region.cols;
   same : labels_along l.runs.items ≡ map (λ (x : Labelled). x.label) (line_of_runs l.below.items);
   nulls : All (λ (x : Labelled). x.cell ≡ None → x.label ≡ 4294967295) (line_of_runs l.below.items);
-  walked : (kept : List (List (ℕ × ℕ))) → HaveRuns l.joining l.map kept l.fn.table.items l.line l.row
+  walked : (kept : List (List ℕ)) → HaveRuns l.joining l.map kept l.fn.table.items l.line l.row
       → IsWalked l.joining l.map kept l.table.items (line_of_runs l.below.items)
       (cells_to_come l.above l.line) l.row l.near;
 }
@@ -31,7 +31,7 @@ invariant-cells l = record {
   within : l.passed ≤ l.run.1;
   null : l.run.0 ≡ None → l.label ≡ 4294967295;
   same : (l.passed ≡ 0) ⊎ (l.near.left ≡ record { cell = l.run.0; label = l.label });
-  walked : (kept : List (List (ℕ × ℕ))) → HaveRuns l.joining l.map kept l.fn.table.items l.line l.row
+  walked : (kept : List (List ℕ)) → HaveRuns l.joining l.map kept l.fn.table.items l.line l.row
       → IsWalked l.joining l.map kept l.table.items (line_of_runs l.below.items ++ replicate l.passed (record
       { cell = l.run.0; label = l.label })) (cells_to_come l.above l.line) l.row l.near;
 }

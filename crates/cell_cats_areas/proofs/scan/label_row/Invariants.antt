@@ -1,6 +1,6 @@
-use Rattle.std.proofs.Common.{◌≡◌, ◌+◌, ◌≤◌, length}
+use Rattle.std.proofs.Common.{◌≡◌, ◌+◌, ◌≤◌, ℕ, List, All, None, length}
 use Rattle.cell_cats_areas.specs.parts.Labels.{PointDown}
-use Rattle.cell_cats_areas.specs.parts.AreasRead.{IsAreaReading}
+use Rattle.cell_cats_areas.specs.parts.RunsOfLabels.{AreWalked, HaveLine}
 use Rattle.cell_cats_areas.proofs.scan.label_row.Given as goal
 
 abbrev pub invariant-loop-col : goal.invariant-loop-col
@@ -8,5 +8,7 @@ invariant-loop-col l = record {
   wide : length l.line ≡ l.map.region.cols + 1;
   down : PointDown l.table.items;
   most : length l.table.items ≤ length l.fn.table.items + l.col;
-  reading : IsAreaReading l.joining l.map l.table.items l.line l.row l.col l.near;
+  nulls : All (λ x. x.cell ≡ None → x.label ≡ 4294967295) l.line;
+  walked : (kept : List (List ℕ)) → HaveLine l.joining l.map kept l.fn.table.items l.fn.line l.row
+      → AreWalked l.joining l.map kept l.table.items l.line l.row l.col l.near;
 }

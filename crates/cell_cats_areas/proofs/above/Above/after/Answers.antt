@@ -1,4 +1,4 @@
-use Rattle.std.proofs.Common.{◌<◌, ◌≤◌, ◌-◌, ◌++◌, ◌∙◌, ap, sym, List, length, replicate, drop, arith}
+use Rattle.std.proofs.Common.{◌≤◌, ◌++◌, ◌∙◌, ap, sym, List, length, replicate, drop, arith}
 use Rattle.std.proofs.lemmas.List.{drop-append-le, drop-replicate, length-replicate}
 use Rattle.cell_cats_areas.specs.declared.near.Labelled.{Labelled}
 use Rattle.cell_cats_areas.specs.parts.RunsOfLabels.{line_of_runs}

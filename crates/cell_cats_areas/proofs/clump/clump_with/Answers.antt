@@ -1,15 +1,15 @@
-use Rattle.std.proofs.Common.{◌≡◌, List, ℕ, length, ap, refl, sym, subst, ◌∙◌}
+use Rattle.std.proofs.Common.{List, ℕ, length, ap, refl, sym, subst, ◌∙◌}
 use Rattle.std.proofs.lemmas.Result.{IfOk-weaker}
 use Rattle.cell_cats_areas.specs.Areas.{IsClumping}
 use Rattle.cell_cats_areas.specs.parts.AreaNumbers.{IsNumbered, NumbersLabels}
-use Rattle.cell_cats_areas.specs.parts.RunsOfLabels.{AreRunLabels}
+use Rattle.cell_cats_areas.specs.parts.RunsOfLabels.{AreMapLabels}
 use Rattle.cell_cats_areas.proofs.NumberLemmas.{table_short}
-use Rattle.cell_cats_areas.proofs.RunNumberLemmas.{made_clumping, numbers_small, rows_wide}
-use Rattle.cell_cats_areas.proofs.run_numbers.number_runs.Goals as goal
+use Rattle.cell_cats_areas.proofs.RowNumberLemmas.{made_clumping, numbers_small, rows_wide}
+use Rattle.cell_cats_areas.proofs.clump.clump_with.Goals as goal
 
 pub number_labels-requires : goal.number_labels-requires
 number_labels-requires c =
-    let runs : AreRunLabels c.args.joining c.args.map.now c.in_ok-table.field-0.table.items
+    let runs : AreMapLabels c.args.joining c.args.map.now c.in_ok-table.field-0.table.items
     c.in_ok-table.field-0.rows.items = c.in_ok-table.ensures in
     let same = c.as_mut_slice-numbers.ensures.value in
     record {
@@ -23,7 +23,7 @@ number_rows-requires c =
     let j = c.args.joining in
     let m = c.args.map.now in
     let table : List ℕ = c.in_ok-table.field-0.table.items in
-    let runs : AreRunLabels j m table c.in_ok-table.field-0.rows.items = c.in_ok-table.ensures in
+    let runs : AreMapLabels j m table c.in_ok-table.field-0.rows.items = c.in_ok-table.ensures in
     let region = c.region-region.ensures.value in
     let same = c.as_mut_slice-numbers.ensures.value in
     let all : NumbersLabels table c.number_labels.new.table = subst (λ
@@ -35,8 +35,7 @@ number_rows-requires c =
     } in
     record {
       small = numbers_small j m table runs.labels c.number_labels.new.table n;
-      wide = rw region (rows_wide m runs.labels.labels c.number_labels.new.table c.in_ok-table.field-0.rows.items
-          runs.kept_are);
+      wide = rw region (rows_wide m runs.labels.labels c.in_ok-table.field-0.rows.items runs.kept_are);
       count = runs.count ∙ ap (λ r. r.rows) (sym region);
       width = c.as_mut_slice.ensures.len ∙ c.in_ok-cells.ensures.len ∙ c.cols.ensures.value;
     }
@@ -46,7 +45,7 @@ returns c =
     let j = c.args.joining in
     let m = c.args.map.now in
     let table : List ℕ = c.in_ok-table.field-0.table.items in
-    let runs : AreRunLabels j m table c.in_ok-table.field-0.rows.items = c.in_ok-table.ensures in
+    let runs : AreMapLabels j m table c.in_ok-table.field-0.rows.items = c.in_ok-table.ensures in
     let region = c.region-region.ensures.value in
     let same = c.as_mut_slice-numbers.ensures.value in
     let all : NumbersLabels table c.number_labels.new.table = subst (λ

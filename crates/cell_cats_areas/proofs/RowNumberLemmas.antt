@@ -1,5 +1,5 @@
 -- The numbers in place of the labels that were kept.
-use Rattle.std.proofs.Common.{◌≡◌, ℕ, zero, suc, ℤ, pos, ◌+◌, ◌<◌, ◌≤◌, List, [], ◌∷◌, ◌++◌, All, Some, None, length}
+use Rattle.std.proofs.Common.{◌≡◌, ℕ, zero, suc, pos, ◌<◌, ◌≤◌, List, [], ◌∷◌, ◌++◌, All, Some, None, length}
 use Rattle.std.proofs.Common.{replicate, map, get_or, refl, ap, sym, ◌∙◌, arith, subst}
 use Rattle.std.proofs.lemmas.List.{length-map, map-append, get_or_default, get_or_past}
 use Rattle.std.proofs.lemmas.List.Elements.{All-from_get_or, All-map}
@@ -9,9 +9,9 @@ use Rattle.cell_cats_areas.specs.declared.clump.Joining.{Joining}
 use Rattle.cell_cats_areas.specs.Areas.{cell_at_position, IsClumping}
 use Rattle.cell_cats_areas.specs.parts.CellPlaces.{position}
 use Rattle.cell_cats_areas.specs.parts.AreasRead.{area_label_at}
-use Rattle.cell_cats_areas.specs.parts.AreaNumbers.{IsNumbered, area_number, cell_number}
+use Rattle.cell_cats_areas.specs.parts.AreaNumbers.{IsNumbered, cell_number}
 use Rattle.cell_cats_areas.specs.parts.LabelTables.{AreLabels}
-use Rattle.cell_cats_areas.specs.parts.RunsOfLabels.{AreKeptLabels, AreRunLabels, labels_along, number_for}
+use Rattle.cell_cats_areas.specs.parts.RunsOfLabels.{AreKeptLabels, AreMapLabels, labels_along, number_for}
 use Rattle.cell_cats_areas.specs.parts.RunsOfLabels.{numbers_along}
 use Rattle.cell_cats_areas.proofs.ClumpLemmas.{clumping}
 use Rattle.cell_cats_areas.proofs.NearLemmas.{label_below}
@@ -21,7 +21,7 @@ number_each : (table : List ℕ) (n l : ℕ) → replicate n (number_for table l
 number_each table zero l = refl
 number_each table (suc n) l = ap (λ (xs : List CellValue). number_for table l ∷ xs) (number_each table n l)
 
-numbers_are : (table : List ℕ) (runs : List (ℕ × ℕ))
+pub numbers_are : (table : List ℕ) (runs : List (ℕ × ℕ))
     → numbers_along table runs ≡ map (number_for table) (labels_along runs)
 numbers_are table [] = refl
 numbers_are table (run ∷ runs) =
@@ -44,24 +44,22 @@ module _ (j : Joining) (m : Grid) (table : List ℕ) (h : AreLabels j m table) (
       let most = count_most j m table (suc (h.has_read.open_of k)) in
       omega (arith, n.short))
 
-  pub row_written : (kept : List (List (ℕ × ℕ))) → AreKeptLabels m h.labels kept → (r c : ℕ) → r < length kept
-      → c < m.region.cols → get_or (numbers_along numbers (get_or kept r [])) c None ≡ cell_number j m table h
+  pub row_written : (kept : List (List ℕ)) → AreKeptLabels m h.labels kept → (r c : ℕ) → r < length kept
+      → c < m.region.cols → get_or (map (number_for numbers) (get_or kept r [])) c None ≡ cell_number j m table h
       (position r c)
   row_written kept k r c lt c_in =
-      let row : List (ℕ × ℕ) = get_or kept r [] in
-      let inside : c < length (map (number_for numbers) (labels_along row)) = omega (
+      let row : List ℕ = get_or kept r [] in
+      let inside : c < length (map (number_for numbers) row) = omega (
         arith,
-        length-map
-            (labels_along row) (number_for numbers),
+        length-map row (number_for numbers),
         k.wide r lt,
       ) in
-      ap (λ (l : List CellValue). get_or l c None) (numbers_are numbers row)
-      ∙ get_or_default (map (number_for numbers) (labels_along row)) c None (number_for numbers 0) inside
-      ∙ get_or-map (number_for numbers) (labels_along row) c 0
+      get_or_default (map (number_for numbers) row) c None (number_for numbers 0) inside
+      ∙ get_or-map (number_for numbers) row c 0
       ∙ by_cell (cell_at_position m (position r c)) refl
     where
       by_cell : (y : CellValue) → cell_at_position m (position r c) ≡ y
-          → number_for numbers (get_or (labels_along (get_or kept r [])) c 0) ≡ cell_number j m table h (position r c)
+          → number_for numbers (get_or (get_or kept r []) c 0) ≡ cell_number j m table h (position r c)
       by_cell None e =
           let past : length (map (λ (x : ℕ). Some (pos x)) numbers) ≤ 4294967295 = omega (
             arith,
@@ -89,27 +87,26 @@ module _ (j : Joining) (m : Grid) (table : List ℕ) (h : AreLabels j m table) (
           ∙ ap (λ (x : ℕ). Some (pos x)) (n.done l below ∙ sym (number_is j m table h (position r c)))
           ∙ sym (cell_numbered j m table h (position r c) v e)
 
-pub rows_wide : (m : Grid) (labels numbers : List ℕ) (kept : List (List (ℕ × ℕ))) → AreKeptLabels m labels kept
-    → All (λ (row : List (ℕ × ℕ)). length (numbers_along numbers row) ≡ m.region.cols) kept
-rows_wide m labels numbers kept k = All-from_get_or (λ (row : List (ℕ × ℕ)). length
-    (numbers_along numbers row) ≡ m.region.cols) kept [] (λ r lt. numbers_wide numbers (get_or kept r [])
-    ∙ k.wide r lt)
+pub rows_wide : (m : Grid) (labels : List ℕ) (kept : List (List ℕ)) → AreKeptLabels m labels kept
+    → All (λ (row : List ℕ). length row ≡ m.region.cols) kept
+rows_wide m labels kept k = All-from_get_or (λ (row : List ℕ). length row ≡ m.region.cols) kept [] k.wide
 
-pub made_clumping : (j : Joining) (m : Grid) (table : List ℕ) (kept : List (List (ℕ × ℕ)))
-    (runs : AreRunLabels j m table kept) (numbers : List ℕ) → IsNumbered j m table runs.labels numbers
+pub made_clumping : (j : Joining) (m : Grid) (table : List ℕ) (kept : List (List ℕ))
+    (runs : AreMapLabels j m table kept) (numbers : List ℕ) → IsNumbered j m table runs.labels numbers
     → (made : Grid) → made ≡ record {
       region = m.region;
       rows = map
-          (numbers_along numbers) kept;
+          (map (number_for numbers)) kept;
       labels = no_labels;
     } → IsClumping j m made
 made_clumping j m table kept runs numbers n made is =
     clumping j m table runs.labels made (ap (λ (g : Grid). g.region) is) (ap (λ (g : Grid). g.labels) is)
     (subst (λ (g : Grid). IsFilled g.region g.rows) (sym is) (record {
-      count = length-map kept (numbers_along numbers) ∙ runs.count;
-      width = All-map (λ (row : List CellValue). length row ≡ m.region.cols) (numbers_along numbers) kept
-          (rows_wide m runs.labels.labels numbers kept runs.kept_are);
+      count = length-map kept (map (number_for numbers)) ∙ runs.count;
+      width = All-map (λ (row : List CellValue). length row ≡ m.region.cols) (map (number_for numbers)) kept
+          (All-from_get_or (λ (row : List ℕ). length (map (number_for numbers) row) ≡ m.region.cols) kept []
+          (λ r lt. length-map (get_or kept r []) (number_for numbers) ∙ runs.kept_are.wide r lt));
     }))
     (λ r c r_in c_in. ap (λ (g : Grid). get_or (get_or g.rows r []) c None) is
-    ∙ ap (λ (row : List CellValue). get_or row c None) (get_or-map (numbers_along numbers) kept r [])
+    ∙ ap (λ (row : List CellValue). get_or row c None) (get_or-map (map (number_for numbers)) kept r [])
     ∙ row_written j m table runs.labels numbers n kept runs.kept_are r c (let all = runs.count in omega arith) c_in)

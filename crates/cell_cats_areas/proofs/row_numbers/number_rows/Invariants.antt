@@ -1,15 +1,15 @@
 use Rattle.std.proofs.Common.{◌≡◌, ◌+◌, ◌++◌, All, length, map}
 use Rattle.std.specs.Vec.Iter.{into_iter_items, into_iter_len}
-use Rattle.cell_cats_areas.specs.parts.RunsOfLabels.{numbers_along}
-use Rattle.cell_cats_areas.proofs.run_numbers.number_rows.Given as goal
+use Rattle.cell_cats_areas.specs.parts.RunsOfLabels.{number_for}
+use Rattle.cell_cats_areas.proofs.row_numbers.number_rows.Given as goal
 
 abbrev pub invariant-loop-labels : goal.invariant-loop-labels
 invariant-loop-labels l = record {
   width : length l.cells ≡ l.fn.region.cols;
   region : l.builder.region ≡ l.fn.region;
-  whole : l.builder.rows ++ map (numbers_along l.table) (into_iter_items l.labels-iterator) ≡ map
-      (numbers_along l.table) l.fn.rows.items;
+  whole : l.builder.rows ++ map (map (number_for l.table)) (into_iter_items l.labels-iterator) ≡ map
+      (map (number_for l.table)) l.fn.rows.items;
   count : length l.builder.rows + length (into_iter_items l.labels-iterator) ≡ l.fn.region.rows;
-  wide : All (λ row. length (numbers_along l.table row) ≡ l.fn.region.cols) (into_iter_items l.labels-iterator);
+  wide : All (λ row. length row ≡ l.fn.region.cols) (into_iter_items l.labels-iterator);
   len : into_iter_len l.labels-iterator ≡ length (into_iter_items l.labels-iterator);
 }

@@ -1,6 +1,6 @@
 use Rattle.std.proofs.Common.{◌≡◌, ◌+◌, ◌++◌, length, take, drop}
 use Rattle.cell_cats_areas.specs.parts.RunsOfLabels.{numbers_along}
-use Rattle.cell_cats_areas.proofs.kept_labels.write_numbers.Given as goal
+use Rattle.cell_cats_areas.proofs.kept_labels.write_run_numbers.Given as goal
 
 abbrev pub invariant-loop-run : goal.invariant-loop-run
 invariant-loop-run l = record {

@@ -1,0 +1,10 @@
+-- How the labels of a row are kept: by runs or by cells.
+use Rattle.std.specs.Prelude.{ℕ, List}
+use Rattle.cell_cats_areas.specs.declared.kept_labels.LabelForm.{LabelForm}
+use Rattle.cell_cats_areas.specs.declared.kept_labels.LabelForm.TheVariants.{Runs, Cells}
+use Rattle.cell_cats_areas.specs.parts.RunsOfLabels.{labels_along}
+
+-- the labels of the cells
+abbrev pub labels_kept : LabelForm → List ℕ
+labels_kept (Runs runs) = labels_along runs.items
+labels_kept (Cells labels) = labels.items

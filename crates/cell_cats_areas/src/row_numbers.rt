@@ -1,0 +1,39 @@
+//! The numbers in place of the labels of a map.
+
+ghost use Rattle.std.specs.Prelude.{◌≡◌, ◌<◌, All, length, map, IfOk};
+ghost use Rattle.cell_core.specs.Grid.{no_labels};
+ghost use Rattle.cell_cats_areas.specs.parts.RunsOfLabels.{number_for};
+
+use crate::kept_labels::KeptLabels;
+use cell_core::cell::Cell;
+use cell_core::map::{CellMap, MapBuilder};
+use cell_core::memory::Memory;
+use cell_core::region::Region;
+use std::alloc::Global;
+
+// The map of the numbers of labels. The labels of a row are let go before its numbers are kept, so that both take no more memory
+// than one of them.
+pub(crate) fn number_rows(
+    alloc: Global,
+    region: Region,
+    table: &[u32],
+    rows: Vec<KeptLabels>,
+    cells: &mut [Cell],
+) -> Result<CellMap, Memory>
+    requires small { All (λ number. number < 2147483648) table.now }
+    requires wide { All (λ row. length row ≡ region.cols) rows.items }
+    requires count { length rows.items ≡ region.rows }
+    requires width { length cells.old ≡ region.cols }
+    ensures { IfOk result (λ made. made ≡ record {
+      region = region;
+      rows = map (map (number_for table.now)) rows.items;
+      labels = no_labels;
+    }) }
+{
+    let mut builder = MapBuilder::new(alloc, region);
+    for labels in rows {
+        labels.write_numbers(table, cells);
+        builder.push_row(cells)?;
+    }
+    Ok(builder.finish())
+}
