@@ -223,7 +223,7 @@ def areas_of(path: Path) -> float:
     """Connected areas by edges, as a part of the cells, of the first cells of a map."""
     with rasterio.open(path) as dataset:
         cells = dataset.read(1, window=Window(0, 0, min(STRIP, dataset.width), min(STRIP, dataset.height)))
-    return float(len(rcell.areas(rcell.Map(cells, nodata=0)).table) / cells.size)
+    return float(len(rcell.patches(rcell.Map(cells, nodata=0))) / cells.size)
 
 
 # Joining

@@ -24,8 +24,8 @@ def test_bytes_grow_with_cells_maps_and_runs() -> None:
     assert clump_demand(1).bytes(1000, 1000) > clump_demand(1).bytes(1000, 1000, runs=0.2)
     assert clump_demand(1).bytes(1000, 1000) == 165_000_000 + 13_300_000
     assert clump_demand(1, number=8).bytes(1000, 1000) == 165_000_000 + 21_000_000
-    assert patches_demand(1).bytes(1000, 1000) == 165_000_000 + 100_300_000
-    assert patches_demand(1).bytes(1000, 1000, runs=0.25, share=0.0625) == 165_000_000 + 10_837_500
+    assert patches_demand(1).bytes(1000, 1000) == 165_000_000 + 79_300_000
+    assert patches_demand(1).bytes(1000, 1000, runs=0.25, share=0.0625) == 165_000_000 + 9_525_000
 
 
 @pytest.mark.parametrize("memory", [200_000_000, 500_000_000, 3_000_000_000, 10**12])

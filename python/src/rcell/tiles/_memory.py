@@ -103,8 +103,8 @@ def clump_demand(read: int, number: int = 4) -> Demand:
 
 
 def patches_demand(read: int) -> Demand:
-    """Return the demand of a table of clumps and categories: 75 bytes an entry and its text; then the text twice and numbers."""
-    return Demand(read, maps=2, clumps=1, after=read, per_clump=60, entry=91)
+    """Return the demand of a table of clumps and of their categories: 70 bytes an entry; then its text and a number, twice."""
+    return Demand(read, maps=2, clumps=1, after=read, per_clump=28, entry=70)
 
 
 def size_for(demand: Demand, sheet: Sheet, memory: int, tasks: int) -> tuple[int, int]:

@@ -3,7 +3,6 @@
 
 from __future__ import annotations
 
-import re
 from collections.abc import Iterator, Mapping, Sequence
 from contextlib import contextmanager
 from dataclasses import dataclass, replace
@@ -27,9 +26,6 @@ __all__ = ["ClumpRun", "TableForm", "TileRun", "clumps_table", "grid_cells", "jo
            "patches_frame", "tile_border", "tile_table"]
 
 Integers = npt.NDArray[Any]
-
-CATEGORY_OF_CLUMP = re.compile(rb"^([0-9]+) \S+", re.MULTILINE)
-"""The start of a line in a table of clumps and categories."""
 
 
 def with_halo(place: Rectangle, reach: Reach, sheet: Sheet) -> Rectangle:
@@ -177,14 +173,11 @@ def grid_cells(task: TileRun, place: Rectangle, cells: Sequence[Any]) -> Integer
 
 
 def clumps_table(task: ClumpRun, place: Rectangle, cells: Sequence[Any]) -> tuple[bytes, Integers]:
-    """Return the table of a tile's clump numbers, as the program prints it, and the category of each clump.
-
-    The program prints numbers and categories. A clump has one category, so the categories can be left out of the table.
-    """
+    """Return the table of a tile's clump numbers, as the program prints it, and the category of each clump."""
     maps = {"cells": task.tile(place, cells)}
     with told_of_size(maps):
-        text = printed(f"{task.line}\nr.stats -c -n input=clumps,cells", maps)
-    return CATEGORY_OF_CLUMP.sub(rb"\1", text), counts_of(text, 2).combinations[:, 1].astype(np.int32)
+        categories = execute(f"{task.line}\nr.stats -n input=clumps,cells", maps)[0].values[:, 1].astype(np.int32)
+        return printed(f"{task.line}\nr.stats -c input=clumps", maps), categories
 
 
 def tile_border(task: ClumpRun, place: Rectangle, cells: Sequence[Any]) -> bytes:
