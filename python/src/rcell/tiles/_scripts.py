@@ -21,10 +21,8 @@ NO_REACH = Reach()
 def counting(stats: Statement) -> Statement:
     """Return an r.stats that prints plain categories and counts."""
     flags = "".join(sorted({*stats.options, "c"} - {"l"}))
-    after = ["*" if category == NULL else str(category) for category in stats.after]
-    words = ["r.stats", f"-{flags}", f"input={','.join(stats.inputs)}"]
-    words += [f"after={','.join(after)}"] if after else []
-    return replace(stats, text=" ".join(words))
+    after = ",".join("*" if category == NULL else str(category) for category in stats.after)
+    return replace(stats, text=f"r.stats -{flags} input={','.join(stats.inputs)}{after and f' after={after}'}")
 
 
 def short_names(taken: Iterable[str]) -> Iterator[str]:
