@@ -182,12 +182,11 @@ open_raster <- function(name, path) {
 
 told <- function(e) sub("^\\[[a-zA-Z]+\\] ", "", conditionMessage(e))
 
-# An rcell grid is read by the program `rcell`, which writes its header and cells in a uniform format. (GDAL would also read it, with
-# 0 for the null text `*`.)
+# An rcell grid is read by the program `rcell`, which writes it with a number for null: GDAL would read the null text `*` as 0.
 text_source <- function(name, path) {
   folder <- new_folder()
   on.exit(unlink(folder, recursive = TRUE))
-  writeLines(sprintf("r.out.ascii input=%s null_value=NA", name), file.path(folder, "script"))
+  writeLines(sprintf("r.out.ascii input=%s null_value=-2147483648", name), file.path(folder, "script"))
   rcell <- find_rcell(rcell_program()$path)
   ran <- execute(rcell, folder, c("script", paste0(name, "=", normalizePath(path))))
   if (ran$status != 0L) grid_fault(ran)
@@ -195,10 +194,8 @@ text_source <- function(name, path) {
   header <- readLines(out, length(EDGES) + 2L)
   values <- sub("^[a-z]+: ", "", header)
   region <- list(edges = vapply(values[seq_along(EDGES)], decimals_of, "", USE.NAMES = FALSE), rows = as.integer(values[[5]]), cols = as.integer(values[[6]]))
-  cells <- fread(file = out, skip = length(header) + 1L, header = FALSE, sep = if (region$cols > 1L) " " else "\n", na.strings = "NA",
-    colClasses = rep("integer", region$cols), showProgress = FALSE)
   edges <- as.numeric(region$edges)
-  list(name = name, path = normalizePath(path), cells = as.vector(t(as.matrix(cells))), region = region, crs = "",
+  list(name = name, path = normalizePath(path), cells = as.integer(values(rast(out), mat = FALSE)), region = region, crs = "",
     raster = rast(nrows = region$rows, ncols = region$cols, xmin = edges[[4]], xmax = edges[[3]], ymin = edges[[2]], ymax = edges[[1]], crs = ""))
 }
 
