@@ -183,6 +183,12 @@ class Counted(unittest.TestCase):
         self.assertEqual(found.cells.tolist(), [3, 2**63 - 1])
         self.assertEqual(counts_of(b"", 3).combinations.shape, (0, 3))
 
+    def test_anything_else_is_no_table(self) -> None:
+        for text in (b"1 2", b"1 2\n3 4", b"1\n", b"1 2 3\n", b"1 2 3\n4\n", b" 1 2\n", b"1 2 \n", b"1  2\n", b"\n1 2\n", b"1 2\n\n", b"1\t2\n", b"1 2\r\n", b"1 +2\n",
+                     b"1 2.\n", b"1 x\n", b"1 2-3\n", b"1-2 -\n", b"1 --2\n", b"1-2 \n", b"- 2\n", b"1 -\n", b"** 1\n", b"*1 2\n", b"1* 2\n", b"-* 2\n", b"*- 2\n", b"1 2\0\n"):
+            with self.subTest(text=text), self.assertRaises(rcell.WrongProgram):
+                counts_of(text, 1)
+
     def test_too_great(self) -> None:
         with self.assertRaises(TooManyCells) as caught:
             counts_of(b"1 2 9223372036854775807\n1 * 9223372036854775808\n", 2)
@@ -235,7 +241,7 @@ class Programs(unittest.TestCase):
             self.join_with("echo 'rcell-join: tables:0: no memory' >&2; exit 3")
         self.assertEqual((caught.exception.source, caught.exception.status), ("tables", 3))
         with self.assertRaises(TooManyCells) as great:
-            self.join_with("printf '1 5\\n'; echo 'rcell-join: output:0: count too great for 2 *' >&2; exit 1")
+            self.join_with("printf '1 5 3\\n'; echo 'rcell-join: output:0: count too great for 2 *' >&2; exit 1")
         self.assertEqual(great.exception.combination, (2, None))
         for body in ("echo 'rcell-join: t:1: bad count' >&2; exit 1", "exit 7"):
             with self.subTest(body=body), self.assertRaises(rcell.WrongProgram):

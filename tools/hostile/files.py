@@ -3,7 +3,7 @@
 
     files.py [--count N] [--tiffs N] [--seed N]
 
-AAIGrids go through rcell-aaigrid, grids through rcell-tif --from, TIFFs with changed or missing bytes through rcell-tif and the package. What is
+AAIGrids go through rcell-aaigrid, grids through rcell and rcell_front, TIFFs with changed or missing bytes through rcell-tif and the package. What is
 written is compared with a plain reading of the same text, or for TIFFs with what GDAL's own arrays say; what is rejected is rejected by the
 exceptions that end in one line. TIFFs of which GDAL alone reads other cells each time are left out, and counted. Each kind gets N files. Needs
 numpy and, for TIFFs, GDAL's Python. The last line is 'N passed, M failed'.
@@ -121,19 +121,18 @@ def hostile_grid(chance):
     return (text[: chance.randint(1, len(text))] if chance.random() < 0.2 else text).encode("utf-8")
 
 
-def fault_of_grid(helper, model, chance):
-    """rcell-tif --from takes what rcell takes, with the same cells."""
+def fault_of_grid(listing, model, chance):
+    """The helpers and packages take what rcell takes, with the same cells."""
     text = hostile_grid(chance)
-    left = [text]
     try:
-        found = [cell for cells in helper.Grid(lambda most: left.pop()[:most] if left else b"").cells() for cell in cells.tolist()]
-    except helper.Refused:
+        with listing.printed_grid(f"{ROOT}/bin/rcell", "m", iter([text])) as grid:
+            found = [None if cell == listing.NULL else cell for block in grid.blocks for cell in block.ravel().tolist()]
+    except listing.Rejected:
         return None
     try:
         wanted = [cell for row in model.read_map(b"m", text).rows for cell in row]
     except model.Refused as fault:
         return f"{text!r} is taken, and rcell says {fault.text}"
-    found = [None if cell == helper.NULL else cell for cell in found]
     return None if found == wanted else f"{text!r}: {found}, not {wanted}"
 
 
@@ -222,11 +221,12 @@ def main():
     resource.setrlimit(resource.RLIMIT_AS, (MEMORY, MEMORY))
     import model_grids
     import rcell_tif
+    from rcell_front import listing
 
     aaigrid = loaded("rcell-aaigrid")
     with tempfile.TemporaryDirectory(prefix="rcell-hostile-") as folder:
         counts = [tried("AAIGrid", settings.count, settings.seed, lambda chance: fault_of_aaigrid(aaigrid, chance, folder)),
-                  tried("grid", settings.count, settings.seed, lambda chance: fault_of_grid(rcell_tif, model_grids, chance))]
+                  tried("grid", settings.count, settings.seed, lambda chance: fault_of_grid(listing, model_grids, chance))]
         try:
             import numpy
             from osgeo import gdal

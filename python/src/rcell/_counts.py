@@ -3,25 +3,20 @@
 
 from __future__ import annotations
 
-import re
-from collections.abc import Iterable
 from dataclasses import dataclass
 from typing import Any
 
-import numpy as np
-
-from rcell_front.pipe import NULL
+from rcell_front import listing
+from rcell_front.pipe import NULL, NoAnswer
 
 from ._arrays import NDArray
-from ._errors import RcellError
+from ._errors import RcellError, WrongProgram
 
-__all__ = ["Counts", "TooManyCells", "counts_of", "numbers_of", "refuse_great_counts"]
+__all__ = ["Counts", "TooManyCells", "counts_of", "numbers_of"]
 
 Integers = NDArray[Any]
 
 MOST_CELLS = 2**63 - 1
-GREAT_COUNT = re.compile(rb"[0-9]{19}")
-"""The digits of any count above it; no category has so many."""
 
 
 class TooManyCells(RcellError, ArithmeticError):
@@ -38,9 +33,9 @@ class TooManyCells(RcellError, ArithmeticError):
         self.combination = combination
 
     @classmethod
-    def of_words(cls, words: Iterable[bytes]) -> TooManyCells:
-        """Return the error of a combination as a table prints it."""
-        return cls(tuple(None if word == b"*" else int(word) for word in words))
+    def of(cls, combination: Integers) -> TooManyCells:
+        """Return the error of a combination with `NULL` for null."""
+        return cls(tuple(None if category == NULL else category for category in combination.tolist()))
 
     def __str__(self) -> str:
         shown = " ".join("*" if part is None else str(part) for part in self.combination)
@@ -63,15 +58,12 @@ class Counts:
     cells: Integers
 
 
-def numbers_of(text: bytes) -> Integers:
-    """Return the whole numbers of a text that rcell-join printed, `NULL` for null.
-
-    Examples
-    --------
-    >>> numbers_of(b"1 20\\n-3 *\\n").tolist()
-    [1, 20, -3, -2147483648]
-    """
-    return np.fromstring(text.replace(b"*", b"%d" % NULL), np.int64, sep=" ")
+def numbers_of(text: bytes, width: int) -> Integers:
+    """Return the numbers of a text that rcell-join printed; arguments and result are the same as in `listing.numbers_of`."""
+    try:
+        return listing.numbers_of(text, width)
+    except NoAnswer as error:
+        raise WrongProgram(str(error)) from None
 
 
 def counts_of(text: bytes, maps: int) -> Counts:
@@ -81,6 +73,8 @@ def counts_of(text: bytes, maps: int) -> Counts:
     ------
     TooManyCells
         A count is above 2^63 - 1.
+    WrongProgram
+        It is no such table.
 
     Examples
     --------
@@ -88,16 +82,8 @@ def counts_of(text: bytes, maps: int) -> Counts:
     >>> found.combinations.tolist(), found.cells.tolist()
     ([[1, 2], [1, -2147483648]], [30, 4])
     """
-    refuse_great_counts(text)
-    numbers = numbers_of(text).reshape(-1, maps + 1)
-    return Counts(numbers[:, :-1], numbers[:, -1])
-
-
-def refuse_great_counts(text: bytes) -> None:
-    """Raise TooManyCells if a line of a table has a count that does not fit into int64."""
-    if not GREAT_COUNT.search(text):
-        return
-    for line in text.splitlines():
-        *parts, count = line.split()
-        if int(count) > MOST_CELLS:
-            raise TooManyCells.of_words(parts)
+    numbers = numbers_of(text, maps + 1)
+    counts = Counts(numbers[:, :-1], numbers[:, -1])
+    if (counts.cells < 0).any():
+        raise TooManyCells.of(counts.combinations[counts.cells < 0][0])
+    return counts

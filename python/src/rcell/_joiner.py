@@ -21,7 +21,7 @@ from contextlib import ExitStack, contextmanager
 from rcell_front.files import write_all
 from rcell_front.programs import Started, above_standard, close, pipe
 
-from ._counts import TooManyCells, refuse_great_counts
+from ._counts import TooManyCells, counts_of, numbers_of
 from ._errors import Killed, MissingProgram, OutOfMemory, WriteFailed, WrongProgram
 from ._maps import Source
 from ._program import PROBE_SECONDS, find_beside, grid_text
@@ -204,8 +204,9 @@ def _checked(path: str, status: int, output: bytes, told: str) -> bytes:
     if found and status == 3:
         raise OutOfMemory(found[3], found[1], int(found[2]), status)
     if found and (great := _TOO_GREAT.fullmatch(found[3])):
-        refuse_great_counts(output)
-        raise TooManyCells.of_words(great[1].encode().split())
+        maps = len(great[1].split())
+        counts_of(output, maps)  # an earlier one may be too great for this package
+        raise TooManyCells.of(numbers_of(f"{great[1]}\n".encode(), maps)[0])
     raise WrongProgram(f"{path} ended in status {status} and said: {told or 'nothing'}")
 
 

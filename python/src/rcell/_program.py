@@ -8,7 +8,6 @@ from __future__ import annotations
 
 import contextlib
 import os
-import re
 import sys
 import sysconfig
 from dataclasses import dataclass
@@ -17,20 +16,18 @@ from typing import Any, Callable, Iterable, Iterator, Mapping, Sequence
 import numpy as np
 
 from rcell_front import pipe as front
-from rcell_front.files import write_all
+from rcell_front.listing import printed_grid
 from rcell_front.pipe import NULL
-from rcell_front.programs import Started, close, found_on_path, pipe
+from rcell_front.programs import found_on_path
 
 from ._arrays import NDArray
-from ._errors import Killed, MissingProgram, OutOfMemory, RcellError, Refused, WrongProgram
+from ._errors import Killed, MissingProgram, OutOfMemory, Refused, WrongProgram
 from ._maps import ArrayMap, Source
 
-__all__ = ["Output", "candidates", "execute", "find_beside", "find_pipe", "find_program", "grid_text", "grids", "known_after", "planned", "printed"]
+__all__ = ["Output", "candidates", "execute", "find_beside", "find_pipe", "find_program", "grid_text", "grids", "known_after", "planned", "printed", "program_errors"]
 
 PROBE_SECONDS = 60
 """So long a program may take for a map of three cells, on a machine that has much else to do."""
-
-_MESSAGE = re.compile(r"rcell: ([^:]*):(\d+): (.*)")
 
 
 @dataclass(frozen=True)
@@ -132,26 +129,20 @@ _UNKNOWN = "{} is not a program {} of a version that this package knows"
 _NOT_STARTED = "the program {} cannot be executed: {}"
 _ENDLESS = "{} does not end within {} seconds: it is no program {}"
 _PROBE_GRID = b"north: 1\nsouth: 0\neast: 3\nwest: 0\nrows: 1\ncols: 3\nnull: ***\n007 *** 012 "
-_PROBE_SCRIPT = b"r.stats -1 input=probe null_value=-2147483648\n"
-_PROBE_ANSWER = b"7\n-2147483648\n12\n"
 
 
 def _probe(path: str) -> None:
-    """Run rcell once on a grid of three cells."""
-    grid = _filled(path, _PROBE_GRID)
+    """Let rcell read and print a grid of three cells once."""
     try:
-        with start_on_text(path, _PROBE_SCRIPT, "probe", grid, PROBE_SECONDS) as run:
-            answer = b""
-            for piece in run.pieces():
-                answer += piece
-                if len(answer) > len(_PROBE_ANSWER):
-                    raise WrongProgram(_UNKNOWN.format(path, "rcell"))
-            status = run.end()[0]
+        with printed_grid(path, "probe", iter([_PROBE_GRID]), PROBE_SECONDS) as grid:
+            is_known = [rows.tolist() for rows in grid.blocks] == [[[7, NULL, 12]]]
+    except (front.Rejected, front.Killed, front.NoAnswer):
+        is_known = False
     except TimeoutError:
         raise WrongProgram(_ENDLESS.format(path, PROBE_SECONDS, "rcell")) from None
-    finally:
-        close(grid)
-    if status != 0 or answer != _PROBE_ANSWER:
+    except front.NotStarted as error:
+        raise MissingProgram(_NOT_STARTED.format(path, error.strerror)) from None
+    if not is_known:
         raise WrongProgram(_UNKNOWN.format(path, "rcell"))
 
 
@@ -209,13 +200,13 @@ def execute(
 def planned(script: str, names: Iterable[str], *, program: str | os.PathLike[str] | None = None) -> list[front.Statement]:
     """Return what each statement of a script reads, makes and needs, over maps of some names; the errors are the same as in `execute`."""
     known = list(names)
-    with _told(script, known, path := find_pipe(program)):
+    with program_errors(script, known, path := find_pipe(program)):
         return front.plan(path, known, front.script_bytes(script))
 
 
 def printed(script: str, maps: Mapping[str, Source], *, program: str | os.PathLike[str] | None = None) -> bytes:
     """Return what rcell prints for a script; arguments and errors are the same as in `execute`."""
-    with _told(script, list(maps), path := find_pipe(program)):
+    with program_errors(script, list(maps), path := find_pipe(program)):
         return b"".join(front.text(path, [_sent(name, source) for name, source in maps.items()], front.script_bytes(script)))
 
 
@@ -236,12 +227,12 @@ def _frames(
 ) -> list[front.Frame]:
     """Return the frames of a script, and then the frames of some of its maps."""
     lines = [script, *(f"r.out.ascii input={name}" for name in wanted)]
-    with _told(script, list(maps), path := find_pipe(program)):
+    with program_errors(script, list(maps), path := find_pipe(program)):
         return front.run(path, [_sent(name, source) for name, source in maps.items()], front.script_bytes("\n".join(lines)))
 
 
 @contextlib.contextmanager
-def _told(script: str, names: list[str], path: str) -> Iterator[None]:
+def program_errors(script: str, names: list[str], path: str) -> Iterator[None]:
     """Raise the errors of rcell-pipe as errors of this package."""
     try:
         yield
@@ -284,41 +275,3 @@ def _cells(frame: front.GridFrame) -> NDArray[np.int32]:
     wide = cells.astype(np.int32)
     np.copyto(wide, NULL, where=cells == frame.null)
     return wide
-
-
-# Runs of rcell
-
-
-def start_on_text(path: str, script: bytes, name: str, grid: int, seconds: float | None = None) -> Started:
-    """Start rcell with a short script and one grid, which it reads from a descriptor."""
-    lines = _filled(path, script)
-    try:
-        return Started([path, f"/dev/fd/{lines}", f"{name}=/dev/fd/{grid}"], [lines, grid], seconds)
-    except OSError as error:
-        raise MissingProgram(_NOT_STARTED.format(path, error.strerror)) from None
-    finally:
-        close(lines)
-
-
-def _filled(path: str, data: bytes) -> int:
-    """Return the reading end of a new pipe that already contains some bytes, fewer than it holds."""
-    try:
-        reader, writer = pipe()
-    except OSError as error:
-        raise MissingProgram(_NOT_STARTED.format(path, error.strerror)) from None
-    try:
-        write_all(writer, data)
-    finally:
-        close(writer)
-    return reader
-
-
-def fault_of_text(status: int, message: bytes) -> RcellError:
-    """Return the error of a run of rcell that ended in another status than 0."""
-    text = message.decode("utf-8", "surrogateescape").strip()
-    if status < 0:
-        return Killed(-status)
-    found = _MESSAGE.match(text)
-    if not found:
-        return WrongProgram(f"the program ended in status {status} and said: {text or 'nothing'}")
-    return (OutOfMemory if status == 3 else Refused)(found[3], found[1], int(found[2]), status)

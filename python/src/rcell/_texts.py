@@ -1,5 +1,5 @@
 # SPDX-License-Identifier: Apache-2.0 OR GPL-2.0-or-later
-"""Text grids: rcell reads them and lists their cells."""
+"""Text grids: rcell reads them."""
 
 from __future__ import annotations
 
@@ -7,17 +7,15 @@ import io
 import os
 import re
 import stat
-from contextlib import contextmanager, suppress
 from dataclasses import dataclass, field
 from fractions import Fraction
+from itertools import chain
 from typing import Any, Iterator, Mapping
 
 import numpy as np
 
-from rcell_front.files import write_all
-from rcell_front.listing import listed_rows
+from rcell_front.listing import printed_grid
 from rcell_front.pipe import NULL
-from rcell_front.programs import Started, above_standard, close, pipe
 
 from ._errors import BadMap, ReadFailed
 from ._maps import Block, Source, in_region
@@ -42,14 +40,16 @@ class TextMap:
     name : str
     path : str
     region : Region
-    held : bytes or None
-        The bytes that were already read of a pipe; None for a file, which can be read again.
+    held : bytes
+        The bytes that were already read of a pipe.
+    stream : io.FileIO or None
+        The rest of the pipe; None for a file, which can be read again.
     """
 
     name: str
     path: str
     region: Region
-    held: bytes | None = None
+    held: bytes = b""
     stream: io.FileIO | None = None
     labels: Mapping[int, str] = field(default_factory=dict)
     colors: Mapping[int, str] = field(default_factory=dict)
@@ -71,50 +71,22 @@ class TextMap:
         Refused
             rcell rejects the grid.
         """
-        from ._program import fault_of_text
+        from ._program import find_program, program_errors
 
-        with self._listing() as run:
-            for rows in listed_rows(run.pieces(), self.region.cols):
+        path = find_program()
+        with program_errors("", [self.name], path), printed_grid(path, self.name, self._pieces()) as grid:
+            for rows in grid.blocks:
                 yield Block(rows, None)
-            status, message = run.end()
-        if status:
-            raise fault_of_text(status, message)
 
-    @contextmanager
-    def _listing(self) -> Iterator[Started]:
-        """Start a run of rcell that lists the cells of the grid, with a number for null."""
-        from ._program import find_program, start_on_text
-
-        program = find_program()
-        grid, writer = (_opened(self.name, self.path), None) if self.held is None else pipe()
-        try:
-            run = start_on_text(program, f"r.stats -1 input={self.name} null_value={NULL}\n".encode(), self.name, grid)
-        except BaseException:
-            if writer is not None:
-                close(writer)
-            raise
-        finally:
-            close(grid)
-        with run:
-            if writer is not None:
-                self._feed(writer)
-            yield run
-
-    def _feed(self, writer: int) -> None:
-        """Write the text of a pipe, first what was already read of it; rcell writes nothing before it has read everything."""
-        assert self.held is not None and self.stream is not None
-        try:
-            with suppress(BrokenPipeError), self.stream:
-                write_all(writer, self.held)
-                while piece := self.stream.read(1 << 20):
-                    write_all(writer, piece)
-        finally:
-            close(writer)
+    def _pieces(self) -> Iterator[bytes]:
+        """Yield the text."""
+        with self.stream or _opened(self.name, self.path) as stream:
+            yield from chain([self.held], iter(lambda: stream.read(1 << 20), b""))
 
 
-def _opened(name: str, path: str) -> int:
+def _opened(name: str, path: str) -> io.FileIO:
     try:
-        return above_standard(os.open(path, os.O_RDONLY))
+        return io.FileIO(path)
     except OSError as error:
         raise ReadFailed(name, f"cannot open: {path}: {error.strerror}") from None
 
@@ -150,7 +122,7 @@ def open_path(name: str, path: str | os.PathLike[str]) -> Source:
         if is_file:
             stream.close()
         region = _region_of(name, head) or _refused_region(name, text, is_file)
-        return TextMap(name, text, region, None if is_file else head, None if is_file else stream)
+        return TextMap(name, text, region) if is_file else TextMap(name, text, region, head, stream)
     stream.close()
     if not is_file:
         raise BadMap(name, f"{text} is no file, and its text is no grid: a raster is read from a file")

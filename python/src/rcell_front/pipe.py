@@ -21,10 +21,8 @@ from .advice import lines_of_error
 from .programs import WATCH_SECONDS, Started, close, pipe
 
 __all__ = [
-    "COMMANDS", "NULL", "Block", "Buffer", "Call", "Fault", "Frame", "GridFrame", "Killed", "Map", "Margin", "NoAnswer", "NotStarted", "Rejected", "Statement", "TableFrame", "is_known", "plan", "request",
-    "run",
-    "script_bytes",
-    "text",
+    "COMMANDS", "NULL", "Block", "Buffer", "Call", "Fault", "Frame", "GridFrame", "Killed", "Map", "Margin", "NoAnswer", "NotStarted", "Rejected",
+    "Statement", "TableFrame", "asked", "failure_of", "is_known", "plan", "request", "run", "script_bytes", "text",
 ]
 
 NULL = -2_147_483_648
@@ -543,7 +541,7 @@ def text(
     watch: Optional[Callable[[], None]] = None,
 ) -> Iterator[bytes]:
     """Yield the text that rcell prints for a script over maps, piece by piece; it is complete if nothing is raised. The rest is as in `run`."""
-    with _asked(program, request(maps, script, b"RCELLT1\n"), seconds, watch) as process:
+    with asked([program], request(maps, script, b"RCELLT1\n"), seconds, watch) as process:
         pieces, held = process.pieces(), b""
         for piece in pieces:
             held += piece
@@ -598,18 +596,23 @@ def plan(
 
 def _answered(program: str, sent: Iterator[Buffer], seconds: Optional[float], watch: Optional[Callable[[], None]]) -> list[_AnyFrame]:
     """Send a request, and return the frames of its response."""
-    with _asked(program, sent, seconds, watch) as process:
+    with asked([program], sent, seconds, watch) as process:
         response = _response(process.pieces())
         ended = process.end()
     return _check(response, *ended)
 
 
+def failure_of(status: int, message: bytes) -> Exception:
+    """Return the error of a program whose output does not say why it ended so."""
+    if status < 0:
+        return Killed(-status)
+    return NoAnswer(f"the program ended in status {status} and said: {message.decode('utf-8', 'replace').strip() or 'nothing'}")
+
+
 def _check(response: Optional[tuple[list[_AnyFrame], Rejected]], status: int, message: bytes) -> list[_AnyFrame]:
     """Return the frames of a response, if the program ended well."""
-    if status < 0:
-        raise Killed(-status)
     if response is None or status != response[1].status:
-        raise NoAnswer(f"the program ended in status {status} and said: {message.decode('utf-8', 'replace').strip() or 'nothing'}")
+        raise failure_of(status, message)
     frames, end = response
     if status:
         raise end
@@ -617,30 +620,27 @@ def _check(response: Optional[tuple[list[_AnyFrame], Rejected]], status: int, me
 
 
 @contextlib.contextmanager
-def _asked(program: str, sent: Iterator[Buffer], seconds: Optional[float], watch: Optional[Callable[[], None]]) -> Iterator[Started]:
-    """Start the program, and send it a request."""
-    process, writer = _started(program, seconds, watch)
-    with process:
-        try:
-            _send(writer, sent, watch)
-        finally:
-            close(writer)
-        yield process
-
-
-def _started(program: str, seconds: Optional[float], watch: Optional[Callable[[], None]]) -> tuple[Started, int]:
-    """Return the program at work, and the descriptor from which it gets its request."""
+def asked(
+    words: Sequence[str], sent: Iterator[Buffer], seconds: Optional[float], watch: Optional[Callable[[], None]], inherited: Sequence[int] = ()
+) -> Iterator[Started]:
+    """Start a program, and send it what it reads on standard input."""
     try:
         reader, writer = pipe()
         try:
-            return Started([program], seconds=seconds, stdin=reader, watch=watch), writer
+            process = Started(words, inherited, seconds, reader, watch)
         except BaseException:
             close(writer)
             raise
         finally:
             close(reader)
     except OSError as error:
-        raise NotStarted(error.errno, error.strerror, program) from None
+        raise NotStarted(error.errno, error.strerror, words[0]) from None
+    with process:
+        try:
+            _send(writer, sent, watch)
+        finally:
+            close(writer)
+        yield process
 
 
 def _send(writer: int, pieces: Iterator[Buffer], watch: Optional[Callable[[], None]]) -> None:

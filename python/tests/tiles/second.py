@@ -44,7 +44,7 @@ def read_border(text: bytes, base: int) -> Tile:
     lines = text.splitlines()
     assert [line.partition(b":")[0] for line in lines[: len(HEADER)]] == HEADER
     north, _, _, west = (int(line.split()[1]) for line in lines[:4])
-    rows = [numbers_of(line + b"\n") for line in lines[len(HEADER) :]]
+    rows = [numbers_of(line + b"\n", line.count(b" ") + 1)[0] for line in lines[len(HEADER) :]]
     high, wide, clumps, _ = rows[SIZE_ROW][:4].tolist()
     begun = rows[COUNTS_ROW][:high]
     assert begun.sum() == clumps

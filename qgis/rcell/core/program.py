@@ -5,7 +5,6 @@ from __future__ import annotations
 
 import contextlib
 import os
-import re
 import shlex
 import stat
 import sys
@@ -14,14 +13,13 @@ from typing import Callable, Iterator, Mapping, Sequence
 
 import numpy as np
 
-from .errors import Cancelled, Killed, MissingProgram, OutOfMemory, RcellError, Refused, WrongProgram
+from .errors import Cancelled, Killed, MissingProgram, OutOfMemory, Refused, WrongProgram
 from .front import pipe
-from .front.listing import listed_rows
+from .front.listing import printed_grid
 from .front.pipe import NULL
-from .front.programs import Started, above_standard, found_on_path
+from .front.programs import found_on_path
 from .rasters import Cells, Mask, Raster, Warn
 
-_MESSAGE = re.compile(r"rcell: ([^:]*):(\d+): (.*)")
 _PROBE_SECONDS = 60
 _FOLDER = os.path.join(os.path.dirname(os.path.dirname(os.path.abspath(__file__))), "bin")
 BUNDLED = os.path.join(_FOLDER, "rcell-pipe")
@@ -193,7 +191,7 @@ class _Sender:
         """Return a map whose blocks are read while the program takes them."""
         region = raster.region
         if raster.is_text:
-            return pipe.Map(name, region.edge_texts(), region.rows, region.cols, "i32", self._blocks(_text_blocks(self._program, name, raster)), NULL)
+            return pipe.Map(name, region.edge_texts(), region.rows, region.cols, "i32", self._blocks(_text_blocks(self._program, name, raster, self._watch.check)), NULL)
         blocks = self._blocks(raster.blocks(self._warn))
         return pipe.Map(name, region.edge_texts(), region.rows, region.cols, raster.cell_type, blocks, raster.nodata, raster.is_masked)
 
@@ -209,7 +207,7 @@ class _Sender:
             self._watch.warn(text)
 
 
-def _text_blocks(program: str, name: str, raster: Raster) -> Iterator[tuple[Cells, Mask | None]]:
+def _text_blocks(program: str, name: str, raster: Raster, watch: Callable[[], None]) -> Iterator[tuple[Cells, Mask | None]]:
     """Yield the rows of a text grid, as rcell reads them."""
     beside = os.path.join(os.path.dirname(program), "rcell")
     path = os.environ.get("RCELL") or (beside if os.path.isfile(beside) else found_on_path("rcell"))
@@ -217,24 +215,6 @@ def _text_blocks(program: str, name: str, raster: Raster) -> Iterator[tuple[Cell
         _set_executable(path)
     if not path:
         raise MissingProgram(f"{name} is a grid of rcell, and the program rcell, which reads it, is not next to {program}")
-    script = above_standard(os.memfd_create("script"))
-    try:
-        os.write(script, f"r.stats -1 input={name} null_value={NULL}\n".encode())
-        run = Started([path, f"/dev/fd/{script}", f"{name}={os.path.abspath(raster.path)}"], [script])
-    finally:
-        os.close(script)
-    with run:
-        for rows in listed_rows(run.pieces(), raster.region.cols):
+    with _errors_of(path, "", [name]), open(raster.path, "rb") as file, printed_grid(path, name, iter(lambda: file.read(1 << 20), b""), watch=watch) as grid:
+        for rows in grid.blocks:
             yield rows, None
-        status, message = run.end()
-    if status:
-        raise _fault_of_text(status, message.decode("utf-8", "replace"))
-
-
-def _fault_of_text(status: int, message: str) -> RcellError:
-    if status < 0:
-        return Killed(-status)
-    found = _MESSAGE.match(message)
-    if not found:
-        return WrongProgram(f"the program rcell ended in status {status} and said: {message.strip() or 'nothing'}")
-    return (OutOfMemory if status == 3 else Refused)(found[3], found[1], int(found[2]), status)

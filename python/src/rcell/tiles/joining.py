@@ -14,7 +14,7 @@ from typing import Any, NamedTuple
 import numpy as np
 import numpy.typing as npt
 
-from .._counts import numbers_of
+from .._counts import counts_of, numbers_of
 from .._joiner import joined_sizes, numbering_of
 from .._region import Region
 
@@ -98,7 +98,7 @@ def join(borders: Sequence[bytes], diagonal: bool = False) -> Joined:
     (1, [[1, 1]])
     """
     text = numbering_of(borders, diagonal)
-    runs = numbers_of(text).reshape(-1, FIELDS)
+    runs = numbers_of(text, FIELDS)
     ends = np.searchsorted(runs[:, 0], np.arange(1, len(borders) + 2))
     tiles = [TileNumbers(int(runs[end - 1, 2]) if end > begin else 0, runs[begin:end, 1], runs[begin:end, 3]) for begin, end in zip(ends, ends[1:])]
     return Joined(int((runs[:, 3] + runs[:, 2] - runs[:, 1]).max(initial=0)), tiles, text)
@@ -124,7 +124,7 @@ def sizes(whole: Joined, tables: Sequence[bytes], categories: Sequence[Integers]
     found = np.zeros(whole.clumps, dtype=np.int32)
     for tile, own in zip(whole.tiles, categories):
         found[tile.looked_up(np.arange(1, tile.clumps + 1)) - 1] = own
-    return found, numbers_of(joined_sizes(whole.numbering, tables)).reshape(-1, 2)[:, 1]
+    return found, counts_of(joined_sizes(whole.numbering, tables), 1).cells
 
 
 def renumber(numbers: Integers, tile: TileNumbers, out: Integers | None = None) -> Integers:
