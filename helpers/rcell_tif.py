@@ -3,15 +3,14 @@
 
     Region.of_transform(..)             exact edges for rcell, from a geotransform
     write_grid(program, dataset, ..)    write a band of an open dataset as a grid; the program rcell-pipe gets it block by block
-    Grid(read), rows_of(grid)           a grid's header, and its cells as arrays of 32 bits
-    write_tif(grid, path, ..)           write a grid as a GeoTIFF
+    region_of(grid)                     the region of a grid that rcell prints (rcell_front.listing)
+    write_tif(grid, path, ..)           write such a grid as a GeoTIFF
 
 If a raster cannot be a grid, `Refused` says why. GDAL's settings are not changed.
 """
 import contextlib
 import os
 import re
-import warnings
 from fractions import Fraction
 
 import numpy as np
@@ -25,11 +24,6 @@ GREATEST_SIDE, MOST_CELLS = 65535, 2147483647
 EDGE_DIGITS = 10
 EDGES = ("north", "south", "east", "west")
 BLOCK_CELLS = 1 << 20  # cells that are converted at once
-PIECE = 1 << 22  # bytes of a grid that are read at once
-MOST_HEADER = 1 << 16  # bytes within which the header of a grid ends
-
-VISIBLE = re.compile(rb"[!-~]{1,64}")
-LONE_SIGN = re.compile(rb"[+-](?![0-9])")
 
 
 class Refused(Exception):
@@ -257,157 +251,27 @@ def one_band(dataset, number=None):
     return kept[0]
 
 
-# Grids to arrays
+# Grids
 
 
-class Grid:
-    """An open grid: its region, null text and multiplier, and the bytes that were read after the header."""
-
-    def __init__(self, read):
-        """Read the header; `read(size)` returns the next bytes, at most `size` of them, and none at the end."""
-        self.read = read
-        start = b""
-        while len(start) < MOST_HEADER:
-            more = read(MOST_HEADER - len(start))
-            if not more:
-                break
-            start += more
-        self.values, at = {}, 0
-        while at < len(start):
-            end = start.find(b"\n", at)
-            end = len(start) if end < 0 else end
-            key, colon, value = start[at:end].strip(b" \t\r").partition(b":")
-            if not colon and key:
-                break
-            if key:
-                self.keep(key.decode("ascii", "backslashreplace"), value.strip(b" \t\r"))
-            at = end + 1
-        self.rest = start[at:]
-        self.null = self.values.get("null", b"*")
-        self.multiplier = self.whole("multiplier") if "multiplier" in self.values else 1
-        if self.values.get("type", b"int") != b"int" or not VISIBLE.fullmatch(self.null) or b":" in self.null or abs(self.multiplier) > GREATEST:
-            raise Refused("it is not a grid of rcell: its type is int, its null text 1 to 64 bytes without blanks and colons, its multiplier at "
-                          "most %d" % GREATEST)
-        self.region = self.found_region()
-
-    def keep(self, key, value):
-        if key not in EDGES + ("rows", "cols", "null", "type", "multiplier") or key in self.values or not value:
-            raise Refused("it is not a grid of rcell: its header has the line %r" % (key + ": " + repr(value)[2:-1]))
-        self.values[key] = value
-
-    def whole(self, key):
-        text = self.values.get(key, b"")
-        if not re.fullmatch(rb"[+-]?[0-9]{1,10}", text):
-            raise Refused("it is not a grid of rcell: %s: is %s" % (key, repr(text)[2:-1] or "missing"))
-        return int(text)
-
-    def found_region(self):
-        for edge in EDGES:
-            if not re.fullmatch(rb"[+-]?(?=\.?[0-9])[0-9]{0,10}(\.[0-9]{0,8})?", self.values.get(edge, b"")):
-                raise Refused("it is not a grid of rcell: %s: is %s" % (edge, repr(self.values.get(edge, b""))[2:-1] or "missing"))
-        edges = (Fraction(self.values[edge].decode().rstrip(".")) for edge in EDGES)
-        return Region(*edges, self.whole("rows"), self.whole("cols"))
-
-    def cells(self):
-        """Yield the cells as arrays of 32-bit integers of any length, with NULL for null."""
-        wanted = self.region.rows * self.region.cols
-        count = 0
-        for piece in self.pieces():
-            cells = self.numbers(piece, count)
-            count += len(cells)
-            if count > wanted:
-                break
-            yield cells
-        if count != wanted:
-            raise Refused("the header announces %d rows of %d cells, but there are %s cells"
-                          % (self.region.rows, self.region.cols, "more" if count > wanted else count))
-
-    def pieces(self):
-        rest = self.rest
-        while True:
-            more = self.read(PIECE)
-            rest += more
-            end = len(rest) if not more else max(rest.rfind(b"\n"), rest.rfind(b" "), rest.rfind(b"\t")) + 1
-            if end == 0 and len(rest) > PIECE:
-                raise Refused("there is a word of over %d bytes" % PIECE)
-            yield rest[:end]
-            rest = rest[end:]
-            if not more:
-                return
-
-    def numbers(self, piece, before):
-        if self.null == b"*":
-            text, nulls = piece.replace(b"*", b"%d" % NULL), piece.count(b"*")
-        else:
-            word = rb"(?<![^ \t\r\n])%s(?![^ \t\r\n])" % re.escape(self.null)
-            text, nulls = re.subn(word, b"%d" % NULL, piece)
-        with warnings.catch_warnings():
-            warnings.simplefilter("error")
-            try:
-                cells = np.fromstring(text, np.int64, sep=" ") if text.strip() else np.zeros(0, np.int64)
-            except (DeprecationWarning, ValueError):
-                cells = None
-        if cells is None or len(cells) != words_in(text) or b"\v" in text or b"\f" in text or LONE_SIGN.search(text):
-            raise self.bad_cell(piece, before)
-        return self.multiplied(piece, cells, nulls, before)
-
-    def multiplied(self, piece, cells, nulls, before):
-        null = cells == NULL
-        if np.count_nonzero(null) != nulls:  # NULL is also the number of a cell
-            raise self.bad_cell(piece, before)
-        bad = (cells > GREATEST) | (cells < -GREATEST)
-        if self.multiplier != 1:
-            cells = np.where(null, NULL, cells.clip(-GREATEST - 1, GREATEST + 1) * self.multiplier)
-            bad |= (cells > GREATEST) | (cells < -GREATEST)
-        if np.count_nonzero(bad) != nulls:
-            at = int(np.argmax(bad & ~null))
-            raise self.bad_place(before + at, "beyond %d" % GREATEST)
-        return cells.astype(np.int32)
-
-    def bad_cell(self, piece, before):
-        whole = re.compile(rb"[+-]?[0-9]+")
-        words = re.findall(rb"[^ \t\r\n]+", piece)
-        at = next((at for at, word in enumerate(words) if word != self.null and not whole.fullmatch(word)), None)
-        if at is not None:
-            return self.bad_place(before + at, "%s is not a whole number" % repr(words[at][:64])[2:-1])
-        at = next((at for at, word in enumerate(words) if word != self.null and abs(int(word[:30])) > GREATEST), 0)
-        return self.bad_place(before + at, "beyond %d" % GREATEST)
-
-    def bad_place(self, at, fault):
-        return BadCell(at // self.region.cols, at % self.region.cols, fault)
-
-
-def words_in(text):
-    """Return the number of words of a text."""
-    is_blank = np.frombuffer(b" " + text, np.uint8) <= 32
-    return int(np.count_nonzero(is_blank[:-1] & ~is_blank[1:]))
-
-
-def rows_of(grid):
-    """Yield blocks of whole rows of a grid, as two-dimensional arrays."""
-    cols, kept, size = grid.region.cols, [], 0
-    for cells in grid.cells():
-        kept.append(cells)
-        size += len(cells)
-        if size >= cols:
-            cells = np.concatenate(kept)
-            end = size // cols * cols
-            yield cells[:end].reshape(-1, cols)
-            kept, size = [cells[end:]], size - end
+def region_of(grid):
+    """Return the region of a grid that rcell prints."""
+    return Region(*map(Fraction, grid.edges), grid.rows, grid.cols)
 
 
 def write_tif(grid, path, like=None):
-    """Write a grid as a GeoTIFF of 32-bit integers, with the transform and projection of `like`, a dataset of the same size."""
+    """Write a grid that rcell prints as a GeoTIFF of 32-bit integers, with the transform and projection of `like`, a dataset of the same size."""
     from osgeo import gdal
-    transform = grid.region.transform()
+    region = region_of(grid)
+    transform = region.transform()
     if like is not None:
         other, is_turned = Region.of_transform(like.GetGeoTransform(can_return_null=True), like.RasterYSize, like.RasterXSize)
         if is_turned:
             raise Refused("the first row of %s is the southern one" % like.GetDescription())
-        grid.region.with_edges_of(other, like.GetDescription())
+        region.with_edges_of(other, like.GetDescription())
         transform = like.GetGeoTransform(can_return_null=True)
     options = ["COMPRESS=DEFLATE", "TILED=YES", "BIGTIFF=IF_SAFER"]
-    made = gdal.GetDriverByName("GTiff").Create(os.fsencode(path), grid.region.cols, grid.region.rows, 1, gdal.GDT_Int32, options)
+    made = gdal.GetDriverByName("GTiff").Create(os.fsencode(path), grid.cols, grid.rows, 1, gdal.GDT_Int32, options)
     if made is None:
         raise Refused("%s can't be written" % path)
     if transform is not None:
@@ -416,7 +280,7 @@ def write_tif(grid, path, like=None):
         made.SetProjection(like.GetProjection())
     band, row = made.GetRasterBand(1), 0
     band.SetNoDataValue(NULL)
-    for block in rows_of(grid):
+    for block in grid.blocks:
         band.WriteArray(block, 0, row)
         row += len(block)
     made.FlushCache()

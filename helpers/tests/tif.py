@@ -187,27 +187,17 @@ BACK = [
     (HEADER + "multiplier: 3\n1 2 *\n10 0 -1\n", "3 6 *\n30 0 -3\n"), (HEADER + "2147483647 -2147483647 *\n+1 00 -1", "2147483647 -2147483647 *\n1 0 -1\n"),
     (HEADER + "1 2 3 4\t5\r\n\n6", "1 2 3\n4 5 6\n"), (HEADER + "null: -2147483648\n-2147483648 2 3\n4 5 6\n", "* 2 3\n4 5 6\n"),
 ]
-STRANGE = "it is not a grid of rcell: its type is int, its null text 1 to 64 bytes without blanks and colons, its multiplier at most 2147483647"
 BAD_GRIDS = [
-    (HEADER + "1 2 3\n4 5.5 6\n", "the cell in row 2, column 2: 5.5 is not a whole number"),
-    (HEADER + "1 2 3\n4 1_0 6\n", "the cell in row 2, column 2: 1_0 is not a whole number"),
-    (HEADER + "1 2 3\n4 5*6 6\n", "the cell in row 2, column 2: 5*6 is not a whole number"),
-    (HEADER + "1 2 3\n4 \x1b[31m 6\n", "the cell in row 2, column 2: \\x1b[31m is not a whole number"),
-    (HEADER + "1 2 3\n4 3000000000 6\n", "the cell in row 2, column 2: beyond 2147483647"),
-    (HEADER + "1 2 3\n4 99999999999999999999 6\n", "the cell in row 2, column 2: beyond 2147483647"),
-    (HEADER + "1 2 3\n4 -2147483648 6\n", "the cell in row 2, column 2: beyond 2147483647"),
-    (HEADER + "multiplier: 2\n1 2 3\n4 2000000000 6\n", "the cell in row 2, column 2: beyond 2147483647"),
-    (HEADER + "1 2 3\n4 5\n", "the header announces 2 rows of 3 cells, but there are 5 cells"),
-    (HEADER + "1 2 3\n4 5 6 7\n", "the header announces 2 rows of 3 cells, but there are more cells"),
-    ("ncols 3\n", "it is not a grid of rcell: north: is missing"),
-    (HEADER.replace("rows: 2", "rows: 70000") + "1\n", "70000 rows of 3 cells: rcell takes 65535 of each, and 2147483647 cells in all; "
-     "cut the map into tiles (gdal_translate -srcwin)"),
-    (HEADER.replace("rows: 2", "rows: 1e9") + "1\n", "it is not a grid of rcell: rows: is 1e9"),
-    (HEADER + "1 2 3\n4 5 -", "the cell in row 2, column 3: - is not a whole number"),
-    (HEADER + "1 2 3\n4 + 6\n", "the cell in row 2, column 2: + is not a whole number"),
-    (HEADER + "multiplier: 0\n1 2 3\n4 3000000000 6\n", "the cell in row 2, column 2: beyond 2147483647"),
-    (HEADER + "type: float\n1 2 3\n4 5 6\n", STRANGE), (HEADER + "null: a b\n1 2 3\n4 5 6\n", STRANGE),
-    (HEADER + f"null: {'n' * 65}\n1 2 3\n4 5 6\n", STRANGE), (HEADER + "multiplier: 2147483648\n1 2 3\n4 5 6\n", STRANGE),
+    (HEADER + "1 2 3\n4 5.5 6\n", "8: bad cell"), (HEADER + "1 2 3\n4 1_0 6\n", "8: bad cell"),
+    (HEADER + "1 2 3\n4 5*6 6\n", "8: bad cell"), (HEADER + "1 2 3\n4 \x1b[31m 6\n", "8: bad cell"),
+    (HEADER + "1 2 3\n4 3000000000 6\n", "8: cell out of range"), (HEADER + "1 2 3\n4 99999999999999999999 6\n", "8: cell out of range"),
+    (HEADER + "1 2 3\n4 -2147483648 6\n", "8: cell out of range"), (HEADER + "multiplier: 2\n1 2 3\n4 2000000000 6\n", "9: cell out of range"),
+    (HEADER + "1 2 3\n4 5\n", "9: too few cells"), (HEADER + "1 2 3\n4 5 6 7\n", "8: too many cells"), ("ncols 3\n", "1: missing key"),
+    (HEADER.replace("rows: 2", "rows: 70000") + "1\n", "7: bad region"), (HEADER.replace("rows: 2", "rows: 1e9") + "1\n", "5: bad number"),
+    (HEADER + "1 2 3\n4 5 -", "8: bad cell"), (HEADER + "1 2 3\n4 + 6\n", "8: bad cell"),
+    (HEADER + "multiplier: 0\n1 2 3\n4 3000000000 6\n", "9: cell out of range"), (HEADER + "type: float\n1 2 3\n4 5 6\n", "7: type not supported"),
+    (HEADER + "null: a b\n1 2 3\n4 5 6\n", "7: bad header line"), (HEADER + f"null: {'n' * 65}\n1 2 3\n4 5 6\n", "7: token too long"),
+    (HEADER + "multiplier: 2147483648\n1 2 3\n4 5 6\n", "7: bad number"),
 ]
 
 
@@ -220,7 +210,7 @@ def test_back(room, tally):
         tally.same(f"back and forth {grid[len(HEADER):]!r}", room.get(f"b{at}.txt").decode() if status == 0 else said, HEADER + wanted if wanted else grid)
     for at, ((grid, wanted), (status, said)) in enumerate(zip(BAD_GRIDS, answers[len(BACK):]), len(BACK)):
         tally.same(f"a bad grid {grid[-20:]!r}", (status, said, os.path.exists(f"{room.path}/g{at}.tif")),
-                   (1, f"rcell-tif: g{at}.txt: {wanted}\n", False))
+                   (1, f"rcell-tif: g{at}.txt, line {wanted}\n", False))
     make(room, [("like.tif", "uint8", None, "[[1, 2, 3], [4, 5, 6]]", {"transform": [0, 1.00000000001, 0, 2, 0, -1], "epsg": 32632})])
     ran = room.shell("rcell <(echo 'r.mapcalc x = m * 100'; echo r.out.ascii input=x) m=<(rcell-tif like.tif -) | rcell-tif --from --like like.tif - made.tif"
                      " && gdalsrsinfo -o epsg made.tif | grep EPSG && gdalinfo made.tif | grep 'Pixel Size' && rcell-tif made.tif - | tail -1")
