@@ -379,10 +379,12 @@ class Programs(unittest.TestCase):
         ], ran.stderr)
 
     def test_wrong(self) -> None:
-        for body in ("exit 0", "echo 7 1 1", "exit 3", "yes", "yes x | head -c 3000000 >&2; exit 1"):
-            with self.assertRaises(rcell.WrongProgram):
+        head = "printf 'north: 1\\nsouth: 0\\neast: 3\\nwest: 0\\nrows: 1\\ncols: 3\\n'"
+        rows = ("", "echo '7 *'", "printf '7 * 12'", "echo '7 * 12 1'", "echo '7 * 13'", "yes '7 * 12'", "echo '7 * 12'; exit 1")
+        for body in ("exit 0", "echo 7 1 1", "exit 3", "yes", "yes x | head -c 3000000 >&2; exit 1", *(f"{head}\n{row}" for row in rows)):
+            with self.subTest(body=body), self.assertRaises(rcell.WrongProgram):
                 rcell.program(self.program(body))
-            if body != "yes":
+            if "yes '" not in body and body != "yes":
                 with self.assertRaises(rcell.WrongProgram):
                     find_pipe(self.program(body))
 
