@@ -205,7 +205,7 @@ def _checked(path: str, status: int, output: bytes, told: str) -> bytes:
         raise OutOfMemory(found[3], found[1], int(found[2]), status)
     if found and (great := _TOO_GREAT.fullmatch(found[3])):
         maps = len(great[1].split())
-        counts_of(output, maps)  # an earlier one may be too great for this package
+        counts_of(output, maps)  # an earlier one may be too large for this package
         raise TooManyCells.of(numbers_of(f"{great[1]}\n".encode(), maps)[0])
     raise WrongProgram(f"{path} ended in status {status} and said: {told or 'nothing'}")
 
