@@ -30,7 +30,7 @@ use Rattle.cell_ascii.proofs.WordLemmas.{word-more, gap-more, gap-one, HoldsLine
 in_range : (v : ℕ) → v < 255 → is_in_range (pos v) ≡ true
 in_range v lt = grind (arith, nat_tests)
 
-digit_no_star : (b : ℕ) → is_digit b ≡ true → eqb b 42 ≡ false
+pub digit_no_star : (b : ℕ) → is_digit b ≡ true → eqb b 42 ≡ false
 digit_no_star b e = grind (arith, nat_tests)
 
 -- a number that a byte stands for
@@ -63,13 +63,13 @@ pub record AreCellBytes (bs vs : List ℕ) : Type 0 where
       → (get_or vs (at + 1 + n) 0 ≡ value_of_digits (take (n + 1) (drop (at + 1) bs))) × (get_or vs (at + 1 + n) 0 < 255)
 
 -- from each to all
-all_from : (f : ℕ → Bool) (n : ℕ) (xs : List ℕ) → n ≤ length xs → ((i : ℕ) → i < n → f (get_or xs i 0) ≡ true) → list_all f (take n xs) ≡ true
+pub all_from : (f : ℕ → Bool) (n : ℕ) (xs : List ℕ) → n ≤ length xs → ((i : ℕ) → i < n → f (get_or xs i 0) ≡ true) → list_all f (take n xs) ≡ true
 all_from f zero xs le each = refl
 all_from f (suc n) [] le each = absurd (omega arith)
 all_from f (suc n) (x ∷ xs) le each = rw (each 0 (omega arith)) (all_from f n xs (omega arith) (λ i lt. each (suc i) (omega arith)))
 
 -- and back
-one_from : (f : ℕ → Bool) (n : ℕ) (xs : List ℕ) → n ≤ length xs → list_all f (take n xs) ≡ true → (i : ℕ) → i < n → f (get_or xs i 0) ≡ true
+pub one_from : (f : ℕ → Bool) (n : ℕ) (xs : List ℕ) → n ≤ length xs → list_all f (take n xs) ≡ true → (i : ℕ) → i < n → f (get_or xs i 0) ≡ true
 one_from f zero xs le all i lt = absurd (omega arith)
 one_from f (suc n) [] le all i lt = absurd (omega arith)
 one_from f (suc n) (x ∷ xs) le all zero lt = (both (f x) (list_all f (take n xs)) all).0

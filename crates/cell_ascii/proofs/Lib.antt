@@ -5,6 +5,7 @@ pub mod AgainLemmas
 pub mod LaneLemmas
 pub mod ByteEndLemmas
 pub mod ByteBlockLemmas
+pub mod NumberWordLemmas
 pub mod BitLemmas
 pub mod DigitLemmas
 pub mod RunLemmas

@@ -8,7 +8,8 @@
 //! - `short_cells`, `word_table`, `pace`: the fast ways to read cells that are in the buffer: words
 //!   in place, words that occurred before, numbers by their digits, and which way is next. They
 //!   change no result.
-//! - `byte_words`: rows of short words, read as bytes by vectors
+//! - `byte_words`, `number_words`: short words read as bytes by vectors, and words of digits two at
+//!   a time
 //!
 //! `GRID` is a text of three rows and four columns, here in pieces of seven bytes:
 //!
@@ -22,6 +23,7 @@
 pub mod byte_words;
 pub mod grid_reader;
 pub mod law;
+pub mod number_words;
 pub mod pace;
 pub mod short_cells;
 pub mod word_table;

@@ -13,6 +13,7 @@ ghost use Rattle.cell_ascii.specs.parts.WordPlaces.{CanPut};
 ghost use Rattle.cell_ascii.specs.parts.ByteWords.{IsPlain};
 ghost use Rattle.cell_ascii.specs.parts.BlankRuns.{IsAtBlank, IsBehindBlanks};
 
+use crate::number_words::block_numbers_in;
 use crate::short_cells::{MOST_DIGITS, negative};
 use cell_ascii_reading::header::Header;
 use cell_core::cell::Cell;
@@ -31,8 +32,8 @@ const PLACE_BITS: u32 = 12;
 // The most bytes of a word that is kept.
 const MOST_KEPT: usize = 8;
 
-// So many bytes have to be held for that, and for a load at the last of them.
-const LEAST_BUFFERED: usize = 72;
+// So many bytes have to be held for that, and for a load of 16 bytes at the last of them.
+const LEAST_BUFFERED: usize = 80;
 
 // A word that was read, by its bytes, and its cell. It is free if it has no bytes.
 #[derive(Clone, Copy)]
@@ -378,6 +379,36 @@ impl Model for WordTable {
         × (t.is_plain ≡ true → IsPlain t.header) };
 }
 
+// The same by vectors, if a header is plain and all words are numbers.
+#[inline(always)]
+fn next_cells_in<const SOUGHT: bool>(
+    buffered: &[u8],
+    header: &Header,
+    is_plain: bool,
+    entries: &mut [WordEntry],
+    row: &mut [Cell],
+    missed: &mut usize,
+) -> (usize, usize)
+    requires buffered { 80 ≤ length buffered.now }
+    requires plain { is_plain ≡ true → IsPlain header.now }
+    requires room { length entries.old ≡ 4096 }
+    requires known { All (IsEntry header.now) entries.old }
+    ensures cells { HoldsLines header.now buffered.now (take result.0 row.new) result.0 result.1
+        (newlines (take result.1 buffered.now)) }
+    ensures count { result.0 ≤ length row.old }
+    ensures within { result.1 < 64 }
+    ensures rest { drop result.0 row.new ≡ drop result.0 row.old }
+    ensures known { All (IsEntry header.now) entries.new }
+{
+    if is_plain {
+        let found = block_numbers_in(buffered, row);
+        if found.0 > 0 {
+            return found;
+        }
+    }
+    block_cells_in::<SOUGHT>(buffered, header, entries, row, missed)
+}
+
 // The cells whose words are held one after another, apart by blanks and line feeds, up to the length of a row: they
 // fill the start of the row. Returns how many they are, how many bytes they take, and how many of these are line feeds.
 // It leaves out the last bytes held, words of 64 bytes and more, and a word that is no cell with all that follows.
@@ -386,10 +417,12 @@ impl Model for WordTable {
 fn table_cells_in<const SOUGHT: bool>(
     buffered: &[u8],
     header: &Header,
+    is_plain: bool,
     entries: &mut [WordEntry],
     row: &mut [Cell],
     missed: &mut usize,
 ) -> (usize, usize, u64)
+    requires plain { is_plain ≡ true → IsPlain header.now }
     requires room { length entries.old ≡ 4096 }
     requires known { All (IsEntry header.now) entries.old }
     ensures cells { AreCellsRead header.now buffered.now row.old row.new result }
@@ -400,7 +433,14 @@ fn table_cells_in<const SOUGHT: bool>(
     let mut lines = 0;
     'blocks: while i < row.len() && buffered.len() - passed >= LEAST_BUFFERED {
         let block = &buffered[passed..];
-        let found = block_cells_in::<SOUGHT>(block, header, entries, &mut row[i..], missed);
+        let found = next_cells_in::<SOUGHT>(
+            block,
+            header,
+            is_plain,
+            entries,
+            &mut row[i..],
+            missed,
+        );
         if found.0 == 0 {
             return (i, passed, lines);
         }
@@ -460,6 +500,7 @@ impl WordTable {
         table_cells_in::<SOUGHT>(
             buffered,
             &self.header,
+            self.is_plain,
             self.entries.as_mut_slice(),
             row,
             missed,

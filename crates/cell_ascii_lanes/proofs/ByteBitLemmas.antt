@@ -49,18 +49,18 @@ below bits n within = ap (λ (k : ℕ). count_ones (bit_and bits (k - 1))) (one_
 
 -- ---- bits one or two higher, and one lower
 
-bit_below : (n i : ℕ) → i < 64 → bit_at (n % 2 ^ 64) i ≡ bit_at n i
+pub bit_below : (n i : ℕ) → i < 64 → bit_at (n % 2 ^ 64) i ≡ bit_at n i
 bit_below n i lt =
     let parts : n ≡ n / 2 ^ 64 * 2 ^ 64 + n % 2 ^ 64 = omega arith in
     sym (bit_at_cat_low (n / 2 ^ 64) 64 (n % 2 ^ 64) i lt) ∙ sym (ap (λ m. bit_at m i) parts)
 
-shl_one : (n i : ℕ) → i + 1 < 64 → bit_at (n * 2 % 2 ^ 64) (i + 1) ≡ bit_at n i
+pub shl_one : (n i : ℕ) → i + 1 < 64 → bit_at (n * 2 % 2 ^ 64) (i + 1) ≡ bit_at n i
 shl_one n i lt =
     let next : i + 1 ≡ suc i = omega arith in
     let half : n * 2 / 2 ≡ n = omega arith in
     bit_below (n * 2) (i + 1) lt ∙ ap (bit_at (n * 2)) next ∙ bit_at-suc (n * 2) i ∙ ap (λ m. bit_at m i) half
 
-shl_two : (n i : ℕ) → i + 2 < 64 → bit_at (n * 4 % 2 ^ 64) (i + 2) ≡ bit_at n i
+pub shl_two : (n i : ℕ) → i + 2 < 64 → bit_at (n * 4 % 2 ^ 64) (i + 2) ≡ bit_at n i
 shl_two n i lt =
     let next : i + 2 ≡ suc (suc i) = omega arith in
     let half : n * 4 / 2 / 2 ≡ n = omega arith in

@@ -1,3 +1,4 @@
 pub mod ByteLaneLemmas
 pub mod ByteBitLemmas
 pub mod ByteValueLemmas
+pub mod NumberLemmas

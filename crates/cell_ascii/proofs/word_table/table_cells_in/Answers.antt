@@ -20,7 +20,7 @@ blocks-2-preserved g c =
     let row = c.blocks-2.row in
     let i = c.blocks-2.i in
     let passed = c.blocks-2.passed in
-    let found = c.block_cells_in-found in
+    let found = c.next_cells_in-found in
     let k = found.result.0 in
     let n = found.result.1 in
     let part = found.new.row in
@@ -35,7 +35,7 @@ blocks-2-preserved g c =
     let below : n ≤ 64 = omega (arith, found.ensures.within) in
     let lines : c.ones_below-lines.result ≡ newlines (take n rest) =
     c.ones_below-lines.ensures.value ∙ ap (λ (m : ℕ). count_ones (m % 2 ^ n)) (rw here at c.feeds_in.ensures) ∙ feeds_before n rest below in
-    let fits : 72 ≤ length buffered - passed = omega (arith, c.if-buffered-passed-ge-LEAST_BUFFERED.true) in
+    let fits : 80 ≤ length buffered - passed = omega (arith, c.if-buffered-passed-ge-LEAST_BUFFERED.true) in
     record {
       low = omega (arith, few, within, whole);
       within = omega (arith, fits, below);
@@ -53,7 +53,7 @@ returns-then-found-eq0-clause-cells g c =
     let row = c.blocks-2.row in
     let i = c.blocks-2.i in
     let inv = c.blocks-2.invariant in
-    let found = c.block_cells_in-found in
+    let found = c.next_cells_in-found in
     let k = found.result.0 in
     let part = found.new.row in
     let is = found.ensures in

@@ -1,0 +1,10 @@
+-- Words of digits of a block of 64 bytes.
+use Rattle.std.specs.Prelude.{ℕ, ◌+◌, ◌≡◌, ◌<◌}
+use Rattle.std.specs.Int.{bit_at}
+
+-- all words are of one to seven digits, each after one blank, by the bits of the blanks and of the digits
+pub record AreNumbers (blanks digits : ℕ) : Type 0 where
+  pub first : bit_at blanks 0 ≡ 1
+  pub known : (i : ℕ) → i < 64 → bit_at blanks i ≡ 0 → bit_at digits i ≡ 1
+  pub apart : (i : ℕ) → i + 1 < 64 → bit_at blanks i ≡ 1 → bit_at blanks (i + 1) ≡ 0
+  pub few : (i : ℕ) → i + 7 < 64 → ((j : ℕ) → j < 7 → bit_at blanks (i + j) ≡ 0) → bit_at blanks (i + 7) ≡ 1
