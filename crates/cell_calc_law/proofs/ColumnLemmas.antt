@@ -14,9 +14,9 @@ use Rattle.std.proofs.lemmas.List.Elements.{All-append, All-map}
 use Rattle.cell_core.specs.Grid.{Grid, CellValue, cell_at}
 use Rattle.cell_core_values.specs.Cell.{cell_cmp, cell_cmp_total}
 use Rattle.cell_calc_binding.specs.Applied.{grid_position}
-use Rattle.cell_stats_counts.specs.declared.skip.Skip.TheVariants.{Nothing}
-use Rattle.cell_stats_counts.specs.Combinations.{Combination, combination_cmp, cell_of_map, combination_at}
-use Rattle.cell_stats_counts.proofs.OrderLemmas.{combination_cmp-exact, is_equal}
+use Rattle.cell_stats_combinations.specs.declared.skip.Skip.TheVariants.{Nothing}
+use Rattle.cell_stats_combinations.specs.Combinations.{Combination, combination_cmp, cell_of_map, combination_at}
+use Rattle.cell_stats_combinations.proofs.OrderLemmas.{combination_cmp-exact, is_equal}
 use Rattle.cell_stats_counts.specs.Counts.{count_of}
 use Rattle.cell_stats.specs.CategoryTables.{Pairs, table_of}
 use Rattle.cell_stats.proofs.TableLemmas.{IsTally, one_table, count_cons, table_of-IsTable}

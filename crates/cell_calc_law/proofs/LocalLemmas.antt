@@ -13,7 +13,7 @@ use Rattle.cell_calc_binding.specs.Compact.{ReadsMap, AreReading}
 use Rattle.cell_calc_binding.specs.Formula as formula
 use Rattle.cell_calc_binding.specs.Formula.{Formula, Map, Formulas}
 use Rattle.cell_calc_binding.specs.Value.{value, argument_values}
-use Rattle.cell_stats_counts.specs.Combinations.{Combination, cell_of_map, combination_at}
+use Rattle.cell_stats_combinations.specs.Combinations.{Combination, cell_of_map, combination_at}
 use Rattle.cell_calc_law.specs.LocalLaw.{asks_where, IsLocal, AreLocal, OneValueACombination, LocalGoesByCombinations}
 
 -- ---- a map at the cell itself

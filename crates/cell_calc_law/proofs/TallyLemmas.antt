@@ -7,10 +7,10 @@ use Rattle.std.specs.declared.cmp.Ordering.{Ordering}
 use Rattle.std.specs.declared.cmp.Ordering.TheVariants.{Less}
 use Rattle.std.specs.Cmp.{tied_itself}
 use Rattle.std.specs.FinMap.Entries.{find, is_sorted, below_all}
-use Rattle.cell_stats_counts.specs.declared.skip.Skip.TheVariants.{Nothing}
-use Rattle.cell_stats_counts.specs.Combinations.{Combination, combination_cmp}
-use Rattle.cell_stats_counts.specs.LeftOut.{kept_cells}
-use Rattle.cell_stats_counts.proofs.OrderLemmas.{combination_cmp-total, combination_cmp-exact, is_equal}
+use Rattle.cell_stats_combinations.specs.declared.skip.Skip.TheVariants.{Nothing}
+use Rattle.cell_stats_combinations.specs.Combinations.{Combination, combination_cmp, combination_cmp_total}
+use Rattle.cell_stats_combinations.specs.LeftOut.{kept_cells}
+use Rattle.cell_stats_combinations.proofs.OrderLemmas.{combination_cmp-exact, is_equal}
 use Rattle.cell_stats_counts.specs.Counts.{count_of}
 use Rattle.cell_stats.specs.CategoryTables.{Pairs, table_of}
 use Rattle.cell_stats.proofs.SortedLemmas.{both_true, is_less}
@@ -33,7 +33,7 @@ abbrev mark : Combination → Combination × ℕ → ℕ
 mark k e = cond (eq_by_cmp combination_cmp e.0 k) 1 0
 
 eq-swap : (a b : Combination) → eq_by_cmp combination_cmp a b ≡ eq_by_cmp combination_cmp b a
-eq-swap a b = ap is_eq (combination_cmp-total.antisymm a b) ∙ reversed (combination_cmp b a)
+eq-swap a b = ap is_eq (combination_cmp_total.antisymm a b) ∙ reversed (combination_cmp b a)
   where
     reversed : (o : Ordering) → is_eq (ordering_reverse o) ≡ is_eq o
     reversed Less = refl
@@ -75,7 +75,7 @@ counts-itself : (cells : List Combination) (i : ℕ) (d : Combination) → i < l
 counts-itself [] i d within = absurd (omega (arith, within))
 counts-itself (k ∷ cells) zero d within =
     let one : ◌≡◌ {A = ℕ} (cond (eq_by_cmp combination_cmp k k) 1 0) 1 =
-    ap (λ o. cond (is_eq o) 1 0) (tied_itself combination_cmp-total k) in
+    ap (λ o. cond (is_eq o) 1 0) (tied_itself combination_cmp_total k) in
     omega (arith, count_cons k k cells, one)
 counts-itself (k ∷ cells) (suc i) d within =
     omega (arith, count_cons (get_or cells i d) k cells, counts-itself cells i d (omega (arith, within)))

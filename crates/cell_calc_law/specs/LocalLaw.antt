@@ -10,8 +10,8 @@ use Rattle.cell_calc_binding.specs.Applied.{GridPosition, grid_position}
 use Rattle.cell_calc_binding.specs.Compact.{ReadsMap}
 use Rattle.cell_calc_binding.specs.Formula.{Formula, Number, Map, Negated, Not, Binary, Call, Formulas, NoTrees, Then}
 use Rattle.cell_calc_binding.specs.Value.{value}
-use Rattle.cell_stats_counts.specs.Combinations.{Combination, combination_at, all_combinations}
-use Rattle.cell_stats_counts.specs.declared.skip.Skip.TheVariants.{Nothing}
+use Rattle.cell_stats_combinations.specs.Combinations.{Combination, combination_at, all_combinations}
+use Rattle.cell_stats_combinations.specs.declared.skip.Skip.TheVariants.{Nothing}
 use Rattle.cell_stats_counts.specs.Counts.{count_of}
 use Rattle.cell_stats.specs.CategoryTables.{table_of}
 use Rattle.rcell.specs.Making.{AreValues, with_map}

@@ -37,11 +37,11 @@ use Rattle.cell_core.specs.Grid.{Grid, CellValue, IsFilled}
 use Rattle.cell_cats_areas.specs.declared.clump.Joining.{Joining}
 use Rattle.cell_cats_areas.specs.Areas.{Position, cell_at_position, IsClumping}
 use Rattle.cell_cats_areas.proofs.PathLemmas.{AreJoined-first, AreJoined-last}
-use Rattle.cell_stats_counts.specs.declared.skip.Skip.{Skip}
-use Rattle.cell_stats_counts.specs.declared.skip.Skip.TheVariants.{Nothing}
-use Rattle.cell_stats_counts.specs.Combinations.{Combination, combination_cmp, combination_cmp_total}
-use Rattle.cell_stats_counts.specs.LeftOut.{is_left_out}
-use Rattle.cell_stats_counts.proofs.OrderLemmas.{combination_cmp-exact, is_equal}
+use Rattle.cell_stats_combinations.specs.declared.skip.Skip.{Skip}
+use Rattle.cell_stats_combinations.specs.declared.skip.Skip.TheVariants.{Nothing}
+use Rattle.cell_stats_combinations.specs.Combinations.{Combination, combination_cmp, combination_cmp_total}
+use Rattle.cell_stats_combinations.specs.LeftOut.{is_left_out}
+use Rattle.cell_stats_combinations.proofs.OrderLemmas.{combination_cmp-exact, is_equal}
 use Rattle.cell_stats.specs.CategoryTables.{Pairs, IsTable}
 use Rattle.cell_cats_areas.proofs.MeetingLemmas.{some_of}
 use Rattle.cell_parts.proofs.AreaLemmas.{is-some}

@@ -37,17 +37,17 @@ use Rattle.std.specs.Cmp.{tied_itself}
 use Rattle.std.specs.FinMap.Entries.{find, is_sorted, below_all}
 use Rattle.std.proofs.lemmas.List.Sums.{sum_by-cons, sum_by-append}
 use Rattle.cell_core.specs.Grid.{Grid}
-use Rattle.cell_stats_counts.specs.declared.skip.Skip.{Skip}
-use Rattle.cell_stats_counts.specs.declared.skip.Skip.TheVariants.{Nothing}
-use Rattle.cell_stats_counts.specs.Combinations.{
+use Rattle.cell_stats_combinations.specs.declared.skip.Skip.{Skip}
+use Rattle.cell_stats_combinations.specs.declared.skip.Skip.TheVariants.{Nothing}
+use Rattle.cell_stats_combinations.specs.Combinations.{
   Combination,
   combination_cmp,
   combination_cmp_total,
   combination_at,
   all_combinations,
 }
-use Rattle.cell_stats_counts.specs.LeftOut.{kept_cells, is_left_out}
-use Rattle.cell_stats_counts.proofs.OrderLemmas.{combination_cmp-exact, is_equal}
+use Rattle.cell_stats_combinations.specs.LeftOut.{kept_cells, is_left_out}
+use Rattle.cell_stats_combinations.proofs.OrderLemmas.{combination_cmp-exact, is_equal}
 use Rattle.cell_stats_counts.specs.Counts.{count_of}
 use Rattle.cell_stats.specs.CategoryTables.{Pairs, IsTable}
 use Rattle.cell_stats.proofs.SortedLemmas.{both_true, is_less}

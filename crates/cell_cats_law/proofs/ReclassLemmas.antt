@@ -32,9 +32,9 @@ use Rattle.std.specs.Ordering.{eq_by_cmp, is_eq}
 use Rattle.cell_core.specs.Grid.{Grid, CellValue, cell_at}
 use Rattle.cell_cats.specs.Rule.{RuleValue, lists, is_star_rule, last_such, outcome, new_category}
 use Rattle.cell_cats.specs.Reclass.{reclassed_map, new_row}
-use Rattle.cell_stats_counts.specs.declared.skip.Skip.{Skip}
-use Rattle.cell_stats_counts.specs.declared.skip.Skip.TheVariants.{Nothing, AnyNull, AllNull}
-use Rattle.cell_stats_counts.specs.Combinations.{
+use Rattle.cell_stats_combinations.specs.declared.skip.Skip.{Skip}
+use Rattle.cell_stats_combinations.specs.declared.skip.Skip.TheVariants.{Nothing, AnyNull, AllNull}
+use Rattle.cell_stats_combinations.specs.Combinations.{
   Combination,
   combination_cmp,
   combination_cmp_total,
@@ -42,8 +42,8 @@ use Rattle.cell_stats_counts.specs.Combinations.{
   combination_at,
   all_combinations,
 }
-use Rattle.cell_stats_counts.specs.LeftOut.{is_left_out}
-use Rattle.cell_stats_counts.proofs.OrderLemmas.{combination_cmp-exact, is_equal}
+use Rattle.cell_stats_combinations.specs.LeftOut.{is_left_out}
+use Rattle.cell_stats_combinations.proofs.OrderLemmas.{combination_cmp-exact, is_equal}
 use Rattle.cell_stats_counts.specs.Counts.{count_of}
 use Rattle.cell_stats.specs.CategoryTables.{Pairs, IsTable}
 use Rattle.cell_cats_law.specs.ReclassLaw.{

@@ -27,7 +27,7 @@ use Rattle.cell_core.specs.Grid.{Grid, CellValue}
 use Rattle.cell_cats_areas.specs.declared.clump.Joining.{Joining}
 use Rattle.cell_cats_areas.specs.Areas.{Position, cell_at_position, LeadsTo, AreJoined, IsClumping}
 use Rattle.cell_cats_areas.proofs.PathLemmas.{AreJoined-adjacent}
-use Rattle.cell_stats_counts.specs.Combinations.{combination_cmp}
+use Rattle.cell_stats_combinations.specs.Combinations.{combination_cmp}
 use Rattle.cell_cats_law.proofs.CountLemmas.{counts-same}
 use Rattle.cell_cats_law.specs.AreaLaw.{IsWithout, OtherAreasStay, OtherAreasKeepTheirSize}
 use Rattle.cell_cats_areas.proofs.MeetingLemmas.{some_of}

@@ -6,8 +6,8 @@ use Rattle.cell_core.specs.Grid.{Grid, CellValue, IsFilled}
 use Rattle.cell_cats_areas.specs.declared.clump.Joining.{Joining}
 use Rattle.cell_cats_areas.specs.Areas.{Position, cell_at_position, IsClumping}
 use Rattle.cell_cats_areas.specs.ClumpLaw.{Occurs}
-use Rattle.cell_stats_counts.specs.declared.skip.Skip.{Skip}
-use Rattle.cell_stats_counts.specs.Combinations.{Combination, combination_cmp, all_combinations}
+use Rattle.cell_stats_combinations.specs.declared.skip.Skip.{Skip}
+use Rattle.cell_stats_combinations.specs.Combinations.{Combination, combination_cmp, all_combinations}
 use Rattle.cell_stats_counts.specs.Counts.{count_of}
 use Rattle.cell_stats.specs.CategoryTables.{Pairs, IsTable}
 

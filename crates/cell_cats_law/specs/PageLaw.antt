@@ -1,8 +1,8 @@
 -- Pages of a table: its entries up to a combination, and its rest after it.
 use Rattle.std.specs.Prelude.{ℕ, ◌≡◌, true, List, ◌∷◌, ◌++◌, filter}
 use Rattle.std.specs.Ordering.{is_le}
-use Rattle.cell_stats_counts.specs.declared.skip.Skip.{Skip}
-use Rattle.cell_stats_counts.specs.Combinations.{Combination, combination_cmp}
+use Rattle.cell_stats_combinations.specs.declared.skip.Skip.{Skip}
+use Rattle.cell_stats_combinations.specs.Combinations.{Combination, combination_cmp}
 use Rattle.cell_stats.specs.CategoryTables.{Pairs, IsTable, rest_after}
 
 -- the entries up to a combination: its own entry, and the entries before it

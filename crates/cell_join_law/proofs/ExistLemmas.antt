@@ -11,11 +11,11 @@ use Rattle.std.proofs.lemmas.List.Sums.{count_by-le-length, sum_by-cons}
 use Rattle.cell_core.specs.Grid.{Grid, IsFilled}
 use Rattle.cell_cats_areas.specs.declared.clump.Joining.{Joining}
 use Rattle.cell_cats_areas.specs.Areas.{IsClumping}
-use Rattle.cell_stats_counts.specs.declared.skip.Skip.{Skip}
-use Rattle.cell_stats_counts.specs.declared.skip.Skip.TheVariants.{Nothing}
-use Rattle.cell_stats_counts.specs.Combinations.{Combination, combination_cmp}
+use Rattle.cell_stats_combinations.specs.declared.skip.Skip.{Skip}
+use Rattle.cell_stats_combinations.specs.declared.skip.Skip.TheVariants.{Nothing}
+use Rattle.cell_stats_combinations.specs.Combinations.{Combination, combination_cmp}
 use Rattle.cell_stats_counts.specs.Counts.{count_of}
-use Rattle.cell_stats_counts.proofs.WalkLemmas.{length_all}
+use Rattle.cell_stats_combinations.proofs.WalkLemmas.{length_all}
 use Rattle.cell_stats.specs.CategoryTables.{IsTable, Pairs}
 use Rattle.cell_stats.proofs.LawLemmas.{counts-add-up}
 use Rattle.cell_stats.proofs.TableLemmas.{table_is}

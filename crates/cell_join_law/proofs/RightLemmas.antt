@@ -12,7 +12,7 @@ use Rattle.std.proofs.lemmas.List.Concat.{flat_map-append, length-flat_map}
 use Rattle.std.proofs.lemmas.List.Elements.{All-contains, All-get_or, All-head, All-tail, Contains-append_left, Contains-append_right}
 use Rattle.std.proofs.lemmas.List.FromFn.{get_or-range_with_len, length-range_with_len}
 use Rattle.std.proofs.lemmas.List.Sums.{sum_by-cons}
-use Rattle.cell_stats_counts.specs.Combinations.{Combination}
+use Rattle.cell_stats_combinations.specs.Combinations.{Combination}
 use Rattle.cell_stats.specs.CategoryTables.{Pairs}
 use Rattle.cell_join_lines.specs.LineReading.{TableReading, line_after, reading_of}
 use Rattle.cell_join_lines.specs.declared.table_fault.TableFault.{TableFault}

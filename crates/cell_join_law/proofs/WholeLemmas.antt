@@ -9,10 +9,10 @@ use Rattle.std.proofs.lemmas.List.FromFn.{get_or-map-range_with_len, length-map-
 use Rattle.cell_core.specs.Grid.{Grid, IsFilled}
 use Rattle.cell_cats_areas.specs.declared.clump.Joining.{Joining}
 use Rattle.cell_cats_areas.specs.Areas.{IsClumping}
-use Rattle.cell_stats_counts.specs.declared.skip.Skip.{Skip}
-use Rattle.cell_stats_counts.specs.declared.skip.Skip.TheVariants.{AnyNull}
-use Rattle.cell_stats_counts.specs.Combinations.{Combination}
-use Rattle.cell_stats_counts.specs.LeftOut.{is_left_out}
+use Rattle.cell_stats_combinations.specs.declared.skip.Skip.{Skip}
+use Rattle.cell_stats_combinations.specs.declared.skip.Skip.TheVariants.{AnyNull}
+use Rattle.cell_stats_combinations.specs.Combinations.{Combination}
+use Rattle.cell_stats_combinations.specs.LeftOut.{is_left_out}
 use Rattle.cell_stats_counts.specs.Counts.{count_of}
 use Rattle.cell_stats.specs.CategoryTables.{Pairs, IsTable}
 use Rattle.cell_cats_law.specs.AreaLaw.{cells_of}

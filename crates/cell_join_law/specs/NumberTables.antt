@@ -4,9 +4,9 @@ use Rattle.std.specs.Prelude.{Some, None, if◌then◌else◌}
 use Rattle.cell_core.specs.Grid.{Grid, IsFilled}
 use Rattle.cell_cats_areas.specs.declared.clump.Joining.{Joining}
 use Rattle.cell_cats_areas.specs.Areas.{IsClumping}
-use Rattle.cell_stats_counts.specs.declared.skip.Skip.{Skip}
-use Rattle.cell_stats_counts.specs.declared.skip.Skip.TheVariants.{AnyNull}
-use Rattle.cell_stats_counts.specs.LeftOut.{is_left_out}
+use Rattle.cell_stats_combinations.specs.declared.skip.Skip.{Skip}
+use Rattle.cell_stats_combinations.specs.declared.skip.Skip.TheVariants.{AnyNull}
+use Rattle.cell_stats_combinations.specs.LeftOut.{is_left_out}
 use Rattle.cell_stats_counts.specs.Counts.{count_of}
 use Rattle.cell_stats.specs.CategoryTables.{Pairs, IsTable}
 use Rattle.cell_cats_law.specs.AreaLaw.{cells_of}

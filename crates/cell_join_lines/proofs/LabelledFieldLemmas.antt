@@ -5,7 +5,7 @@ use Rattle.std.proofs.lemmas.List.{append-nil}
 use Rattle.std.proofs.lemmas.List.Splits.{slice_split_first}
 use Rattle.std.specs.List.{position_or_len, before_first, after_first, slice_split, onto_first}
 use Rattle.cell_core.specs.Grid.{CellValue}
-use Rattle.cell_stats_counts.specs.Combinations.{Combination}
+use Rattle.cell_stats_combinations.specs.Combinations.{Combination}
 use Rattle.cell_join_lines.specs.LineFields.{cell_before, count_of_field, entry_of_labelled, labelled_cell}
 use Rattle.cell_join_lines.specs.LineFields.{labelled_entry_of_line, with_count}
 use Rattle.cell_join_lines.specs.declared.table_fault.TableKind.{TableKind}

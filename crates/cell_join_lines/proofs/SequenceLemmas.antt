@@ -3,7 +3,7 @@ use Rattle.std.proofs.Common.{◌≡◌, ℕ, Bool, true, false, cond, Option, S
 use Rattle.std.specs.Prelude.{IfSome, nat_lt}
 use Rattle.cell_core_devices.specs.Device.{Coming}
 use Rattle.cell_core_values.specs.Answers.{◌>>=◌}
-use Rattle.cell_stats_counts.specs.Combinations.{Combination}
+use Rattle.cell_stats_combinations.specs.Combinations.{Combination}
 use Rattle.cell_join_lines.specs.AreasReading.{AreasReading, areas_format, areas_read, areas_reading_of, areas_stopped, comes_next, in_sequence, is_read_areas, next_stretch, number_in_column, stretch_if, stretch_of_entry, stretches_read, then_stretches}
 use Rattle.cell_join_lines.specs.LineReading.{line_after, reading_of, reading_of_rest, with_entry}
 use Rattle.cell_join_lines.specs.TextReading.{TextValue, reading_from, reading_from_head}

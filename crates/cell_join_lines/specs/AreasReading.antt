@@ -6,7 +6,7 @@ use Rattle.cell_core_values.specs.Letters.{byte}
 use Rattle.cell_core_devices.specs.Device.{Coming}
 use Rattle.cell_core_values.specs.Answers.{◌>>=◌}
 use Rattle.cell_core.specs.Grid.{CellValue}
-use Rattle.cell_stats_counts.specs.Combinations.{Combination}
+use Rattle.cell_stats_combinations.specs.Combinations.{Combination}
 use Rattle.cell_stats.specs.CategoryTables.{Pairs}
 use Rattle.cell_stats.specs.TableText.{FormatValue}
 use Rattle.cell_join_lines.specs.LineReading.{TableReading, line_after, reading_of}

@@ -15,7 +15,7 @@ use crate::text::TableText;
 use cell_core::cell::Cell;
 use cell_core::source::Source;
 use cell_stats::format::Format;
-use cell_stats_counts::combination::Combo;
+use cell_stats_combinations::combination::Combo;
 use std::alloc::Global;
 use std::marker::Model;
 

@@ -17,7 +17,7 @@ use cell_core::cell::Cell;
 use cell_core::memory::Memory;
 use cell_core::source::Source;
 use cell_stats::format::Format;
-use cell_stats_counts::combination::Combo;
+use cell_stats_combinations::combination::Combo;
 use std::alloc::Global;
 use std::cmp::Ordering;
 use std::marker::Model;

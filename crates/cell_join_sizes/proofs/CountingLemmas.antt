@@ -7,7 +7,7 @@ use Rattle.std.proofs.lemmas.List.FromFn.{length-range_with_len}
 use Rattle.std.proofs.lemmas.List.Concat.{flat_map-append}
 use Rattle.std.proofs.lemmas.List.Elements.{All-nil, All-push}
 use Rattle.cell_core_devices.specs.Device.{Coming}
-use Rattle.cell_stats_counts.specs.Combinations.{Combination}
+use Rattle.cell_stats_combinations.specs.Combinations.{Combination}
 use Rattle.cell_stats.specs.CategoryTables.{Pairs}
 use Rattle.cell_stats.specs.TableText.{FormatValue}
 use Rattle.cell_join_lines.specs.LineReading.{TableReading, ended, line_after, reading_of_rest, with_entry}

@@ -25,7 +25,7 @@ use cell_join_lines::stretch::Stretch;
 use cell_join_lines::table_fault::{TableFault, TableKind};
 use cell_join_lines::text::TableText;
 use cell_stats::format::Format;
-use cell_stats_counts::combination::Combo;
+use cell_stats_combinations::combination::Combo;
 use std::alloc::Global;
 
 /// What adding sizes did.

@@ -3,14 +3,14 @@ use Rattle.std.proofs.Common.{◌≡◌, ℕ, List, ◌∷◌, Bool, true, false
 use Rattle.std.specs.Option.{option_map}
 use Rattle.std.specs.Prelude.{IfSome}
 use Rattle.cell_core_devices.specs.Device.{Coming}
-use Rattle.cell_stats_counts.specs.Combinations.{Combination}
+use Rattle.cell_stats_combinations.specs.Combinations.{Combination}
 use Rattle.cell_stats.specs.TableText.{FormatValue}
 use Rattle.cell_join_lines.specs.LineLabels.{Labelled, labelled_behind, labelled_from, labelled_from_head, labelled_in}
 use Rattle.cell_join_lines.specs.LineReading.{TableReading, reading_of_rest, stopped}
 use Rattle.cell_join_lines.specs.TextReading.{TextValue, combination_of, reading_behind, reading_from}
 use Rattle.cell_join_lines.specs.TextReading.{reading_from_head}
 use Rattle.cell_join_lines.specs.declared.table_fault.TableFault.{TableFault}
-use Rattle.cell_stats_counts.proofs.OrderLemmas.{combination_cmp-exact, is_equal}
+use Rattle.cell_stats_combinations.proofs.OrderLemmas.{combination_cmp-exact, is_equal}
 use Rattle.cell_join_tables.specs.JoinedTexts.{last_combination}
 use Rattle.cell_join_tables.specs.TextHeads.{past_labelled, head_count, is_of, past}
 

@@ -4,7 +4,7 @@ use Rattle.std.specs.List.{AllByRecursion, Contains}
 use Rattle.std.specs.Prelude.{All, IfSome, sum_by}
 use Rattle.cell_core_devices.specs.Blocks.{BlockValue, Appended, IsRest, capped_count}
 use Rattle.cell_core_devices.specs.Device.{Faults, after_flush, after_put, append_known, has_failed}
-use Rattle.cell_stats_counts.specs.Combinations.{Combination}
+use Rattle.cell_stats_combinations.specs.Combinations.{Combination}
 use Rattle.cell_stats.specs.CategoryTables.{Pairs}
 use Rattle.cell_stats.specs.TableText.{FormatValue}
 use Rattle.cell_parts.specs.TableParts.{IsMerge, count_in}

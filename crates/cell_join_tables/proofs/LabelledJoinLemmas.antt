@@ -9,7 +9,7 @@ use Rattle.std.specs.Cmp.{tied_itself}
 use Rattle.std.specs.declared.cmp.Ordering.TheVariants.{Less, Equal}
 use Rattle.cell_core_devices.specs.Blocks.{Appended, BlockValue, IsRest, capped_count}
 use Rattle.cell_core_devices.specs.Device.{Coming, Faults, append_known}
-use Rattle.cell_stats_counts.specs.Combinations.{Combination, combination_cmp, combination_cmp_total}
+use Rattle.cell_stats_combinations.specs.Combinations.{Combination, combination_cmp, combination_cmp_total}
 use Rattle.cell_stats.specs.TableText.{FormatValue}
 use Rattle.cell_parts.specs.TableParts.{IsMerge}
 use Rattle.cell_join_lines.specs.LineLabels.{Labelled}

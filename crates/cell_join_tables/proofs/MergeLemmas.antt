@@ -2,14 +2,14 @@
 use Rattle.std.proofs.Common.{◌≡◌, ℕ, Option, Some, None, refl, sym, ◌∙◌}
 use Rattle.std.specs.Prelude.{List}
 use Rattle.std.specs.FinMap.Entries.{find, same_entries}
-use Rattle.cell_stats_counts.specs.Combinations.{Combination, combination_cmp}
-use Rattle.cell_stats_counts.proofs.OrderLemmas.{combination_cmp-total, combination_cmp-exact}
+use Rattle.cell_stats_combinations.specs.Combinations.{Combination, combination_cmp, combination_cmp_total}
+use Rattle.cell_stats_combinations.proofs.OrderLemmas.{combination_cmp-exact}
 use Rattle.cell_stats.specs.CategoryTables.{Pairs}
 use Rattle.cell_stats.proofs.TableLemmas.{T_from, ascending_to, found-listed, stands}
 use Rattle.cell_parts.specs.TableParts.{IsMerge}
 
 pub one-merge : (tables : List Pairs) (a b : Pairs) → IsMerge tables a → IsMerge tables b → a ≡ b
-one-merge tables a b first second = same_entries combination_cmp combination_cmp-total combination_cmp-exact a b
+one-merge tables a b first second = same_entries combination_cmp combination_cmp_total combination_cmp-exact a b
     (T_from _ (ascending_to a first.ascending)) (T_from _ (ascending_to b second.ascending)) same
   where
     some : (one other : Pairs) → IsMerge tables one → IsMerge tables other → (k : Combination) (n : ℕ)

@@ -6,7 +6,7 @@ use Rattle.std.proofs.lemmas.List.{get_or-append-add}
 use Rattle.cell_core_devices.specs.Blocks.{BlockValue}
 use Rattle.cell_core_devices.specs.Device.{Faults}
 use Rattle.cell_core_devices.proofs.BlockLemmas.{appends_none, appends_then}
-use Rattle.cell_stats_counts.specs.Combinations.{Combination}
+use Rattle.cell_stats_combinations.specs.Combinations.{Combination}
 use Rattle.cell_stats.specs.CategoryTables.{Pairs}
 use Rattle.cell_stats.specs.TableText.{FormatValue}
 use Rattle.cell_parts.specs.TableParts.{count_in}

@@ -4,7 +4,7 @@ use Rattle.std.proofs.Common.{arith, subst, option_map, append_assoc, append-nil
 use Rattle.std.specs.Prelude.{IfSome}
 use Rattle.std.proofs.lemmas.List.{map-append, length-map}
 use Rattle.cell_core_devices.specs.Device.{Coming}
-use Rattle.cell_stats_counts.specs.Combinations.{Combination}
+use Rattle.cell_stats_combinations.specs.Combinations.{Combination}
 use Rattle.cell_stats.specs.TableText.{FormatValue}
 use Rattle.cell_join_lines.specs.LineReading.{TableReading, reading_of, stopped}
 use Rattle.cell_join_lines.specs.declared.table_fault.TableFault.{TableFault}

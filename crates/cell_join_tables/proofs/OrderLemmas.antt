@@ -5,8 +5,8 @@ use Rattle.std.specs.Cmp.{tied_itself}
 use Rattle.std.specs.Ordering.{ordering_reverse}
 use Rattle.std.specs.declared.cmp.Ordering.{Ordering}
 use Rattle.std.specs.declared.cmp.Ordering.TheVariants.{Less, Equal, Greater}
-use Rattle.cell_stats_counts.specs.Combinations.{Combination, combination_cmp, combination_cmp_total}
-use Rattle.cell_stats_counts.proofs.OrderLemmas.{combination_cmp-exact}
+use Rattle.cell_stats_combinations.specs.Combinations.{Combination, combination_cmp, combination_cmp_total}
+use Rattle.cell_stats_combinations.proofs.OrderLemmas.{combination_cmp-exact}
 use Rattle.cell_join_tables.specs.parts.HeadOrder.{goes_before, lesser_or_earlier}
 
 lt-trans : (i j l : ℕ) → nat_lt i j ≡ true → nat_lt j l ≡ true → nat_lt i l ≡ true

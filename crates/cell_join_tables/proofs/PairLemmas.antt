@@ -9,10 +9,10 @@ use Rattle.std.specs.List.Sorted.{IsStrictlySortedBy}
 use Rattle.std.specs.Ordering.{ordering_reverse}
 use Rattle.std.specs.declared.cmp.Ordering.{Ordering}
 use Rattle.std.specs.declared.cmp.Ordering.TheVariants.{Less, Equal, Greater}
-use Rattle.cell_stats_counts.specs.Combinations.{Combination, combination_cmp, combination_cmp_total}
-use Rattle.cell_stats_counts.proofs.OrderLemmas.{combination_cmp-exact}
+use Rattle.cell_stats_combinations.specs.Combinations.{Combination, combination_cmp, combination_cmp_total}
+use Rattle.cell_stats_combinations.proofs.OrderLemmas.{combination_cmp-exact}
 use Rattle.cell_stats_counts.specs.Listed.{entry_of, listed_of, HasNoZero}
-use Rattle.cell_stats_counts.specs.parts.HeldPlaces.{is_same}
+use Rattle.cell_stats_combinations.specs.parts.Same.{is_same}
 use Rattle.cell_stats_counts.proofs.HeldLemmas.{cond-add}
 use Rattle.cell_stats_counts.proofs.GatheredLemmas.{entry-le}
 use Rattle.cell_stats.specs.CategoryTables.{Pairs}

@@ -7,7 +7,7 @@ use Rattle.std.proofs.lemmas.List.Elements.{All-cons, All-head, All-tail, recurs
 use Rattle.std.proofs.lemmas.List.Sorted.{All-permutation, Contains-permutation, IsPermutation-insert}
 use Rattle.std.specs.List.{AllByRecursion, Contains, insert}
 use Rattle.std.specs.Prelude.{All, IfSome}
-use Rattle.cell_stats_counts.specs.Combinations.{Combination}
+use Rattle.cell_stats_combinations.specs.Combinations.{Combination}
 use Rattle.cell_stats.specs.TableText.{FormatValue}
 use Rattle.cell_join_lines.specs.LineLabels.{labelled_behind, labelled_from}
 use Rattle.cell_join_lines.specs.LineReading.{line_after, stopped}

@@ -4,8 +4,8 @@ use Rattle.std.specs.List.{AllByRecursion}
 use Rattle.std.specs.Ordering.{is_eq, ordering_reverse}
 use Rattle.std.specs.declared.cmp.Ordering.{Ordering}
 use Rattle.std.specs.declared.cmp.Ordering.TheVariants.{Less, Equal, Greater}
-use Rattle.cell_stats_counts.specs.Combinations.{Combination, combination_cmp, combination_cmp_total}
-use Rattle.cell_stats_counts.proofs.OrderLemmas.{combination_cmp-exact, is_equal}
+use Rattle.cell_stats_combinations.specs.Combinations.{Combination, combination_cmp, combination_cmp_total}
+use Rattle.cell_stats_combinations.proofs.OrderLemmas.{combination_cmp-exact, is_equal}
 use Rattle.cell_stats.specs.CategoryTables.{Pairs}
 use Rattle.cell_join_tables.specs.parts.Pairwise.{by_order, merge_entry, merged_of}
 use Rattle.cell_parts.specs.TableParts.{IsMerge}

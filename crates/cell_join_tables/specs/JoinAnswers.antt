@@ -1,7 +1,7 @@
 -- Which error is met when a text is opened or continues, and how a merge ends.
 use Rattle.std.specs.Prelude.{ℕ, ◌≡◌, ◌<◌, Bool, false, List, [], map, slice_get, Option, Some, None, Result, Ok, Err, if◌then◌else◌}
 use Rattle.cell_core_devices.specs.Device.{Faults, after_flush}
-use Rattle.cell_stats_counts.specs.Combinations.{Combination}
+use Rattle.cell_stats_combinations.specs.Combinations.{Combination}
 use Rattle.cell_join_lines.specs.LineReading.{TableReading}
 use Rattle.cell_join_lines.specs.declared.table_fault.TableFault.{TableFault}
 use Rattle.cell_join_tables.specs.JoinedTexts.{HasFault, IsFirstFault, fault_place}

@@ -1,7 +1,7 @@
 //! Why texts are not joined.
 
 use cell_join_lines::table_fault::TableFault;
-use cell_stats_counts::combination::Combo;
+use cell_stats_combinations::combination::Combo;
 
 /// Why texts are not joined. Texts are reported by their places, from 0.
 #[derive(Debug, Drop)]

@@ -1,7 +1,7 @@
 //! Why texts with labels are not joined.
 
 use crate::join_fault::JoinFault;
-use cell_stats_counts::combination::Combo;
+use cell_stats_combinations::combination::Combo;
 
 /// Two texts that have a combination with other labels. Texts are reported by their places, from 0.
 #[derive(Debug, Drop)]

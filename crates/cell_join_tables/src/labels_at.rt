@@ -10,7 +10,7 @@ use crate::label_fault::OtherLabel;
 use cell_core::source::Source;
 use cell_join_lines::text::TableText;
 use cell_stats::format::Format;
-use cell_stats_counts::combination::Combo;
+use cell_stats_combinations::combination::Combo;
 use std::alloc::Global;
 
 // Whether a text continues with the combination.

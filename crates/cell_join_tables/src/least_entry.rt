@@ -16,7 +16,7 @@ use crate::ordered_texts::OrderedTexts;
 use crate::text_heads::too_many;
 use cell_core::source::Source;
 use cell_stats::format::Format;
-use cell_stats_counts::combination::Combo;
+use cell_stats_combinations::combination::Combo;
 use std::alloc::Global;
 
 // The count of an entry, if there is one and it is of the combination.

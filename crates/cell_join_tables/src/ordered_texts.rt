@@ -2,7 +2,7 @@
 
 ghost use Rattle.std.specs.Prelude.{◌≡◌, ◌≢◌, ◌<◌, ◌≤◌, ℕ, List, All, drop, length, slice_index, IfErr, IfOk, IfSome, MatchOption, None, Ok, OnOk, Some};
 ghost use Rattle.std.specs.List.{Contains, insert};
-ghost use Rattle.cell_stats_counts.specs.Combinations.{Combination};
+ghost use Rattle.cell_stats_combinations.specs.Combinations.{Combination};
 ghost use Rattle.cell_join_lines.specs.TextReading.{combination_of};
 ghost use Rattle.cell_join_tables.specs.parts.LabelEnds.{StopsAtLabels};
 ghost use Rattle.cell_join_tables.specs.parts.LabelSteps.{AllAgree, StopsOnLine, labelled_heads};
@@ -16,7 +16,7 @@ use cell_core::memory::Memory;
 use cell_core::source::Source;
 use cell_join_lines::text::TableText;
 use cell_stats::format::Format;
-use cell_stats_counts::combination::Combo;
+use cell_stats_combinations::combination::Combo;
 use std::alloc::Global;
 use std::cmp::Ordering;
 use std::marker::Model;

@@ -4,7 +4,7 @@ ghost use Rattle.std.specs.Prelude.{◌≡◌, ◌≢◌, List, All, Ok, Err, No
 ghost use Rattle.std.specs.List.{Contains};
 ghost use Rattle.cell_core_devices.specs.Blocks.{Appends};
 ghost use Rattle.cell_core_devices.specs.Device.{Coming, after_flush, append_known, has_failed};
-ghost use Rattle.cell_stats_counts.specs.Combinations.{Combination};
+ghost use Rattle.cell_stats_combinations.specs.Combinations.{Combination};
 ghost use Rattle.cell_stats.specs.CategoryTables.{Pairs};
 ghost use Rattle.cell_join_lines.specs.LineLabels.{Labelled, labelled_from, labelled_in};
 ghost use Rattle.cell_join_lines.specs.LineReading.{TableReading};

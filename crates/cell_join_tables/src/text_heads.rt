@@ -1,13 +1,13 @@
 //! What the first error of a text, and counts that are too many, are of texts that are joined.
 
 ghost use Rattle.std.specs.Prelude.{◌≡◌, ◌≢◌, List};
-ghost use Rattle.cell_stats_counts.specs.Combinations.{Combination};
+ghost use Rattle.cell_stats_combinations.specs.Combinations.{Combination};
 ghost use Rattle.cell_join_lines.specs.LineReading.{TableReading};
 ghost use Rattle.cell_join_tables.specs.JoinAnswers.{IsFaultOfText};
 
 use crate::join_fault::JoinFault;
 use cell_join_lines::table_fault::{TableFault, TableKind};
-use cell_stats_counts::combination::Combo;
+use cell_stats_combinations::combination::Combo;
 use std::alloc::Global;
 
 /// The error of the text at a place, if it is not of memory.

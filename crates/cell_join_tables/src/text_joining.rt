@@ -3,7 +3,7 @@
 ghost use Rattle.std.specs.Prelude.{◌≡◌, ◌≢◌, [], List, All, MatchOption, Some, IfErr, IfOk, IfSome, map, false, true};
 ghost use Rattle.std.specs.List.{Contains};
 ghost use Rattle.std.specs.declared.cmp.Ordering.TheVariants.{Less};
-ghost use Rattle.cell_stats_counts.specs.Combinations.{combination_cmp};
+ghost use Rattle.cell_stats_combinations.specs.Combinations.{combination_cmp};
 ghost use Rattle.cell_core_devices.specs.Blocks.{Appends};
 ghost use Rattle.cell_core_devices.specs.Device.{Coming};
 ghost use Rattle.cell_join_lines.specs.LineLabels.{labelled_from, labelled_in};
@@ -18,7 +18,7 @@ use cell_core::sink::Sink;
 use cell_core::source::Source;
 use cell_join_lines::text::TableText;
 use cell_stats::format::Format;
-use cell_stats_counts::combination::Combo;
+use cell_stats_combinations::combination::Combo;
 use std::alloc::Global;
 
 // How many cells are wanted after a text that begins so.

@@ -6,8 +6,8 @@ use Rattle.std.specs.Prelude.{All}
 use Rattle.cell_core_devices.specs.Blocks.{capped_count}
 use Rattle.cell_core_devices.specs.Device.{append_known}
 use Rattle.cell_core.specs.Grid.{Grid, AreCells}
-use Rattle.cell_stats_counts.specs.declared.skip.Skip.{Skip}
-use Rattle.cell_stats_counts.specs.Combinations.{Combination, all_combinations}
+use Rattle.cell_stats_combinations.specs.declared.skip.Skip.{Skip}
+use Rattle.cell_stats_combinations.specs.Combinations.{Combination, all_combinations}
 use Rattle.cell_stats.specs.CategoryTables.{Pairs, table_of}
 use Rattle.cell_stats.specs.TableText.{FormatValue}
 use Rattle.cell_stats.proofs.TableLemmas.{table_of-IsTable}

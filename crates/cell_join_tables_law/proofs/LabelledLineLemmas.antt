@@ -12,7 +12,7 @@ use Rattle.std.specs.List.{join_with_byte, slice_split}
 use Rattle.cell_core_values.specs.Cell.{IsCell}
 use Rattle.cell_core.specs.Grid.{CellValue}
 use Rattle.cell_core.specs.Text.{cell_text}
-use Rattle.cell_stats_counts.specs.Combinations.{Combination}
+use Rattle.cell_stats_combinations.specs.Combinations.{Combination}
 use Rattle.cell_stats.specs.CategoryTables.{Pairs}
 use Rattle.cell_stats.specs.TableText.{FormatValue}
 use Rattle.cell_join_lines.specs.LineLabels.{before_count, labelled_in, labelled_in_lines, labelled_then}

@@ -12,7 +12,7 @@ use Rattle.cell_core_values.specs.Digits.{is_digit}
 use Rattle.cell_core.specs.Grid.{Grid, CellValue}
 use Rattle.cell_core.specs.Text.{cell_text}
 use Rattle.cell_core_values.specs.Cell.{IsCell}
-use Rattle.cell_stats_counts.specs.Combinations.{Combination}
+use Rattle.cell_stats_combinations.specs.Combinations.{Combination}
 use Rattle.cell_stats.specs.CategoryTables.{Pairs}
 use Rattle.cell_stats.specs.TableText.{FormatValue, cell_fields, combination_fields, label_of_cell, label_text}
 use Rattle.cell_stats.specs.TableText.{line_text}

@@ -10,7 +10,7 @@ use Rattle.std.specs.List.{join_with_byte}
 use Rattle.cell_core_values.specs.Cell.{IsCell, is_category}
 use Rattle.cell_core.specs.Grid.{CellValue}
 use Rattle.cell_core.specs.Text.{cell_text}
-use Rattle.cell_stats_counts.specs.Combinations.{Combination}
+use Rattle.cell_stats_combinations.specs.Combinations.{Combination}
 use Rattle.cell_stats.specs.TableText.{FormatValue}
 use Rattle.cell_join_lines.specs.TableLines.{entry_fields}
 

@@ -9,8 +9,8 @@ use Rattle.std.specs.List.{range_with_len}
 use Rattle.std.specs.Option.{option_map_or}
 use Rattle.cell_core_values.specs.Cell.{IsCell}
 use Rattle.cell_core.specs.Grid.{Grid, CellValue, AreCells, cell_at}
-use Rattle.cell_stats_counts.specs.Combinations.{Combination, cell_of_map, combination_at, row_combinations}
-use Rattle.cell_stats_counts.specs.Combinations.{all_combinations}
+use Rattle.cell_stats_combinations.specs.Combinations.{Combination, cell_of_map, combination_at, row_combinations}
+use Rattle.cell_stats_combinations.specs.Combinations.{all_combinations}
 use Rattle.cell_parts.specs.Parts.{Rectangle, IsPart}
 
 -- ---- cells of maps

@@ -15,7 +15,7 @@ use Rattle.cell_core.specs.Grid.{CellValue}
 use Rattle.cell_core.specs.Text.{cell_text}
 use Rattle.cell_ascii_law.proofs.WritingDigitLemmas.{IsNumeralOf, numeral}
 use Rattle.cell_ascii_law.proofs.WritingNumberLemmas.{whole_back, in_range_low, size}
-use Rattle.cell_stats_counts.specs.Combinations.{Combination}
+use Rattle.cell_stats_combinations.specs.Combinations.{Combination}
 use Rattle.cell_stats.specs.TableText.{FormatValue}
 use Rattle.cell_join_lines.specs.LineFields.{capped_value, category_of_field, cell_of_field, count_of_field, entry_of_fields, entry_of_line, cell_before, with_count}
 use Rattle.cell_join_lines.specs.TableLines.{entry_fields}

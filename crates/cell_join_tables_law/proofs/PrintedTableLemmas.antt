@@ -15,7 +15,7 @@ use Rattle.cell_core_values.specs.Digits.{is_digit}
 use Rattle.cell_core.specs.Grid.{Grid, CellValue}
 use Rattle.cell_core.specs.Text.{cell_text}
 use Rattle.cell_core_values.specs.Cell.{IsCell}
-use Rattle.cell_stats_counts.specs.Combinations.{Combination, combination_cmp}
+use Rattle.cell_stats_combinations.specs.Combinations.{Combination, combination_cmp}
 use Rattle.cell_stats.specs.CategoryTables.{Pairs}
 use Rattle.cell_stats.specs.TableText.{FormatValue, combination_fields, count_fields, line_text, pair_line, table_text}
 use Rattle.cell_join_lines.specs.ClearFormats.{is_clear, is_clear_byte}

@@ -10,7 +10,7 @@ use Rattle.std.proofs.lemmas.Int.{ints}
 use Rattle.std.proofs.lemmas.List.Elements.{All-cons, All-nil}
 use Rattle.cell_core_values.specs.Cell.{IsCell}
 use Rattle.cell_core_values.specs.Answers.{◌>>=◌}
-use Rattle.cell_stats_counts.specs.Combinations.{Combination, combination_cmp, combination_cmp_total}
+use Rattle.cell_stats_combinations.specs.Combinations.{Combination, combination_cmp, combination_cmp_total}
 use Rattle.cell_stats.specs.CategoryTables.{Pairs}
 use Rattle.cell_join_lines.specs.LineReading.{TableReading, line_after, reading_of}
 use Rattle.cell_join_lines.specs.TableLines.{entries_text, entry_line}

@@ -3,7 +3,7 @@ use Rattle.std.specs.Prelude.{ℕ, ℤ, ◌≡◌, ◌<◌, ◌≤◌, ◌+◌, 
 use Rattle.cell_core_devices.specs.Blocks.{capped_count}
 use Rattle.cell_core_devices.specs.Device.{Coming, append_known}
 use Rattle.cell_core.specs.Grid.{Grid, AreCells}
-use Rattle.cell_stats_counts.specs.declared.skip.Skip.{Skip}
+use Rattle.cell_stats_combinations.specs.declared.skip.Skip.{Skip}
 use Rattle.cell_stats.specs.TableText.{FormatValue}
 use Rattle.cell_parts.specs.TableParts.{Part, AreParts}
 use Rattle.cell_join_lines.specs.declared.table_fault.TheConstants.{MOST_BYTES}

@@ -2,7 +2,7 @@
 use Rattle.std.proofs.Common.{◌≡◌, ℕ, zero, suc, ◌+◌, ◌<◌, List, [], ◌∷◌, ◌++◌, map, refl, ap, sym, ◌∙◌, arith, zero-add, add-zero}
 use Rattle.std.specs.List.{range_with_len, flat_map}
 use Rattle.cell_core.specs.Grid.{Grid, CellValue}
-use Rattle.cell_stats_counts.specs.Combinations.{Combination, cell_of_map, combination_at, row_combinations, all_combinations}
+use Rattle.cell_stats_combinations.specs.Combinations.{Combination, cell_of_map, combination_at, row_combinations, all_combinations}
 use Rattle.cell_parts.specs.Parts.{IsPart}
 
 map-shifted : {X : Type 0} (f g : ℕ → X) (a b n : ℕ) → ((i : ℕ) → i < n → f (a + i) ≡ g (b + i)) → map f (range_with_len a n) ≡ map g (range_with_len b n)

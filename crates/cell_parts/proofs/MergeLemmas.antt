@@ -1,9 +1,9 @@
 -- Tables merged.
 use Rattle.std.proofs.Common.{◌≡◌, ◌↔◌, ℕ, zero, suc, List, [], ◌∷◌, map, Bool, true, false, cond, unwrap_or, refl, ap, sym, ◌∙◌, arith}
 use Rattle.std.specs.Prelude.{sum_by}
-use Rattle.cell_stats_counts.specs.declared.skip.Skip.{Skip}
-use Rattle.cell_stats_counts.specs.Combinations.{Combination, all_combinations}
-use Rattle.cell_stats_counts.specs.LeftOut.{kept_cells, is_left_out}
+use Rattle.cell_stats_combinations.specs.declared.skip.Skip.{Skip}
+use Rattle.cell_stats_combinations.specs.Combinations.{Combination, all_combinations}
+use Rattle.cell_stats_combinations.specs.LeftOut.{kept_cells, is_left_out}
 use Rattle.cell_stats_counts.specs.Counts.{count_of}
 use Rattle.cell_stats.specs.CategoryTables.{Pairs, IsTable, table_of}
 use Rattle.cell_stats.proofs.TableLemmas.{IsFound-from, kept-IsTable, IsTable-kept, table_of-IsTable, found, count_kept}

@@ -7,9 +7,9 @@ use Rattle.std.proofs.lemmas.Bool.{le-leb, leb-true, lt-ltb, le-ltb}
 use Rattle.std.proofs.lemmas.List.Sums.{sum_by-append}
 use Rattle.std.proofs.lemmas.List.Elements.{All-head, All-tail}
 use Rattle.cell_core.specs.Grid.{Grid}
-use Rattle.cell_stats_counts.specs.Combinations.{Combination, combination_cmp, combination_at}
+use Rattle.cell_stats_combinations.specs.Combinations.{Combination, combination_cmp, combination_at}
 use Rattle.cell_stats_counts.specs.Counts.{count_of}
-use Rattle.cell_stats_counts.proofs.WalkLemmas.{count-append}
+use Rattle.cell_stats_counts.proofs.CountLemmas.{count-append}
 use Rattle.cell_stats.proofs.TableLemmas.{count_cons}
 use Rattle.cell_parts.specs.Parts.{Rectangle, is_in, IsPart}
 use Rattle.cell_parts.specs.TableParts.{Part, combinations_of_part, PartsAddUp}

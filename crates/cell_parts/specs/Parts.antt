@@ -1,7 +1,7 @@
 -- Parts of maps: a rectangle of their cells, as maps of their own (the regions and labels of parts do not matter here).
 use Rattle.std.specs.Prelude.{ℕ, Bool, ◌&&◌, nat_le, nat_lt, ◌≡◌, ◌≤◌, ◌<◌, ◌+◌, List, [], ◌∷◌, All, count_by, sum, map, flat_map, take, drop}
 use Rattle.cell_core.specs.Grid.{Grid, CellValue}
-use Rattle.cell_stats_counts.specs.Combinations.{cell_of_map}
+use Rattle.cell_stats_combinations.specs.Combinations.{cell_of_map}
 
 -- a rectangle of cells: its first row and column, and how many of each
 pub record Rectangle : Type 0 where

@@ -9,12 +9,13 @@ use Rattle.std.specs.List.{flat_map, range_with_len}
 use Rattle.cell_core_values.specs.Region.{RegionValue}
 use Rattle.cell_core.specs.Grid.{Grid}
 use Rattle.cell_core.specs.Shelf.{ShelfValue}
-use Rattle.cell_stats_counts.specs.declared.skip.Skip.{Skip}
-use Rattle.cell_stats_counts.specs.Combinations.{Combination, combination_at, row_combinations, all_combinations}
-use Rattle.cell_stats_counts.specs.Cursors.{AreCursorsReady, AreWideRows, CursorValue, row_in, to_come}
-use Rattle.cell_stats_counts.specs.LeftOut.{kept_cells, is_left_out}
+use Rattle.cell_stats_combinations.specs.declared.skip.Skip.{Skip}
+use Rattle.cell_stats_combinations.specs.Combinations.{Combination, combination_at, row_combinations, all_combinations}
+use Rattle.cell_stats_combinations.specs.Cursors.{AreCursorsReady, AreWideRows, CursorValue, row_in, to_come}
+use Rattle.cell_stats_combinations.specs.LeftOut.{kept_cells, is_left_out}
 use Rattle.cell_stats.specs.parts.OfPicks.{IsOfPicks}
-use Rattle.cell_stats_counts.proofs.WalkLemmas.{alike, alive, passed-on, stretch, kept-replicate, all_combinations_more}
+use Rattle.cell_stats_combinations.proofs.WalkLemmas.{alike, alive, passed-on, stretch, kept-replicate}
+use Rattle.cell_stats_combinations.proofs.WalkLemmas.{all_combinations_more}
 
 range-append : (a n m : ℕ) → range_with_len a (n + m) ≡ range_with_len a n ++ range_with_len (a + n) m
 range-append a zero m = ap (λ (k : ℕ). range_with_len a k) (zero-add m) ∙ ap (λ (k : ℕ). range_with_len k m) (sym (add-zero a))

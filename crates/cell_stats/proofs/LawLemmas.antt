@@ -9,16 +9,17 @@ use Rattle.std.specs.declared.cmp.Ordering.TheVariants.{Less, Equal, Greater}
 use Rattle.std.specs.FinMap.Entries.{find, is_sorted, below_all, where_key, is_sorted-where_key, find-where_key}
 use Rattle.std.proofs.lemmas.List.Sums.{sum_by-append}
 use Rattle.cell_core.specs.Grid.{Grid}
-use Rattle.cell_stats_counts.specs.declared.skip.Skip.{Skip}
-use Rattle.cell_stats_counts.specs.declared.skip.Skip.TheVariants.{Nothing, AnyNull}
-use Rattle.cell_stats_counts.specs.Combinations.{Combination, combination_cmp, all_combinations}
+use Rattle.cell_stats_combinations.specs.declared.skip.Skip.{Skip}
+use Rattle.cell_stats_combinations.specs.declared.skip.Skip.TheVariants.{Nothing, AnyNull}
+use Rattle.cell_stats_combinations.specs.Combinations.{Combination, all_combinations}
+use Rattle.cell_stats_combinations.specs.Combinations.{combination_cmp, combination_cmp_total}
 use Rattle.cell_stats_counts.specs.Counts.{count_of}
 use Rattle.cell_stats.specs.CategoryTables.{Pairs, table_of}
-use Rattle.cell_stats_counts.specs.LeftOut.{kept_cells, is_left_out}
-use Rattle.cell_stats_counts.proofs.OrderLemmas.{combination_cmp-total, combination_cmp-exact, is_equal}
+use Rattle.cell_stats_combinations.specs.LeftOut.{kept_cells, is_left_out}
+use Rattle.cell_stats_combinations.proofs.OrderLemmas.{combination_cmp-exact, is_equal}
 use Rattle.cell_stats.proofs.SortedLemmas.{both_true, is_less}
 use Rattle.cell_stats.proofs.TableLemmas.{T_from, from_T, IsTally, IsTally-from, IsFound-from, counts_of-IsTally, one_table, count_cons, count_kept, found, table_of-IsTable}
-use Rattle.cell_stats_counts.proofs.WalkLemmas.{length_all}
+use Rattle.cell_stats_combinations.proofs.WalkLemmas.{length_all}
 use Rattle.cell_stats.proofs.WidthLemmas.{table-wide}
 
 -- 1 if the pair has the combination
@@ -34,7 +35,7 @@ is_eq-reverse Equal = refl
 is_eq-reverse Greater = refl
 
 eq-swap : (a b : Combination) → eq_by_cmp combination_cmp a b ≡ eq_by_cmp combination_cmp b a
-eq-swap a b = ap is_eq (combination_cmp-total.antisymm a b) ∙ is_eq-reverse (combination_cmp b a)
+eq-swap a b = ap is_eq (combination_cmp_total.antisymm a b) ∙ is_eq-reverse (combination_cmp b a)
 
 -- a lesser combination is no entry's
 mark-none : (k : Combination) (es : Pairs) → below_all combination_cmp k es ≡ true → sum_by (mark k) es ≡ 0
@@ -94,7 +95,7 @@ counts-self (k ∷ cells) zero d within =
     equal-reverse Greater e = cc
 
     itself : (k : Combination) → combination_cmp k k ≡ Equal
-    itself k = equal-reverse (combination_cmp k k) (combination_cmp-total.antisymm k k)
+    itself k = equal-reverse (combination_cmp k k) (combination_cmp_total.antisymm k k)
 counts-self (k ∷ cells) (suc i) d within =
     omega (arith, count_cons (get_or cells i d) k cells, counts-self cells i d (omega (arith, within)))
 

@@ -6,7 +6,7 @@ use Rattle.std.proofs.lemmas.Slice.Zip.{get_or-zip, length-zip}
 use Rattle.std.proofs.lemmas.List.{get_or-drop}
 use Rattle.cell_core.specs.Grid.{Grid, CellValue}
 use Rattle.cell_core.specs.Text.{cell_text}
-use Rattle.cell_stats_counts.specs.Combinations.{Combination}
+use Rattle.cell_stats_combinations.specs.Combinations.{Combination}
 use Rattle.cell_stats.specs.parts.Preceded.{preceded_texts, pick_text, next_text, others_text}
 use Rattle.cell_stats.specs.TableText.{FormatValue, cell_fields, combination_fields, count_fields, label_of_cell, pair_line}
 

@@ -8,13 +8,13 @@ use Rattle.std.specs.List.{Contains, AllByRecursion}
 use Rattle.std.specs.List.Sorted.{IsStrictlySortedBy}
 use Rattle.std.specs.FinMap as finmap
 use Rattle.std.specs.FinMap.Entries.{find, is_sorted, below_all, same_entries}
-use Rattle.cell_stats_counts.specs.Combinations.{Combination, combination_cmp}
+use Rattle.cell_stats_combinations.specs.Combinations.{Combination, combination_cmp, combination_cmp_total}
 use Rattle.cell_stats_counts.specs.Counts.{count_of}
 use Rattle.cell_stats_counts.specs.Listed.{Counts, entry_of, listed_of, HasNoZero}
-use Rattle.cell_stats_counts.specs.declared.skip.Skip.{Skip}
+use Rattle.cell_stats_combinations.specs.declared.skip.Skip.{Skip}
 use Rattle.cell_stats.specs.CategoryTables.{Pairs, IsTable, counts_of, table_of}
-use Rattle.cell_stats_counts.specs.LeftOut.{kept_cells, is_left_out}
-use Rattle.cell_stats_counts.proofs.OrderLemmas.{combination_cmp-total, combination_cmp-exact, is_equal}
+use Rattle.cell_stats_combinations.specs.LeftOut.{kept_cells, is_left_out}
+use Rattle.cell_stats_combinations.proofs.OrderLemmas.{combination_cmp-exact, is_equal}
 use Rattle.cell_stats.proofs.SortedLemmas.{both_true, is_less, each_found}
 
 -- ---- the table as what is found in it
@@ -80,7 +80,7 @@ pub found-listed : (k : Combination) (n : ℕ) (es : Pairs) → IsStrictlySorted
     → Contains es (k, n) → find combination_cmp k es ≡ Some n
 found-listed k n es up c =
     let at : find combination_cmp (get_or es c.0 (k, n)).0 es ≡ Some (get_or es c.0 (k, n)).1 =
-    each_found combination_cmp combination_cmp-total es (ascending_to es up) c.0 (k, n) c.1 in
+    each_found combination_cmp combination_cmp_total es (ascending_to es up) c.0 (k, n) c.1 in
     rw c.2 at at
 
 found_some : (n v : ℕ) → Some v ≡ found n → (0 < v) × (v ≡ n)
@@ -90,7 +90,7 @@ found_some (suc n) v e = let same : v ≡ suc n = cc in (omega arith, same)
 counted_from : (cells : List Combination) (es : Pairs) → IsFound cells es → (k : Combination) (n : ℕ) → Contains es (k, n) ↔ ((0 < n) × (n ≡ count_of k cells))
 counted_from cells es t k n = (
   λ c.
-      let at = each_found combination_cmp combination_cmp-total es t.sorted c.0 (k, n) c.1 in
+      let at = each_found combination_cmp combination_cmp_total es t.sorted c.0 (k, n) c.1 in
       let is : find combination_cmp k es ≡ Some n = rw c.2 at at in
       found_some (count_of k cells) n (sym is ∙ t.finds k),
   λ h. stands k n es (t.finds k ∙ rw (← h.1) (found_positive n h.0)),
@@ -115,7 +115,7 @@ finds_from cells es t k None e = by (count_of k cells) refl
     by zero z = refl
     by (suc n) z =
         let c = (t.counted k (suc n)).1 (omega arith, sym z) in
-        let at = each_found combination_cmp combination_cmp-total es (ascending_to es t.ascending) c.0 (k, suc n) c.1 in
+        let at = each_found combination_cmp combination_cmp_total es (ascending_to es t.ascending) c.0 (k, suc n) c.1 in
         let is : find combination_cmp k es ≡ Some (suc n) = rw c.2 at at in
         cc
 
@@ -128,7 +128,7 @@ pub one_table : (cells : List Combination) (a b : Pairs) → IsTally cells a →
 one_table cells a b p q =
     let s = IsFound-from cells a p in
     let t = IsFound-from cells b q in
-    same_entries combination_cmp combination_cmp-total combination_cmp-exact a b (T_from _ s.sorted) (T_from _ t.sorted) (λ k. s.finds k ∙ sym (t.finds k))
+    same_entries combination_cmp combination_cmp_total combination_cmp-exact a b (T_from _ s.sorted) (T_from _ t.sorted) (λ k. s.finds k ∙ sym (t.finds k))
 
 pub count_cons : (q k : Combination) (cells : List Combination) → count_of q (k ∷ cells) ≡ cond (eq_by_cmp combination_cmp q k) 1 0 + count_of q cells
 count_cons q k cells = sum_by-append (λ (x : Combination). cond (eq_by_cmp combination_cmp q x) 1 0) (k ∷ []) cells ∙ ap (λ n. n + count_of q cells) (zero-add _)
@@ -162,7 +162,7 @@ counts_of-IsTally cells =
     let m = finmap.from_entries {R = combination_cmp} (map (λ k. (k, count_of k cells)) cells) in
     IsTally-from cells _ (record {
       sorted = from_T _ (finmap.entries_sorted m);
-      finds = λ k. sym (finmap.get-entries m k) ∙ finmap.get-from_entries combination_cmp-total _ k ∙ found_among (λ x. count_of x cells) k cells ∙ occurring_itself (count_of k cells);
+      finds = λ k. sym (finmap.get-entries m k) ∙ finmap.get-from_entries combination_cmp_total _ k ∙ found_among (λ x. count_of x cells) k cells ∙ occurring_itself (count_of k cells);
     })
 
 -- ---- what is left out

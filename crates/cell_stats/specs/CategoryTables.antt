@@ -4,10 +4,10 @@ use Rattle.std.specs.FinMap as finmap
 use Rattle.std.specs.List.{Contains}
 use Rattle.std.specs.List.Sorted.{IsStrictlySortedBy}
 use Rattle.std.specs.Ordering.{is_lt}
-use Rattle.cell_stats_counts.specs.declared.skip.Skip.{Skip}
-use Rattle.cell_stats_counts.specs.Combinations.{Combination, combination_cmp}
+use Rattle.cell_stats_combinations.specs.declared.skip.Skip.{Skip}
+use Rattle.cell_stats_combinations.specs.Combinations.{Combination, combination_cmp}
 use Rattle.cell_stats_counts.specs.Counts.{count_of}
-use Rattle.cell_stats_counts.specs.LeftOut.{is_left_out, kept_cells}
+use Rattle.cell_stats_combinations.specs.LeftOut.{is_left_out, kept_cells}
 
 -- combinations with their counts
 abbrev pub Pairs : Type 0

@@ -2,11 +2,11 @@
 use Rattle.std.specs.Prelude.{◌≡◌, ℕ, ◌*◌, List, [], ◌∷◌, filter, sum_by, not, None}
 use Rattle.std.specs.Ordering.{eq_by_cmp}
 use Rattle.cell_core.specs.Grid.{Grid}
-use Rattle.cell_stats_counts.specs.declared.skip.Skip.{Skip}
-use Rattle.cell_stats_counts.specs.declared.skip.Skip.TheVariants.{Nothing, AnyNull}
-use Rattle.cell_stats_counts.specs.Combinations.{Combination, combination_cmp, all_combinations}
+use Rattle.cell_stats_combinations.specs.declared.skip.Skip.{Skip}
+use Rattle.cell_stats_combinations.specs.declared.skip.Skip.TheVariants.{Nothing, AnyNull}
+use Rattle.cell_stats_combinations.specs.Combinations.{Combination, combination_cmp, all_combinations}
 use Rattle.cell_stats.specs.CategoryTables.{Pairs, IsTable, table_of}
-use Rattle.cell_stats_counts.specs.LeftOut.{is_left_out}
+use Rattle.cell_stats_combinations.specs.LeftOut.{is_left_out}
 
 -- it makes a table of the cells, and there is no other
 abbrev pub TableAgrees : Type 0

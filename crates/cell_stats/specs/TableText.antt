@@ -5,10 +5,10 @@ use Rattle.std.specs.List.{zip, join_with_byte}
 use Rattle.std.specs.Option.{option_map_or}
 use Rattle.cell_core.specs.Grid.{Grid, CellValue}
 use Rattle.cell_core.specs.Text.{cell_text}
-use Rattle.cell_stats_counts.specs.declared.skip.Skip.{Skip}
-use Rattle.cell_stats_counts.specs.Combinations.{Combination, all_combinations}
+use Rattle.cell_stats_combinations.specs.declared.skip.Skip.{Skip}
+use Rattle.cell_stats_combinations.specs.Combinations.{Combination, all_combinations}
 use Rattle.cell_stats.specs.CategoryTables.{Pairs, rest_after}
-use Rattle.cell_stats_counts.specs.LeftOut.{kept_cells}
+use Rattle.cell_stats_combinations.specs.LeftOut.{kept_cells}
 
 -- the byte between two fields, the text of null, and whether labels and counts are printed
 pub record FormatValue : Type 0 where

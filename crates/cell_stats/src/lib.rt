@@ -7,7 +7,7 @@
 //! - `printing`: `write_table`; `printed_cells`: `write_cells`, one line a cell (`-1`)
 //! - `law`: there is one table; if nothing is left out, its counts add up to the cells of the
 //!   region
-//! - re-exported from `cell_stats_counts`: `combination`, `combination_text`, `skip`
+//! - re-exported from `cell_stats_combinations`: `combination`, `combination_text`, `skip`
 //!
 //! One map of four cells, picked 16 times; an entry has its count and its combination:
 //!
@@ -26,4 +26,4 @@ pub mod printing;
 pub mod table;
 pub mod tallying;
 
-pub use cell_stats_counts::{combination, combination_text, skip};
+pub use cell_stats_combinations::{combination, combination_text, skip};

@@ -2,7 +2,7 @@
 
 ghost use Rattle.std.specs.Prelude.{◌≡◌, ◌<◌, length, replicate, IfOk};
 ghost use Rattle.cell_core_devices.specs.Blocks.{Appends};
-ghost use Rattle.cell_stats_counts.specs.Combinations.{ArePicks};
+ghost use Rattle.cell_stats_combinations.specs.Combinations.{ArePicks};
 ghost use Rattle.cell_stats.specs.TableText.{cell_lines};
 ghost use Rattle.cell_stats.specs.parts.OfPicks.{IsOfPicks};
 ghost use Rattle.cell_stats.specs.parts.Selected.{selected_lines, selected_row};
@@ -14,9 +14,9 @@ use cell_core::cell::Cell;
 use cell_core::memory::Memory;
 use cell_core::shelf::Shelf;
 use cell_core::sink::Sink;
-use cell_stats_counts::cursor::{Cursor, cursors_of, pass_all, restart_all};
-use cell_stats_counts::selection::Selection;
-use cell_stats_counts::skip::{Skip, is_left_out};
+use cell_stats_combinations::cursor::{Cursor, cursors_of, pass_all, restart_all};
+use cell_stats_combinations::selection::Selection;
+use cell_stats_combinations::skip::{Skip, is_left_out};
 use std::alloc::Global;
 use std::marker::Model;
 

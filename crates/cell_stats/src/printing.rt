@@ -4,7 +4,7 @@ ghost use Rattle.std.specs.Prelude.{◌≡◌, ◌<◌, ◌∷◌, length, IfSom
 ghost use Rattle.std.specs.List.{join_with_byte};
 ghost use Rattle.std.specs.Option.{option_map};
 ghost use Rattle.cell_core_devices.specs.Blocks.{Appends};
-ghost use Rattle.cell_stats_counts.specs.Combinations.{ArePicks};
+ghost use Rattle.cell_stats_combinations.specs.Combinations.{ArePicks};
 ghost use Rattle.cell_stats.specs.TableText.{cell_line, combination_fields, count_fields, label_of_cell, pair_line, printed_pairs, table_text};
 ghost use Rattle.cell_stats.specs.parts.OfPicks.{IsOfPicks};
 ghost use Rattle.cell_stats.specs.parts.Preceded.{next_text, others_text, pick_text, preceded_texts};
@@ -16,7 +16,7 @@ use cell_core::cell::Cell;
 use cell_core::printed_cell::write_cell;
 use cell_core::shelf::Shelf;
 use cell_core::sink::Sink;
-use cell_stats_counts::combination::Combo;
+use cell_stats_combinations::combination::Combo;
 use itoa::Buffer;
 
 // The label of a cell of a map.

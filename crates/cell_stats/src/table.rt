@@ -3,13 +3,13 @@
 ghost use Rattle.std.specs.Prelude.{◌≡◌, ◌≤◌, length, map, drop, All, IfSome};
 ghost use Rattle.std.specs.Iterator.{YieldsFirstBy, item_count};
 ghost use Rattle.std.specs.List.Sorted.{IsStrictlySortedBy};
-ghost use Rattle.cell_stats_counts.specs.Combinations.{combination_cmp};
+ghost use Rattle.cell_stats_combinations.specs.Combinations.{combination_cmp};
 ghost use Rattle.std.specs.Option.{option_map};
 ghost use Rattle.cell_stats.specs.CategoryTables.{Pairs, TableValue, rest_after};
 ghost use Rattle.cell_stats.specs.TableText.{printed_pairs};
 ghost use Rattle.cell_stats_counts.specs.Listed.{AreAscending};
 
-use cell_stats_counts::combination::Combo;
+use cell_stats_combinations::combination::Combo;
 use std::cmp::Ordering;
 use std::marker::Model;
 
@@ -23,7 +23,7 @@ pub struct Table {
 impl Model for Table {
     ghost use Rattle.std.specs.Prelude.{◌≡◌, map, All, length};
     ghost use Rattle.std.specs.List.Sorted.{IsStrictlySortedBy};
-    ghost use Rattle.cell_stats_counts.specs.Combinations.{combination_cmp};
+    ghost use Rattle.cell_stats_combinations.specs.Combinations.{combination_cmp};
     ghost use Rattle.cell_stats.specs.CategoryTables.{TableValue};
     ghost use Rattle.cell_stats.specs.parts.PairsCode.{table_code};
 

@@ -1,14 +1,14 @@
 //! The table of maps.
 
 ghost use Rattle.std.specs.Prelude.{◌≡◌, ◌<◌, ◌≤◌, IfOk, length};
-ghost use Rattle.cell_stats_counts.specs.Combinations.{ArePicks, shelf_combinations};
+ghost use Rattle.cell_stats_combinations.specs.Combinations.{ArePicks, shelf_combinations};
 ghost use Rattle.cell_stats.specs.CategoryTables.{IsTable, Pairs, table_of};
 
 use crate::table::Table;
 use cell_core::memory::Memory;
 use cell_core::shelf::Shelf;
+use cell_stats_combinations::skip::Skip;
 use cell_stats_counts::counts::count_cells;
-use cell_stats_counts::skip::Skip;
 use std::alloc::Global;
 
 /// The table of the combinations of the cells of the picked maps, which are places on the shelf. There are 1 to 16 picks,

@@ -1,10 +1,11 @@
 -- Counts in a list.
 use Rattle.std.proofs.Common.{◌≡◌, ℕ, ◌+◌, ◌<◌, ◌≤◌, length, get_or, set, cond, ap, ◌∙◌, arith}
 use Rattle.std.proofs.lemmas.List.Sums.{sum_by-set, get_or-le-sum_by}
-use Rattle.cell_stats_counts.specs.Combinations.{Combination}
+use Rattle.cell_stats_combinations.specs.Combinations.{Combination}
 use Rattle.cell_stats_counts.specs.Listed.{Counts, entry_of, listed_of}
-use Rattle.cell_stats_counts.specs.parts.HeldPlaces.{is_same}
-use Rattle.cell_stats_counts.proofs.HeldLemmas.{same-itself, cond-add}
+use Rattle.cell_stats_combinations.specs.parts.Same.{is_same}
+use Rattle.cell_stats_combinations.proofs.OrderLemmas.{same-itself}
+use Rattle.cell_stats_counts.proofs.HeldLemmas.{cond-add}
 
 -- what an entry counts of its own combination
 pub entry-own : (k : Combination) (e : Combination × ℕ) → e.0 ≡ k → entry_of k e ≡ e.1

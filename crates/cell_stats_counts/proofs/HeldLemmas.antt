@@ -1,20 +1,14 @@
 -- Counts that are held, and counts in the map.
 use Rattle.std.proofs.Common.{◌≡◌, ℕ, zero, suc, ◌+◌, ◌<◌, length, take, replicate, [], ◌∷◌, Bool, true, false, List, cond, get_or, set, length-set, subst, ap, sym, ◌∙◌, refl, arith, add-zero, zero-add}
 use Rattle.cell_stats_counts.specs.declared.gathered.Gathered.{Gathered}
-use Rattle.std.specs.Cmp.{eq_by_cmp_equiv}
 use Rattle.std.proofs.lemmas.List.Sums.{sum_by-append, sum_by-set}
 use Rattle.cell_stats_counts.specs.declared.counting.CountPlace.{CountPlace}
 use Rattle.cell_stats_counts.specs.declared.counting.CountPlaces.{CountPlaces}
-use Rattle.cell_stats_counts.specs.Combinations.{Combination, combination_cmp_total}
-use Rattle.cell_stats_counts.specs.parts.HeldPlaces.{is_same, held_by, held_of, wide_total, gathered_of}
+use Rattle.cell_stats_combinations.specs.Combinations.{Combination}
+use Rattle.cell_stats_combinations.specs.parts.Same.{is_same}
+use Rattle.cell_stats_counts.specs.parts.HeldPlaces.{held_by, held_of, wide_total, gathered_of}
 use Rattle.cell_stats_counts.specs.parts.HeldPlaces.{IsWideCounting, IsCounting}
-use Rattle.cell_stats_counts.proofs.OrderLemmas.{combination_cmp-exact, is_equal}
-
-pub same-itself : (a : Combination) → is_same a a ≡ true
-same-itself a = (eq_by_cmp_equiv combination_cmp_total).refl a
-
-pub same-is : (a b : Combination) → is_same a b ≡ true → a ≡ b
-same-is a b e = combination_cmp-exact a b (is_equal _ e)
+use Rattle.cell_stats_combinations.proofs.OrderLemmas.{same-itself}
 
 -- what a place holds of its own combination
 pub held_by-own : (w : ℕ) (k : Combination) (h : CountPlace) → k ≡ take w h.cells → held_by w k h ≡ h.count

@@ -10,11 +10,11 @@ use Rattle.std.specs.List.Sorted.{IsStrictlySortedBy}
 use Rattle.std.specs.Ordering.{is_lt, is_eq, ordering_reverse}
 use Rattle.std.specs.declared.cmp.Ordering.{Ordering}
 use Rattle.std.specs.declared.cmp.Ordering.TheVariants.{Less, Equal, Greater}
-use Rattle.cell_stats_counts.specs.Combinations.{Combination, combination_cmp, combination_cmp_total}
+use Rattle.cell_stats_combinations.specs.Combinations.{Combination, combination_cmp, combination_cmp_total}
 use Rattle.cell_stats_counts.specs.Listed.{Counts, entry_of, listed_of, HasNoZero}
-use Rattle.cell_stats_counts.specs.parts.HeldPlaces.{is_same}
+use Rattle.cell_stats_combinations.specs.parts.Same.{is_same}
 use Rattle.cell_stats_counts.specs.parts.Joined.{IsRising, IsJoined}
-use Rattle.cell_stats_counts.proofs.CursorLemmas.{All-take-set}
+use Rattle.cell_stats_combinations.proofs.CursorLemmas.{All-take-set}
 use Rattle.cell_stats_counts.proofs.GatheredLemmas.{entry-own}
 use Rattle.cell_stats_counts.proofs.HeldLemmas.{cond-add}
 

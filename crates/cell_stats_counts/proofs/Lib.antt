@@ -1,6 +1,4 @@
-pub mod OrderLemmas
-pub mod ReadingLemmas
-pub mod CursorLemmas
+pub mod CountLemmas
 pub mod ByteCountLemmas
 pub mod GatheredLemmas
 pub mod HeldLemmas
@@ -8,4 +6,3 @@ pub mod JoinLemmas
 pub mod PairedLemmas
 pub mod RowLemmas
 pub mod RunCountLemmas
-pub mod WalkLemmas

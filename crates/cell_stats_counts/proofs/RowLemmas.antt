@@ -6,18 +6,18 @@ use Rattle.std.proofs.Math.ListN.{drop_of_length-le}
 use Rattle.std.specs.List.{range_with_len}
 use Rattle.std.specs.Prelude.{slice_get}
 use Rattle.cell_core.specs.Grid.{Grid, CellValue, row_at}
-use Rattle.cell_stats_counts.specs.declared.skip.Skip.{Skip}
-use Rattle.cell_stats_counts.specs.Combinations.{Combination, cell_of_map, combination_at, all_combinations}
-use Rattle.cell_stats_counts.specs.Combinations.{row_combinations}
+use Rattle.cell_stats_combinations.specs.declared.skip.Skip.{Skip}
+use Rattle.cell_stats_combinations.specs.Combinations.{Combination, cell_of_map, combination_at, all_combinations}
+use Rattle.cell_stats_combinations.specs.Combinations.{row_combinations}
 use Rattle.cell_stats_counts.specs.Counts.{count_of}
-use Rattle.cell_stats_counts.specs.Cursors.{row_in}
-use Rattle.cell_stats_counts.specs.parts.HeldPlaces.{is_same}
+use Rattle.cell_stats_combinations.specs.Cursors.{row_in}
+use Rattle.cell_stats_combinations.specs.parts.Same.{is_same}
 use Rattle.cell_stats_counts.specs.parts.Alone.{alone}
 use Rattle.cell_stats_counts.specs.parts.RowCells.{both, count_from}
-use Rattle.cell_stats_counts.specs.LeftOut.{kept_cells, is_left_out}
-use Rattle.cell_stats_counts.proofs.RunCountLemmas.{count-both, count-stretch}
-use Rattle.cell_stats_counts.proofs.WalkLemmas.{all_combinations_more, cell-row}
-use Rattle.cell_stats_counts.proofs.CursorLemmas.{row-of}
+use Rattle.cell_stats_combinations.specs.LeftOut.{kept_cells, is_left_out}
+use Rattle.cell_stats_counts.proofs.CountLemmas.{count-both, count-stretch}
+use Rattle.cell_stats_combinations.proofs.WalkLemmas.{all_combinations_more, cell-row}
+use Rattle.cell_stats_combinations.proofs.CursorLemmas.{row-of}
 
 -- the cell at a column, and those after it
 pub count_from-step : (skip : Skip) (k : Combination) (cells : List Combination) (col : ℕ) (q : Combination) (b : Bool)

@@ -1,29 +1,20 @@
 -- What the runs of one map add to the counts.
-use Rattle.std.proofs.Common.{◌≡◌, ℕ, zero, suc, ◌+◌, ◌^◌, ◌<◌, ◌≤◌, List, [], ◌∷◌, ◌++◌, length, map, replicate, get_or, Bool, true, false, not, cond, Some, None, refl, ap, sym, ◌∙◌, arith, append-nil, length-append, add-one, add-zero, zero-add}
+use Rattle.std.proofs.Common.{◌≡◌, ℕ, zero, suc, ◌+◌, ◌^◌, ◌<◌, ◌≤◌, List, [], ◌∷◌, ◌++◌, length, map, replicate, get_or, Bool, true, false, cond, Some, None, refl, ap, sym, ◌∙◌, arith, append-nil, length-append, add-one, add-zero, zero-add}
 use Rattle.std.proofs.lemmas.List.{length-replicate, map-append}
-use Rattle.std.proofs.lemmas.List.Elements.{filter-append}
 use Rattle.std.specs.List.{range_with_len}
 use Rattle.std.specs.Prelude.{slice_get}
 use Rattle.cell_core.specs.Grid.{Grid, CellValue, row_at}
 use Rattle.cell_core.specs.Runs.{RunValue, written_out}
-use Rattle.cell_stats_counts.specs.declared.skip.Skip.{Skip}
-use Rattle.cell_stats_counts.specs.Combinations.{Combination, combination_at, all_combinations, row_combinations}
+use Rattle.cell_stats_combinations.specs.declared.skip.Skip.{Skip}
+use Rattle.cell_stats_combinations.specs.Combinations.{Combination, combination_at, all_combinations, row_combinations}
 use Rattle.cell_stats_counts.specs.Counts.{count_of}
 use Rattle.cell_stats_counts.specs.parts.Alone.{alone}
-use Rattle.cell_stats_counts.specs.Cursors.{row_in}
-use Rattle.cell_stats_counts.specs.parts.HeldPlaces.{is_same}
-use Rattle.cell_stats_counts.specs.LeftOut.{kept_cells, is_left_out}
-use Rattle.cell_stats_counts.proofs.CursorLemmas.{row-of}
-use Rattle.cell_stats_counts.proofs.WalkLemmas.{cell-row, count-append, count-replicate, kept-replicate, all_combinations_more, count_small}
-
--- the counts of two parts
-pub count-both : (skip : Skip) (k : Combination) (xs ys : List Combination) → count_of k (kept_cells skip (xs ++ ys)) ≡ count_of k (kept_cells skip xs) + count_of k (kept_cells skip ys)
-count-both skip k xs ys = ap (count_of k) (filter-append (λ x. not (is_left_out skip x)) xs ys) ∙ count-append k (kept_cells skip xs) (kept_cells skip ys)
-
--- a stretch of a combination by itself
-pub count-stretch : (skip : Skip) (k q : Combination) (n : ℕ) (b : Bool) → is_left_out skip q ≡ b → count_of k (kept_cells skip (replicate n q)) ≡ cond b 0 (cond (is_same k q) n 0)
-count-stretch skip k q n true l = ap (count_of k) (kept-replicate skip q n true l)
-count-stretch skip k q n false l = ap (count_of k) (kept-replicate skip q n false l) ∙ count-replicate k q n
+use Rattle.cell_stats_combinations.specs.Cursors.{row_in}
+use Rattle.cell_stats_combinations.specs.parts.Same.{is_same}
+use Rattle.cell_stats_combinations.specs.LeftOut.{kept_cells, is_left_out}
+use Rattle.cell_stats_combinations.proofs.CursorLemmas.{row-of}
+use Rattle.cell_stats_combinations.proofs.WalkLemmas.{cell-row, all_combinations_more}
+use Rattle.cell_stats_counts.proofs.CountLemmas.{count-both, count-stretch, count_small}
 
 map-replicate : (n : ℕ) (x : CellValue) → map alone (replicate n x) ≡ replicate n (alone x)
 map-replicate zero x = refl

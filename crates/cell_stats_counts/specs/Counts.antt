@@ -1,7 +1,7 @@
 -- How many cells have a combination (r.stats manual, flag `-c`).
 use Rattle.std.specs.Prelude.{ℕ, List, count_by}
 use Rattle.std.specs.Ordering.{eq_by_cmp}
-use Rattle.cell_stats_counts.specs.Combinations.{Combination, combination_cmp}
+use Rattle.cell_stats_combinations.specs.Combinations.{Combination, combination_cmp}
 
 -- how many cells have the combination
 abbrev pub count_of : Combination → List Combination → ℕ

@@ -1,6 +1,4 @@
--- How combinations are kept.
 -- Combinations of one map, counts on their way to the list, the list in order.
-pub mod Few
 pub mod Alone
 pub mod ByteCounts
 pub mod GatheredCounts

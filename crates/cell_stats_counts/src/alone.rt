@@ -4,22 +4,22 @@ ghost use Rattle.std.specs.Prelude.{◌≡◌, ◌+◌, ◌<◌, ◌^◌, ℕ, O
 ghost use Rattle.cell_core_values.specs.SmallCells.{cells_of_bytes};
 ghost use Rattle.cell_core.specs.Grid.{row_at};
 ghost use Rattle.cell_core.specs.Runs.{written_out};
-ghost use Rattle.cell_stats_counts.specs.Combinations.{Combination};
-ghost use Rattle.cell_stats_counts.specs.LeftOut.{kept_cells};
+ghost use Rattle.cell_stats_combinations.specs.Combinations.{Combination};
+ghost use Rattle.cell_stats_combinations.specs.LeftOut.{kept_cells};
 ghost use Rattle.cell_stats_counts.specs.Counts.{count_of};
 ghost use Rattle.cell_stats_counts.specs.parts.Alone.{alone};
 ghost use Rattle.cell_stats_counts.specs.parts.ByteCounts.{sum_counted};
 ghost use Rattle.cell_stats_counts.specs.parts.HeldPlaces.{total_of, HasRoom, IsCounting};
 
-use crate::combination::Combo;
 use crate::counting::{CountPlaces, add_count};
 use crate::gathered::Gathered;
-use crate::skip::{Skip, is_left_out};
 use crate::varied::{count_varied_alone, is_varied};
 use cell_core::map::CellMap;
 use cell_core::memory::Memory;
 use cell_core::stretches::Stretches;
 use cell_core_values::small_cells::cell_of_byte;
+use cell_stats_combinations::combination::Combo;
+use cell_stats_combinations::skip::{Skip, is_left_out};
 use std::alloc::Global;
 
 // How many bytes there are.

@@ -1,16 +1,16 @@
 //! Counts of combinations: in an ordered map, and some that are on their way to it.
 
 ghost use Rattle.std.specs.Prelude.{◌≡◌, ◌+◌, ◌-◌, ◌<◌, ◌≤◌, ◌^◌, ◌↔◌, length, take, OnOk, IfOk, IsTrue};
-ghost use Rattle.cell_stats_counts.specs.Combinations.{ArePicks, Combination};
+ghost use Rattle.cell_stats_combinations.specs.Combinations.{ArePicks, Combination};
 ghost use Rattle.cell_stats_counts.specs.parts.HeldPlaces.{held_by, wide_total, gathered_of, AreEmpty, AreFree, GathersNoZero, HasWideRoom, IsWideCounting, HasWideCounted, AreFlushed, IsCounting, HasRoom, HasCounted};
 
-use crate::combination::Combo;
 use crate::gathered::{Gathered, code_of, merge, settle};
 use crate::paired::{PAIR, PairTable, add_pair};
 use crate::ranges::layout_for;
 use cell_core::cell::Cell;
 use cell_core::memory::Memory;
 use cell_core::shelf::Shelf;
+use cell_stats_combinations::combination::Combo;
 use std::alloc::Global;
 
 // How many combinations are held at first: at least, and at most. All numbers of places are powers of two.

@@ -2,25 +2,25 @@
 
 ghost use Rattle.std.specs.Prelude.{◌≡◌, ◌+◌, ◌<◌, ◌≤◌, All, OnOk, IfOk, length, map};
 ghost use Rattle.cell_core_values.specs.Region.{IsRegion};
-ghost use Rattle.cell_stats_counts.specs.Combinations.{ArePicks, Combination, shelf_combinations};
+ghost use Rattle.cell_stats_combinations.specs.Combinations.{ArePicks, Combination, shelf_combinations};
 ghost use Rattle.cell_stats_counts.specs.Counts.{count_of};
-ghost use Rattle.cell_stats_counts.specs.Cursors.{to_come, AreCursorsReady, AreWideRows, row_in};
+ghost use Rattle.cell_stats_combinations.specs.Cursors.{to_come, AreCursorsReady, AreWideRows, row_in};
 ghost use Rattle.cell_stats_counts.specs.Listed.{AreCountsOf};
 ghost use Rattle.cell_stats_counts.specs.parts.HeldPlaces.{total_of, AreCounted, HasRoom, IsCounting};
-ghost use Rattle.cell_stats_counts.specs.LeftOut.{kept_cells};
+ghost use Rattle.cell_stats_combinations.specs.LeftOut.{kept_cells};
 
 use crate::alone::count_alone;
-use crate::combination::Combo;
 use crate::counting::{CountPlaces, add_count, first_places, flush_all, make_room};
-use crate::cursor::{Cursor, cursors_of, pass_all, restart_all, start};
 use crate::gathered::{Gathered, ordered_entries};
 use crate::paired::list_pairs;
-use crate::selection::Selection;
-use crate::skip::{Skip, is_left_out};
 use crate::varied::{count_varied, is_varied};
 use cell_core::cell::Cell;
 use cell_core::memory::Memory;
 use cell_core::shelf::Shelf;
+use cell_stats_combinations::combination::Combo;
+use cell_stats_combinations::cursor::{Cursor, cursors_of, pass_all, restart_all, start};
+use cell_stats_combinations::selection::Selection;
+use cell_stats_combinations::skip::{Skip, is_left_out};
 use std::alloc::Global;
 
 // Counts the cells of a row by the columns in which no map changes, from cursors at its first cells on.

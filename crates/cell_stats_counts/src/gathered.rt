@@ -2,17 +2,18 @@
 
 ghost use Rattle.std.specs.Prelude.{◌≡◌, ◌+◌, ◌<◌, ◌^◌, [], OnOk, false, cond, length, take};
 ghost use Rattle.std.specs.List.Sorted.{IsPermutation};
-ghost use Rattle.cell_stats_counts.specs.Combinations.{Combination};
+ghost use Rattle.cell_stats_combinations.specs.Combinations.{Combination};
 ghost use Rattle.cell_stats_counts.specs.Listed.{listed_of, HasNoZero, AreAscending};
-ghost use Rattle.cell_stats_counts.specs.parts.HeldPlaces.{is_same, gathered_of, GathersNoZero, Grows};
+ghost use Rattle.cell_stats_combinations.specs.parts.Same.{is_same};
+ghost use Rattle.cell_stats_counts.specs.parts.HeldPlaces.{gathered_of, GathersNoZero, Grows};
 ghost use Rattle.cell_stats_counts.specs.parts.GatheredCounts.{GatheredFits, GathersSame, ListedFits, ListsMore, ListsSame};
 ghost use Rattle.cell_stats_counts.specs.parts.Joined.{AreOfOne, CanAddUp, IsRising, JoinsMore};
 
-use crate::combination::Combo;
 use crate::paired::PAIR;
 use crate::scattered::{number_in, ranges_of};
 use cell_core::cell::Cell;
 use cell_core::memory::Memory;
+use cell_stats_combinations::combination::Combo;
 use std::alloc::Global;
 
 // How many places are looked at for a combination.

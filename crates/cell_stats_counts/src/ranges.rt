@@ -3,7 +3,7 @@
 //! No clause says that a range holds all categories: those outside are counted too, only slower.
 
 ghost use Rattle.std.specs.Prelude.{◌<◌};
-ghost use Rattle.cell_stats_counts.specs.Combinations.{ArePicks};
+ghost use Rattle.cell_stats_combinations.specs.Combinations.{ArePicks};
 
 use crate::gathered::code_of;
 use crate::paired::Layout;

@@ -2,18 +2,18 @@
 
 ghost use Rattle.std.specs.Prelude.{◌≡◌, ◌+◌, ◌<◌, ◌^◌, OnOk, IfOk, length, map};
 ghost use Rattle.cell_core.specs.Grid.{row_at};
-ghost use Rattle.cell_stats_counts.specs.Combinations.{Combination};
+ghost use Rattle.cell_stats_combinations.specs.Combinations.{Combination};
 ghost use Rattle.cell_stats_counts.specs.Listed.{listed_of, HasNoZero};
 ghost use Rattle.cell_stats_counts.specs.parts.HeldPlaces.{paired_of, HasPairRoom};
 ghost use Rattle.cell_stats_counts.specs.parts.Alone.{alone};
 ghost use Rattle.cell_stats_counts.specs.parts.RowCells.{both, count_from};
 
-use crate::combination::Combo;
 use crate::paired::{PairTable, add_pair, join_alone_from, join_from};
-use crate::skip::{Skip, is_left_out};
 use cell_core::cell::Cell;
 use cell_core::map::CellMap;
 use cell_core::memory::Memory;
+use cell_stats_combinations::combination::Combo;
+use cell_stats_combinations::skip::{Skip, is_left_out};
 use std::alloc::Global;
 
 // So many stretches of a row are looked at. A row is varied if these have fewer cells than ENOUGH.

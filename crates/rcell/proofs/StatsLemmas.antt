@@ -7,7 +7,7 @@ use Rattle.rcell_script_commands.specs.declared.command.StatsOptions.{StatsOptio
 use Rattle.cell_stats.specs.TableLaw.{TableAgrees, CountsAddUp}
 use Rattle.cell_stats.specs.TableText.{FormatValue, table_text, printed_pairs, line_text, combination_fields}
 use Rattle.cell_stats.specs.CategoryTables.{Pairs, table_of}
-use Rattle.cell_stats_counts.specs.declared.skip.Skip.TheVariants.{Nothing}
+use Rattle.cell_stats_combinations.specs.declared.skip.Skip.TheVariants.{Nothing}
 use Rattle.rcell.specs.Output.{combinations_of, format_of, stats_text}
 use Rattle.rcell.specs.StatsLaw.{IsTableOf, TablesAreAppended, CountsCoverTheRegion}
 

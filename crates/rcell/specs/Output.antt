@@ -7,7 +7,7 @@ use Rattle.rcell_script_commands.specs.declared.command.Command.{Command}
 use Rattle.rcell_script_commands.specs.declared.command.Command.TheVariants.{Mapcalc, Reclass, Clump, Stats, OutAscii}
 use Rattle.rcell_script.specs.declared.statement.Statement.{Statement}
 use Rattle.rcell_script_commands.specs.declared.command.StatsOptions.{StatsOptions}
-use Rattle.cell_stats_counts.specs.Combinations.{Combination, all_combinations}
+use Rattle.cell_stats_combinations.specs.Combinations.{Combination, all_combinations}
 use Rattle.cell_stats.specs.TableText.{FormatValue, table_text, printed_pairs, cell_lines}
 use Rattle.cell_stats.specs.CategoryTables.{table_of}
 use Rattle.rcell.specs.After.{IsShelfAfter}

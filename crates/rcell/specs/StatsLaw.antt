@@ -6,7 +6,7 @@ use Rattle.rcell_script_commands.specs.declared.command.Command.TheVariants.{Sta
 use Rattle.rcell_script_commands.specs.declared.command.StatsOptions.{StatsOptions}
 use Rattle.cell_stats.specs.CategoryTables.{Pairs, IsTable}
 use Rattle.cell_stats.specs.TableText.{table_text, printed_pairs, line_text, combination_fields}
-use Rattle.cell_stats_counts.specs.declared.skip.Skip.TheVariants.{Nothing}
+use Rattle.cell_stats_combinations.specs.declared.skip.Skip.TheVariants.{Nothing}
 use Rattle.rcell.specs.Output.{combinations_of, format_of, command_text}
 
 -- the pairs are a table of the maps at the places

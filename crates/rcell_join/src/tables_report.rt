@@ -10,7 +10,7 @@ use cell_join_lines::places::cut_at;
 use cell_join_tables::join_fault::JoinFault;
 use cell_join_tables::label_fault::{LabelFault, OtherLabel};
 use cell_join_tables::table_joining::JoinOutcome;
-use cell_stats_counts::combination::Combo;
+use cell_stats_combinations::combination::Combo;
 use rcell_command::reported::{Place, Reported, on_line};
 use rcell_command::shown::Shown;
 use std::fmt;

@@ -18,8 +18,8 @@ use Rattle.cell_cats.specs.Rule.{RuleValue}
 use Rattle.cell_cats.specs.Reclass.{reclassed_map, new_rows}
 use Rattle.cell_cats_areas.specs.declared.clump.Joining.{Joining}
 use Rattle.cell_cats_areas.specs.Areas.{Position, cell_at_position, AreJoined, IsFirst, HasNumber, IsClumping}
-use Rattle.cell_stats_counts.specs.LeftOut.{kept_cells}
-use Rattle.cell_stats_counts.specs.Combinations.{all_combinations}
+use Rattle.cell_stats_combinations.specs.LeftOut.{kept_cells}
+use Rattle.cell_stats_combinations.specs.Combinations.{all_combinations}
 use Rattle.cell_stats.specs.CategoryTables.{table_of}
 use Rattle.cell_stats.specs.TableText.{printed_pairs}
 use Rattle.rcell_script_commands.specs.declared.command.Command.{Command}

@@ -14,7 +14,7 @@ use Rattle.cell_calc_binding.specs.Formula.{Then}
 use Rattle.cell_calc_binding.specs.Value.{value, argument_values}
 use Rattle.cell_ascii_meaning.specs.Writing.{grid_text}
 use Rattle.cell_ascii_law.specs.WrittenLaw.{without_labels}
-use Rattle.cell_stats_counts.specs.Combinations.{Combination, cell_of_map, all_combinations}
+use Rattle.cell_stats_combinations.specs.Combinations.{Combination, cell_of_map, all_combinations}
 use Rattle.cell_stats.specs.TableText.{FormatValue, cell_fields, label_of_cell, combination_fields, cell_line}
 use Rattle.cell_stats.specs.TableText.{pair_line, count_fields, line_text}
 

@@ -10,7 +10,7 @@ use Rattle.cell_core.specs.Grid.{CellValue, Grid, IsFilled}
 use Rattle.cell_cats_areas.specs.declared.clump.Joining.{Joining}
 use Rattle.cell_cats_areas.specs.Areas.{IsClumping}
 use Rattle.cell_cats_law.specs.ExistsLaw.{ClumpingExists}
-use Rattle.cell_stats_counts.specs.declared.skip.Skip.{Skip}
+use Rattle.cell_stats_combinations.specs.declared.skip.Skip.{Skip}
 use Rattle.cell_stats.specs.CategoryTables.{IsTable, Pairs}
 use Rattle.cell_cats_law.specs.AreaLaw.{cells_of}
 use Rattle.cell_parts.specs.Parts.{AreTiling, grid_of_cuts}

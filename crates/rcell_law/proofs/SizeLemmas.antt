@@ -16,9 +16,9 @@ use Rattle.cell_cats_areas.specs.Areas.{IsClumping}
 use Rattle.cell_cats_areas.specs.declared.clump.Joining.{Joining}
 use Rattle.cell_cats_law.specs.ExistsLaw.{ClumpingExists}
 use Rattle.cell_cats_law.specs.AreaLaw.{cells_of}
-use Rattle.cell_stats_counts.specs.Combinations.{Combination}
-use Rattle.cell_stats_counts.specs.declared.skip.Skip.{Skip}
-use Rattle.cell_stats_counts.specs.declared.skip.Skip.TheVariants.{AnyNull}
+use Rattle.cell_stats_combinations.specs.Combinations.{Combination}
+use Rattle.cell_stats_combinations.specs.declared.skip.Skip.{Skip}
+use Rattle.cell_stats_combinations.specs.declared.skip.Skip.TheVariants.{AnyNull}
 use Rattle.cell_stats.proofs.TableLemmas.{table_is, table_of-IsTable}
 use Rattle.cell_stats.specs.CategoryTables.{IsTable, Pairs, table_of}
 use Rattle.cell_stats.specs.TableText.{FormatValue, table_text}

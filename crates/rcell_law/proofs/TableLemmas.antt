@@ -16,7 +16,7 @@ use Rattle.cell_ascii_law.specs.WrittenLaw.{IsWritable}
 use Rattle.cell_cats_areas.specs.Areas.{IsClumping}
 use Rattle.cell_cats_areas.specs.declared.clump.Joining.{Joining}
 use Rattle.cell_cats_law.specs.AreaLaw.{cells_of}
-use Rattle.cell_stats_counts.specs.Combinations.{Combination, all_combinations}
+use Rattle.cell_stats_combinations.specs.Combinations.{Combination, all_combinations}
 use Rattle.cell_stats.proofs.TableLemmas.{table_of-IsTable}
 use Rattle.cell_stats.specs.CategoryTables.{Pairs, table_of}
 use Rattle.cell_stats.specs.TableText.{FormatValue, table_text}

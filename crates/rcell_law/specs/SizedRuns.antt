@@ -6,7 +6,7 @@ use Rattle.cell_core_devices.specs.Device.{Coming}
 use Rattle.cell_core.specs.Grid.{Grid, IsFilled}
 use Rattle.cell_core.specs.Shelf.{ShelfValue}
 use Rattle.cell_cats_areas.specs.declared.clump.Joining.{Joining}
-use Rattle.cell_stats_counts.specs.declared.skip.Skip.TheVariants.{AnyNull}
+use Rattle.cell_stats_combinations.specs.declared.skip.Skip.TheVariants.{AnyNull}
 use Rattle.cell_join_lines.specs.LineReading.{reading_of}
 use Rattle.cell_join_lines.specs.AreasReading.{areas_reading_of}
 use Rattle.cell_join_sizes.specs.SizeFaults.{IsSizesFault}

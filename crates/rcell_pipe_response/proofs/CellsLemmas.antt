@@ -5,11 +5,11 @@ use Rattle.std.proofs.lemmas.List.Folds.{flat_map-map}
 use Rattle.std.specs.List.{flat_map, zip}
 use Rattle.cell_core.specs.Grid.{Grid, CellValue}
 use Rattle.cell_core_devices.specs.Blocks.{capped_count}
-use Rattle.cell_stats_counts.specs.declared.skip.Skip.{Skip}
-use Rattle.cell_stats_counts.specs.declared.skip.Skip.TheVariants.{Nothing}
-use Rattle.cell_stats_counts.specs.Combinations.{Combination, all_combinations}
-use Rattle.cell_stats_counts.specs.LeftOut.{kept_cells, is_left_out}
-use Rattle.cell_stats_counts.proofs.WalkLemmas.{length_all}
+use Rattle.cell_stats_combinations.specs.declared.skip.Skip.{Skip}
+use Rattle.cell_stats_combinations.specs.declared.skip.Skip.TheVariants.{Nothing}
+use Rattle.cell_stats_combinations.specs.Combinations.{Combination, all_combinations}
+use Rattle.cell_stats_combinations.specs.LeftOut.{kept_cells, is_left_out}
+use Rattle.cell_stats_combinations.proofs.WalkLemmas.{length_all}
 use Rattle.cell_stats.specs.TableText.{label_of_cell}
 use Rattle.rcell_pipe_response.specs.declared.cells_frame.EntryPart.TheVariants as parts
 use Rattle.rcell_pipe_response.specs.Frames.{combination_labels, each_once}

@@ -7,9 +7,9 @@ use Rattle.std.proofs.lemmas.List.Concat.{flat_map-append}
 use Rattle.cell_core.specs.Grid.{Grid}
 use Rattle.cell_core.specs.Shelf.{ShelfValue}
 use Rattle.cell_ascii_meaning.specs.Writing.{grid_text}
-use Rattle.cell_stats_counts.specs.Combinations.{Combination}
+use Rattle.cell_stats_combinations.specs.Combinations.{Combination}
 use Rattle.cell_stats.specs.CategoryTables.{Pairs}
-use Rattle.cell_stats_counts.specs.LeftOut.{kept_cells}
+use Rattle.cell_stats_combinations.specs.LeftOut.{kept_cells}
 use Rattle.cell_stats.specs.TableText.{FormatValue, cell_fields, cell_line, cell_lines, combination_fields, count_fields, label_of_cell, line_text, pair_line, table_text}
 use Rattle.rcell_script.specs.declared.statement.Statement.{Statement}
 use Rattle.rcell_script_commands.specs.declared.command.Command.{Command}

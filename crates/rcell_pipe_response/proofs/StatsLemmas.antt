@@ -2,7 +2,7 @@
 use Rattle.std.proofs.Common.{◌≡◌, ℕ, List, false, true, refl}
 use Rattle.std.specs.Prelude.{codes}
 use Rattle.cell_core.specs.Shelf.{ShelfValue}
-use Rattle.cell_stats_counts.specs.Combinations.{shelf_combinations}
+use Rattle.cell_stats_combinations.specs.Combinations.{shelf_combinations}
 use Rattle.cell_stats.specs.CategoryTables.{Pairs, table_of}
 use Rattle.cell_stats.specs.TableText.{printed_pairs}
 use Rattle.rcell_script_commands.specs.declared.command.StatsOptions.{StatsOptions}

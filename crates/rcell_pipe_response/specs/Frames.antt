@@ -5,9 +5,9 @@ use Rattle.cell_core.specs.Grid.{Grid, CellValue}
 use Rattle.cell_core.specs.Shelf.{ShelfValue}
 use Rattle.cell_core.specs.Text.{cell_text}
 use Rattle.cell_ascii_meaning.specs.Writing.{coordinate_text, line_of_key, null_line, row_text}
-use Rattle.cell_stats_counts.specs.Combinations.{Combination}
+use Rattle.cell_stats_combinations.specs.Combinations.{Combination}
 use Rattle.cell_stats.specs.CategoryTables.{Pairs, table_of}
-use Rattle.cell_stats_counts.specs.LeftOut.{kept_cells}
+use Rattle.cell_stats_combinations.specs.LeftOut.{kept_cells}
 use Rattle.cell_stats.specs.TableText.{FormatValue, printed_pairs, line_text, count_fields, label_of_cell}
 use Rattle.rcell_script.specs.declared.statement.Statement.{Statement}
 use Rattle.rcell_script_commands.specs.declared.command.Command.{Command}

@@ -2,7 +2,7 @@
 
 ghost use Rattle.std.specs.Prelude.{◌≡◌, ◌<◌, All, [], length, replicate, codes, OnOk, OnErr, if◌then◌else◌};
 ghost use Rattle.cell_core_devices.specs.Blocks.{Appends};
-ghost use Rattle.cell_stats_counts.specs.LeftOut.{kept_cells};
+ghost use Rattle.cell_stats_combinations.specs.LeftOut.{kept_cells};
 ghost use Rattle.cell_stats.specs.parts.OfPicks.{IsOfPicks};
 ghost use Rattle.rcell_pipe_response.specs.Frames.{cells_format, cell_pairs, table_frame};
 ghost use Rattle.rcell_pipe_response.specs.FrameBytes.{table_bytes};
@@ -16,9 +16,9 @@ use cell_core::cell::Cell;
 use cell_core::memory::Memory;
 use cell_core::shelf::Shelf;
 use cell_core::sink::Sink;
-use cell_stats_counts::cursor::{Cursor, cursors_of, pass_all, restart_all};
-use cell_stats_counts::selection::Selection;
-use cell_stats_counts::skip::{Skip, is_left_out};
+use cell_stats_combinations::cursor::{Cursor, cursors_of, pass_all, restart_all};
+use cell_stats_combinations::selection::Selection;
+use cell_stats_combinations::skip::{Skip, is_left_out};
 use rcell_script::statement::StatsOptions;
 use std::alloc::Global;
 

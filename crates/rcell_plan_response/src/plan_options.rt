@@ -10,8 +10,8 @@ use cell_core::block::OutputBlock;
 use cell_core::cell::Cell;
 use cell_core::name::Names;
 use cell_core::sink::Sink;
-use cell_stats_counts::combination::Combo;
-use cell_stats_counts::skip::Skip;
+use cell_stats_combinations::combination::Combo;
+use cell_stats_combinations::skip::Skip;
 use rcell_pipe_response::bytes::{flag, push_cells, push_number, push_text};
 use rcell_script::statement::{Command, StatsOptions};
 

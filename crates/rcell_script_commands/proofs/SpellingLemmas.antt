@@ -6,9 +6,9 @@ use Rattle.std.specs.List.{flat_map}
 use Rattle.std.proofs.lemmas.Bool.{ltb-false}
 use Rattle.cell_ascii_meaning.specs.Header.{usual_null}
 use Rattle.cell_core_values.specs.Name.{place_of}
-use Rattle.cell_stats_counts.specs.Combinations.{Combination}
-use Rattle.cell_stats_counts.specs.ComboText.{SpellsCombination}
-use Rattle.cell_stats_counts.proofs.ReadingLemmas.{combinations-are-read}
+use Rattle.cell_stats_combinations.specs.Combinations.{Combination}
+use Rattle.cell_stats_combinations.specs.ComboText.{SpellsCombination}
+use Rattle.cell_stats_combinations.proofs.ReadingLemmas.{combinations-are-read}
 use Rattle.cell_core_values.specs.Answers.{◌>>=◌}
 use Rattle.cell_core_values.specs.Words.{words_of}
 use Rattle.rcell_script_commands.specs.Commands.{as_whole, as_opened, head_named, head_of_words, is_mapcalc, IsHead, clump_of, IsMapcalc, out_ascii_of, reclass_of, after_of, printed_with, stats_of}
@@ -33,7 +33,7 @@ use Rattle.rcell_script_commands.specs.declared.command.Command.{Command}
 use Rattle.rcell_script_commands.specs.declared.command.Command.TheVariants.{Mapcalc, Reclass, Clump, Stats, OutAscii}
 use Rattle.rcell_script_commands.specs.declared.command.StatsOptions.{StatsOptions}
 use Rattle.rcell_script_commands.specs.declared.options.Flags.{Flags}
-use Rattle.cell_stats_counts.specs.declared.skip.Skip.{Skip}
+use Rattle.cell_stats_combinations.specs.declared.skip.Skip.{Skip}
 use Rattle.rcell_script_commands.proofs.OptionLaw.{AreOptions, options-sound, options-complete}
 use Rattle.rcell_script_commands.proofs.SkippedLemmas.{say_nothing, say_nothing-trimmed}
 

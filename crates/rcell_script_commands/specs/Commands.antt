@@ -7,14 +7,14 @@ use Rattle.cell_core_values.specs.Name.{place_of}
 use Rattle.cell_calc_language.specs.Assignment.{IsAssignmentText}
 use Rattle.cell_calc_language.specs.GrammarFault.{IsTextFault}
 use Rattle.cell_calc_language.specs.Unknown.{first_unknown}
-use Rattle.cell_stats_counts.specs.Combinations.{Combination}
-use Rattle.cell_stats_counts.specs.ComboReading.{combo_of}
+use Rattle.cell_stats_combinations.specs.Combinations.{Combination}
+use Rattle.cell_stats_combinations.specs.ComboReading.{combo_of}
 use Rattle.cell_core_values.specs.Answers.{◌>>=◌}
 use Rattle.cell_core_values.specs.Words.{words_of}
 use Rattle.cell_calc_language.specs.declared.assignment.Assignment.{Assignment}
 use Rattle.cell_calc_grammar.specs.declared.calc_fault.CalcFault.{CalcFault}
 use Rattle.cell_calc_grammar.specs.declared.calc_fault.CalcKind.TheVariants as calc
-use Rattle.cell_stats_counts.specs.declared.combination_text.ComboFault.{ComboFault}
+use Rattle.cell_stats_combinations.specs.declared.combination_text.ComboFault.{ComboFault}
 use Rattle.rcell_script_commands.specs.ScriptFaults.{in_script, of_combo}
 use Rattle.rcell_script_commands.specs.Skipped.{is_comment}
 use Rattle.rcell_script_commands.specs.Maps.{new_target, from_to, input_place, input_places}

@@ -3,9 +3,9 @@ use Rattle.std.specs.Prelude.{ℕ, ◌≡◌, Bool, true, false, List, [], ◌�
 use Rattle.cell_ascii_meaning.specs.GridWords.{usual_null}
 use Rattle.cell_core_values.specs.Words.{words_of}
 use Rattle.cell_core_values.specs.Letters.{byte}
-use Rattle.cell_stats_counts.specs.ComboText.{SpellsCombination}
-use Rattle.cell_stats_counts.specs.declared.skip.Skip.{Skip}
-use Rattle.cell_stats_counts.specs.declared.skip.Skip.TheVariants.{Nothing, AnyNull, AllNull}
+use Rattle.cell_stats_combinations.specs.ComboText.{SpellsCombination}
+use Rattle.cell_stats_combinations.specs.declared.skip.Skip.{Skip}
+use Rattle.cell_stats_combinations.specs.declared.skip.Skip.TheVariants.{Nothing, AnyNull, AllNull}
 use Rattle.rcell_script_commands.specs.InputPlaces.{places_of}
 use Rattle.rcell_script_commands.specs.NullText.{is_table_null_text}
 use Rattle.rcell_script_commands.specs.Options.{IsOption, has_flag, values_of, IsOptional, IsOr, SpellsText, SpellsNames, separator_in}

@@ -2,8 +2,8 @@
 use Rattle.std.specs.Prelude.{◌≢◌, Result, Ok, Err}
 use Rattle.cell_cats.specs.declared.rules.RuleFault.{RuleFault}
 use Rattle.cell_cats.specs.declared.rules.RuleFault.TheVariants as rule
-use Rattle.cell_stats_counts.specs.declared.combination_text.ComboFault.{ComboFault}
-use Rattle.cell_stats_counts.specs.declared.combination_text.ComboFault.TheVariants as combo
+use Rattle.cell_stats_combinations.specs.declared.combination_text.ComboFault.{ComboFault}
+use Rattle.cell_stats_combinations.specs.declared.combination_text.ComboFault.TheVariants as combo
 use Rattle.rcell_script_commands.specs.declared.option_fault.OptionFault.{OptionFault}
 use Rattle.rcell_script_commands.specs.declared.option_fault.OptionFault.TheVariants as option
 use Rattle.rcell_script_commands.specs.declared.script_fault.ScriptKind.{ScriptKind}

@@ -6,8 +6,8 @@ use cell_calc_binding::bound::Bound;
 use cell_cats::rules::Rules;
 use cell_cats_areas::clump::Joining;
 use cell_core::name::Name;
-use cell_stats_counts::combination::Combo;
-use cell_stats_counts::skip::Skip;
+use cell_stats_combinations::combination::Combo;
+use cell_stats_combinations::skip::Skip;
 
 /// How r.stats prints a table, and what of it.
 #[derive(Drop)]

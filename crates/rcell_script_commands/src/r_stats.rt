@@ -14,8 +14,8 @@ use crate::options::{Form, Options, options_of};
 use crate::script_fault::ScriptKind;
 use cell_core::memory::Memory;
 use cell_core::name::Names;
-use cell_stats_counts::combination::Combo;
-use cell_stats_counts::skip::Skip;
+use cell_stats_combinations::combination::Combo;
+use cell_stats_combinations::skip::Skip;
 use std::alloc::Global;
 
 // `-n` also leaves out all combinations that `-N` leaves out, so it stands for both.

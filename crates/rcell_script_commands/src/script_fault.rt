@@ -4,7 +4,7 @@ use crate::option_fault::OptionFault;
 use cell_calc_language::calc_fault::{CalcFault, CalcKind};
 use cell_cats::rules::RuleFault;
 use cell_core::memory::Memory;
-use cell_stats_counts::combination_text::ComboFault;
+use cell_stats_combinations::combination_text::ComboFault;
 use thiserror::Error;
 
 /// What is wrong with a script.

@@ -4,7 +4,7 @@ use crate::assertions::assert_same;
 use cell_calc_language::calc_fault::{CalcFault, CalcKind};
 use cell_cats::rules::RuleFault;
 use cell_core::name::{Name, Names};
-use cell_stats_counts::combination_text::ComboFault;
+use cell_stats_combinations::combination_text::ComboFault;
 use rcell_script::script_fault::{ScriptFault, ScriptKind};
 use rcell_script::script_parsing::parse_script;
 use std::alloc::Global;

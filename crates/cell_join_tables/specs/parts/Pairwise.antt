@@ -2,7 +2,7 @@
 use Rattle.std.specs.Prelude.{ℕ, ◌≡◌, ◌+◌, ◌<◌, ◌≤◌, ◌^◌, [], ◌∷◌, ◌++◌, drop}
 use Rattle.std.specs.declared.cmp.Ordering.{Ordering}
 use Rattle.std.specs.declared.cmp.Ordering.TheVariants.{Less, Equal, Greater}
-use Rattle.cell_stats_counts.specs.Combinations.{Combination, combination_cmp}
+use Rattle.cell_stats_combinations.specs.Combinations.{Combination, combination_cmp}
 use Rattle.cell_stats.specs.CategoryTables.{Pairs}
 
 -- one of three, by an order

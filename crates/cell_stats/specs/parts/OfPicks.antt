@@ -1,7 +1,7 @@
 -- Combinations of maps that are picked.
 use Rattle.std.specs.Prelude.{◌≡◌, ◌<◌, ℕ, List, length}
 use Rattle.cell_core.specs.Shelf.{ShelfValue}
-use Rattle.cell_stats_counts.specs.Combinations.{ArePicks, Combination}
+use Rattle.cell_stats_combinations.specs.Combinations.{ArePicks, Combination}
 
 -- a combination has a cell for each map that is picked, and one is
 pub record IsOfPicks (shelf : ShelfValue) (picks : List ℕ) (cells : Combination) : Type 0 where

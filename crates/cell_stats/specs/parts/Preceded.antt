@@ -2,7 +2,7 @@
 use Rattle.std.specs.Prelude.{ℕ, List, ◌∷◌, flat_map}
 use Rattle.std.specs.List.{zip, join_with_byte}
 use Rattle.cell_core.specs.Grid.{Grid, CellValue}
-use Rattle.cell_stats_counts.specs.Combinations.{Combination}
+use Rattle.cell_stats_combinations.specs.Combinations.{Combination}
 use Rattle.cell_stats.specs.TableText.{FormatValue, cell_fields}
 
 -- each text after the byte

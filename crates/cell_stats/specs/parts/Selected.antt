@@ -1,8 +1,8 @@
 -- The lines of cells of maps that are looked at together.
 use Rattle.std.specs.Prelude.{ℕ, List, flat_map}
-use Rattle.cell_stats_counts.specs.Combinations.{Combination, row_combinations}
-use Rattle.cell_stats_counts.specs.LeftOut.{kept_cells}
-use Rattle.cell_stats_counts.specs.declared.selection.Selection.{Selection}
+use Rattle.cell_stats_combinations.specs.Combinations.{Combination, row_combinations}
+use Rattle.cell_stats_combinations.specs.LeftOut.{kept_cells}
+use Rattle.cell_stats_combinations.specs.declared.selection.Selection.{Selection}
 use Rattle.cell_stats.specs.TableText.{FormatValue, cell_line}
 
 -- a line for each of some cells that is not left out

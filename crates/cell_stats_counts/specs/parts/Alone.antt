@@ -1,7 +1,7 @@
 -- The combinations of one map.
 use Rattle.std.specs.Prelude.{[], ◌∷◌}
 use Rattle.cell_core.specs.Grid.{CellValue}
-use Rattle.cell_stats_counts.specs.Combinations.{Combination}
+use Rattle.cell_stats_combinations.specs.Combinations.{Combination}
 
 -- the combination of a cell of one map
 abbrev pub alone : CellValue → Combination

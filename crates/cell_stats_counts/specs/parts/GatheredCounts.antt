@@ -1,6 +1,6 @@
 -- Counts in lists, before and after more cells.
 use Rattle.std.specs.Prelude.{ℕ, ◌≡◌, ◌<◌, ◌+◌, ◌^◌}
-use Rattle.cell_stats_counts.specs.Combinations.{Combination}
+use Rattle.cell_stats_combinations.specs.Combinations.{Combination}
 use Rattle.cell_stats_counts.specs.declared.gathered.Gathered.{Gathered}
 use Rattle.cell_stats_counts.specs.Listed.{Counts, listed_of}
 use Rattle.cell_stats_counts.specs.parts.HeldPlaces.{gathered_of}

@@ -1,20 +1,16 @@
 -- Counts on their way: some are held by places, the others are in the list.
-use Rattle.std.specs.Prelude.{ℕ, ◌≡◌, ◌<◌, ◌≤◌, ◌+◌, ◌^◌, List, [], length, take, cond, Bool, sum_by}
-use Rattle.std.specs.Ordering.{eq_by_cmp}
+use Rattle.std.specs.Prelude.{ℕ, ◌≡◌, ◌<◌, ◌≤◌, ◌+◌, ◌^◌, List, [], length, take, cond, sum_by}
 use Rattle.cell_core.specs.Shelf.{ShelfValue}
 use Rattle.cell_stats_counts.specs.declared.counting.CountPlace.{CountPlace}
 use Rattle.cell_stats_counts.specs.declared.counting.CountPlaces.{CountPlaces}
 use Rattle.cell_stats_counts.specs.declared.paired.PairPlace.{PairPlace}
 use Rattle.cell_stats_counts.specs.declared.gathered.Gathered.{Gathered}
-use Rattle.cell_stats_counts.specs.Combinations.{Combination, all_combinations, combination_cmp}
-use Rattle.cell_stats_counts.specs.LeftOut.{kept_cells}
-use Rattle.cell_stats_counts.specs.declared.skip.Skip.{Skip}
+use Rattle.cell_stats_combinations.specs.Combinations.{Combination, all_combinations}
+use Rattle.cell_stats_combinations.specs.LeftOut.{kept_cells}
+use Rattle.cell_stats_combinations.specs.parts.Same.{is_same}
+use Rattle.cell_stats_combinations.specs.declared.skip.Skip.{Skip}
 use Rattle.cell_stats_counts.specs.Counts.{count_of}
 use Rattle.cell_stats_counts.specs.Listed.{Counts, listed_of, HasNoZero}
-
--- whether two combinations are equal
-abbrev pub is_same : Combination → Combination → Bool
-is_same = eq_by_cmp combination_cmp
 
 -- how many cells of a combination of so many maps a place holds
 abbrev pub held_by : ℕ → Combination → CountPlace → ℕ

@@ -2,10 +2,10 @@
 use Rattle.std.specs.Prelude.{ℕ, List, [], ◌∷◌, flat_map}
 use Rattle.std.specs.List.{zip}
 use Rattle.cell_core.specs.Grid.{Grid}
-use Rattle.cell_stats_counts.specs.declared.skip.Skip.{Skip}
-use Rattle.cell_stats_counts.specs.Combinations.{Combination, row_combinations, shelf_combinations}
-use Rattle.cell_stats_counts.specs.LeftOut.{kept_cells}
-use Rattle.cell_stats_counts.specs.declared.selection.Selection.{Selection}
+use Rattle.cell_stats_combinations.specs.declared.skip.Skip.{Skip}
+use Rattle.cell_stats_combinations.specs.Combinations.{Combination, row_combinations, shelf_combinations}
+use Rattle.cell_stats_combinations.specs.LeftOut.{kept_cells}
+use Rattle.cell_stats_combinations.specs.declared.selection.Selection.{Selection}
 use Rattle.cell_stats.specs.TableText.{label_of_cell}
 use Rattle.rcell_pipe_response.specs.declared.cells_frame.EntryPart.{EntryPart}
 use Rattle.rcell_pipe_response.specs.declared.cells_frame.EntryPart.TheVariants as parts

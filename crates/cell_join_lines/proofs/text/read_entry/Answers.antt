@@ -1,5 +1,5 @@
 use Rattle.std.proofs.Common.{◌≡◌, Bool, true, false, Ok, Err, Option, ap, sym, ◌∙◌, subst, option_map}
-use Rattle.cell_stats_counts.specs.Combinations.{Combination}
+use Rattle.cell_stats_combinations.specs.Combinations.{Combination}
 use Rattle.cell_join_lines.specs.LineReading.{next_entry}
 use Rattle.cell_join_lines.specs.SourceLines.{IsFirstLine, lines_coming}
 use Rattle.cell_join_lines.proofs.LabelLemmas.{end-labelled, line-labelled}

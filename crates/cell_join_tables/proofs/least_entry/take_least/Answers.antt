@@ -1,5 +1,5 @@
 use Rattle.std.proofs.Common.{◌≡◌, ℕ, None, Some, sym, ◌∙◌, subst}
-use Rattle.cell_stats_counts.specs.Combinations.{Combination}
+use Rattle.cell_stats_combinations.specs.Combinations.{Combination}
 use Rattle.cell_join_tables.proofs.TakingLemmas.{all-ended}
 use Rattle.cell_join_tables.specs.parts.HeadOrder.{BeginsWith}
 use Rattle.cell_join_tables.proofs.GoingLemmas.{fault-first, gone-first, lines-first}

@@ -1,6 +1,6 @@
 use Rattle.std.proofs.Common.{◌≡◌, [], ◌∷◌, All, ℕ, Option, Result, Ok, None, Some, ap, refl, subst}
 use Rattle.cell_core_devices.specs.Blocks.{Appends}
-use Rattle.cell_stats_counts.specs.Combinations.{Combination}
+use Rattle.cell_stats_combinations.specs.Combinations.{Combination}
 use Rattle.cell_join_lines.specs.TextReading.{TextValue, reading_from}
 use Rattle.cell_join_tables.specs.declared.join_fault.JoinFault.{JoinFault}
 use Rattle.cell_join_tables.specs.declared.label_fault.OtherLabel.{OtherLabel}

@@ -1,7 +1,7 @@
 use Rattle.std.proofs.Common.{◌-◌, map}
 use Rattle.std.specs.List.{range_with_len}
 use Rattle.cell_core_devices.specs.Blocks.{Appends}
-use Rattle.cell_stats_counts.specs.Combinations.{combination_at}
+use Rattle.cell_stats_combinations.specs.Combinations.{combination_at}
 use Rattle.cell_stats.specs.parts.Selected.{selected_lines}
 use Rattle.cell_stats.proofs.CellsLemmas.{StandsAt}
 use Rattle.cell_stats.proofs.printed_cells.write_cell_lines.Given as goal

@@ -3,7 +3,7 @@ use borrow.Author.Count.{falls}
 use Rattle.std.specs.List.{range_with_len}
 use Rattle.cell_core_devices.proofs.BlockLemmas.{appends_cut, appends_none, appends_then}
 use Rattle.cell_core_values.specs.Region.{RegionValue}
-use Rattle.cell_stats_counts.specs.Combinations.{all_combinations, row_combinations}
+use Rattle.cell_stats_combinations.specs.Combinations.{all_combinations, row_combinations}
 use Rattle.cell_stats.proofs.CellsLemmas.{kept_text, row-more, rows-all}
 use Rattle.cell_stats.specs.TableText.{cell_line}
 use Rattle.cell_stats.proofs.printed_cells.write_cells.Goals as goal

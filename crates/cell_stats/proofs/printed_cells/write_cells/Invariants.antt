@@ -1,6 +1,6 @@
 use Rattle.std.proofs.Common.{◌≡◌, length}
 use Rattle.cell_core_devices.specs.Blocks.{Appends}
-use Rattle.cell_stats_counts.specs.Combinations.{all_combinations}
+use Rattle.cell_stats_combinations.specs.Combinations.{all_combinations}
 use Rattle.cell_stats.specs.TableText.{cell_line}
 use Rattle.cell_stats.proofs.CellsLemmas.{kept_text}
 use Rattle.cell_stats.proofs.printed_cells.write_cells.Given as goal

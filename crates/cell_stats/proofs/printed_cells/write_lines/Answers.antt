@@ -1,7 +1,7 @@
 use Rattle.std.proofs.Common.{◌≡◌, ℕ, ◌≤◌, false, true, replicate, flat_map, arith, sym, ap, ◌∙◌}
 use Rattle.cell_core_devices.proofs.BlockLemmas.{appends_none, appends_then}
 use Rattle.cell_stats.specs.TableText.{cell_line}
-use Rattle.cell_stats_counts.specs.LeftOut.{is_left_out}
+use Rattle.cell_stats_combinations.specs.LeftOut.{is_left_out}
 use Rattle.cell_stats.proofs.CellsLemmas.{alike-kept, alike-left, flat_map-replicate-more}
 use Rattle.cell_stats.proofs.printed_cells.write_lines.Goals as goal
 

@@ -3,7 +3,7 @@ use Rattle.std.proofs.lemmas.List.{take-append-drop}
 use Rattle.std.proofs.lemmas.List.Concat.{flat_map-append}
 use Rattle.cell_core_devices.proofs.PieceLemmas.{flat_map-take}
 use Rattle.cell_core_devices.proofs.BlockLemmas.{appends_cut, appends_then}
-use Rattle.cell_stats_counts.specs.Combinations.{Combination}
+use Rattle.cell_stats_combinations.specs.Combinations.{Combination}
 use Rattle.cell_stats.specs.TableText.{pair_line}
 use Rattle.cell_stats.proofs.printing.write_table.Goals as goal
 

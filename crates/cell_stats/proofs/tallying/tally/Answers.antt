@@ -1,5 +1,5 @@
 use Rattle.std.proofs.Common.{ap}
-use Rattle.cell_stats_counts.specs.Combinations.{all_combinations}
+use Rattle.cell_stats_combinations.specs.Combinations.{all_combinations}
 use Rattle.cell_stats.specs.CategoryTables.{TableValue}
 use Rattle.cell_stats.proofs.TableLemmas.{IsTable-listed, one_table_kept, table_is}
 use Rattle.cell_stats.proofs.WidthLemmas.{table-wide}

@@ -1,14 +1,15 @@
 use Rattle.std.proofs.Common.{◌≡◌, ◌<◌, ◌+◌, ◌^◌, ℕ, length, drop, get_or, cond, Bool, arith, ap, sym, ◌∙◌, refl}
 use Rattle.cell_core_values.specs.SmallCells.{byte_cell}
-use Rattle.cell_stats_counts.specs.Combinations.{Combination}
-use Rattle.cell_stats_counts.specs.declared.skip.Skip.{Skip}
+use Rattle.cell_stats_combinations.specs.Combinations.{Combination}
+use Rattle.cell_stats_combinations.specs.declared.skip.Skip.{Skip}
 use Rattle.cell_core.specs.Grid.{CellValue}
-use Rattle.cell_stats_counts.specs.LeftOut.{is_left_out}
+use Rattle.cell_stats_combinations.specs.LeftOut.{is_left_out}
 use Rattle.cell_stats_counts.specs.parts.Alone.{alone}
 use Rattle.cell_stats_counts.specs.parts.ByteCounts.{sum_counted}
 use Rattle.cell_stats_counts.specs.declared.counting.CountPlaces.{CountPlaces}
 use Rattle.cell_stats_counts.specs.declared.gathered.Gathered.{Gathered}
-use Rattle.cell_stats_counts.specs.parts.HeldPlaces.{total_of, is_same, IsCounting}
+use Rattle.cell_stats_counts.specs.parts.HeldPlaces.{total_of, IsCounting}
+use Rattle.cell_stats_combinations.specs.parts.Same.{is_same}
 use Rattle.cell_stats_counts.proofs.ByteCountLemmas.{one_counted, cells-sum, length-sum, byte-left, byte-none, byte-more}
 use Rattle.cell_stats_counts.proofs.ByteCountLemmas.{room-on, room-grown}
 use Rattle.cell_stats_counts.proofs.alone.count_bytes.Goals as goal

@@ -1,11 +1,11 @@
 use Rattle.std.proofs.Common.{◌≡◌, ◌+◌, ◌^◌, ◌<◌, length, map}
 use Rattle.cell_core.specs.Runs.{written_out}
-use Rattle.cell_stats_counts.specs.Combinations.{Combination}
+use Rattle.cell_stats_combinations.specs.Combinations.{Combination}
 use Rattle.cell_stats_counts.specs.Counts.{count_of}
 use Rattle.cell_stats_counts.specs.parts.HeldPlaces.{IsCounting}
 use Rattle.cell_stats_counts.specs.parts.Alone.{alone}
 use Rattle.cell_stats_counts.specs.parts.HeldPlaces.{total_of}
-use Rattle.cell_stats_counts.specs.LeftOut.{kept_cells}
+use Rattle.cell_stats_combinations.specs.LeftOut.{kept_cells}
 use Rattle.cell_stats_counts.proofs.alone.count_stretches.Given as goal
 
 abbrev pub invariant-loop-cell : goal.invariant-loop-cell

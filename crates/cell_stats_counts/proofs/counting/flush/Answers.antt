@@ -1,6 +1,7 @@
 use Rattle.std.proofs.Common.{◌≡◌, ◌+◌, ◌<◌, ◌^◌, cond, take, rules, subst, sym}
-use Rattle.cell_stats_counts.specs.Combinations.{Combination}
-use Rattle.cell_stats_counts.specs.parts.HeldPlaces.{is_same, gathered_of}
+use Rattle.cell_stats_combinations.specs.Combinations.{Combination}
+use Rattle.cell_stats_combinations.specs.parts.Same.{is_same}
+use Rattle.cell_stats_counts.specs.parts.HeldPlaces.{gathered_of}
 use Rattle.cell_stats_counts.proofs.counting.flush.Goals as goal
 
 pub merge-requires-clause-fits : goal.merge-requires-clause-fits

@@ -1,5 +1,5 @@
 use Rattle.std.proofs.Common.{◌≡◌, ◌+◌, length, take}
-use Rattle.cell_stats_counts.specs.Combinations.{Combination}
+use Rattle.cell_stats_combinations.specs.Combinations.{Combination}
 use Rattle.cell_stats_counts.specs.parts.HeldPlaces.{gathered_of, GathersNoZero}
 use Rattle.cell_stats_counts.specs.parts.HeldPlaces.{held_of}
 use Rattle.cell_stats_counts.proofs.counting.flush_all.Given as goal

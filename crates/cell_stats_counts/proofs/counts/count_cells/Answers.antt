@@ -4,13 +4,13 @@ use Rattle.std.proofs.lemmas.List.{with_items_is}
 use borrow.Author.Count.{falls}
 use Rattle.cell_core_values.specs.Region.{RegionValue, IsRegion}
 use Rattle.cell_core.specs.Grid.{Grid}
-use Rattle.cell_stats_counts.specs.declared.skip.Skip.{Skip}
-use Rattle.cell_stats_counts.specs.Combinations.{Combination, all_combinations}
+use Rattle.cell_stats_combinations.specs.declared.skip.Skip.{Skip}
+use Rattle.cell_stats_combinations.specs.Combinations.{Combination, all_combinations}
 use Rattle.cell_stats_counts.specs.Counts.{count_of}
 use Rattle.cell_stats_counts.specs.Listed.{listed_of, HasNoZero}
 use Rattle.cell_stats_counts.specs.parts.HeldPlaces.{held_of, gathered_of, paired_of}
-use Rattle.cell_stats_counts.specs.LeftOut.{kept_cells}
-use Rattle.cell_stats_counts.proofs.WalkLemmas.{count_small}
+use Rattle.cell_stats_combinations.specs.LeftOut.{kept_cells}
+use Rattle.cell_stats_counts.proofs.CountLemmas.{count_small}
 use Rattle.cell_stats_counts.proofs.counts.count_cells.Goals as goal
 
 below : {row last rows : ℕ} → row < last → last ≡ rows → row < rows

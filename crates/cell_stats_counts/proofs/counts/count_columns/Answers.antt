@@ -6,16 +6,18 @@ use Rattle.cell_stats_counts.specs.declared.gathered.Gathered.{Gathered}
 use Rattle.std.specs.List.{range_with_len}
 use Rattle.cell_core_values.specs.Region.{RegionValue}
 use Rattle.cell_core.specs.Grid.{CellValue}
-use Rattle.cell_stats_counts.specs.Combinations.{Combination, all_combinations, combination_at}
+use Rattle.cell_stats_combinations.specs.Combinations.{Combination, all_combinations, combination_at}
 use Rattle.cell_stats_counts.specs.Counts.{count_of}
 use Rattle.cell_stats_counts.specs.parts.HeldPlaces.{IsCounting}
-use Rattle.cell_stats_counts.specs.Cursors.{CursorValue, to_come}
-use Rattle.cell_stats_counts.specs.parts.HeldPlaces.{total_of, is_same}
-use Rattle.cell_stats_counts.specs.LeftOut.{kept_cells, is_left_out}
+use Rattle.cell_stats_combinations.specs.Cursors.{CursorValue, to_come}
+use Rattle.cell_stats_counts.specs.parts.HeldPlaces.{total_of}
+use Rattle.cell_stats_combinations.specs.parts.Same.{is_same}
+use Rattle.cell_stats_combinations.specs.LeftOut.{kept_cells, is_left_out}
 use Rattle.cell_stats_counts.specs.declared.counting.CountPlaces.{CountPlaces}
 use Rattle.cell_stats_counts.proofs.HeldLemmas.{going_of}
-use Rattle.cell_stats_counts.proofs.WalkLemmas.{alike, alive, passed-on, stretch}
-use Rattle.cell_stats_counts.proofs.WalkLemmas.{count-left, count-more, count_small, all_combinations_more}
+use Rattle.cell_stats_combinations.proofs.WalkLemmas.{alike, alive, passed-on, stretch}
+use Rattle.cell_stats_counts.proofs.CountLemmas.{count-left, count-more, count_small}
+use Rattle.cell_stats_combinations.proofs.WalkLemmas.{all_combinations_more}
 use Rattle.cell_stats_counts.proofs.counts.count_columns.Goals as goal
 use Rattle.cell_stats_counts.proofs.counts.count_columns.Goals.{then-not-is_left_out+in_ok-add_count}
 use Rattle.cell_stats_counts.proofs.counts.count_columns.Goals.{else-not-is_left_out}

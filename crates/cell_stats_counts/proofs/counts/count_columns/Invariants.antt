@@ -1,11 +1,11 @@
 use Rattle.std.proofs.Common.{◌≡◌, ◌+◌, ◌-◌, ◌<◌, ◌≤◌, ◌++◌, length, map, drop, All}
 use Rattle.std.specs.List.{range_with_len}
-use Rattle.cell_stats_counts.specs.Combinations.{Combination, all_combinations, combination_at}
+use Rattle.cell_stats_combinations.specs.Combinations.{Combination, all_combinations, combination_at}
 use Rattle.cell_stats_counts.specs.Counts.{count_of}
 use Rattle.cell_stats_counts.specs.parts.HeldPlaces.{IsCounting}
-use Rattle.cell_stats_counts.specs.Cursors.{to_come, AreCursorsReady, row_in}
+use Rattle.cell_stats_combinations.specs.Cursors.{to_come, AreCursorsReady, row_in}
 use Rattle.cell_stats_counts.specs.parts.HeldPlaces.{total_of}
-use Rattle.cell_stats_counts.specs.LeftOut.{kept_cells}
+use Rattle.cell_stats_combinations.specs.LeftOut.{kept_cells}
 use Rattle.cell_stats_counts.proofs.counts.count_columns.Given as goal
 
 abbrev pub invariant-loop-col : goal.invariant-loop-col

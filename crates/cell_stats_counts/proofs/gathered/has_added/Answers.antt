@@ -1,5 +1,5 @@
 use Rattle.std.proofs.Common.{◌+◌, ◌<◌, ◌≤◌, ◌^◌, ℕ, Fits, w64, get_or, arith, sym, ◌∙◌}
-use Rattle.cell_stats_counts.proofs.HeldLemmas.{same-is}
+use Rattle.cell_stats_combinations.proofs.OrderLemmas.{same-is}
 use Rattle.cell_stats_counts.proofs.GatheredLemmas.{entry-le, listed-set}
 use Rattle.cell_stats_counts.proofs.gathered.has_added.Goals as goal
 

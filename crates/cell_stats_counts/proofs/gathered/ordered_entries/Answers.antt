@@ -1,7 +1,7 @@
 use Rattle.std.proofs.Common.{◌≡◌, ◌+◌, ◌<◌, ◌^◌, ℕ, [], add-zero, subst, take, arith, sym, ap, ◌∙◌}
 use Rattle.std.proofs.lemmas.List.{with_items_is}
 use Rattle.std.proofs.lemmas.List.Sorted.{All-permutation, IsPermutation-trans, sum_by-IsPermutation}
-use Rattle.cell_stats_counts.specs.Combinations.{Combination}
+use Rattle.cell_stats_combinations.specs.Combinations.{Combination}
 use Rattle.cell_stats_counts.specs.Listed.{Counts, entry_of, listed_of, HasNoZero}
 use Rattle.std.specs.List.Sorted.{IsPermutation}
 use Rattle.cell_stats_counts.proofs.gathered.ordered_entries.Goals as goal

@@ -1,6 +1,6 @@
 use Rattle.std.proofs.Common.{◌≡◌, ℕ, ◌+◌, ◌<◌, ◌^◌, ◌++◌, ◌∷◌, [], arith, ap, refl, ◌∙◌}
 use Rattle.std.proofs.lemmas.List.Sums.{sum_by_push}
-use Rattle.cell_stats_counts.specs.Combinations.{Combination}
+use Rattle.cell_stats_combinations.specs.Combinations.{Combination}
 use Rattle.cell_stats_counts.specs.Listed.{Counts, entry_of, listed_of}
 use Rattle.cell_stats_counts.proofs.GatheredLemmas.{entry-own}
 use Rattle.cell_stats_counts.proofs.gathered.settle.Goals as goal

@@ -1,5 +1,5 @@
 use Rattle.std.proofs.Common.{◌≡◌, length}
-use Rattle.cell_stats_counts.specs.Combinations.{Combination}
+use Rattle.cell_stats_combinations.specs.Combinations.{Combination}
 use Rattle.cell_stats_counts.specs.parts.HeldPlaces.{gathered_of, GathersNoZero}
 use Rattle.cell_stats_counts.proofs.gathered.settle.Given as goal
 

@@ -1,7 +1,7 @@
 use Rattle.std.proofs.Common.{◌≡◌, ◌+◌, ◌<◌, ◌^◌, ℕ, [], Fits, w64, get_or, arith, sym, ap, ◌∙◌}
-use Rattle.cell_stats_counts.specs.Combinations.{Combination}
-use Rattle.cell_stats_counts.specs.parts.HeldPlaces.{is_same}
-use Rattle.cell_stats_counts.proofs.HeldLemmas.{same-is}
+use Rattle.cell_stats_combinations.specs.Combinations.{Combination}
+use Rattle.cell_stats_combinations.specs.parts.Same.{is_same}
+use Rattle.cell_stats_combinations.proofs.OrderLemmas.{same-is}
 use Rattle.cell_stats_counts.proofs.JoinLemmas.{any, joined-same, joined-next}
 use Rattle.cell_stats_counts.proofs.gathered.take_in.Goals as goal
 

@@ -1,5 +1,5 @@
 use Rattle.std.proofs.Common.{◌≡◌, ◌+◌, ◌-◌, ◌<◌, ◌≤◌, length, map}
-use Rattle.cell_stats_counts.specs.Combinations.{Combination}
+use Rattle.cell_stats_combinations.specs.Combinations.{Combination}
 use Rattle.cell_stats_counts.specs.Listed.{listed_of, HasNoZero}
 use Rattle.cell_stats_counts.specs.parts.HeldPlaces.{paired_of}
 use Rattle.cell_stats_counts.specs.parts.RowCells.{count_from}

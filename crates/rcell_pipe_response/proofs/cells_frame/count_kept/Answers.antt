@@ -1,6 +1,6 @@
 use Rattle.std.proofs.Common.{◌≡◌, ◌∙◌, ◌*◌, ℕ, length, ap, refl}
 use Rattle.cell_core_values.specs.Region.{RegionValue}
-use Rattle.cell_stats_counts.proofs.WalkLemmas.{length_all}
+use Rattle.cell_stats_combinations.proofs.WalkLemmas.{length_all}
 use Rattle.rcell_pipe_response.specs.parts.CellEntries.{selected_cells}
 use Rattle.rcell_pipe_response.proofs.CellsLemmas.{kept-all}
 use Rattle.rcell_pipe_response.proofs.cells_frame.count_kept.Goals as goal

@@ -1,6 +1,6 @@
 use Rattle.std.proofs.Common.{◌≡◌, ℕ, ◌≤◌, false, true, replicate, flat_map, arith, sym, ap, ◌∙◌}
 use Rattle.cell_core_devices.proofs.BlockLemmas.{appends_none, appends_then}
-use Rattle.cell_stats_counts.specs.LeftOut.{is_left_out}
+use Rattle.cell_stats_combinations.specs.LeftOut.{is_left_out}
 use Rattle.cell_stats.proofs.CellsLemmas.{alike-kept, alike-left, flat_map-replicate-more}
 use Rattle.rcell_pipe_response.specs.parts.CellEntries.{entry_bytes}
 use Rattle.rcell_pipe_response.proofs.cells_frame.push_alike.Goals as goal

@@ -1,8 +1,8 @@
 use Rattle.std.proofs.Common.{◌≡◌, ◌∙◌, ℕ, List, [], length, ap, sym, if◌then◌else◌}
 use Rattle.std.proofs.lemmas.List.{length-map}
 use Rattle.cell_core_devices.proofs.BlockLemmas.{appends_none, appends_then}
-use Rattle.cell_stats_counts.specs.Combinations.{Combination}
-use Rattle.cell_stats_counts.specs.LeftOut.{kept_cells}
+use Rattle.cell_stats_combinations.specs.Combinations.{Combination}
+use Rattle.cell_stats_combinations.specs.LeftOut.{kept_cells}
 use Rattle.rcell.specs.Output.{combinations_of}
 use Rattle.rcell_pipe_response.specs.Frames.{each_once}
 use Rattle.rcell_pipe_response.proofs.CellsLemmas.{entries-cells, entries-labels}

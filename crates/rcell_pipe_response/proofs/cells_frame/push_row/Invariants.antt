@@ -1,7 +1,7 @@
 use Rattle.std.proofs.Common.{◌-◌, map}
 use Rattle.std.specs.List.{range_with_len}
 use Rattle.cell_core_devices.specs.Blocks.{Appends}
-use Rattle.cell_stats_counts.specs.Combinations.{combination_at}
+use Rattle.cell_stats_combinations.specs.Combinations.{combination_at}
 use Rattle.rcell_pipe_response.specs.parts.CellEntries.{selected_bytes}
 use Rattle.cell_stats.proofs.CellsLemmas.{StandsAt}
 use Rattle.rcell_pipe_response.proofs.cells_frame.push_row.Given as goal

@@ -4,7 +4,7 @@ use Rattle.std.specs.List.{range_with_len}
 use Rattle.cell_core_devices.proofs.BlockLemmas.{appends_cut, appends_none, appends_then}
 use Rattle.cell_core_values.specs.Region.{RegionValue}
 use Rattle.cell_stats.proofs.CellsLemmas.{row-more, rows-all}
-use Rattle.cell_stats_counts.specs.Combinations.{all_combinations, row_combinations}
+use Rattle.cell_stats_combinations.specs.Combinations.{all_combinations, row_combinations}
 use Rattle.rcell_pipe_response.specs.parts.CellEntries.{entry_bytes, kept_entry_bytes}
 use Rattle.rcell_pipe_response.proofs.cells_frame.push_rows.Goals as goal
 

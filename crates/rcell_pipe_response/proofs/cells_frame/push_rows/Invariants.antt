@@ -1,6 +1,6 @@
 use Rattle.std.proofs.Common.{◌≡◌, length}
 use Rattle.cell_core_devices.specs.Blocks.{Appends}
-use Rattle.cell_stats_counts.specs.Combinations.{all_combinations}
+use Rattle.cell_stats_combinations.specs.Combinations.{all_combinations}
 use Rattle.rcell_pipe_response.specs.parts.CellEntries.{selected_bytes}
 use Rattle.rcell_pipe_response.proofs.cells_frame.push_rows.Given as goal
 

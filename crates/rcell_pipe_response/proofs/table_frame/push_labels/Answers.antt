@@ -1,7 +1,7 @@
 use Rattle.std.proofs.Common.{◌≡◌, ℕ, length, flat_map, ap, ◌∙◌}
 use Rattle.std.specs.List.{zip}
 use Rattle.cell_stats.specs.TableText.{label_of_cell}
-use Rattle.cell_stats_counts.specs.Combinations.{Combination}
+use Rattle.cell_stats_combinations.specs.Combinations.{Combination}
 use Rattle.rcell_pipe_response.specs.FrameBytes.{text_bytes}
 use Rattle.rcell_pipe_response.specs.parts.CellLabels.{cell_labels_bytes}
 use Rattle.rcell_pipe_response.proofs.ListingLemmas.{leads_first, leads_more, leads_done}

@@ -1,6 +1,6 @@
 use Rattle.std.proofs.Common.{◌≡◌, ◌∙◌, ℕ, All, length, ap, sym, subst}
 use Rattle.cell_core_devices.proofs.BlockLemmas.{appends_then}
-use Rattle.cell_stats_counts.specs.Combinations.{Combination}
+use Rattle.cell_stats_combinations.specs.Combinations.{Combination}
 use Rattle.cell_stats.specs.CategoryTables.{Pairs}
 use Rattle.cell_stats.specs.TableText.{printed_pairs}
 use Rattle.rcell_pipe_response.proofs.TableLemmas.{printed-all, labels-same}

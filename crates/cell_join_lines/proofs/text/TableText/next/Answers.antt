@@ -1,6 +1,6 @@
 use Rattle.std.proofs.Common.{Option, subst}
 use Rattle.std.specs.Prelude.{IfSome, ◌≡◌}
-use Rattle.cell_stats_counts.specs.Combinations.{Combination}
+use Rattle.cell_stats_combinations.specs.Combinations.{Combination}
 use Rattle.cell_join_lines.specs.LineReading.{stopped}
 use Rattle.cell_join_lines.specs.SourceLines.{lines_coming}
 use Rattle.cell_join_lines.specs.TextReading.{TextValue, reading_behind}

@@ -1,5 +1,5 @@
 use Rattle.std.proofs.Common.{◌≡◌, ℕ, All, length, ◌-◌, subst, sym}
-use Rattle.cell_stats_counts.specs.Combinations.{Combination}
+use Rattle.cell_stats_combinations.specs.Combinations.{Combination}
 use Rattle.cell_stats.specs.CategoryTables.{Pairs}
 use Rattle.cell_stats.proofs.WidthLemmas.{All-part}
 use Rattle.cell_stats.proofs.table.Table.printed_entries.Goals as goal

@@ -1,0 +1,4 @@
+pub mod OrderLemmas
+pub mod ReadingLemmas
+pub mod CursorLemmas
+pub mod WalkLemmas

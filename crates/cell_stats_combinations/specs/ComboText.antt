@@ -1,0 +1,16 @@
+-- A combination as a text: its cells between commas (profile).
+use Rattle.std.specs.Prelude.{ℕ, ◌≡◌, List, Some, None, codes}
+use Rattle.std.specs.List.{AllZip}
+use Rattle.cell_core.specs.Grid.{CellValue}
+use Rattle.cell_core_values.specs.WholeNumbers.{whole_in_range}
+use Rattle.cell_core_values.specs.Words.{parts_of}
+use Rattle.cell_stats_combinations.specs.Combinations.{Combination}
+
+-- an asterisk spells null, and a whole number in range a category
+abbrev pub SpellsCell : List ℕ → CellValue → Type 0
+SpellsCell part None = part ≡ codes "*"
+SpellsCell part (Some category) = whole_in_range part ≡ Some category
+
+-- the parts of the text spell the cells, one each
+abbrev pub SpellsCombination : List ℕ → Combination → Type 0
+SpellsCombination text combination = AllZip SpellsCell (parts_of text) combination

@@ -1,0 +1,17 @@
+-- Which combinations are left out (r.stats manual, flags `-n` and `-N`).
+use Rattle.std.specs.Prelude.{Bool, false, not, List, filter}
+use Rattle.std.specs.List.{list_any, list_all}
+use Rattle.std.specs.Option.{is_none}
+use Rattle.cell_stats_combinations.specs.declared.skip.Skip.{Skip}
+use Rattle.cell_stats_combinations.specs.declared.skip.Skip.TheVariants.{Nothing, AnyNull, AllNull}
+use Rattle.cell_stats_combinations.specs.Combinations.{Combination}
+
+-- which combinations are left out: none, combinations with a null, or combinations of nulls only
+abbrev pub is_left_out : Skip → Combination → Bool
+is_left_out Nothing k = false
+is_left_out AnyNull k = list_any is_none k
+is_left_out AllNull k = list_all is_none k
+
+-- the cells whose combination is not left out
+abbrev pub kept_cells : Skip → List Combination → List Combination
+kept_cells skip cells = filter (λ k. not (is_left_out skip k)) cells

@@ -1,0 +1,8 @@
+-- The combinations of categories over several maps.
+-- Walks along the rows of several maps together.
+pub mod Combinations
+pub mod ComboText
+pub mod ComboReading
+pub mod LeftOut
+pub mod Cursors
+pub mod parts

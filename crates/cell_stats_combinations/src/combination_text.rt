@@ -1,0 +1,84 @@
+//! A combination read from a text.
+
+ghost use Rattle.std.specs.Prelude.{◌≡◌, ◌≤◌};
+ghost use Rattle.cell_core_values.specs.Answers.{Answers};
+ghost use Rattle.cell_stats_combinations.specs.ComboReading.{cell_of_part, combo_of};
+
+use crate::combination::Combo;
+use cell_core::cell::Cell;
+use cell_core::memory::Memory;
+use cell_core_values::whole_numbers::whole_in_range;
+use cell_core_values::words::parts_of;
+use std::alloc::{AllocFailed, Global};
+
+/// Why a text is no combination: the first reason in this order (profile).
+#[derive(Clone, Copy, Debug, PartialEq, Eq)]
+pub enum ComboFault {
+    /// A part is neither an asterisk nor a whole number in range.
+    BadCombo,
+    /// There is another number of parts.
+    BadWidth,
+    /// Memory ran out.
+    Memory,
+}
+
+impl From<Memory> for ComboFault {
+    ghost use Rattle.std.specs.Prelude.{◌≡◌};
+    ghost use Rattle.cell_stats_combinations.specs.declared.combination_text.ComboFault.TheVariants.{Memory};
+
+    ghost from_gives = { λ _ fault. fault ≡ Memory };
+
+    fn from(_e: Memory) -> ComboFault {
+        ComboFault::Memory
+    }
+}
+
+impl<T: Drop> From<AllocFailed<T>> for ComboFault {
+    ghost use Rattle.std.specs.Prelude.{◌≡◌};
+    ghost use Rattle.cell_stats_combinations.specs.declared.combination_text.ComboFault.TheVariants.{Memory};
+
+    ghost from_gives = { λ _ fault. fault ≡ Memory };
+
+    fn from(_e: AllocFailed<T>) -> ComboFault {
+        ComboFault::Memory
+    }
+}
+
+// The cell of a part.
+fn cell_of_part(part: &[u8]) -> Option<Cell>
+    ensures { result ≡ cell_of_part part.now }
+{
+    if part == b"*".as_slice() {
+        return Some(Cell::null());
+    }
+    match whole_in_range(part) {
+        Some(category) => Cell::value(category),
+        None => None,
+    }
+}
+
+impl Combo {
+    /// The combination that a text spells: its cells between commas, each an asterisk, which is null, or a whole number
+    /// in range. The width is 1 to 16.
+    ///
+    /// # Errors
+    ///
+    /// The first [`ComboFault`] in the order that its variants have.
+    pub fn read(alloc: Global, text: &[u8], width: usize) -> Result<Combo, ComboFault>
+        requires { (1 ≤ width) × (width ≤ 16) }
+        ensures { Answers ComboFault.Memory (λ combo. combo) result (combo_of width text.now) }
+    {
+        let parts = parts_of(alloc, text)?;
+        let mut cells = Vec::new(alloc);
+        for part in &parts {
+            let Some(cell) = cell_of_part(part) else {
+                return Err(ComboFault::BadCombo);
+            };
+            cells.push(cell)?;
+        }
+        if cells.len() != width {
+            return Err(ComboFault::BadWidth);
+        }
+        Ok(Combo::of(cells))
+    }
+}

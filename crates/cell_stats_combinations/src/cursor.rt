@@ -1,0 +1,163 @@
+//! A walk along the rows of several maps, run by run.
+
+ghost use Rattle.std.specs.Prelude.{◌≡◌, ◌<◌, ◌≤◌, length, map, drop, All, OnOk, IfOk};
+ghost use Rattle.cell_core.specs.Grid.{row_at};
+ghost use Rattle.cell_core.specs.Runs.{written_out};
+ghost use Rattle.cell_stats_combinations.specs.Combinations.{ArePicks};
+ghost use Rattle.cell_stats_combinations.specs.Cursors.{to_come, AreCursorsReady, AreWideRows, row_in};
+
+use cell_core::cell::Cell;
+use cell_core::map::CellMap;
+use cell_core::memory::Memory;
+use cell_core::shelf::Shelf;
+use cell_core::stretches::Stretches;
+use std::alloc::Global;
+use std::marker::Model;
+
+/// A place in a row: the cell there, in how many columns from there on it is the same, and the runs after these.
+#[derive(Drop)]
+pub struct Cursor<'a> {
+    runs: Stretches<'a>,
+    cell: Cell,
+    left: u32,
+}
+
+impl<'a> Model for Cursor<'a> {
+    ghost use Rattle.cell_stats_combinations.specs.Cursors.{CursorValue, cursor_code};
+
+    ghost Value = { CursorValue };
+
+    ghost coded = { cursor_code };
+
+    ghost view = { λ c. record { runs = c.runs; cell = c.cell; left = c.left } };
+}
+
+impl<'a> Cursor<'a> {
+    // At the first cell of a row.
+    fn over(mut runs: Stretches<'a>) -> Cursor<'a>
+        requires { All (λ run. 0 < run.1) runs }
+        ensures cells { to_come result ≡ written_out runs.entry }
+        ensures ready { AreCursorsReady result }
+    {
+        match runs.next() {
+            Some((cell, left)) => Cursor { runs, cell, left },
+            None => Cursor {
+                runs,
+                cell: Cell::null(),
+                left: 0,
+            },
+        }
+    }
+
+    // Moves on by some columns of the present run.
+    #[inline(always)]
+    fn pass(&mut self, count: u32)
+        requires within { count ≤ self.old.left }
+        requires ready { AreCursorsReady self.old }
+        ensures cells { to_come self.new ≡ drop count (to_come self.old) }
+        ensures ready { AreCursorsReady self.new }
+    {
+        self.left -= count;
+        if self.left == 0 {
+            if let Some((cell, left)) = self.runs.next() {
+                self.cell = cell;
+                self.left = left;
+            }
+        }
+    }
+}
+
+/// The place of the first cell in a row of a map.
+pub fn start<'a>(map: &'a CellMap, row: u32) -> Cursor<'a>
+    requires { row < map.now.region.rows }
+    ensures cells { to_come result ≡ row_at map.now row }
+    ensures width { length (row_at map.now row) ≡ map.now.region.cols }
+    ensures ready { AreCursorsReady result }
+{
+    Cursor::over(map.stretches(row))
+}
+
+// The first cells of a row of the picked maps.
+fn start_all<'a>(
+    alloc: Global,
+    shelf: &'a Shelf,
+    picks: &[usize],
+    row: u32,
+) -> Result<Vec<Cursor<'a>>, Memory>
+    requires picked { ArePicks shelf.now picks.now }
+    requires row_in_range { row < shelf.now.region.rows }
+    ensures cells { IfOk result
+        (λ cursors. map to_come cursors.items ≡ map (row_in shelf.now.maps row) picks.now) }
+    ensures width { OnOk result (AreWideRows shelf.now row picks.now) }
+    ensures ready { IfOk result (λ cursors. All AreCursorsReady cursors.items) }
+{
+    let mut cursors = Vec::with_capacity(alloc, picks.len())?;
+    for place in picks {
+        cursors.push(start(shelf.map(*place), row))?;
+    }
+    Ok(cursors)
+}
+
+/// Cursors over the picked maps, in the last row. They are moved from row to row, so that memory is taken once.
+///
+/// # Errors
+///
+/// `Memory` if memory runs out.
+pub fn cursors_of<'a>(
+    alloc: Global,
+    shelf: &'a Shelf,
+    picks: &[usize],
+) -> Result<Vec<Cursor<'a>>, Memory>
+    requires { ArePicks shelf.now picks.now }
+    ensures { IfOk result (λ cursors. length cursors.items ≡ length picks.now) }
+{
+    let row = shelf.region().rows() - 1;
+    start_all(alloc, shelf, picks, row)
+}
+
+/// Moves all to the first cells of a row.
+pub fn restart_all<'a>(cursors: &mut [Cursor<'a>], shelf: &'a Shelf, picks: &[usize], row: u32)
+    requires picked { ArePicks shelf.now picks.now }
+    requires row_in_range { row < shelf.now.region.rows }
+    requires width { length cursors.old ≡ length picks.now }
+    ensures cells { map to_come cursors.new ≡ map (row_in shelf.now.maps row) picks.now }
+    ensures width { AreWideRows shelf.now row picks.now }
+    ensures ready { All AreCursorsReady cursors.new }
+{
+    for i in 0..picks.len() {
+        cursors[i] = start(shelf.map(picks[i]), row);
+    }
+}
+
+// The lesser of two numbers of columns.
+fn lesser(a: u32, b: u32) -> u32
+    ensures first { result ≤ a }
+    ensures second { result ≤ b }
+    ensures some { 0 < a → 0 < b → 0 < result }
+{
+    a.min(b)
+}
+
+/// Moves all on by some columns of their present runs, and writes the cells there. Returns in how many columns from there on
+/// they are the same, at most so many as are left.
+#[inline(always)]
+pub fn pass_all(cursors: &mut [Cursor], count: u32, left: u32, cells: &mut [Cell]) -> u32
+    requires within { All (λ c. count ≤ c.left) cursors.old }
+    requires ready { All AreCursorsReady cursors.old }
+    requires width { length cells.old ≡ length cursors.old }
+    ensures cells { cells.new ≡ map (λ c. c.cell) cursors.new }
+    ensures passed { map to_come cursors.new ≡ map (λ c. drop count (to_come c)) cursors.old }
+    ensures ready { All AreCursorsReady cursors.new }
+    ensures least { All (λ c. result ≤ c.left) cursors.new }
+    ensures most { result ≤ left }
+    ensures some { All (λ c. 0 < c.left) cursors.new → 0 < left → 0 < result }
+{
+    let mut least = left;
+    for i in 0..cursors.len() {
+        let cursor = &mut cursors[i];
+        cursor.pass(count);
+        cells[i] = cursor.cell;
+        least = lesser(least, cursor.left);
+    }
+    least
+}

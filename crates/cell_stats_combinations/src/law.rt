@@ -1,0 +1,8 @@
+//! What is read as a combination.
+
+ghost use Rattle.cell_stats_combinations.specs.ComboReading.{CombinationsAreRead};
+
+/// A text is read as a combination exactly if it spells it, and has its width.
+pub fn combinations_are_read()
+    ensures { CombinationsAreRead }
+{}

@@ -1,0 +1,69 @@
+-- How the counts of parts add up, and that they fit.
+use Rattle.std.proofs.Common.{◌≡◌, ℕ, zero, suc, ◌+◌, ◌^◌, ◌<◌, ◌≤◌, List, [], ◌∷◌, ◌++◌, map, replicate}
+use Rattle.std.proofs.Common.{Bool, true, false, not, cond, refl, ap, ◌∙◌, arith, length-append, add-zero, mul-le-mul}
+use Rattle.std.proofs.lemmas.List.Elements.{filter-append}
+use Rattle.std.proofs.lemmas.List.FromFn.{length-map-range_with_len}
+use Rattle.std.proofs.lemmas.List.Sums.{sum_by-append, count_by-le-length, length-filter}
+use Rattle.std.specs.List.{range_with_len}
+use Rattle.std.specs.Ordering.{eq_by_cmp}
+use Rattle.cell_core.specs.Grid.{Grid}
+use Rattle.cell_stats_combinations.specs.declared.skip.Skip.{Skip}
+use Rattle.cell_stats_combinations.specs.Combinations.{Combination, combination_cmp, combination_at, all_combinations}
+use Rattle.cell_stats_combinations.specs.LeftOut.{kept_cells, is_left_out}
+use Rattle.cell_stats_combinations.specs.parts.Same.{is_same}
+use Rattle.cell_stats_combinations.proofs.WalkLemmas.{kept-replicate, length_all}
+use Rattle.cell_stats_counts.specs.Counts.{count_of}
+
+pub count-append : (k : Combination) (xs ys : List Combination) → count_of k (xs ++ ys) ≡ count_of k xs + count_of k ys
+count-append k xs ys = sum_by-append (λ (x : Combination). cond (eq_by_cmp combination_cmp k x) 1 0) xs ys
+
+pub count-replicate : (k q : Combination) (n : ℕ) → count_of k (replicate n q) ≡ cond (is_same k q) n 0
+count-replicate k q zero = by (is_same k q)
+  where
+    by : (b : Bool) → ◌≡◌ {A = ℕ} 0 (cond b 0 0)
+    by true = refl
+    by false = refl
+count-replicate k q (suc n) = count-append k (q ∷ []) (replicate n q) ∙ by (is_same k q) refl (count-replicate k q n)
+  where
+    by : (b : Bool) → is_same k q ≡ b → count_of k (replicate n q) ≡ cond (is_same k q) n 0 → count_of k (q ∷ []) + count_of k (replicate n q) ≡ cond (is_same k q) (suc n) 0
+    by true e on = rw e (ap (λ m. 1 + m) (on ∙ ap (λ b. cond b n 0) e) ∙ omega arith)
+    by false e on = rw e (ap (λ m. 0 + m) (on ∙ ap (λ b. cond b n 0) e))
+
+-- the counts of two parts
+pub count-both : (skip : Skip) (k : Combination) (xs ys : List Combination) → count_of k (kept_cells skip (xs ++ ys)) ≡ count_of k (kept_cells skip xs) + count_of k (kept_cells skip ys)
+count-both skip k xs ys = ap (count_of k) (filter-append (λ x. not (is_left_out skip x)) xs ys) ∙ count-append k (kept_cells skip xs) (kept_cells skip ys)
+
+-- a stretch of a combination by itself
+pub count-stretch : (skip : Skip) (k q : Combination) (n : ℕ) (b : Bool) → is_left_out skip q ≡ b → count_of k (kept_cells skip (replicate n q)) ≡ cond b 0 (cond (is_same k q) n 0)
+count-stretch skip k q n true l = ap (count_of k) (kept-replicate skip q n true l)
+count-stretch skip k q n false l = ap (count_of k) (kept-replicate skip q n false l) ∙ count-replicate k q n
+
+module _ (skip : Skip) (k q : Combination) (n : ℕ) (xs : List Combination) where
+  -- a combination that is left out adds nothing
+  pub count-left : is_left_out skip q ≡ true
+      → count_of k (kept_cells skip (xs ++ replicate n q)) ≡ count_of k (kept_cells skip xs)
+  count-left l =
+      count-both skip k xs (replicate n q)
+      ∙ ap (λ m. count_of k (kept_cells skip xs) + m) (count-stretch skip k q n true l)
+      ∙ add-zero (count_of k (kept_cells skip xs))
+
+  -- another adds its cells
+  pub count-more : is_left_out skip q ≡ false → count_of k (kept_cells skip (xs ++ replicate n q))
+      ≡ count_of k (kept_cells skip xs) + cond (is_same k q) n 0
+  count-more l =
+      count-both skip k xs (replicate n q)
+      ∙ ap (λ m. count_of k (kept_cells skip xs) + m) (count-stretch skip k q n false l)
+
+module _ (maps : List Grid) (picks : List ℕ) (cols : ℕ) where
+  -- a count of the cells so far fits
+  pub count_small : (skip : Skip) (k : Combination) (r c : ℕ) → r ≤ 65535 → c ≤ 65535 → cols ≤ 65535 → count_of k (kept_cells skip (all_combinations maps picks r cols ++ map (combination_at maps picks r) (range_with_len 0 c))) < 2 ^ 63
+  count_small skip k r c hr hc hcols =
+      let m = mul-le-mul hr hcols in
+      let cells = all_combinations maps picks r cols ++ map (combination_at maps picks r) (range_with_len 0 c) in
+      let counted = count_by-le-length (eq_by_cmp combination_cmp k) (kept_cells skip cells) in
+      let fewer = count_by-le-length (λ x. not (is_left_out skip x)) cells in
+      let kept = length-filter (λ x. not (is_left_out skip x)) cells in
+      let before = all_combinations maps picks r cols in
+      let both = length-append before (map (combination_at maps picks r) (range_with_len 0 c)) in
+      let row = length-map-range_with_len (combination_at maps picks r) 0 c in
+      omega (arith, m, counted, fewer, kept, both, length_all maps picks cols r, row)

@@ -1,8 +1,0 @@
-//! What is read as a combination.
-
-ghost use Rattle.cell_stats_counts.specs.ComboReading.{CombinationsAreRead};
-
-/// A text is read as a combination exactly if it spells it, and has its width.
-pub fn combinations_are_read()
-    ensures { CombinationsAreRead }
-{}
