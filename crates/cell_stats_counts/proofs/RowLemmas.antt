@@ -144,3 +144,39 @@ counted-both skip k maps picks row p q cols one other old new twins first second
     ∙ sym (count-both skip k base (row_combinations maps picks cols row))
     ∙ ap (λ (l : List Combination). count_of k (kept_cells skip l)) (sym (all_combinations_more maps picks cols row))
     ∙ ap (λ r. count_of k (kept_cells skip (all_combinations maps picks r cols))) (sym (add-one row))
+
+-- ---- the steps from a column to the next
+
+-- what is counted after the cells that the places held
+pub joined : {now list old was : ℕ} (listed rest left all : ℕ) → now ≡ list → list + left ≡ old + rest → old ≡ was
+    → was + listed + rest ≡ all → now + listed + left ≡ all
+joined listed rest left all same counts value before = omega arith
+
+pub joined_few : {now list old was : ℕ} (listed col next most : ℕ) → now ≡ list → list + col ≤ old + next → old ≡ was
+    → was + listed ≤ most + col → now + listed ≤ most + next
+joined_few listed col next most same few value before = omega arith
+
+pub none : (n : ℕ) {m : ℕ} → n ≤ m → n + 0 ≤ m
+none n le = omega arith
+
+pub one_more : (n : ℕ) {m : ℕ} → n + 0 ≤ m → n ≤ m
+one_more n le = omega arith
+
+pub next_few : {n : ℕ} (most col : ℕ) → n ≤ most + col → n ≤ most + (col + 1)
+next_few most col le = omega arith
+
+pub inside : {col wide all : ℕ} → col < wide → all ≡ wide → col < all
+inside small same = omega arith
+
+pub before_end : {col wide : ℕ} → col < wide → col + 1 ≤ wide
+before_end small = omega arith
+
+pub still_some : {n m : ℕ} → n ≡ m → 0 < m → 0 < n
+still_some same some = omega arith
+
+pub past : {all wide col : ℕ} → all ≡ wide → wide ≤ col → all ≤ col
+past same ended = omega arith
+
+-- no cell is left
+pub at_end : {now left : ℕ} (all : ℕ) → left ≡ 0 → now + left ≡ all → now ≡ all
+at_end all none counted = omega arith

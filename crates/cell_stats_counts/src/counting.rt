@@ -209,14 +209,8 @@ pub(crate) fn add_count(
         add_pair(alloc, cells, count, &mut places.pairs, &mut counted.entries)?;
         return Ok(());
     }
-    add_wide(
-        alloc,
-        cells,
-        count,
-        spare,
-        places.wide.as_mut_slice(),
-        counted,
-    )?;
+    let wide = places.wide.as_mut_slice();
+    add_wide(alloc, cells, count, spare, wide, counted)?;
     Ok(())
 }
 
@@ -256,13 +250,10 @@ pub(crate) fn first_places(
     ensures no_pairs { IfOk result (λ places. AreFree places.pairs.places.items) }
 {
     let many = places_for(shelf);
-    let width = picks.len();
-    let wide = empty_places(alloc, if width <= PAIR { 1 } else { many })?;
-    let pairs = PairTable::new(
-        alloc,
-        layout_for(shelf, picks),
-        if width <= PAIR { many } else { 1 },
-    )?;
+    let are_few = picks.len() <= PAIR;
+    let wide = empty_places(alloc, if are_few { 1 } else { many })?;
+    let layout = layout_for(shelf, picks);
+    let pairs = PairTable::new(alloc, layout, if are_few { many } else { 1 })?;
     Ok(CountPlaces { wide, pairs })
 }
 

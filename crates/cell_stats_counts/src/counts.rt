@@ -96,15 +96,9 @@ fn count_row<'a>(
         let one = selection.shelf.map(*first);
         let other = selection.shelf.map(*second);
         if is_varied(one, row) || is_varied(other, row) {
-            count_varied(
-                alloc,
-                one,
-                other,
-                row,
-                selection.skip,
-                &mut places.pairs,
-                &mut counted.entries,
-            )?;
+            let table = &mut places.pairs;
+            let entries = &mut counted.entries;
+            count_varied(alloc, one, other, row, selection.skip, table, entries)?;
             return Ok(());
         }
         // Of a length that the compiler knows, so that it unrolls what goes over them.
@@ -138,8 +132,9 @@ pub fn count_cells(
         AreCountsOf (kept_cells skip (shelf_combinations shelf.now picks.now)) counted.items) }
 {
     let width = picks.len();
-    let mut cells = vec![in alloc; Cell::null(); width]?;
-    let mut spare = Combo::from_cells(alloc, &cells)?;
+    let mut nulls = vec![in alloc; Cell::null(); width]?;
+    let cells = nulls.as_mut_slice();
+    let mut spare = Combo::from_cells(alloc, cells)?;
     let mut places = first_places(alloc, shelf, picks)?;
     let mut counted = Gathered::new(alloc);
     let mut started = cursors_of(alloc, shelf, picks)?;
@@ -147,20 +142,14 @@ pub fn count_cells(
     let selection = Selection { shelf, picks, skip };
     let mut before = 0;
     for row in 0..shelf.region().rows() {
-        before = make_room(
-            alloc,
-            width,
-            before,
-            &mut spare,
-            &mut places.wide,
-            &mut counted,
-        )?;
+        let wide = &mut places.wide;
+        before = make_room(alloc, width, before, &mut spare, wide, &mut counted)?;
         count_row(
             alloc,
             selection,
             row,
             cursors,
-            cells.as_mut_slice(),
+            cells,
             &mut spare,
             &mut places,
             &mut counted,

@@ -5,11 +5,11 @@
 ghost use Rattle.std.specs.Prelude.{◌<◌};
 ghost use Rattle.cell_stats_combinations.specs.Combinations.{ArePicks};
 
-use crate::gathered::code_of;
 use crate::paired::Layout;
-use cell_core::cell::Cell;
+use crate::scattered::CodeRange;
 use cell_core::map::CellMap;
 use cell_core::shelf::Shelf;
+use cell_core_values::small_cells::cell_of_byte;
 
 // About so many rows of a map are looked at.
 const SAMPLE: u32 = 8;
@@ -17,93 +17,50 @@ const SAMPLE: u32 = 8;
 // The most categories that have a place of their own.
 const MOST: u64 = 16777216;
 
-// The largest category that a byte stands for.
-const LARGEST: i32 = 254;
+// The byte that stands for the largest category.
+const LARGEST: u8 = 254;
 
-// What the rows that were looked at have: the smallest and the largest code of a category, and how many stretches.
+// What the rows that were looked at have: the range of the categories, and how many stretches.
 #[derive(Clone, Copy)]
 struct Sample {
-    smallest: u64,
-    largest: u64,
+    range: CodeRange,
     stretches: u64,
 }
 
 impl Sample {
-    // Of no row.
-    fn new() -> Sample {
-        Sample {
-            smallest: u64::MAX,
-            largest: 0,
-            stretches: 0,
-        }
-    }
-
-    // With one more stretch.
-    fn with(self, cell: Cell) -> Sample {
-        let code = code_of(cell);
-        let stretches = self.stretches.wrapping_add(1);
-        if code == 0 {
-            return Sample { stretches, ..self };
-        }
-        Sample {
-            smallest: self.smallest.min(code),
-            largest: self.largest.max(code),
-            stretches,
-        }
-    }
-
     // With one more row.
-    fn with_row(self, map: &CellMap, row: u32) -> Sample
+    fn with_row(mut self, map: &CellMap, row: u32) -> Sample
         requires { row < map.now.region.rows }
     {
         if let Some(bytes) = map.bytes(row) {
-            let zero = code_of_category(0);
-            return Sample {
-                smallest: self.smallest.min(zero),
-                largest: self.largest.max(code_of_category(LARGEST)),
-                stretches: self.stretches.wrapping_add(bytes.len() as u64),
-            };
+            let range = self.range.with(cell_of_byte(0));
+            self.range = range.with(cell_of_byte(LARGEST));
+            self.stretches = self.stretches.wrapping_add(bytes.len() as u64);
+            return self;
         }
-        let mut sample = self;
         for (cell, _) in map.stretches(row) {
-            sample = sample.with(cell);
+            self.range = self.range.with(cell);
+            self.stretches = self.stretches.wrapping_add(1);
         }
-        sample
+        self
     }
 
     // Places for the categories if they are hardly more than there are stretches. Some are left free on both sides.
     fn layout(self, times: u64) -> Layout {
-        if self.smallest > self.largest {
+        let CodeRange { smallest, largest } = self.range;
+        if smallest > largest {
             return Layout::hashed();
         }
-        let margin = (self.largest - self.smallest) / 16;
-        let first = self.smallest.saturating_sub(margin).max(1);
-        let own = self
-            .largest
-            .saturating_add(margin)
-            .wrapping_sub(first)
-            .wrapping_add(1);
-        if own
-            > self
-                .stretches
-                .wrapping_mul(times)
-                .saturating_mul(2)
-                .min(MOST)
-        {
+        let margin = (largest - smallest) / 16;
+        let first = smallest.saturating_sub(margin).max(1);
+        let last = largest.saturating_add(margin);
+        let own = last.wrapping_sub(first).wrapping_add(1);
+        let stretches = self.stretches.wrapping_mul(times);
+        if own > stretches.saturating_mul(2).min(MOST) {
             return Layout::hashed();
         }
-        Layout {
-            first,
-            own: own as usize,
-        }
-    }
-}
-
-// The code of a category.
-fn code_of_category(category: i32) -> u64 {
-    match Cell::value(category) {
-        Some(cell) => code_of(cell),
-        None => 0,
+        let own = own as usize;
+        Layout { first, own }
     }
 }
 
@@ -115,7 +72,10 @@ pub(crate) fn layout_for(shelf: &Shelf, picks: &[usize]) -> Layout
         let map = shelf.map(*place);
         let rows = map.region().rows();
         let apart = (rows / SAMPLE).max(1);
-        let mut sample = Sample::new();
+        let mut sample = Sample {
+            range: CodeRange::new(),
+            stretches: 0,
+        };
         for row in 0..rows {
             if row % apart == 0 || row == rows - 1 {
                 sample = sample.with_row(map, row);

@@ -50,39 +50,6 @@ fn row_cells(alloc: Global, map: &CellMap, row: u32) -> Result<Vec<Cell>, Memory
     Ok(cells)
 }
 
-// Counts the cells of a row by themselves.
-fn count_each(
-    alloc: Global,
-    cells: &[Cell],
-    skip: Skip,
-    table: &mut PairTable,
-    entries: &mut Vec<(Combo, u64)>,
-) -> Result<(), Memory>
-    requires places { 0 < length table.old.places.items }
-    requires fits { HasPairRoom 1 table.old.places.items entries.old.items (length cells.now) }
-    requires no_zero { HasNoZero entries.old.items }
-    ensures ok { OnOk result ((k : Combination)
-        → paired_of 1 k table.new.places.items + listed_of k entries.new.items
-        ≡ paired_of 1 k table.old.places.items + listed_of k entries.old.items
-        + count_from skip k (map alone cells.now) 0) }
-    ensures places { OnOk result (0 < length table.new.places.items) }
-    ensures no_zero { OnOk result (HasNoZero entries.new.items) }
-{
-    let mut col = 0;
-    while col < cells.len() {
-        let layout = table.layout;
-        col = join_alone_from(table.places.as_mut_slice(), layout, skip, cells, col);
-        if col < cells.len() {
-            let one = [cells[col]];
-            if !is_left_out(skip, &one) {
-                add_pair(alloc, &one, 1, table, entries)?;
-            }
-            col += 1;
-        }
-    }
-    Ok(())
-}
-
 // Counts the cells of a row of one map.
 pub(crate) fn count_varied_alone(
     alloc: Global,
@@ -103,37 +70,16 @@ pub(crate) fn count_varied_alone(
     ensures places { OnOk result (0 < length table.new.places.items) }
     ensures no_zero { OnOk result (HasNoZero entries.new.items) }
 {
-    let cells = row_cells(alloc, grid, row)?;
-    count_each(alloc, &cells, skip, table, entries)
-}
-
-// Counts the pairs of the cells of two rows.
-fn count_pairs(
-    alloc: Global,
-    first: &[Cell],
-    second: &[Cell],
-    skip: Skip,
-    table: &mut PairTable,
-    entries: &mut Vec<(Combo, u64)>,
-) -> Result<(), Memory>
-    requires width { length second.now ≡ length first.now }
-    requires places { 0 < length table.old.places.items }
-    requires fits { HasPairRoom 2 table.old.places.items entries.old.items (length first.now) }
-    requires no_zero { HasNoZero entries.old.items }
-    ensures ok { OnOk result ((k : Combination)
-        → paired_of 2 k table.new.places.items + listed_of k entries.new.items
-        ≡ paired_of 2 k table.old.places.items + listed_of k entries.old.items
-        + count_from skip k (both first.now second.now) 0) }
-    ensures places { OnOk result (0 < length table.new.places.items) }
-    ensures no_zero { OnOk result (HasNoZero entries.new.items) }
-{
+    let copied = row_cells(alloc, grid, row)?;
+    let cells = copied.as_slice();
     let mut col = 0;
-    while col < first.len() {
-        col = join_from(table.places.as_mut_slice(), skip, first, second, col);
-        if col < first.len() {
-            let cells = [first[col], second[col]];
-            if !is_left_out(skip, &cells) {
-                add_pair(alloc, &cells, 1, table, entries)?;
+    while col < cells.len() {
+        let layout = table.layout;
+        col = join_alone_from(table.places.as_mut_slice(), layout, skip, cells, col);
+        if col < cells.len() {
+            let one = [cells[col]];
+            if !is_left_out(skip, &one) {
+                add_pair(alloc, &one, 1, table, entries)?;
             }
             col += 1;
         }
@@ -165,7 +111,20 @@ pub(crate) fn count_varied(
     ensures width { OnOk result (length (row_at one.now row) ≡ one.now.region.cols) }
     ensures width_of_other { OnOk result (length (row_at other.now row) ≡ one.now.region.cols) }
 {
-    let first = row_cells(alloc, one, row)?;
-    let second = row_cells(alloc, other, row)?;
-    count_pairs(alloc, &first, &second, skip, table, entries)
+    let firsts = row_cells(alloc, one, row)?;
+    let seconds = row_cells(alloc, other, row)?;
+    let first = firsts.as_slice();
+    let second = seconds.as_slice();
+    let mut col = 0;
+    while col < first.len() {
+        col = join_from(table.places.as_mut_slice(), skip, first, second, col);
+        if col < first.len() {
+            let cells = [first[col], second[col]];
+            if !is_left_out(skip, &cells) {
+                add_pair(alloc, &cells, 1, table, entries)?;
+            }
+            col += 1;
+        }
+    }
+    Ok(())
 }

@@ -1,6 +1,5 @@
 use Rattle.std.proofs.Common.{◌≡◌, ℕ, ◌≤◌, ◌<◌, ◌+◌, ◌^◌, List, length, subst, arith, ap, sym, refl, ◌∙◌, append-nil}
 use Rattle.std.proofs.lemmas.Result.{IfOk-from_err}
-use Rattle.std.proofs.lemmas.List.{with_items_is}
 use borrow.Author.Count.{falls}
 use Rattle.cell_core_values.specs.Region.{RegionValue, IsRegion}
 use Rattle.cell_core.specs.Grid.{Grid}
@@ -50,7 +49,8 @@ brought listed pending paired pushed flushed = omega arith
 pub loop-row-init : goal.loop-row-init
 loop-row-init c =
     let empty = c.new-counted.ensures.none in
-    let wide = sym c.in_ok-cells.cells.ok.0 ∙ c.in_ok-cells.ensures.len in
+    let nulls = sym c.in_ok-nulls.nulls.ok.0 ∙ c.in_ok-nulls.ensures.len in
+    let wide = ap length c.as_mut_slice-cells.ensures.value ∙ nulls in
     record {
       counted = λ k.
           none_yet (c.in_ok-places.ensures.no_pairs (length c.args.picks.now) k)
@@ -59,7 +59,7 @@ loop-row-init c =
       going = record {
         wide = record {
           few = c.requires.width.1;
-          wide = ap length (c.in_ok-spare.ensures ∙ c.deref.ensures.value) ∙ wide;
+          wide = ap length c.in_ok-spare.ensures ∙ wide;
           some = c.in_ok-places.ensures.some;
           no_zero = (
             subst HasNoZero (sym empty) (λ i d within. absurd (omega (arith, within))),
@@ -102,7 +102,7 @@ pub count_row-requires-clause-cursors : goal.count_row-requires-clause-cursors
 count_row-requires-clause-cursors c = c.loop-row.invariant.cursors
 
 pub count_row-requires-clause-cells : goal.count_row-requires-clause-cells
-count_row-requires-clause-cells c = ap length c.as_mut_slice.ensures.value ∙ c.loop-row.invariant.cells
+count_row-requires-clause-cells c = c.loop-row.invariant.cells
 
 pub count_row-requires-clause-going : goal.count_row-requires-clause-going
 count_row-requires-clause-going c = record {
@@ -121,18 +121,15 @@ loop-row-smaller c = falls _ _ c.loop-row-test.true
 
 pub loop-row-preserved : goal.loop-row-preserved
 loop-row-preserved c =
-    let new = c.count_row.new in
-    let cells = with_items_is c.loop-row.cells new.cells (c.count_row.auto.cells ∙ c.as_mut_slice.ensures.len) in
     record {
       counted = c.in_ok-count_row.ensures.ok;
       going = c.in_ok-count_row.ensures.going;
-      cells = ap length cells ∙ c.count_row.auto.cells ∙ ap length c.as_mut_slice.ensures.value
-          ∙ c.loop-row.invariant.cells;
+      cells = c.count_row.auto.cells ∙ c.loop-row.invariant.cells;
       cursors = c.count_row.auto.cursors ∙ c.loop-row.invariant.cursors;
     }
 
 pub flush_all-requires-clause-going : goal.flush_all-requires-clause-going
-flush_all-requires-clause-going c = rw c.deref-2.ensures.value c.loop-row.invariant.going.wide
+flush_all-requires-clause-going c = rw c.deref.ensures.value c.loop-row.invariant.going.wide
 
 pub flush_all-requires-clause-fits : goal.flush_all-requires-clause-fits
 flush_all-requires-clause-fits c = λ k.
@@ -141,7 +138,7 @@ flush_all-requires-clause-fits c = λ k.
     let region : IsRegion shelf.region = rw (← c.region.ensures.value) c.rows-row-end.ensures.region in
     let rows = c.rows-row-end.ensures.value ∙ ap (λ (r : RegionValue). r.rows) c.region.ensures.value in
     part (paired_of width k c.loop-row.places.pairs.places.items)
-    (ap (λ n. n + gathered_of k c.loop-row.counted) (ap (held_of width k) c.deref-2.ensures.value))
+    (ap (λ n. n + gathered_of k c.loop-row.counted) (ap (held_of width k) c.deref.ensures.value))
     (fits shelf.maps c.args.picks.now shelf.region.cols c.args.skip k c.loop-row.row shelf.region.rows _
     (at_most c.loop-row.auto.row-end rows) region.rows_most region.cols_most
     (c.loop-row.invariant.counted k))
@@ -163,7 +160,7 @@ returns c =
       counts = λ k.
           c.ordered_entries.ensures.counts k
           ∙ brought _ _ _ (c.in_ok-list_pairs.ensures.ok k) (c.in_ok-flush_all.ensures.counts k
-          ∙ ap (λ n. n + gathered_of k c.loop-row.counted) (ap (held_of width k) c.deref-2.ensures.value))
+          ∙ ap (λ n. n + gathered_of k c.loop-row.counted) (ap (held_of width k) c.deref.ensures.value))
           ∙ c.loop-row.invariant.counted k
           ∙ ap (λ r. count_of k (kept_cells skip (all_combinations maps picks r value.cols))) last;
       no_zero = c.ordered_entries.ensures.no_zero;
@@ -178,15 +175,15 @@ ordered_entries-requires-clause-fits c = λ k.
     fits shelf.maps c.args.picks.now shelf.region.cols c.args.skip k c.loop-row.row shelf.region.rows _
     (at_most c.loop-row.auto.row-end rows) region.rows_most region.cols_most
     (brought _ _ _ (c.in_ok-list_pairs.ensures.ok k) (c.in_ok-flush_all.ensures.counts k
-    ∙ ap (λ n. n + gathered_of k c.loop-row.counted) (ap (held_of width k) c.deref-2.ensures.value))
+    ∙ ap (λ n. n + gathered_of k c.loop-row.counted) (ap (held_of width k) c.deref.ensures.value))
     ∙ c.loop-row.invariant.counted k)
 
 pub ordered_entries-requires-clause-no_zero : goal.ordered_entries-requires-clause-no_zero
 ordered_entries-requires-clause-no_zero c =
     (c.in_ok-list_pairs.ensures.no_zero, c.in_ok-flush_all.ensures.going.no_zero.1)
 
-pub returns-in_err-cells : goal.returns-in_err-cells
-returns-in_err-cells c = IfOk-from_err c.from_residual.result _ c.from_residual.ensures.0
+pub returns-in_err-nulls : goal.returns-in_err-nulls
+returns-in_err-nulls c = IfOk-from_err c.from_residual.result _ c.from_residual.ensures.0
 
 pub returns-in_err-spare : goal.returns-in_err-spare
 returns-in_err-spare c =

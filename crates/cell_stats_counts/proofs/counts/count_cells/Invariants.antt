@@ -6,6 +6,6 @@ abbrev pub invariant-loop-row : goal.invariant-loop-row
 invariant-loop-row l = record {
   counted : AreCounted l.shelf l.picks l.fn.skip l.row l.places l.counted;
   going : IsCounting (length l.picks) l.spare l.places l.counted;
-  cells : length l.cells.items ≡ length l.picks;
+  cells : length l.cells ≡ length l.picks;
   cursors : length l.cursors ≡ length l.picks;
 }

@@ -3,7 +3,7 @@ use Rattle.cell_stats_combinations.specs.Combinations.{Combination}
 use Rattle.cell_stats_counts.specs.Listed.{listed_of, HasNoZero}
 use Rattle.cell_stats_counts.specs.parts.HeldPlaces.{paired_of}
 use Rattle.cell_stats_counts.specs.parts.RowCells.{both, count_from}
-use Rattle.cell_stats_counts.proofs.varied.count_pairs.Given as goal
+use Rattle.cell_stats_counts.proofs.varied.count_varied.Given as goal
 
 abbrev pub invariant-loop-col : goal.invariant-loop-col
 invariant-loop-col l = record {

@@ -1,55 +1,30 @@
-use Rattle.std.proofs.Common.{◌≡◌, ◌+◌, ◌<◌, ◌≤◌, ℕ, [], ◌∷◌, length, true, false, arith, sym, ap, ◌∙◌}
+use Rattle.std.proofs.Common.{◌≡◌, ◌+◌, ◌<◌, ◌≤◌, ℕ, List, [], ◌∷◌, length, true, false, sym, ap, ◌∙◌}
 use Rattle.std.specs.Vec.{with_items}
 use Rattle.std.proofs.lemmas.List.{with_items_is}
+use Rattle.cell_core_values.specs.Region.{RegionValue}
+use Rattle.cell_core.specs.Grid.{CellValue, row_at}
 use Rattle.cell_stats_combinations.specs.Combinations.{Combination}
 use Rattle.cell_stats_combinations.specs.LeftOut.{is_left_out}
 use Rattle.cell_stats_counts.specs.Listed.{listed_of}
 use Rattle.cell_stats_counts.specs.parts.HeldPlaces.{paired_of}
 use Rattle.cell_stats_counts.specs.parts.RowCells.{both, count_from}
 use Rattle.cell_stats_counts.proofs.RowLemmas.{count_from-end, length-both, pair-at, cell-left, cell-more, cell-few}
-use Rattle.cell_stats_counts.proofs.varied.count_pairs.Goals as goal
-use Rattle.cell_stats_counts.proofs.varied.count_pairs.Goals.{then-not-is_left_out+in_ok-add_pair, else-not-is_left_out}
+use Rattle.cell_stats_counts.proofs.RowLemmas.{joined, joined_few, none, one_more, next_few}
+use Rattle.cell_stats_counts.proofs.RowLemmas.{inside, before_end, still_some, past, at_end}
+use Rattle.cell_stats_counts.proofs.varied.count_varied.Goals as goal
+use Rattle.cell_stats_counts.proofs.varied.count_varied.Goals.{then-not-is_left_out+in_ok-add_pair}
+use Rattle.cell_stats_counts.proofs.varied.count_varied.Goals.{else-not-is_left_out}
 
--- what is counted after the cells that the places held
-joined : {now list old was : ℕ} (listed rest left all : ℕ) → now ≡ list → list + left ≡ old + rest → old ≡ was
-    → was + listed + rest ≡ all → now + listed + left ≡ all
-joined listed rest left all same counts value before = omega arith
-
-joined_few : {now list old was : ℕ} (listed col next most : ℕ) → now ≡ list → list + col ≤ old + next → old ≡ was
-    → was + listed ≤ most + col → now + listed ≤ most + next
-joined_few listed col next most same few value before = omega arith
-
-none : (n : ℕ) {m : ℕ} → n ≤ m → n + 0 ≤ m
-none n le = omega arith
-
-one_more : (n : ℕ) {m : ℕ} → n + 0 ≤ m → n ≤ m
-one_more n le = omega arith
-
-next_few : {n : ℕ} (most col : ℕ) → n ≤ most + col → n ≤ most + (col + 1)
-next_few most col le = omega arith
-
-inside : {col wide all : ℕ} → col < wide → all ≡ wide → col < all
-inside small same = omega arith
-
-before_end : {col wide : ℕ} → col < wide → col + 1 ≤ wide
-before_end small = omega arith
-
-still_some : {n m : ℕ} → n ≡ m → 0 < m → 0 < n
-still_some same some = omega arith
-
-past : {all wide col : ℕ} → all ≡ wide → wide ≤ col → all ≤ col
-past same ended = omega arith
-
--- no cell is left
-at_end : {now left : ℕ} (all : ℕ) → left ≡ 0 → now + left ≡ all → now ≡ all
-at_end all none counted = omega arith
+wide_as : {first firsts second seconds : List CellValue} {cols others : ℕ} → first ≡ firsts → length firsts ≡ cols
+    → second ≡ seconds → length seconds ≡ others → others ≡ cols → length second ≡ length first
+wide_as is wide is_too wide_too same = ap length is_too ∙ wide_too ∙ same ∙ sym (ap length is ∙ wide)
 
 pub loop-col-preserved-then-col-first : goal.loop-col-preserved-then-col-first
 loop-col-preserved-then-col-first c =
     let inv = c.loop-col.invariant in
     let skip = c.args.skip in
-    let first = c.args.first.now in
-    let second = c.args.second.now in
+    let first = c.as_slice-first.result.now in
+    let second = c.as_slice-second.result.now in
     let cells = both first second in
     let col = c.join_from-col.result in
     let table = c.loop-col.table in
@@ -57,7 +32,8 @@ loop-col-preserved-then-col-first c =
     let new = c.join_from-col.new.places in
     let same = with_items_is table.places new (c.join_from-col.auto.places ∙ c.as_mut_slice.ensures.len) in
     let q = c.index-first-col.result ∷ c.index-second-col.result ∷ [] in
-    let wide = c.requires.width in
+    let wide = wide_as c.as_slice-first.ensures.value c.in_ok-firsts.ensures.width c.as_slice-second.ensures.value
+    c.in_ok-seconds.ensures.width (ap (λ (r : RegionValue). r.cols) c.requires.region) in
     let within : col < length cells = inside c.if-col-first.true (length-both first second wide) in
     let here = pair-at first second col _ _ c.if-col-first.true wide c.index-first-col.is c.index-second-col.is in
     let counts : (k : Combination) → paired_of 2 k (with_items table.places new).items + listed k
@@ -98,7 +74,14 @@ loop-col-preserved-then-col-first c =
 
 pub returns-clause-ok : goal.returns-clause-ok
 returns-clause-ok c = λ k.
-    let first = c.args.first.now in
-    let second = c.args.second.now in
-    let ended = past (length-both first second c.requires.width) c.loop-col-test.false in
+    let first = c.as_slice-first.result.now in
+    let second = c.as_slice-second.result.now in
+    let wide = wide_as c.as_slice-first.ensures.value c.in_ok-firsts.ensures.width c.as_slice-second.ensures.value
+    c.in_ok-seconds.ensures.width (ap (λ (r : RegionValue). r.cols) c.requires.region) in
+    let ended = past (length-both first second wide) c.loop-col-test.false in
+    let old = paired_of 2 k c.args.table.now.places.items + listed_of k c.args.entries.now.items in
     at_end _ (count_from-end c.args.skip k (both first second) c.loop-col.col ended) (c.loop-col.invariant.counts k)
+    ∙ ap (λ l. old + count_from c.args.skip k (both l second) 0)
+    (c.as_slice-first.ensures.value ∙ c.in_ok-firsts.ensures.cells)
+    ∙ ap (λ l. old + count_from c.args.skip k (both (row_at c.args.one.now c.args.row) l) 0)
+    (c.as_slice-second.ensures.value ∙ c.in_ok-seconds.ensures.cells)

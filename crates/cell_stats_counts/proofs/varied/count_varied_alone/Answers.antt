@@ -1,4 +1,4 @@
-use Rattle.std.proofs.Common.{◌≡◌, ◌+◌, ◌<◌, ◌≤◌, ℕ, length, map, true, false, arith, sym, ap, ◌∙◌}
+use Rattle.std.proofs.Common.{◌≡◌, ◌+◌, ◌<◌, ◌≤◌, ℕ, length, map, true, false, sym, ap, ◌∙◌}
 use Rattle.std.specs.Vec.{with_items}
 use Rattle.std.proofs.lemmas.List.{length-map, with_items_is}
 use Rattle.cell_stats_combinations.specs.Combinations.{Combination}
@@ -8,48 +8,17 @@ use Rattle.cell_stats_counts.specs.parts.HeldPlaces.{paired_of}
 use Rattle.cell_stats_counts.specs.parts.RowCells.{count_from}
 use Rattle.cell_stats_counts.specs.parts.Alone.{alone}
 use Rattle.cell_stats_counts.proofs.RowLemmas.{count_from-end, alone-at, cell-left, cell-more, cell-few}
-use Rattle.cell_stats_counts.proofs.varied.count_each.Goals as goal
-use Rattle.cell_stats_counts.proofs.varied.count_each.Goals.{then-not-is_left_out+in_ok-add_pair, else-not-is_left_out}
-
--- what is counted after the cells that the places held
-joined : {now list old was : ℕ} (listed rest left all : ℕ) → now ≡ list → list + left ≡ old + rest → old ≡ was
-    → was + listed + rest ≡ all → now + listed + left ≡ all
-joined listed rest left all same counts value before = omega arith
-
-joined_few : {now list old was : ℕ} (listed col next most : ℕ) → now ≡ list → list + col ≤ old + next → old ≡ was
-    → was + listed ≤ most + col → now + listed ≤ most + next
-joined_few listed col next most same few value before = omega arith
-
-none : (n : ℕ) {m : ℕ} → n ≤ m → n + 0 ≤ m
-none n le = omega arith
-
-one_more : (n : ℕ) {m : ℕ} → n + 0 ≤ m → n ≤ m
-one_more n le = omega arith
-
-next_few : {n : ℕ} (most col : ℕ) → n ≤ most + col → n ≤ most + (col + 1)
-next_few most col le = omega arith
-
-inside : {col wide all : ℕ} → col < wide → all ≡ wide → col < all
-inside small same = omega arith
-
-before_end : {col wide : ℕ} → col < wide → col + 1 ≤ wide
-before_end small = omega arith
-
-still_some : {n m : ℕ} → n ≡ m → 0 < m → 0 < n
-still_some same some = omega arith
-
-past : {all wide col : ℕ} → all ≡ wide → wide ≤ col → all ≤ col
-past same ended = omega arith
-
--- no cell is left
-at_end : {now left : ℕ} (all : ℕ) → left ≡ 0 → now + left ≡ all → now ≡ all
-at_end all none counted = omega arith
+use Rattle.cell_stats_counts.proofs.RowLemmas.{joined, joined_few, none, one_more, next_few}
+use Rattle.cell_stats_counts.proofs.RowLemmas.{inside, before_end, still_some, past, at_end}
+use Rattle.cell_stats_counts.proofs.varied.count_varied_alone.Goals as goal
+use Rattle.cell_stats_counts.proofs.varied.count_varied_alone.Goals.{then-not-is_left_out+in_ok-add_pair}
+use Rattle.cell_stats_counts.proofs.varied.count_varied_alone.Goals.{else-not-is_left_out}
 
 pub loop-col-preserved-then-col-cells : goal.loop-col-preserved-then-col-cells
 loop-col-preserved-then-col-cells c =
     let inv = c.loop-col.invariant in
     let skip = c.args.skip in
-    let row = c.args.cells.now in
+    let row = c.as_slice-cells.result.now in
     let cells = map alone row in
     let col = c.join_alone_from-col.result in
     let table = c.loop-col.table in
@@ -97,6 +66,8 @@ loop-col-preserved-then-col-cells c =
 
 pub returns-clause-ok : goal.returns-clause-ok
 returns-clause-ok c = λ k.
-    let row = c.args.cells.now in
+    let row = c.as_slice-cells.result.now in
     let ended = past (length-map row alone) c.loop-col-test.false in
     at_end _ (count_from-end c.args.skip k (map alone row) c.loop-col.col ended) (c.loop-col.invariant.counts k)
+    ∙ ap (λ l. paired_of 1 k c.args.table.now.places.items + listed_of k c.args.entries.now.items
+    + count_from c.args.skip k (map alone l) 0) (c.as_slice-cells.ensures.value ∙ c.in_ok-copied.ensures.cells)
