@@ -27,21 +27,29 @@ use Rattle.cell_ascii.proofs.WordLemmas.{word-more, gap-more, gap-one, HoldsLine
 
 -- ---- cells of words
 
-in_range : (v : ℕ) → v < 255 → is_in_range (pos v) ≡ true
+in_range : (v : ℕ) → v < 100000000 → is_in_range (pos v) ≡ true
 in_range v lt = grind (arith, nat_tests)
 
-pub digit_no_star : (b : ℕ) → is_digit b ≡ true → eqb b 42 ≡ false
+digit_no_star : (b : ℕ) → is_digit b ≡ true → eqb b 42 ≡ false
 digit_no_star b e = grind (arith, nat_tests)
+
+-- a number
+pub digits_word : (h : HeaderValue) → IsPlain h → (b : ℕ) (word : List ℕ) (v : ℕ) → list_all is_digit (b ∷ word) ≡ true
+    → is_digit b ≡ true
+    → v ≡ value_of_digits (b ∷ word) → v < 100000000 → cell_of_word h (b ∷ word) ≡ Ok (Some (pos v))
+digits_word h plain b word v digits first is small =
+    let no_star = digit_no_star b first in
+    let number : whole_number (b ∷ word) ≡ Some (pos v) = digits_number b word digits
+    ∙ ap (λ n. Some (pos n)) (sym is) in
+    let one : v * 1 ≡ v = omega arith in
+    rw (plain.null, plain.multiplier, no_star, number, in_range v small, one, in_range v small) refl
 
 -- a number that a byte stands for
 pub number_word : (h : HeaderValue) → IsPlain h → (b : ℕ) (word : List ℕ) (v : ℕ) → list_all is_digit (b ∷ word) ≡ true → is_digit b ≡ true → v ≡ value_of_digits (b ∷ word) → v < 255
     → cell_of_word h (b ∷ word) ≡ Ok (byte_cell v)
 number_word h plain b word v digits first is small =
-    let no_star = digit_no_star b first in
     let other : eqb v 255 ≡ false = grind (arith, nat_tests) in
-    let number : whole_number (b ∷ word) ≡ Some (pos v) = digits_number b word digits ∙ ap (λ n. Some (pos n)) (sym is) in
-    let one : v * 1 ≡ v = omega arith in
-    rw (plain.null, plain.multiplier, no_star, number, in_range v small, one, in_range v small, other) refl
+    rw other (digits_word h plain b word v digits first is (omega arith))
 
 pub star_word : (h : HeaderValue) → IsPlain h → (b : ℕ) → is_null_star b ≡ true → cell_of_word h (b ∷ []) ≡ Ok None
 star_word h plain b star = rw (plain.null, eqb-true b 42 star) refl

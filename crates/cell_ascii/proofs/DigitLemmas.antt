@@ -13,6 +13,7 @@ use Rattle.std.proofs.lemmas.List.Sums.{fold-append}
 use Rattle.std.proofs.lemmas.Nat.{and_block, and_mask}
 use Rattle.std.proofs.lemmas.Simd.{first_set_mask_l, mask_l-mod, splat_is_map, tops_compared, zip2_of_maps, zip2_splat}
 use Rattle.cell_ascii_meaning.specs.EdgeNumbers.{is_digit, value_of_digits, digits_of}
+use Rattle.cell_ascii_lanes.proofs.NumberLemmas.{zeros_value, length-zeros}
 use Rattle.cell_ascii.proofs.BufferedLemmas.{both}
 use lib.Arith.{digits_div, digits_mod}
 use lib.Count.{count_trailing_zeros}
@@ -153,14 +154,6 @@ digits_count (x ∷ xs) e =
 zeros_count : (k : ℕ) (xs : List ℕ) → Each1 Counts xs → Each1 Counts (replicate k 0 ++ xs)
 zeros_count zero xs all = all
 zeros_count (suc k) xs all = (record { byte = omega arith; low = refl; few = omega arith }, zeros_count k xs all)
-
-zeros_value : (k : ℕ) (xs : List ℕ) → value_of_digits (replicate k 0 ++ xs) ≡ value_of_digits xs
-zeros_value zero xs = refl
-zeros_value (suc k) xs = zeros_value k xs
-
-length-zeros : (k : ℕ) (xs : List ℕ) → length (replicate k 0 ++ xs) ≡ k + length xs
-length-zeros zero xs = omega arith
-length-zeros (suc k) xs = omega (arith, length-zeros k xs)
 
 eight_value : (xs : List ℕ) → length xs ≡ 8 → Each1 Counts xs → worth (nibbles (number_l 256 xs)) ≡ value_of_digits xs
 eight_value [] e all = absurd (omega arith)

@@ -1,5 +1,5 @@
 -- Words of digits of a block, each after one blank.
-use Rattle.std.proofs.Common.{◌≡◌, ℕ, zero, suc, ◌+◌, ◌-◌, ◌*◌, ◌<◌, ◌≤◌, leb, cond, not, Bool, true, false, pos, List}
+use Rattle.std.proofs.Common.{◌≡◌, ℕ, zero, suc, ◌+◌, ◌-◌, ◌<◌, ◌≤◌, leb, cond, not, Bool, true, false, pos, List}
 use Rattle.std.proofs.Common.{[], ◌∷◌, ◌++◌, Some, Ok, map, length, take, drop, get_or, refl, sym, ap, ap₂, ◌∙◌, arith}
 use Rattle.std.proofs.Common.{length-drop}
 use Rattle.std.specs.List.{list_all}
@@ -7,35 +7,21 @@ use Rattle.std.specs.Int.{bit_at}
 use Rattle.std.proofs.lemmas.List.{get_or-drop, take_rest}
 use Rattle.std.proofs.lemmas.Bool.Decides.{nat_tests}
 use Rattle.cell_ascii_meaning.specs.GridTokens.{is_space, is_word_byte, newlines}
-use Rattle.cell_ascii_meaning.specs.EdgeNumbers.{is_digit, value_of_digits, whole_number, is_in_range}
+use Rattle.cell_ascii_meaning.specs.EdgeNumbers.{is_digit, value_of_digits}
 use Rattle.cell_ascii_meaning.specs.Header.{HeaderValue}
 use Rattle.cell_ascii_meaning.specs.CellTexts.{cell_of_word}
 use Rattle.cell_ascii.specs.TableWords.{HoldsLines, blanks, cleared_front}
 use Rattle.cell_core.specs.Grid.{CellValue}
 use Rattle.cell_ascii.specs.parts.ByteWords.{IsPlain}
-use Rattle.cell_ascii_lanes.specs.NumberLanes.{AreNumbers}
+use Rattle.cell_ascii_lanes.specs.NumberLanes.{AreNumberWords}
 use Rattle.cell_ascii.proofs.BitLemmas.{NextEnd, next_end}
-use Rattle.cell_ascii.proofs.BufferedLemmas.{digits_number}
 use Rattle.cell_ascii.proofs.WordLemmas.{word-more, gap-one}
-use Rattle.cell_ascii.proofs.ByteBlockLemmas.{all_from, one_from, bit_of, digit_no_star}
+use Rattle.cell_ascii.proofs.ByteBlockLemmas.{all_from, one_from, bit_of, digits_word}
 use lib.Bits.{bit_and}
 use lib.Count.{count_trailing_zeros}
 use lib.Lanes.{mask_l}
 
-in_range : (v : ℕ) → v < 100000000 → is_in_range (pos v) ≡ true
-in_range v lt = grind (arith, nat_tests)
-
-digits_word : (h : HeaderValue) → IsPlain h → (b : ℕ) (word : List ℕ) (v : ℕ) → list_all is_digit (b ∷ word) ≡ true
-    → is_digit b ≡ true
-    → v ≡ value_of_digits (b ∷ word) → v < 100000000 → cell_of_word h (b ∷ word) ≡ Ok (Some (pos v))
-digits_word h plain b word v digits first is small =
-    let no_star = digit_no_star b first in
-    let number : whole_number (b ∷ word) ≡ Some (pos v) = digits_number b word digits
-    ∙ ap (λ n. Some (pos n)) (sym is) in
-    let one : v * 1 ≡ v = omega arith in
-    rw (plain.null, plain.multiplier, no_star, number, in_range v small, one, in_range v small) refl
-
--- the cell of digits at the front
+-- the cell of the first bytes, if they are digits
 pub digits_cell : (h : HeaderValue) → IsPlain h → (n : ℕ) (bs : List ℕ) (v : ℕ) → 0 < n → n ≤ length bs
     → list_all is_digit (take n bs) ≡ true
     → v ≡ value_of_digits (take n bs) → v < 100000000 → cell_of_word h (take n bs) ≡ Ok (Some (pos v))
@@ -65,10 +51,10 @@ off true e = absurd (omega arith)
 off false e = refl
 
 pub number_block : (bs : List ℕ) → 64 ≤ length bs → (m d : ℕ) → m ≡ mask_l (blanks bs)
-    → d ≡ mask_l (map is_digit (take 64 bs)) → AreNumbers m d
+    → d ≡ mask_l (map is_digit (take 64 bs)) → AreNumberWords m d
     → IsNumberBlock bs
 number_block bs long m d a b numbers =
-    let is : AreNumbers (mask_l (blanks bs)) (mask_l (map is_digit (take 64 bs))) = rw (a, b) at numbers in
+    let is : AreNumberWords (mask_l (blanks bs)) (mask_l (map is_digit (take 64 bs))) = rw (a, b) at numbers in
     let space = bit_of bs long is_space in
     let digit = bit_of bs long is_digit in
     record {

@@ -29,8 +29,8 @@ fn cell_of(number: u64) -> Cell
 #[inline(always)]
 pub(crate) fn block_numbers_in(buffered: &[u8], row: &mut [Cell]) -> (usize, usize)
     requires buffered { 80 ≤ length buffered.now }
-    ensures cells { (h : HeaderValue) → IsPlain h → HoldsLines h buffered.now (take result.0 row.new)
-        result.0 result.1 (newlines (take result.1 buffered.now)) }
+    ensures cells { (h : HeaderValue) → IsPlain h → HoldsLines h buffered.now
+        (take result.0 row.new) result.0 result.1 (newlines (take result.1 buffered.now)) }
     ensures count { result.0 ≤ length row.old }
     ensures within { result.1 < 64 }
     ensures rest { drop result.0 row.new ≡ drop result.0 row.old }

@@ -14,7 +14,7 @@ use Rattle.std.proofs.lemmas.Nat.Bits.{bit_at-suc, bit_at-zero, bit_at-lt, bit_a
 use Rattle.std.proofs.lemmas.Simd.{SwzOk, SwzOk-from_Each1, swz_l, get_or-zip2, get_or-replicate, get_or_wider}
 use Rattle.std.proofs.lemmas.Simd.{get_or_narrower, length-zip2, length-replicate, Each1-from_get_or, Each1-get_or}
 use Rattle.cell_core_values.specs.Digits.{is_digit, value_of_digits}
-use Rattle.cell_ascii_lanes.specs.NumberLanes.{AreNumbers}
+use Rattle.cell_ascii_lanes.specs.NumberLanes.{AreNumberWords}
 use Rattle.cell_ascii_lanes.proofs.ByteBitLemmas.{bit_below, shl_one, shl_two}
 use lib.Bits.{bit_or}
 use lib.Lanes.{Each1, zip2, number_l, digits_l, pick_l}
@@ -114,7 +114,7 @@ module _ (blanks digits : ℕ) (B : blanks < 2 ^ 64) (D : digits < 2 ^ 64) where
         eight7 = rw g7 at (eight_at (i + 3) (omega arith));
       }
 
-  pub numbers : (all == 0) ≡ true → AreNumbers blanks digits
+  pub numbers : (all == 0) ≡ true → AreNumberWords blanks digits
   numbers is =
       let e : all ≡ 0 = eqb-true _ 0 is in
       record {
@@ -489,11 +489,11 @@ zeros_count : (k : ℕ) (xs : List ℕ) → Each1 Counts xs → Each1 Counts (re
 zeros_count zero xs each = each
 zeros_count (suc k) xs each = (record { low = refl; few = omega arith }, zeros_count k xs each)
 
-zeros_value : (k : ℕ) (xs : List ℕ) → value_of_digits (replicate k 0 ++ xs) ≡ value_of_digits xs
+pub zeros_value : (k : ℕ) (xs : List ℕ) → value_of_digits (replicate k 0 ++ xs) ≡ value_of_digits xs
 zeros_value zero xs = refl
 zeros_value (suc k) xs = zeros_value k xs
 
-length-zeros : (k : ℕ) (xs : List ℕ) → length (replicate k 0 ++ xs) ≡ k + length xs
+pub length-zeros : (k : ℕ) (xs : List ℕ) → length (replicate k 0 ++ xs) ≡ k + length xs
 length-zeros zero xs = omega arith
 length-zeros (suc k) xs = omega (arith, length-zeros k xs)
 

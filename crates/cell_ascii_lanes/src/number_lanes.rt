@@ -1,12 +1,12 @@
 //! Words of digits, two at a time, by the lanes of vectors.
 //!
-//! Each of two words stands at the end of a half of a vector, after zeros. Pairs of lanes then become lanes twice as wide: of
-//! the values of two digits, of four, and of eight.
+//! Each of two words is at the end of a half of a vector, after zeros. Pairs of lanes then become lanes twice as wide: the
+//! values of two digits, of four, and of eight.
 
 ghost use Rattle.std.specs.Prelude.{ℕ, true, ◌≡◌, ◌+◌, ◌-◌, ◌*◌, ◌%◌, ◌<◌, ◌≤◌, ◌++◌, length, take, replicate, slice_index_or};
 ghost use Rattle.std.specs.List.{list_all};
 ghost use Rattle.cell_core_values.specs.Digits.{is_digit, value_of_digits};
-ghost use Rattle.cell_ascii_lanes.specs.NumberLanes.{AreNumbers};
+ghost use Rattle.cell_ascii_lanes.specs.NumberLanes.{AreNumberWords};
 
 use std::simd::prelude::*;
 
@@ -18,7 +18,7 @@ static SOURCES: [u8; 24] = [
 /// Whether all words are of one to seven digits, each after one blank, by the bits of the blanks and of the digits.
 #[inline(always)]
 pub fn are_numbers(blanks: u64, digits: u64) -> bool
-    ensures { result ≡ true → AreNumbers blanks digits }
+    ensures { result ≡ true → AreNumberWords blanks digits }
 {
     let words = !blanks;
     let two = words & (words << 1);
@@ -49,7 +49,7 @@ fn twos(digits: u8x16) -> u16x8
     (lanes * u16x8::splat(10 * 256 + 1)) >> u16x8::splat(8)
 }
 
-// The values of four digits each, from those of two.
+// The values of four digits each, from the values of two.
 #[inline(always)]
 fn fours(twos: u16x8) -> u32x4
     requires { (k : ℕ) → k < 8 → slice_index_or twos k 0 < 100 }
@@ -60,7 +60,7 @@ fn fours(twos: u16x8) -> u32x4
     (lanes * u32x4::splat(100 * 65536 + 1)) >> u32x4::splat(16)
 }
 
-// The values of eight digits each, from those of four.
+// The values of eight digits each, from the values of four.
 #[inline(always)]
 fn eights(fours: u32x4) -> u64x2
     requires { (k : ℕ) → k < 4 → slice_index_or fours k 0 < 10000 }
