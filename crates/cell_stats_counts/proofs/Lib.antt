@@ -6,3 +6,4 @@ pub mod JoinLemmas
 pub mod PairedLemmas
 pub mod RowLemmas
 pub mod RunCountLemmas
+pub mod SideLemmas

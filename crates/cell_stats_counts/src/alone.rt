@@ -9,10 +9,9 @@ ghost use Rattle.cell_stats_combinations.specs.LeftOut.{kept_cells};
 ghost use Rattle.cell_stats_counts.specs.Counts.{count_of};
 ghost use Rattle.cell_stats_counts.specs.parts.Alone.{alone};
 ghost use Rattle.cell_stats_counts.specs.parts.ByteCounts.{sum_counted};
-ghost use Rattle.cell_stats_counts.specs.parts.HeldPlaces.{total_of, HasRoom, IsCounting};
+ghost use Rattle.cell_stats_counts.specs.parts.CountsUnderWay.{total_of, HasRoom, IsCounting};
 
 use crate::counting::{CountPlaces, add_count};
-use crate::gathered::Gathered;
 use crate::varied::{count_varied_alone, is_varied};
 use cell_core::map::CellMap;
 use cell_core::memory::Memory;
@@ -30,22 +29,21 @@ fn count_stretches(
     alloc: Global,
     stretches: Stretches<'_>,
     skip: Skip,
-    spare: &mut Combo,
     places: &mut CountPlaces,
-    counted: &mut Gathered,
+    entries: &mut Vec<(Combo, u64)>,
 ) -> Result<(), Memory>
-    requires going { IsCounting 1 spare.old places.old counted.old }
-    requires fits { HasRoom 1 places.old counted.old (length (written_out stretches)) }
+    requires going { IsCounting 1 places.old entries.old.items }
+    requires fits { HasRoom 1 places.old entries.old.items (length (written_out stretches)) }
     ensures ok { OnOk result ((k : Combination)
-        → total_of 1 k places.new counted.new
-        ≡ total_of 1 k places.old counted.old
+        → total_of 1 k places.new entries.new.items
+        ≡ total_of 1 k places.old entries.old.items
         + count_of k (kept_cells skip (map alone (written_out stretches.entry)))) }
-    ensures going { OnOk result (IsCounting 1 spare.new places.new counted.new) }
+    ensures going { OnOk result (IsCounting 1 places.new entries.new.items) }
 {
     for (cell, count) in stretches {
         let cells = [cell];
         if !is_left_out(skip, &cells) {
-            add_count(alloc, &cells, u64::from(count), spare, places, counted)?;
+            add_count(alloc, &cells, u64::from(count), places, entries)?;
         }
     }
     Ok(())
@@ -69,25 +67,24 @@ fn count_bytes(
     alloc: Global,
     bytes: &[u8],
     skip: Skip,
-    spare: &mut Combo,
     places: &mut CountPlaces,
-    counted: &mut Gathered,
+    entries: &mut Vec<(Combo, u64)>,
 ) -> Result<(), Memory>
-    requires going { IsCounting 1 spare.old places.old counted.old }
+    requires going { IsCounting 1 places.old entries.old.items }
     requires short { length bytes.now < 2 ^ 32 }
-    requires fits { HasRoom 1 places.old counted.old (length bytes.now) }
+    requires fits { HasRoom 1 places.old entries.old.items (length bytes.now) }
     ensures ok { OnOk result ((k : Combination)
-        → total_of 1 k places.new counted.new
-        ≡ total_of 1 k places.old counted.old
+        → total_of 1 k places.new entries.new.items
+        ≡ total_of 1 k places.old entries.old.items
         + count_of k (kept_cells skip (map alone (cells_of_bytes bytes.now)))) }
-    ensures going { OnOk result (IsCounting 1 spare.new places.new counted.new) }
+    ensures going { OnOk result (IsCounting 1 places.new entries.new.items) }
 {
     let counts = byte_counts(bytes);
     for byte in 0..BYTES {
         let count = counts[byte];
         let cells = [cell_of_byte(byte as u8)];
         if count > 0 && !is_left_out(skip, &cells) {
-            add_count(alloc, &cells, u64::from(count), spare, places, counted)?;
+            add_count(alloc, &cells, u64::from(count), places, entries)?;
         }
     }
     Ok(())
@@ -100,30 +97,28 @@ pub(crate) fn count_alone(
     grid: &CellMap,
     row: u32,
     skip: Skip,
-    spare: &mut Combo,
     places: &mut CountPlaces,
-    counted: &mut Gathered,
+    entries: &mut Vec<(Combo, u64)>,
 ) -> Result<(), Memory>
     requires row_in_range { row < grid.now.region.rows }
     requires short { grid.now.region.cols < 2 ^ 32 }
-    requires going { IsCounting 1 spare.old places.old counted.old }
-    requires fits { HasRoom 1 places.old counted.old grid.now.region.cols }
+    requires going { IsCounting 1 places.old entries.old.items }
+    requires fits { HasRoom 1 places.old entries.old.items grid.now.region.cols }
     ensures ok { OnOk result ((k : Combination)
-        → total_of 1 k places.new counted.new
-        ≡ total_of 1 k places.old counted.old
+        → total_of 1 k places.new entries.new.items
+        ≡ total_of 1 k places.old entries.old.items
         + count_of k (kept_cells skip (map alone (row_at grid.now row)))) }
-    ensures going { OnOk result (IsCounting 1 spare.new places.new counted.new) }
+    ensures going { OnOk result (IsCounting 1 places.new entries.new.items) }
     ensures width { length (row_at grid.now row) ≡ grid.now.region.cols }
 {
     if let Some(bytes) = grid.bytes(row) {
         if bytes.len() >= BYTES {
-            return count_bytes(alloc, bytes, skip, spare, places, counted);
+            return count_bytes(alloc, bytes, skip, places, entries);
         }
     }
     if is_varied(grid, row) {
         let table = &mut places.pairs;
-        let entries = &mut counted.entries;
         return count_varied_alone(alloc, grid, row, skip, table, entries);
     }
-    count_stretches(alloc, grid.stretches(row), skip, spare, places, counted)
+    count_stretches(alloc, grid.stretches(row), skip, places, entries)
 }

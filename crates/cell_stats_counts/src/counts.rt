@@ -6,12 +6,12 @@ ghost use Rattle.cell_stats_combinations.specs.Combinations.{ArePicks, Combinati
 ghost use Rattle.cell_stats_counts.specs.Counts.{count_of};
 ghost use Rattle.cell_stats_combinations.specs.Cursors.{to_come, AreCursorsReady, AreWideRows, row_in};
 ghost use Rattle.cell_stats_counts.specs.Listed.{AreCountsOf};
-ghost use Rattle.cell_stats_counts.specs.parts.HeldPlaces.{total_of, AreCounted, HasRoom, IsCounting};
+ghost use Rattle.cell_stats_counts.specs.parts.CountsUnderWay.{total_of, AreCounted, IsCounting};
 ghost use Rattle.cell_stats_combinations.specs.LeftOut.{kept_cells};
 
 use crate::alone::count_alone;
-use crate::counting::{CountPlaces, add_count, first_places, flush_all, make_room};
-use crate::gathered::{Gathered, ordered_entries};
+use crate::counting::{CountPlaces, add_count, first_places};
+use crate::gathered::{list_gathered, ordered_entries};
 use crate::paired::list_pairs;
 use crate::varied::{count_varied, is_varied};
 use cell_core::cell::Cell;
@@ -31,9 +31,8 @@ fn count_columns<'a>(
     row: u32,
     cursors: &mut [Cursor<'a>],
     cells: &mut [Cell],
-    spare: &mut Combo,
     places: &mut CountPlaces,
-    counted: &mut Gathered,
+    entries: &mut Vec<(Combo, u64)>,
 ) -> Result<(), Memory>
     requires row_in_range { row < selection.shelf.now.region.rows }
     requires region { IsRegion selection.shelf.now.region }
@@ -42,20 +41,20 @@ fn count_columns<'a>(
     requires wide { AreWideRows selection.shelf.now row selection.picks.now }
     requires ready { All AreCursorsReady cursors.old }
     requires cells { length cells.old ≡ length selection.picks.now }
-    requires going { IsCounting (length selection.picks.now) spare.old places.old counted.old }
+    requires going { IsCounting (length selection.picks.now) places.old entries.old.items }
     requires counted { AreCounted selection.shelf.now selection.picks.now selection.skip row
-        places.old counted.old }
+        places.old entries.old.items }
     ensures ok { OnOk result (AreCounted selection.entry.shelf.now selection.entry.picks.now
-        selection.entry.skip (row + 1) places.new counted.new) }
+        selection.entry.skip (row + 1) places.new entries.new.items) }
     ensures going { OnOk result
-        (IsCounting (length selection.entry.picks.now) spare.new places.new counted.new) }
+        (IsCounting (length selection.entry.picks.now) places.new entries.new.items) }
 {
     let cols = selection.shelf.region().cols();
     let mut col = 0;
     let mut count = pass_all(cursors, 0, cols, cells);
     while col < cols {
         if !is_left_out(selection.skip, cells) {
-            add_count(alloc, cells, u64::from(count), spare, places, counted)?;
+            add_count(alloc, cells, u64::from(count), places, entries)?;
         }
         col += count;
         count = pass_all(cursors, count, cols - col, cells);
@@ -70,48 +69,49 @@ fn count_row<'a>(
     row: u32,
     cursors: &mut [Cursor<'a>],
     cells: &mut [Cell],
-    spare: &mut Combo,
     places: &mut CountPlaces,
-    counted: &mut Gathered,
+    entries: &mut Vec<(Combo, u64)>,
 ) -> Result<(), Memory>
     requires picked { ArePicks selection.shelf.now selection.picks.now }
     requires row_in_range { row < selection.shelf.now.region.rows }
     requires region { IsRegion selection.shelf.now.region }
     requires cursors { length cursors.old ≡ length selection.picks.now }
     requires cells { length cells.old ≡ length selection.picks.now }
-    requires going { IsCounting (length selection.picks.now) spare.old places.old counted.old }
+    requires going { IsCounting (length selection.picks.now) places.old entries.old.items }
     requires counted { AreCounted selection.shelf.now selection.picks.now selection.skip row
-        places.old counted.old }
+        places.old entries.old.items }
     ensures ok { OnOk result (AreCounted selection.entry.shelf.now selection.entry.picks.now
-        selection.entry.skip (row + 1) places.new counted.new) }
+        selection.entry.skip (row + 1) places.new entries.new.items) }
     ensures going { OnOk result
-        (IsCounting (length selection.entry.picks.now) spare.new places.new counted.new) }
+        (IsCounting (length selection.entry.picks.now) places.new entries.new.items) }
 {
     if let [place] = selection.picks {
         let grid = selection.shelf.map(*place);
-        count_alone(alloc, grid, row, selection.skip, spare, places, counted)?;
+        count_alone(alloc, grid, row, selection.skip, places, entries)?;
         return Ok(());
     }
     if let [first, second] = selection.picks {
         let one = selection.shelf.map(*first);
         let other = selection.shelf.map(*second);
         if is_varied(one, row) || is_varied(other, row) {
-            let table = &mut places.pairs;
-            let entries = &mut counted.entries;
-            count_varied(alloc, one, other, row, selection.skip, table, entries)?;
+            count_varied(
+                alloc,
+                one,
+                other,
+                row,
+                selection.skip,
+                &mut places.pairs,
+                entries,
+            )?;
             return Ok(());
         }
         // Of a length that the compiler knows, so that it unrolls what goes over them.
         let mut two = [start(one, row), start(other, row)];
         let mut cells = [Cell::null(); 2];
-        return count_columns(
-            alloc, selection, row, &mut two, &mut cells, spare, places, counted,
-        );
+        return count_columns(alloc, selection, row, &mut two, &mut cells, places, entries);
     }
     restart_all(cursors, selection.shelf, selection.picks, row);
-    count_columns(
-        alloc, selection, row, cursors, cells, spare, places, counted,
-    )
+    count_columns(alloc, selection, row, cursors, cells, places, entries)
 }
 
 /// The combinations of the cells of the picked maps that are not left out, in ascending order, each with the number of
@@ -132,30 +132,24 @@ pub fn count_cells(
         AreCountsOf (kept_cells skip (shelf_combinations shelf.now picks.now)) counted.items) }
 {
     let width = picks.len();
-    let mut nulls = vec![in alloc; Cell::null(); width]?;
-    let cells = nulls.as_mut_slice();
-    let mut spare = Combo::from_cells(alloc, cells)?;
+    let mut cells = vec![in alloc; Cell::null(); width]?;
     let mut places = first_places(alloc, shelf, picks)?;
-    let mut counted = Gathered::new(alloc);
+    let mut entries = Vec::new(alloc);
     let mut started = cursors_of(alloc, shelf, picks)?;
     let cursors = started.as_mut_slice();
     let selection = Selection { shelf, picks, skip };
-    let mut before = 0;
     for row in 0..shelf.region().rows() {
-        let wide = &mut places.wide;
-        before = make_room(alloc, width, before, &mut spare, wide, &mut counted)?;
         count_row(
             alloc,
             selection,
             row,
             cursors,
-            cells,
-            &mut spare,
+            cells.as_mut_slice(),
             &mut places,
-            &mut counted,
+            &mut entries,
         )?;
     }
-    flush_all(alloc, width, &mut spare, &places.wide, &mut counted)?;
-    list_pairs(alloc, width, places.pairs, &mut counted.entries)?;
-    Ok(ordered_entries(counted))
+    list_gathered(alloc, width, places.wide, &mut entries)?;
+    list_pairs(alloc, width, places.pairs, &mut entries)?;
+    Ok(ordered_entries(entries))
 }

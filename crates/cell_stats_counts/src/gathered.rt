@@ -1,46 +1,41 @@
-//! Counts of combinations in a list, in which each is found by a number of it.
+//! Counts of combinations of more than two maps, side by side, and the list that they become.
 
-ghost use Rattle.std.specs.Prelude.{◌≡◌, ◌+◌, ◌<◌, ◌^◌, [], OnOk, false, cond, length, take};
-ghost use Rattle.std.specs.List.Sorted.{IsPermutation};
+ghost use Rattle.std.specs.Prelude.{◌≡◌, ◌+◌, ◌*◌, ◌<◌, ◌^◌, ℕ, OnOk, IfOk, IsTrue, cond, drop, length, take};
 ghost use Rattle.cell_stats_combinations.specs.Combinations.{Combination};
 ghost use Rattle.cell_stats_counts.specs.Listed.{listed_of, HasNoZero, AreAscending};
 ghost use Rattle.cell_stats_combinations.specs.parts.Same.{is_same};
-ghost use Rattle.cell_stats_counts.specs.parts.HeldPlaces.{gathered_of, GathersNoZero, Grows};
-ghost use Rattle.cell_stats_counts.specs.parts.GatheredCounts.{GatheredFits, GathersSame, ListedFits, ListsMore, ListsSame};
-ghost use Rattle.cell_stats_counts.specs.parts.Joined.{AreOfOne, CanAddUp, IsRising, JoinsMore};
+ghost use Rattle.cell_stats_counts.specs.parts.SideBySide.{side_by_side, gathered_of, GathersMore, IsSideBySide};
+ghost use Rattle.cell_stats_counts.specs.parts.Joined.{AreOfOne, CanAddUp, IsRising, JoinsMore, ListedFits, ListsSame};
 
-use crate::paired::PAIR;
-use crate::scattered::{number_in, ranges_of};
+use crate::scattered::{fitting, number_in, ranges_of};
 use cell_core::cell::Cell;
 use cell_core::memory::Memory;
 use cell_stats_combinations::combination::Combo;
 use std::alloc::Global;
+use std::cmp::Ordering;
 
-// How many places are looked at for a combination.
-const NEAR: usize = 32;
+// How many places of the index are looked at for a combination. Of millions, some are far from their own.
+const NEAR: usize = 1024;
 
 // The places of the index at first.
 const FIRST: usize = 1024;
 
-// How many combinations are pending before they are looked for together.
-const BATCH: usize = 64;
-
-// A place that names no entry.
+// A place that names no combination.
 const NONE: u64 = u64::MAX;
 
 // The lower half of a number.
 const LOW: u64 = u32::MAX as u64;
 
-// Counts of combinations, and an index. A taken place of the index has the lower half of the number of a combination,
-// and below it the place of its entry. What is pending is counted too.
+// Combinations side by side, as many cells each as there are maps, and how many cells have each. A taken place of the index has
+// the upper half of the number of a combination, and below it the place of its count.
 //
-// Nothing is proved of the index, since the entries that it names are compared. A combination that it misses gets one
-// more entry, and equal entries are added up in place at the end.
+// Nothing is proved of the index, since the combinations that it names are compared. One that it misses is kept once more, and
+// equal entries are added up in place at the end.
 #[derive(Drop)]
 pub(crate) struct Gathered {
-    pub(crate) entries: Vec<(Combo, u64)>,
+    pub(crate) cells: Vec<Cell>,
+    pub(crate) counts: Vec<u64>,
     index: Vec<u64>,
-    pending: Vec<(Combo, u64)>,
 }
 
 // A number of a cell.
@@ -61,55 +56,250 @@ fn combination_hash(cells: &[Cell]) -> u64 {
     number
 }
 
-// The place where a combination is looked for first. The number of places is a power of two.
-fn own_slot(number: u64, places: usize) -> usize {
-    ((number >> 32) as usize) & places.saturating_sub(1)
+// The place where a combination is looked for first, by the upper half of its number. The number of places is a power of two.
+fn own_slot(half: u64, places: usize) -> usize {
+    (half as usize) & places.saturating_sub(1)
 }
 
-// Where a combination is found, or else a place near its own that names no entry, or else its own.
-fn slot_of(number: u64, cells: &[Cell], entries: &[(Combo, u64)], index: &[u64]) -> usize {
-    let own = own_slot(number, index.len());
+// The cells of the combination at a place.
+fn cells_at(cells: &[Cell], width: usize, at: usize) -> &[Cell]
+    ensures { result.now ≡ take width (drop (at * width) cells.now) }
+{
+    let from = at.saturating_mul(width).min(cells.len());
+    let end = from.saturating_add(width).min(cells.len());
+    &cells[from..end]
+}
+
+// Whether two combinations are equal.
+fn are_alike(one: &[Cell], other: &[Cell]) -> bool
+    ensures { IsTrue result → one.now ≡ other.now }
+{
+    if one.len() != other.len() {
+        return false;
+    }
+    for (i, cell) in other.iter().enumerate() {
+        if one[i] != *cell {
+            return false;
+        }
+    }
+    true
+}
+
+// The place of a combination, or else, as an error, a place of the index near its own that names none, or its own.
+fn place_of(key: &[Cell], half: u64, table: &Gathered) -> Result<usize, usize>
+    ensures within { IfOk result (λ at. at < length table.now.counts.items) }
+    ensures same { IfOk result (λ at.
+        take (length key.now) (drop (at * length key.now) table.now.cells.items) ≡ key.now) }
+{
+    let index = table.index.as_slice();
+    let own = own_slot(half, index.len());
     let end = index.len().min(own.saturating_add(NEAR));
     for slot in own..end {
         let place = index[slot];
         if place == NONE {
-            return slot;
+            return Err(slot);
         }
-        if place >> 32 == number & LOW {
-            if let Some(entry) = entries.get((place & LOW) as usize) {
-                if entry.0.cells() == cells {
-                    return slot;
-                }
+        let at = (place & LOW) as usize;
+        if place >> 32 == half && at < table.counts.len() {
+            if are_alike(cells_at(&table.cells, key.len(), at), key) {
+                return Ok(at);
             }
         }
     }
-    own
+    Err(own)
 }
 
-// Has a place name an entry.
-fn note(index: &mut [u64], slot: usize, number: u64, at: usize) {
-    if let Some(place) = index.get_mut(slot) {
-        *place = (number & LOW) << 32 | at as u64 & LOW;
+// Puts what a place of an index has into one with more places.
+fn note_again(index: &mut [u64], place: u64) {
+    let own = own_slot(place >> 32, index.len());
+    let end = index.len().min(own.saturating_add(NEAR));
+    for slot in own..end {
+        if index[slot] == NONE {
+            index[slot] = place;
+            return;
+        }
     }
 }
 
-// An index of the entries, of twice as many places as there were.
-fn index_of(alloc: Global, entries: &[(Combo, u64)], before: usize) -> Result<Vec<u64>, Memory> {
-    let mut index = vec![in alloc; NONE; before.saturating_mul(2).max(FIRST)]?;
-    for (at, entry) in entries.iter().enumerate() {
-        let cells = entry.0.cells();
-        let number = combination_hash(cells);
-        let slot = slot_of(number, cells, entries, &index);
-        note(index.as_mut_slice(), slot, number, at);
+// An index of twice as many places.
+fn longer_index(alloc: Global, index: &[u64]) -> Result<Vec<u64>, Memory> {
+    let mut longer = vec![in alloc; NONE; index.len().saturating_mul(2)]?;
+    for place in index {
+        if *place != NONE {
+            note_again(longer.as_mut_slice(), *place);
+        }
     }
-    Ok(index)
+    Ok(longer)
 }
 
-// Whether an entry counts the combination.
-fn is_of(entry: &(Combo, u64), combo: &Combo) -> bool
-    ensures { result ≡ is_same entry.now.0 combo.now }
+// Keeps a new combination, which a place of the index names.
+fn push_new(
+    alloc: Global,
+    key: &[Cell],
+    count: u64,
+    place: usize,
+    half: u64,
+    table: &mut Gathered,
+) -> Result<(), Memory>
+    requires side { IsSideBySide (length key.now) table.old }
+    ensures ok { OnOk result (GathersMore key.now count table.old table.new) }
+    ensures side { OnOk result (IsSideBySide (length key.now) table.new) }
 {
-    entry.0 == *combo
+    let at = table.counts.len();
+    table.cells.extend_from_slice(key)?;
+    table.counts.push(count)?;
+    if let Some(named) = table.index.get_mut(place) {
+        *named = half << 32 | at as u64 & LOW;
+    }
+    if at >= table.index.len() / 2 {
+        table.index = longer_index(alloc, &table.index)?;
+    }
+    Ok(())
+}
+
+// Counts cells of a combination.
+pub(crate) fn gather(
+    alloc: Global,
+    key: &[Cell],
+    count: u64,
+    table: &mut Gathered,
+) -> Result<(), Memory>
+    requires side { IsSideBySide (length key.now) table.old }
+    requires fits { gathered_of (length key.now) key.now table.old + count < 2 ^ 64 }
+    ensures ok { OnOk result (GathersMore key.now count table.old table.new) }
+    ensures side { OnOk result (IsSideBySide (length key.now) table.new) }
+{
+    let half = combination_hash(key) >> 32;
+    match place_of(key, half, table) {
+        Ok(at) => {
+            table.counts[at] += count;
+            Ok(())
+        }
+        Err(place) => push_new(alloc, key, count, place, half, table),
+    }
+}
+
+// Adds an entry to the list, unless it counts nothing.
+fn push_entry(
+    alloc: Global,
+    cells: &[Cell],
+    count: u64,
+    entries: &mut Vec<(Combo, u64)>,
+) -> Result<(), Memory>
+    requires no_zero { HasNoZero entries.old.items }
+    ensures ok { OnOk result ((k : Combination) → listed_of k entries.new.items
+        ≡ listed_of k entries.old.items + cond (is_same k cells.now) count 0) }
+    ensures no_zero { OnOk result (HasNoZero entries.new.items) }
+{
+    if count == 0 {
+        return Ok(());
+    }
+    let combo = Combo::from_cells(alloc, cells)?;
+    entries.push((combo, count))?;
+    Ok(())
+}
+
+// Adds combinations side by side to the list.
+fn push_entries(
+    alloc: Global,
+    width: usize,
+    cells: &[Cell],
+    counts: &[u64],
+    entries: &mut Vec<(Combo, u64)>,
+) -> Result<(), Memory>
+    requires no_zero { HasNoZero entries.old.items }
+    ensures ok { OnOk result ((k : Combination) → listed_of k entries.new.items
+        ≡ listed_of k entries.old.items + listed_of k (side_by_side width cells.now counts.now)) }
+    ensures no_zero { OnOk result (HasNoZero entries.new.items) }
+{
+    for at in 0..counts.len() {
+        push_entry(alloc, cells_at(cells, width, at), counts[at], entries)?;
+    }
+    Ok(())
+}
+
+// The places of so many combinations, sorted by numbers of these.
+fn order_of(
+    alloc: Global,
+    width: usize,
+    cells: &[Cell],
+    many: usize,
+) -> Result<Vec<(u64, u32)>, Memory> {
+    let ranges = ranges_of(width, cells);
+    let used = fitting(&ranges);
+    let mut order = Vec::with_capacity(alloc, many)?;
+    for at in 0..many.min(u32::MAX as usize) {
+        order.push((
+            number_in(&ranges[..used], cells_at(cells, width, at)),
+            at as u32,
+        ))?;
+    }
+    order.sort_unstable();
+    Ok(order)
+}
+
+// Moves what is counted at a place to the end of another table.
+fn move_count(
+    width: usize,
+    cells: &[Cell],
+    counts: &mut [u64],
+    at: usize,
+    to: &mut Gathered,
+) -> Result<(), Memory>
+    requires side { IsSideBySide width to.old }
+    ensures ok { OnOk result ((k : Combination)
+        → gathered_of width k to.new + listed_of k (side_by_side width cells.now counts.new)
+        ≡ gathered_of width k to.old + listed_of k (side_by_side width cells.now counts.old)) }
+    ensures side { OnOk result (IsSideBySide width to.new) }
+{
+    let key = cells_at(cells, width, at);
+    if at >= counts.len() || key.len() != width {
+        return Ok(());
+    }
+    to.cells.extend_from_slice(key)?;
+    to.counts.push(counts[at])?;
+    counts[at] = 0;
+    Ok(())
+}
+
+// Moves what is counted to another table, sorted.
+fn sorted(alloc: Global, width: usize, from: &mut Gathered) -> Result<Gathered, Memory>
+    ensures ok { IfOk result (λ to. (k : Combination)
+        → gathered_of width k to + gathered_of width k from.new ≡ gathered_of width k from.old) }
+{
+    let order = order_of(alloc, width, &from.cells, from.counts.len())?;
+    let mut to = Gathered {
+        cells: Vec::with_capacity(alloc, from.cells.len())?,
+        counts: Vec::with_capacity(alloc, from.counts.len())?,
+        index: Vec::new(alloc),
+    };
+    let cells = from.cells.as_slice();
+    let counts = from.counts.as_mut_slice();
+    for (_, at) in &order {
+        move_count(width, cells, counts, *at as usize, &mut to)?;
+    }
+    Ok(to)
+}
+
+// Adds the combinations of a table to the list, sorted.
+pub(crate) fn list_gathered(
+    alloc: Global,
+    width: usize,
+    mut table: Gathered,
+    entries: &mut Vec<(Combo, u64)>,
+) -> Result<(), Memory>
+    requires no_zero { HasNoZero entries.old.items }
+    ensures ok { OnOk result ((k : Combination) → listed_of k entries.new.items
+        ≡ listed_of k entries.old.items + gathered_of width k table) }
+    ensures no_zero { OnOk result (HasNoZero entries.new.items) }
+{
+    table.index = Vec::new(alloc);
+    let moved = sorted(alloc, width, &mut table)?;
+    push_entries(alloc, width, &table.cells, &table.counts, entries)?;
+    table.cells = Vec::new(alloc);
+    entries.reserve_exact(moved.counts.len())?;
+    push_entries(alloc, width, &moved.cells, &moved.counts, entries)?;
+    Ok(())
 }
 
 // Whether two entries count one combination.
@@ -117,132 +307,7 @@ fn are_same(entries: &[(Combo, u64)], a: usize, b: usize) -> bool
     requires { (a < length entries.now) × (b < length entries.now) }
     ensures { AreOfOne entries.now a b result }
 {
-    is_of(&entries[a], &entries[b].0)
-}
-
-// Adds cells to the entry at a place if it has the combination, and returns whether it has.
-fn has_added(entries: &mut [(Combo, u64)], at: usize, combo: &Combo, count: u64) -> bool
-    requires fits { listed_of combo.now entries.old + count < 2 ^ 64 }
-    requires no_zero { HasNoZero entries.old }
-    ensures counts { ListsMore entries.old (λ k. cond result (cond (is_same k combo.now) count 0) 0)
-        entries.new }
-    ensures no_zero { HasNoZero entries.new }
-{
-    if at >= entries.len() {
-        return false;
-    }
-    let entry = &mut entries[at];
-    if !is_of(entry, combo) {
-        return false;
-    }
-    entry.1 += count;
-    true
-}
-
-// The entry that a place names, or none.
-fn named_entry(index: &[u64], slot: usize) -> usize {
-    match index.get(slot) {
-        Some(place) => (*place & LOW) as usize,
-        None => usize::MAX,
-    }
-}
-
-// For each pending combination the entry that its first slot names. These reads wait for memory together.
-fn guesses_of(pending: &[(Combo, u64)], index: &[u64]) -> [usize; BATCH] {
-    let mut guesses = [0; BATCH];
-    for (guess, entry) in guesses.iter_mut().zip(pending.iter()) {
-        *guess = named_entry(
-            index,
-            own_slot(combination_hash(entry.0.cells()), index.len()),
-        );
-    }
-    guesses
-}
-
-// The guess at a place.
-fn guess_at(guesses: &[usize; BATCH], at: usize) -> usize {
-    guesses[at.min(BATCH - 1)]
-}
-
-// Counts cells of a combination in the entries: in the one that is guessed, or another that has it, or a new one.
-fn put_count(
-    alloc: Global,
-    combo: Combo,
-    count: u64,
-    guess: usize,
-    entries: &mut Vec<(Combo, u64)>,
-    index: &mut Vec<u64>,
-) -> Result<(), Memory>
-    requires some { 0 < count }
-    requires fits { listed_of combo entries.old.items + count < 2 ^ 64 }
-    requires no_zero { HasNoZero entries.old.items }
-    ensures ok { OnOk result (ListsMore entries.old.items (λ k. cond (is_same k combo) count 0)
-        entries.new.items) }
-    ensures no_zero { OnOk result (HasNoZero entries.new.items) }
-{
-    if has_added(entries.as_mut_slice(), guess, &combo, count) {
-        return Ok(());
-    }
-    let number = combination_hash(combo.cells());
-    let slot = slot_of(number, combo.cells(), entries.as_slice(), index.as_slice());
-    let at = named_entry(index.as_slice(), slot);
-    if has_added(entries.as_mut_slice(), at, &combo, count) {
-        return Ok(());
-    }
-    let end = entries.len();
-    entries.push((combo, count))?;
-    note(index.as_mut_slice(), slot, number, end);
-    let places = index.len();
-    if end >= places / 2 {
-        *index = Vec::new(alloc);
-        *index = index_of(alloc, entries.as_slice(), places)?;
-    }
-    Ok(())
-}
-
-// Brings what is pending to the entries.
-pub(crate) fn settle(alloc: Global, counted: &mut Gathered) -> Result<(), Memory>
-    requires fits { GatheredFits counted.old }
-    requires no_zero { GathersNoZero counted.old }
-    ensures ok { OnOk result (GathersSame counted.old counted.new) }
-    ensures no_zero { OnOk result (GathersNoZero counted.new) }
-    ensures settled { OnOk result (counted.new.pending.items ≡ []) }
-{
-    let guesses = guesses_of(&counted.pending, &counted.index);
-    while let Some((combo, count)) = counted.pending.pop() {
-        let guess = guess_at(&guesses, counted.pending.len());
-        put_count(
-            alloc,
-            combo,
-            count,
-            guess,
-            &mut counted.entries,
-            &mut counted.index,
-        )?;
-    }
-    Ok(())
-}
-
-// Counts cells of a combination: they are pending, and some are brought to the entries together.
-pub(crate) fn merge(
-    alloc: Global,
-    combo: &Combo,
-    count: u64,
-    counted: &mut Gathered,
-) -> Result<(), Memory>
-    requires some { 0 < count }
-    requires fits { (k : Combination)
-        → gathered_of k counted.old + cond (is_same k combo.now) count 0 < 2 ^ 64 }
-    requires no_zero { GathersNoZero counted.old }
-    ensures ok { OnOk result (Grows counted.old counted.new combo.now count) }
-    ensures no_zero { OnOk result (GathersNoZero counted.new) }
-{
-    let key = Combo::from_cells(alloc, combo.cells())?;
-    counted.pending.push((key, count))?;
-    if counted.pending.len() < BATCH {
-        return Ok(());
-    }
-    settle(alloc, counted)
+    entries[a].0 == entries[b].0
 }
 
 // Takes the entry at a place in: it is added to the last one that was taken, or it is the next. Returns the last place then.
@@ -279,31 +344,29 @@ fn join(entries: &mut [(Combo, u64)]) -> usize
     last + 1
 }
 
-// Moves entries of more than two maps about, so that there is little left to sort. Those of fewer maps are in order already.
-fn presorted(mut entries: Vec<(Combo, u64)>) -> Vec<(Combo, u64)>
-    ensures { IsPermutation entries.items result.items }
+// Whether each combination is above the one before it.
+fn are_ascending(entries: &[(Combo, u64)]) -> bool
+    ensures { IsTrue result → AreAscending entries.now }
 {
-    if let Some(entry) = entries.first() {
-        if entry.0.len() <= PAIR {
-            return entries;
+    for at in 1..entries.len() {
+        if entries[at - 1].0.cmp(&entries[at].0) != Ordering::Less {
+            return false;
         }
     }
-    let ranges = ranges_of(&entries);
-    // Without memory for the numbers, the entries stay as they were.
-    let _ = entries.sort_by_cached_key(|entry| number_in(&ranges, entry.0.cells()));
-    entries
+    true
 }
 
 // Puts the list in order, with one entry for each combination.
-pub(crate) fn ordered_entries(counted: Gathered) -> Vec<(Combo, u64)>
-    requires fits { GatheredFits counted }
-    requires no_zero { GathersNoZero counted }
-    requires settled { counted.pending.items ≡ [] }
+pub(crate) fn ordered_entries(mut entries: Vec<(Combo, u64)>) -> Vec<(Combo, u64)>
+    requires fits { ListedFits entries.items }
+    requires no_zero { HasNoZero entries.items }
     ensures ascending { AreAscending result.items }
-    ensures counts { (k : Combination) → listed_of k result.items ≡ gathered_of k counted }
+    ensures counts { ListsSame entries.items result.items }
     ensures no_zero { HasNoZero result.items }
 {
-    let mut entries = presorted(counted.entries);
+    if are_ascending(&entries) {
+        return entries;
+    }
     entries.sort_unstable();
     let kept = join(entries.as_mut_slice());
     entries.truncate(kept);
@@ -312,19 +375,16 @@ pub(crate) fn ordered_entries(counted: Gathered) -> Vec<(Combo, u64)>
 
 impl Gathered {
     // None yet.
-    pub(crate) fn new(alloc: Global) -> Gathered
-        ensures none { result.entries.items ≡ [] }
-        ensures settled { result.pending.items ≡ [] }
+    pub(crate) fn new(alloc: Global) -> Result<Gathered, Memory>
+        ensures none { IfOk result
+            (λ table. (width : ℕ) (k : Combination) → gathered_of width k table ≡ 0) }
+        ensures side { IfOk result (λ table. (width : ℕ) → IsSideBySide width table) }
     {
-        Gathered {
-            entries: Vec::new(alloc),
-            index: Vec::new(alloc),
-            pending: Vec::new(alloc),
-        }
-    }
-
-    // How many entries there are.
-    pub(crate) fn len(&self) -> usize {
-        self.entries.len()
+        let index = vec![in alloc; NONE; FIRST]?;
+        Ok(Gathered {
+            cells: Vec::new(alloc),
+            counts: Vec::new(alloc),
+            index,
+        })
     }
 }

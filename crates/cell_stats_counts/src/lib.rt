@@ -2,7 +2,7 @@
 //!
 //! - `counts`: `count_cells`, the counts of some maps of a shelf
 //! - private: `counting`, which counts combinations of one map or two in a table (`paired`, laid out
-//!   by `ranges` and sorted by `scattered`), others in places and a list with an index (`gathered`);
+//!   by `ranges` and sorted by `scattered`), others side by side (`gathered`);
 //!   `alone`, one map by itself; `varied`, rows cell by cell
 #![tactic(auto)]
 

@@ -6,6 +6,14 @@ use Rattle.cell_stats_combinations.specs.Combinations.{Combination, combination_
 use Rattle.cell_stats_counts.specs.Listed.{Counts, listed_of, HasNoZero}
 use Rattle.cell_stats_combinations.specs.parts.Same.{is_same}
 
+-- the count of each combination fits 64 bits
+abbrev pub ListedFits : Counts → Type 0
+ListedFits entries = (k : Combination) → listed_of k entries < 2 ^ 64
+
+-- each combination counts as it did
+abbrev pub ListsSame : Counts → Counts → Type 0
+ListsSame old new = (k : Combination) → listed_of k new ≡ listed_of k old
+
 -- no combination is less than the one before it
 abbrev pub IsRising : Counts → Type 0
 IsRising entries = (i : ℕ) (d : Combination × ℕ) → i + 1 < length entries → is_lt (combination_cmp (slice_index_or entries (i + 1) d).0 (slice_index_or entries i d).0) ≡ false

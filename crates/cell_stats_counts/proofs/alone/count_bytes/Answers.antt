@@ -6,10 +6,8 @@ use Rattle.cell_core.specs.Grid.{CellValue}
 use Rattle.cell_stats_combinations.specs.LeftOut.{is_left_out}
 use Rattle.cell_stats_counts.specs.parts.Alone.{alone}
 use Rattle.cell_stats_counts.specs.parts.ByteCounts.{sum_counted}
-use Rattle.cell_stats_counts.specs.declared.counting.CountPlaces.{CountPlaces}
-use Rattle.cell_stats_counts.specs.declared.gathered.Gathered.{Gathered}
-use Rattle.cell_stats_counts.specs.parts.HeldPlaces.{total_of, IsCounting}
 use Rattle.cell_stats_combinations.specs.parts.Same.{is_same}
+use Rattle.cell_stats_counts.specs.parts.CountsUnderWay.{total_of, IsCounting}
 use Rattle.cell_stats_counts.proofs.ByteCountLemmas.{one_counted, cells-sum, length-sum, byte-left, byte-none, byte-more}
 use Rattle.cell_stats_counts.proofs.ByteCountLemmas.{room-on, room-grown}
 use Rattle.cell_stats_counts.proofs.alone.count_bytes.Goals as goal
@@ -17,10 +15,6 @@ use Rattle.cell_stats_counts.proofs.alone.count_bytes.Goals.{then-count-gt0+then
 use Rattle.cell_stats_counts.proofs.alone.count_bytes.Goals.{else-count-gt0}
 use Rattle.cell_stats_counts.proofs.alone.count_bytes.Goals.{else-count-gt0-via-then-count-gt0+else-not-is_left_out}
 use Rattle.cell_stats_counts.proofs.alone.count_bytes.Goals.{else-count-gt0-via-else-count-gt0}
-
-same_total : (k : Combination) (places more : CountPlaces) (m n : Gathered) → places ≡ more → m ≡ n
-    → total_of 1 k places m ≡ total_of 1 k more n
-same_total k places more m n p e = ap (λ q. total_of 1 k q m) p ∙ ap (λ g. total_of 1 k more g) e
 
 -- whether the cell is left out
 left_as : (skip : Skip) (cell : CellValue) (byte : ℕ) {reported left : Bool} → cell ≡ byte_cell byte
@@ -33,7 +27,7 @@ inside small size = omega arith
 pub loop-byte-init : goal.loop-byte-init
 loop-byte-init c = record {
   counted = λ k.
-      ap (λ m. total_of 1 k c.args.places.now c.args.counted.now + m)
+      ap (λ m. total_of 1 k c.args.places.now c.args.entries.now.items + m)
       (c.byte_counts-counts.ensures.sums (one_counted c.args.skip k) ∙ sym (cells-sum c.args.skip k c.args.bytes.now));
   room = λ k.
       omega (arith, c.byte_counts-counts.ensures.sums (λ b. 1), length-sum c.args.bytes.now, c.requires.fits k);
@@ -54,26 +48,25 @@ loop-byte-preserved c =
     elim c.if-count-gt0.branch [
       | then-count-gt0+then-not-is_left_out+in_ok-add_count w ↦
           let kept = left_as skip cell byte stands w.is_left_out.ensures w.if-not-is_left_out.true in
-          let grown : (k : Combination) → total_of 1 k now.places now.counted
-          ≡ total_of 1 k c.loop-byte.places c.loop-byte.counted + cond (is_same k (alone (byte_cell byte))) n 0 = λ k.
-          same_total k now.places w.add_count.new.places now.counted w.add_count.new.counted w.places-is w.counted-is
-          ∙ w.in_ok-add_count.ensures.counts k
-          ∙ ap (λ m. total_of 1 k c.loop-byte.places c.loop-byte.counted + cond (is_same k (alone cell)) m 0) w.from.ensures
-          ∙ ap (λ x. total_of 1 k c.loop-byte.places c.loop-byte.counted + cond (is_same k (alone x)) n 0) stands in
+          let grown : (k : Combination) → total_of 1 k now.places now.entries.items
+          ≡ total_of 1 k c.loop-byte.places c.loop-byte.entries.items + cond (is_same k (alone (byte_cell byte))) n 0 = λ k.
+          rw (w.places-is, w.entries-is) (w.in_ok-add_count.ensures.counts k
+          ∙ ap (λ m. total_of 1 k c.loop-byte.places c.loop-byte.entries.items + cond (is_same k (alone cell)) m 0) w.from.ensures
+          ∙ ap (λ x. total_of 1 k c.loop-byte.places c.loop-byte.entries.items + cond (is_same k (alone x)) n 0) stands) in
           record {
             counted = λ k. byte-more skip k byte n counts within refl _ _ _ kept (grown k) (inv.counted k);
             room = λ k. room-grown skip k byte n counts within refl _ _ (2 ^ 64) (grown k) (inv.room k);
-            going = rw w.spare-is (rw w.places-is (rw w.counted-is w.in_ok-add_count.ensures.going));
+            going = rw (w.places-is, w.entries-is) w.in_ok-add_count.ensures.going;
           }
       | else-count-gt0 w ↦
-          let same : (k : Combination) → total_of 1 k now.places now.counted
-          ≡ total_of 1 k c.loop-byte.places c.loop-byte.counted = λ k.
-          same_total k now.places c.loop-byte.places now.counted c.loop-byte.counted w.places-is w.counted-is in
-          let room : (k : Combination) → total_of 1 k now.places now.counted
+          let same : (k : Combination) → total_of 1 k now.places now.entries.items
+          ≡ total_of 1 k c.loop-byte.places c.loop-byte.entries.items = λ k.
+          rw (w.places-is, w.entries-is) refl in
+          let room : (k : Combination) → total_of 1 k now.places now.entries.items
           + sum_counted (λ b. 1) (byte + 1) (drop (byte + 1) counts) < 2 ^ 64 = λ k.
           rw (same k) (room-on skip k byte n counts within refl _ (2 ^ 64) (inv.room k)) in
-          let going : IsCounting 1 now.spare now.places now.counted =
-          rw w.spare-is (rw w.places-is (rw w.counted-is inv.going)) in
+          let going : IsCounting 1 now.places now.entries.items =
+          rw (w.places-is, w.entries-is) inv.going in
           elim w.else-count-gt0.branch [
             | else-count-gt0-via-then-count-gt0+else-not-is_left_out v ↦
                 let left = left_as skip cell byte stands v.is_left_out.ensures v.if-not-is_left_out.false in

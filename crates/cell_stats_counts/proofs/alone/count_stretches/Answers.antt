@@ -1,17 +1,14 @@
-use Rattle.std.proofs.Common.{◌≡◌, ◌<◌, ◌≤◌, ℕ, ◌+◌, ◌^◌, List, [], ◌∷◌, length, add-zero, true, false, cond, arith, ap, sym, ◌∙◌}
+use Rattle.std.proofs.Common.{◌≡◌, ◌<◌, ℕ, ◌+◌, ◌^◌, List, [], ◌∷◌, length, add-zero, true, false, cond, arith, ap, sym, ◌∙◌}
 use Rattle.std.proofs.lemmas.Result.{IfOk-from_err}
 use Rattle.cell_core.specs.Runs.{RunValue}
 use Rattle.cell_stats_combinations.specs.declared.skip.Skip.{Skip}
 use Rattle.cell_stats_combinations.specs.Combinations.{Combination}
 use Rattle.cell_stats_counts.specs.parts.Alone.{alone}
-use Rattle.cell_stats_counts.specs.parts.HeldPlaces.{total_of}
 use Rattle.cell_stats_combinations.specs.parts.Same.{is_same}
+use Rattle.cell_stats_counts.specs.parts.CountsUnderWay.{total_of}
 use Rattle.cell_stats_combinations.specs.LeftOut.{is_left_out}
 use Rattle.cell_stats_counts.proofs.RunCountLemmas.{runs-count, run-left, run-more, room-left, room-more, room-first}
 use Rattle.cell_stats_counts.proofs.alone.count_stretches.Goals as goal
-
-one_few : 1 ≤ 16
-one_few = omega arith
 
 fit : (total : ℕ) {count more : ℕ} → total + count < 2 ^ 64 → more ≡ count → total + more < 2 ^ 64
 fit total room same = omega arith
@@ -32,8 +29,8 @@ pub add_count-requires-clause-fits : goal.add_count-requires-clause-fits
 add_count-requires-clause-fits c = λ k.
     let runs : List RunValue = c.loop-cell.cell-iterator in
     let rest : List RunValue = c.next.new.self in
-    let room = room-first c.args.skip k runs rest c.in-Some.cell c.in-Some.count c.in-Some.ensures.steps (total_of 1 k c.loop-cell.places c.loop-cell.counted) (2 ^ 64) (c.loop-cell.invariant.room k) in
-    fit (total_of 1 k c.loop-cell.places c.loop-cell.counted) room c.from.ensures
+    let room = room-first c.args.skip k runs rest c.in-Some.cell c.in-Some.count c.in-Some.ensures.steps (total_of 1 k c.loop-cell.places c.loop-cell.entries.items) (2 ^ 64) (c.loop-cell.invariant.room k) in
+    fit (total_of 1 k c.loop-cell.places c.loop-cell.entries.items) room c.from.ensures
 
 pub loop-cell-preserved-in-Continue-1 : goal.loop-cell-preserved-in-Continue-1
 loop-cell-preserved-in-Continue-1 c =
@@ -45,9 +42,9 @@ loop-cell-preserved-in-Continue-1 c =
     let inv = c.loop-cell.invariant in
     let steps : runs ≡ (x, n) ∷ rest = c.in-Some.ensures.steps in
     let kept_in : is_left_out skip (alone x) ≡ false = sym c.is_left_out.ensures ∙ c.if-not-is_left_out.true in
-    let grown : (k : Combination) → total_of 1 k c.add_count.new.places c.add_count.new.counted ≡ total_of 1 k c.loop-cell.places c.loop-cell.counted + cond (is_same k (alone x)) n 0 = λ k.
+    let grown : (k : Combination) → total_of 1 k c.add_count.new.places c.add_count.new.entries.items ≡ total_of 1 k c.loop-cell.places c.loop-cell.entries.items + cond (is_same k (alone x)) n 0 = λ k.
     c.in_ok-add_count.ensures.counts k
-    ∙ ap (λ (m : ℕ). total_of 1 k c.loop-cell.places c.loop-cell.counted + cond (is_same k (alone x)) m 0)
+    ∙ ap (λ (m : ℕ). total_of 1 k c.loop-cell.places c.loop-cell.entries.items + cond (is_same k (alone x)) m 0)
     c.from.ensures in
     record {
       counted = λ k. run-more skip k runs rest x n steps _ _ _ kept_in (grown k) (inv.counted k);
@@ -75,7 +72,7 @@ pub loop-cell-init : goal.loop-cell-init
 loop-cell-init c =
     let same = c.into_iter-cell-iterator.ensures.into_iter_gives in
     record {
-      counted = λ k. ap (λ (l : List RunValue). total_of 1 k c.args.places.now c.args.counted.now + runs-count
+      counted = λ k. ap (λ (l : List RunValue). total_of 1 k c.args.places.now c.args.entries.now.items + runs-count
           c.args.skip k l) same;
       room = λ k. rw same (c.requires.fits k);
       going = c.requires.going;
@@ -98,7 +95,7 @@ loop-cell-smaller c = shorter (c.in-Some.cell, c.in-Some.count) c.next.new.self 
 
 pub returns-clause-ok : goal.returns-clause-ok
 returns-clause-ok c =
-    λ k. all_counted c.args.skip k c.loop-cell.cell-iterator (total_of 1 k c.loop-cell.places c.loop-cell.counted)
+    λ k. all_counted c.args.skip k c.loop-cell.cell-iterator (total_of 1 k c.loop-cell.places c.loop-cell.entries.items)
     c.in-None.ensures.steps.0 (c.loop-cell.invariant.counted k)
 
 pub returns-clause-going : goal.returns-clause-going

@@ -2,22 +2,19 @@ use Rattle.std.proofs.Common.{◌≡◌, ◌<◌, ◌≤◌, ◌+◌, ◌-◌, �
 use Rattle.std.proofs.Common.{arith, ap, sym, ◌∙◌, append-nil, append_assoc, add-one, ℕ}
 use Rattle.std.proofs.lemmas.Result.{IfOk-from_err}
 use Rattle.std.proofs.lemmas.List.{length-map}
-use Rattle.cell_stats_counts.specs.declared.gathered.Gathered.{Gathered}
 use Rattle.std.specs.List.{range_with_len}
 use Rattle.cell_core_values.specs.Region.{RegionValue}
 use Rattle.cell_core.specs.Grid.{CellValue}
 use Rattle.cell_stats_combinations.specs.Combinations.{Combination, all_combinations, combination_at}
 use Rattle.cell_stats_counts.specs.Counts.{count_of}
-use Rattle.cell_stats_counts.specs.parts.HeldPlaces.{IsCounting}
 use Rattle.cell_stats_combinations.specs.Cursors.{CursorValue, to_come}
-use Rattle.cell_stats_counts.specs.parts.HeldPlaces.{total_of}
 use Rattle.cell_stats_combinations.specs.parts.Same.{is_same}
+use Rattle.cell_stats_counts.specs.parts.CountsUnderWay.{total_of, IsCounting}
 use Rattle.cell_stats_combinations.specs.LeftOut.{kept_cells, is_left_out}
-use Rattle.cell_stats_counts.specs.declared.counting.CountPlaces.{CountPlaces}
 use Rattle.cell_stats_counts.proofs.HeldLemmas.{going_of}
 use Rattle.cell_stats_combinations.proofs.WalkLemmas.{alike, alive, passed-on, stretch}
-use Rattle.cell_stats_counts.proofs.CountLemmas.{count-left, count-more, count_small}
 use Rattle.cell_stats_combinations.proofs.WalkLemmas.{all_combinations_more}
+use Rattle.cell_stats_counts.proofs.CountLemmas.{count-left, count-more, count_small}
 use Rattle.cell_stats_counts.proofs.counts.count_columns.Goals as goal
 use Rattle.cell_stats_counts.proofs.counts.count_columns.Goals.{then-not-is_left_out+in_ok-add_count}
 use Rattle.cell_stats_counts.proofs.counts.count_columns.Goals.{else-not-is_left_out}
@@ -92,7 +89,7 @@ add_count-requires-clause-fits c = λ k.
     let same_cols : c.cols-cols.result ≡ cols = c.cols-cols.ensures.value ∙ ap (λ (r : RegionValue). r.cols) c.region.ensures.value in
     let width : length c.loop-col.cells ≡ length picks = c.loop-col.auto.cells ∙ c.pass_all-count.auto.cells ∙ c.requires.cells in
     let inv = c.loop-col.invariant in
-    let total = ap (λ w. total_of w k c.loop-col.places c.loop-col.counted) width ∙ inv.counted k in
+    let total = ap (λ w. total_of w k c.loop-col.places c.loop-col.entries.items) width ∙ inv.counted k in
     let region = c.requires.region in
     let few_rows = before c.requires.row_in_range region.rows_most in
     let wide = at_most same_cols region.cols_most in
@@ -122,27 +119,25 @@ loop-col-preserved c =
     ap (λ (l : List Combination). base ++ l) (stretch f cells col count (λ j h. alike maps row col c.loop-col.cursors picks count j inv.to_come inv.least h ∙ sym inv.cells))
     ∙ sym (append_assoc base (map f (range_with_len 0 col)) (replicate count cells)) in
     let joined = c.if-not-is_left_out in
-    let counted : (k : Combination) → total_of (length picks) k joined.places joined.counted ≡ count_of k (kept_cells skip (base ++ map f (range_with_len 0 (col + count)))) = λ k.
+    let counted : (k : Combination) → total_of (length picks) k joined.places joined.entries.items ≡ count_of k (kept_cells skip (base ++ map f (range_with_len 0 (col + count)))) = λ k.
     elim joined.branch [
       | then-not-is_left_out+in_ok-add_count w ↦
           let kept_in : is_left_out skip cells ≡ false = sym c.is_left_out.ensures ∙ w.if-not-is_left_out.true in
-          ap (λ (p : CountPlaces). total_of (length picks) k p joined.counted) w.places-is ∙ ap (λ (m : Gathered). total_of (length picks) k w.add_count.new.places m) w.counted-is
-          ∙ ap (λ n. total_of n k w.add_count.new.places w.add_count.new.counted) (sym width)
+          rw (w.places-is, w.entries-is) (ap (λ n. total_of n k w.add_count.new.places w.add_count.new.entries.items) (sym width)
           ∙ w.in_ok-add_count.ensures.counts k
-          ∙ ap (λ n. n + cond (is_same k cells) w.from.result 0) (ap (λ n. total_of n k c.loop-col.places c.loop-col.counted) width ∙ inv.counted k)
+          ∙ ap (λ n. n + cond (is_same k cells) w.from.result 0) (ap (λ n. total_of n k c.loop-col.places c.loop-col.entries.items) width ∙ inv.counted k)
           ∙ ap (λ n. count_of k (kept_cells skip (base ++ map f (range_with_len 0 col))) + cond (is_same k cells) n 0) w.from.ensures
-          ∙ sym (count-more skip k cells count (base ++ map f (range_with_len 0 col)) kept_in) ∙ ap (λ (l : List Combination). count_of k (kept_cells skip l)) (sym longer)
+          ∙ sym (count-more skip k cells count (base ++ map f (range_with_len 0 col)) kept_in) ∙ ap (λ (l : List Combination). count_of k (kept_cells skip l)) (sym longer))
       | else-not-is_left_out w ↦
           let out : is_left_out skip cells ≡ true = sym c.is_left_out.ensures ∙ w.if-not-is_left_out.false in
-          ap (λ (p : CountPlaces). total_of (length picks) k p joined.counted) w.places-is ∙ ap (λ (m : Gathered). total_of (length picks) k c.loop-col.places m) w.counted-is
-          ∙ inv.counted k
-          ∙ sym (count-left skip k cells count (base ++ map f (range_with_len 0 col)) out) ∙ ap (λ (l : List Combination). count_of k (kept_cells skip l)) (sym longer)
+          rw (w.places-is, w.entries-is) (inv.counted k
+          ∙ sym (count-left skip k cells count (base ++ map f (range_with_len 0 col)) out) ∙ ap (λ (l : List Combination). count_of k (kept_cells skip l)) (sym longer))
     ] in
-    let going : IsCounting (length picks) joined.spare joined.places joined.counted =
+    let going : IsCounting (length picks) joined.places joined.entries.items =
     elim joined.branch [
-      | then-not-is_left_out+in_ok-add_count w ↦ rw (w.counted-is, w.spare-is, w.places-is)
+      | then-not-is_left_out+in_ok-add_count w ↦ rw (w.entries-is, w.places-is)
           (going_of width w.in_ok-add_count.ensures.going)
-      | else-not-is_left_out w ↦ rw (w.counted-is, w.spare-is, w.places-is) inv.going
+      | else-not-is_left_out w ↦ rw (w.entries-is, w.places-is) inv.going
     ] in
     record {
       counted = counted;

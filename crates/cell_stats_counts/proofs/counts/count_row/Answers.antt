@@ -1,8 +1,8 @@
 use Rattle.std.proofs.Common.{◌≡◌, ◌<◌, ◌≤◌, ◌^◌, arith, ap, refl, sym, ◌∙◌, ◌+◌, ℕ}
 use Rattle.std.proofs.lemmas.Result.{IfOk-from_err}
 use Rattle.cell_core_values.specs.Region.{RegionValue}
-use Rattle.cell_stats_counts.specs.Listed.{listed_of}
-use Rattle.cell_stats_counts.specs.parts.HeldPlaces.{total_of, held_of}
+use Rattle.cell_stats_counts.specs.parts.CountsUnderWay.{total_of}
+use Rattle.cell_stats_counts.specs.parts.SideBySide.{gathered_of}
 use Rattle.cell_stats_counts.proofs.HeldLemmas.{going_of}
 use Rattle.cell_stats_counts.proofs.RunCountLemmas.{single, counted-alone, fits-alone}
 use Rattle.cell_stats_counts.proofs.RowLemmas.{twin, counted-both}
@@ -21,14 +21,14 @@ just_two : {n : ℕ} → 2 ≤ n → n < 3 → n ≡ 2
 just_two some few = omega arith
 
 -- what the table and the list count fits
-part : (paired held listed pending wide cols : ℕ) → wide ≡ cols → paired + (held + (listed + pending)) + cols < 2 ^ 64
+part : (paired listed gathered wide cols : ℕ) → wide ≡ cols → paired + listed + gathered + cols < 2 ^ 64
     → paired + listed + wide < 2 ^ 64
-part paired held listed pending wide cols same all = omega arith
+part paired listed gathered wide cols same all = omega arith
 
 -- what they count more is all that is counted more
-whole : (paired held listed pending now later more : ℕ) → now + later ≡ paired + listed + more
-    → now + (held + (later + pending)) ≡ paired + (held + (listed + pending)) + more
-whole paired held listed pending now later more grown = omega arith
+whole : (paired listed gathered now later more : ℕ) → now + later ≡ paired + listed + more
+    → now + later + gathered ≡ paired + listed + gathered + more
+whole paired listed gathered now later more grown = omega arith
 
 same_cols : {wide cols : ℕ} → wide ≡ cols → cols ≤ 65535 → wide < 2 ^ 32
 same_cols same high = omega arith
@@ -47,23 +47,23 @@ count_alone-requires-clause-fits c = λ k.
     let region = c.requires.region in
     let one = just_one c.in-len1.len_at_least c.in-len1.len_below in
     let few = before c.requires.row_in_range region.rows_most in
-    let was = sym (ap (λ w. total_of w k c.args.places.now c.args.counted.now) one) ∙ c.requires.counted k in
+    let was = sym (ap (λ w. total_of w k c.args.places.now c.args.entries.now.items) one) ∙ c.requires.counted k in
     let wide = ap (λ (r : RegionValue). r.cols) c.map-grid.ensures.region in
     fits-alone c.args.selection.skip k c.args.selection.shelf.now.maps picks c.args.row
-    c.args.selection.shelf.now.region.cols (total_of 1 k c.args.places.now c.args.counted.now) _ few
+    c.args.selection.shelf.now.region.cols (total_of 1 k c.args.places.now c.args.entries.now.items) _ few
     region.cols_most was wide
 
 pub returns-in-len1-clause-ok : goal.returns-in-len1-clause-ok
 returns-in-len1-clause-ok c = λ k.
     let picks = c.args.selection.picks.now in
     let one = just_one c.in-len1.len_at_least c.in-len1.len_below in
-    let was = sym (ap (λ w. total_of w k c.args.places.now c.args.counted.now) one) ∙ c.requires.counted k in
+    let was = sym (ap (λ w. total_of w k c.args.places.now c.args.entries.now.items) one) ∙ c.requires.counted k in
     let wide = c.count_alone.ensures.width ∙ ap (λ (r : RegionValue). r.cols) c.map-grid.ensures.region in
     let new = c.count_alone.new in
-    ap (λ w. total_of w k new.places new.counted) one
+    ap (λ w. total_of w k new.places new.entries.items) one
     ∙ counted-alone c.args.selection.skip k c.args.selection.shelf.now.maps picks c.args.row _
     c.args.selection.shelf.now.region.cols c.map-grid.result.now
-    (total_of 1 k c.args.places.now c.args.counted.now) (total_of 1 k new.places new.counted)
+    (total_of 1 k c.args.places.now c.args.entries.now.items) (total_of 1 k new.places new.entries.items)
     (single picks _ one) c.map-grid.ensures.value wide was (c.in_ok-count_alone.ensures.ok k)
 
 pub map-grid-requires : goal.map-grid-requires
@@ -89,29 +89,28 @@ count_varied-requires-clause-fits c = λ k.
     let region = c.requires.region in
     let two = just_two c.in-len2.len_at_least c.in-len2.len_below in
     let few = before c.requires.row_in_range region.rows_most in
-    let was = sym (ap (λ w. total_of w k c.args.places.now c.args.counted.now) two) ∙ c.requires.counted k in
+    let was = sym (ap (λ w. total_of w k c.args.places.now c.args.entries.now.items) two) ∙ c.requires.counted k in
     let cols = c.args.selection.shelf.now.region.cols in
     let wide = ap (λ (r : RegionValue). r.cols) c.map-one.ensures.region in
-    part _ (held_of 2 k c.args.places.now.wide.items) _ (listed_of k c.args.counted.now.pending.items) _ cols wide
+    part _ _ (gathered_of 2 k c.args.places.now.wide) _ cols wide
     (fits-alone c.args.selection.skip k c.args.selection.shelf.now.maps picks c.args.row
-    cols (total_of 2 k c.args.places.now c.args.counted.now) cols few region.cols_most was refl)
+    cols (total_of 2 k c.args.places.now c.args.entries.now.items) cols few region.cols_most was refl)
 
 pub returns-then-is_varied-clause-ok : goal.returns-then-is_varied-clause-ok
 returns-then-is_varied-clause-ok c = λ k.
     let picks = c.args.selection.picks.now in
     let two = just_two c.in-len2.len_at_least c.in-len2.len_below in
-    let was = sym (ap (λ w. total_of w k c.args.places.now c.args.counted.now) two) ∙ c.requires.counted k in
+    let was = sym (ap (λ w. total_of w k c.args.places.now c.args.entries.now.items) two) ∙ c.requires.counted k in
     let wide = ap (λ (r : RegionValue). r.cols) c.map-one.ensures.region in
     let ensures = c.in_ok-count_varied.ensures in
     counted-both c.args.selection.skip k c.args.selection.shelf.now.maps picks c.args.row _ _
     c.args.selection.shelf.now.region.cols c.map-one.result.now c.map-other.result.now
-    (total_of 2 k c.args.places.now c.args.counted.now) _
+    (total_of 2 k c.args.places.now c.args.entries.now.items) _
     (twin picks _ two) c.map-one.ensures.value c.map-other.ensures.value (ensures.width ∙ wide)
     (ensures.width_of_other ∙ wide) was
     (ap (λ w. total_of w k (record { wide = c.args.places.now.wide; pairs = c.count_varied.new.table })
-    (record c.args.counted.now { entries = c.count_varied.new.entries })) two
-    ∙ whole _ (held_of 2 k c.args.places.now.wide.items) _ (listed_of k c.args.counted.now.pending.items)
-    _ _ _ (ensures.ok k))
+    c.count_varied.new.entries.items) two
+    ∙ whole _ _ (gathered_of 2 k c.args.places.now.wide) _ _ _ (ensures.ok k))
 
 pub restart_all-requires-clause-picked : goal.restart_all-requires-clause-picked
 restart_all-requires-clause-picked c = c.requires.picked

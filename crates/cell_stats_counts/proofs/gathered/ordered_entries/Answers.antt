@@ -1,6 +1,6 @@
-use Rattle.std.proofs.Common.{◌≡◌, ◌+◌, ◌<◌, ◌^◌, ℕ, [], add-zero, subst, take, arith, sym, ap, ◌∙◌}
+use Rattle.std.proofs.Common.{◌≡◌, ◌<◌, ◌^◌, ℕ, take, arith, sym, ap, subst, ◌∙◌}
 use Rattle.std.proofs.lemmas.List.{with_items_is}
-use Rattle.std.proofs.lemmas.List.Sorted.{All-permutation, IsPermutation-trans, sum_by-IsPermutation}
+use Rattle.std.proofs.lemmas.List.Sorted.{All-permutation, sum_by-IsPermutation}
 use Rattle.cell_stats_combinations.specs.Combinations.{Combination}
 use Rattle.cell_stats_counts.specs.Listed.{Counts, entry_of, listed_of, HasNoZero}
 use Rattle.std.specs.List.Sorted.{IsPermutation}
@@ -9,25 +9,21 @@ use Rattle.cell_stats_counts.proofs.gathered.ordered_entries.Goals as goal
 sums : (es fs gs : Counts) → IsPermutation es fs → gs ≡ fs → (k : Combination) → listed_of k gs ≡ listed_of k es
 sums es fs gs moved same k = ap (listed_of k) same ∙ sum_by-IsPermutation (entry_of k) es fs moved
 
--- what is sorted in two steps
-moved : {es fs gs : Counts} → IsPermutation es fs → IsPermutation fs gs → IsPermutation es gs
-moved {es} {fs} {gs} first second = IsPermutation-trans es fs gs first second
-
--- nothing is pending
-all_listed : (k : Combination) (es ps : Counts) → ps ≡ [] → listed_of k es + listed_of k ps ≡ listed_of k es
-all_listed k es ps none = ap (λ l. listed_of k es + listed_of k l) none ∙ add-zero (listed_of k es)
-
 low : (n : ℕ) {m : ℕ} → n ≡ m → m < 2 ^ 64 → n < 2 ^ 64
 low n same h = omega arith
 
 pub join-kept-requires-clause-fits : goal.join-kept-requires-clause-fits
-join-kept-requires-clause-fits c = λ k. low (listed_of k c.as_mut_slice.result.now) (sums _ _ _ (moved c.presorted-entries.ensures c.sort_unstable.ensures.permutation) c.as_mut_slice.ensures.value k) (subst (λ (n : ℕ). n < 2 ^ 64) (all_listed k c.args.counted.entries.items _ c.requires.settled) (c.requires.fits k))
+join-kept-requires-clause-fits c = λ k.
+    low (listed_of k c.as_mut_slice.result.now)
+    (sums _ _ _ c.sort_unstable.ensures.permutation c.as_mut_slice.ensures.value k) (c.requires.fits k)
 
 pub join-kept-requires-clause-no_zero : goal.join-kept-requires-clause-no_zero
 join-kept-requires-clause-no_zero c =
-    subst HasNoZero (sym c.as_mut_slice.ensures.value) (All-permutation (λ (e : Combination × ℕ). 0 < e.1) c.args.counted.entries.items _ (moved c.presorted-entries.ensures c.sort_unstable.ensures.permutation) c.requires.no_zero.0)
+    subst HasNoZero (sym c.as_mut_slice.ensures.value) (All-permutation (λ (e : Combination × ℕ). 0 < e.1) c.args.entries.items _
+    c.sort_unstable.ensures.permutation c.requires.no_zero)
 
 pub returns-clause-counts : goal.returns-clause-counts
 returns-clause-counts c = λ k.
     let joined = with_items_is c.sort_unstable.new.self c.join-kept.new.entries (c.join-kept.auto.entries ∙ c.as_mut_slice.ensures.len) in
-    ap (listed_of k) (c.truncate.ensures.items ∙ ap (take c.join-kept.result) joined) ∙ c.join-kept.ensures.counts k ∙ sums _ _ _ (moved c.presorted-entries.ensures c.sort_unstable.ensures.permutation) c.as_mut_slice.ensures.value k ∙ sym (all_listed k c.args.counted.entries.items _ c.requires.settled)
+    ap (listed_of k) (c.truncate.ensures.items ∙ ap (take c.join-kept.result) joined) ∙ c.join-kept.ensures.counts k
+    ∙ sums _ _ _ c.sort_unstable.ensures.permutation c.as_mut_slice.ensures.value k
