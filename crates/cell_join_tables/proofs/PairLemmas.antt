@@ -14,7 +14,6 @@ use Rattle.cell_stats_combinations.proofs.OrderLemmas.{combination_cmp-exact}
 use Rattle.cell_stats_counts.specs.Listed.{entry_of, listed_of, HasNoZero}
 use Rattle.cell_stats_combinations.specs.parts.Same.{is_same}
 use Rattle.cell_stats_counts.proofs.HeldLemmas.{cond-add}
-use Rattle.cell_stats_counts.proofs.GatheredLemmas.{entry-le}
 use Rattle.cell_stats.specs.CategoryTables.{Pairs}
 use Rattle.cell_parts.specs.TableParts.{count_in, IsMerge}
 use Rattle.cell_parts.specs.Merging.{IsListing}
