@@ -35,6 +35,9 @@ const MOST_KEPT: usize = 8;
 // So many bytes have to be held for that, and for a load of 16 bytes at the last of them.
 const LEAST_BUFFERED: usize = 80;
 
+// So many blocks one after another are tried as numbers in vain. Then one is tried in each call, until one is of numbers.
+const BLOCK_TRIES: usize = 8;
+
 // A word that was read, by its bytes, and its cell. It is free if it has no bytes.
 #[derive(Clone, Copy)]
 struct WordEntry {
@@ -362,6 +365,8 @@ pub struct WordTable {
     header: Header,
     entries: Vec<WordEntry>,
     is_plain: bool,
+    // How many blocks are tried as numbers yet.
+    tries: usize,
 }
 
 impl Model for WordTable {
@@ -379,18 +384,18 @@ impl Model for WordTable {
         × (t.is_plain ≡ true → IsPlain t.header) };
 }
 
-// The same by vectors, if a header is plain and all words are numbers.
+// The same by vectors, if a header is plain, a try is left, and all words are numbers.
 #[inline(always)]
 fn next_cells_in<const SOUGHT: bool>(
     buffered: &[u8],
     header: &Header,
-    is_plain: bool,
     entries: &mut [WordEntry],
     row: &mut [Cell],
     missed: &mut usize,
+    tries: &mut usize,
 ) -> (usize, usize)
     requires buffered { 80 ≤ length buffered.now }
-    requires plain { is_plain ≡ true → IsPlain header.now }
+    requires plain { 0 < tries.old → IsPlain header.now }
     requires room { length entries.old ≡ 4096 }
     requires known { All (IsEntry header.now) entries.old }
     ensures cells { HoldsLines header.now buffered.now (take result.0 row.new) result.0 result.1
@@ -399,12 +404,15 @@ fn next_cells_in<const SOUGHT: bool>(
     ensures within { result.1 < 64 }
     ensures rest { drop result.0 row.new ≡ drop result.0 row.old }
     ensures known { All (IsEntry header.now) entries.new }
+    ensures plain { 0 < tries.new → IsPlain header.now }
 {
-    if is_plain {
+    if *tries > 0 {
         let found = block_numbers_in(buffered, row);
         if found.0 > 0 {
+            *tries = BLOCK_TRIES;
             return found;
         }
+        *tries -= 1;
     }
     block_cells_in::<SOUGHT>(buffered, header, entries, row, missed)
 }
@@ -417,12 +425,12 @@ fn next_cells_in<const SOUGHT: bool>(
 fn table_cells_in<const SOUGHT: bool>(
     buffered: &[u8],
     header: &Header,
-    is_plain: bool,
     entries: &mut [WordEntry],
     row: &mut [Cell],
     missed: &mut usize,
+    tries: &mut usize,
 ) -> (usize, usize, u64)
-    requires plain { is_plain ≡ true → IsPlain header.now }
+    requires plain { 0 < tries.old → IsPlain header.now }
     requires room { length entries.old ≡ 4096 }
     requires known { All (IsEntry header.now) entries.old }
     ensures cells { AreCellsRead header.now buffered.now row.old row.new result }
@@ -433,14 +441,7 @@ fn table_cells_in<const SOUGHT: bool>(
     let mut lines = 0;
     'blocks: while i < row.len() && buffered.len() - passed >= LEAST_BUFFERED {
         let block = &buffered[passed..];
-        let found = next_cells_in::<SOUGHT>(
-            block,
-            header,
-            is_plain,
-            entries,
-            &mut row[i..],
-            missed,
-        );
+        let found = next_cells_in::<SOUGHT>(block, header, entries, &mut row[i..], missed, tries);
         if found.0 == 0 {
             return (i, passed, lines);
         }
@@ -467,6 +468,7 @@ impl WordTable {
             header,
             entries,
             is_plain,
+            tries: BLOCK_TRIES,
         })
     }
 
@@ -497,13 +499,16 @@ impl WordTable {
         ensures cells { AreCellsRead self.old buffered.now row.old row.new result }
         ensures same { self.new ≡ self.old }
     {
-        table_cells_in::<SOUGHT>(
+        let mut tries = if self.is_plain { self.tries.max(1) } else { 0 };
+        let found = table_cells_in::<SOUGHT>(
             buffered,
             &self.header,
-            self.is_plain,
             self.entries.as_mut_slice(),
             row,
             missed,
-        )
+            &mut tries,
+        );
+        self.tries = tries;
+        found
     }
 }

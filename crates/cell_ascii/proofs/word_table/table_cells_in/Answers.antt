@@ -45,6 +45,7 @@ blocks-2-preserved g c =
       rest = part-rest i k row part old within size few found.ensures.rest c.blocks-2.invariant.rest;
       room = found.auto.entries ∙ c.blocks-2.invariant.room;
       known = found.ensures.known;
+      plain = found.ensures.plain;
     }
 
 pub returns-then-found-eq0-clause-cells : goal.returns-then-found-eq0-clause-cells
