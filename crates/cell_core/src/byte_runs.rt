@@ -1,15 +1,16 @@
 //! Runs of cells that bytes stand for.
 
-ghost use Rattle.std.specs.Prelude.{◌≡◌, ◌<◌, ◌≤◌, ◌^◌, length, IfOk};
-ghost use Rattle.cell_core_values.specs.SmallCells.{cells_of_bytes};
+ghost use Rattle.std.specs.Prelude.{◌≡◌, ◌<◌, ◌≤◌, ◌^◌, ◌+◌, ◌++◌, length, drop, IfOk, slice_index_or};
+ghost use Rattle.cell_core_values.specs.SmallCells.{byte_cell, cells_of_bytes};
 ghost use Rattle.cell_core.specs.Runs.{AreRuns, written_out};
-ghost use Rattle.cell_core.specs.parts.RowForms.{alike, runs_in};
+ghost use Rattle.cell_core.specs.parts.RowForms.{alike, runs_in, runs_on, mark_bits, next_cells};
 
-use crate::runs::runs_of;
+use crate::runs::{BLOCK, push_last};
 use cell_core_values::cell::Cell;
 use cell_core_values::memory::Memory;
 use cell_core_values::small_cells::{cell_of_byte, write_byte_cells};
 use std::alloc::Global;
+use std::simd::prelude::*;
 
 // How many bytes at the start stand for a cell.
 pub(crate) fn count_alike_bytes(cell: Cell, bytes: &[u8]) -> usize
@@ -26,15 +27,39 @@ pub(crate) fn count_alike_bytes(cell: Cell, bytes: &[u8]) -> usize
     count
 }
 
+// Which of the 64 bytes after the first differ from the one before, as bits: bit k stands for the byte at place k + 1.
+#[inline(always)]
+fn breaks_in_bytes(bytes: &[u8]) -> u64
+    requires { 64 < length bytes.now }
+    ensures { result ≡ mark_bits (byte_cell (slice_index_or bytes.now 0 0)) (next_cells bytes.now) }
+{
+    let before = u8x64::from_slice(bytes);
+    u8x64::from_slice(&bytes[1..]).simd_ne(before).to_bitmask()
+}
+
 // How many runs the cells have that bytes stand for.
 pub(crate) fn number_of_byte_runs(bytes: &[u8]) -> usize
+    requires { length bytes.now < 2 ^ 32 }
+    ensures { result ≡ length (runs_in (cells_of_bytes bytes.now)) }
+{
+    let mut ended = 0;
+    let mut at = 0;
+    'blocks: while bytes.len() - at > BLOCK {
+        ended += breaks_in_bytes(&bytes[at..]).count_ones() as usize;
+        at += BLOCK;
+    }
+    ended + number_of_last_runs(&bytes[at..])
+}
+
+// The same, a byte at a time: for the last bytes of a row.
+fn number_of_last_runs(bytes: &[u8]) -> usize
     requires { length bytes.now < 2 ^ 32 }
     ensures { result ≡ length (runs_in (cells_of_bytes bytes.now)) }
 {
     if bytes.is_empty() {
         return 0;
     }
-    // Of 32 bits, so that a vector counts as many as it compares. Bytes are alike if their cells are.
+    // Of 32 bits, which a vector counts faster than 64. Bytes are alike if their cells are.
     let mut alike: u32 = 0;
     let mut last = bytes[0];
     for byte in bytes {
@@ -46,8 +71,30 @@ pub(crate) fn number_of_byte_runs(bytes: &[u8]) -> usize
     bytes.len() - alike as usize + 1
 }
 
-// The runs of the cells that bytes stand for, which are so many. It writes
-// out the cells, since runs of cells are found faster.
+// Pushes the runs that end before the byte at place 64. The first byte stands for the nth cell of its run; the same of the
+// byte at place 64 is returned.
+fn push_byte_block(runs: &mut Vec<(Cell, u32)>, nth: u32, bytes: &[u8]) -> Result<u32, Memory>
+    requires size { 64 < length bytes.now }
+    requires room { nth + 64 < 2 ^ 32 }
+    ensures runs { IfOk result (λ last.
+        runs.new.items ++ runs_on last (cells_of_bytes (drop 64 bytes.now))
+        ≡ runs.old.items ++ runs_on nth (cells_of_bytes bytes.now)) }
+    ensures count { IfOk result (λ last. last ≤ nth + 64) }
+{
+    let mut count = nth;
+    let mut at = 0;
+    let mut breaks = breaks_in_bytes(bytes);
+    'breaks: while breaks != 0 {
+        let alike = breaks.trailing_zeros();
+        runs.push((cell_of_byte(bytes[at]), count + alike))?;
+        count = 1;
+        at += alike as usize + 1;
+        breaks = (breaks >> alike) >> 1;
+    }
+    Ok(count + (BLOCK - at) as u32)
+}
+
+// The runs of the cells that bytes stand for, which are so many. Takes memory once.
 pub(crate) fn runs_of_bytes(
     alloc: Global,
     bytes: &[u8],
@@ -57,7 +104,20 @@ pub(crate) fn runs_of_bytes(
     ensures written { IfOk result (λ runs. written_out runs.items ≡ cells_of_bytes bytes.now) }
     ensures runs { IfOk result (λ runs. AreRuns runs.items) }
 {
-    let mut cells = vec![in alloc; Cell::null(); bytes.len()]?;
-    write_byte_cells(bytes, &mut cells);
-    runs_of(alloc, &cells, count_of_runs)
+    let mut runs = Vec::with_capacity(alloc, count_of_runs)?;
+    if bytes.is_empty() {
+        return Ok(runs);
+    }
+    let mut count = 1;
+    let mut at = 0;
+    'blocks: while bytes.len() - at > BLOCK {
+        count = push_byte_block(&mut runs, count, &bytes[at..])?;
+        at += BLOCK;
+    }
+    let last = &bytes[at + 1..];
+    let mut block = [Cell::null(); BLOCK];
+    let cells = &mut block[..last.len()];
+    write_byte_cells(last, cells);
+    push_last(&mut runs, (cell_of_byte(bytes[at]), count), cells)?;
+    Ok(runs)
 }

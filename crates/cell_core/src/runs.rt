@@ -17,7 +17,7 @@ use std::marker::Model;
 use std::simd::prelude::*;
 
 // So many cells are looked at together.
-const BLOCK: usize = 64;
+pub(crate) const BLOCK: usize = 64;
 
 // Its category, or None for null: it is one of them.
 pub(crate) fn category_of(cell: Cell) -> Option<i32>
@@ -108,7 +108,11 @@ fn push_block(
 }
 
 // Pushes the runs of the last cells of a row, the first of which may have begun before them.
-fn push_last(runs: &mut Vec<(Cell, u32)>, run: (Cell, u32), cells: &[Cell]) -> Result<(), Memory>
+pub(crate) fn push_last(
+    runs: &mut Vec<(Cell, u32)>,
+    run: (Cell, u32),
+    cells: &[Cell],
+) -> Result<(), Memory>
     requires { run.1 + length cells.now < 2 ^ 32 }
     ensures { OnOk result (runs.new.items ≡ runs.old.items ++ runs_from run cells.now) }
 {

@@ -1,5 +1,5 @@
 -- How a row is kept, as its runs, as bytes or as its cells, and the runs that are still to come from each.
-use Rattle.std.specs.Prelude.{ℕ, suc, ◌+◌, ◌<◌, ◌^◌, Bool, not, ◌==◌, List, [], ◌∷◌, map, length, drop, if◌then◌else◌}
+use Rattle.std.specs.Prelude.{ℕ, suc, ◌+◌, ◌<◌, ◌^◌, Bool, not, ◌==◌, List, [], ◌∷◌, map, length, take, drop, if◌then◌else◌}
 use lib.Lanes.{mask_l}
 use Rattle.cell_core_values.specs.Cell.{cell_eq}
 use Rattle.cell_core.specs.Grid.{CellValue}
@@ -42,6 +42,15 @@ runs_in (x ∷ cells) = with_cell x (runs_in cells)
 -- the runs of cells after a run that may continue in them
 abbrev pub runs_from : RunValue → List CellValue → List RunValue
 runs_from run cells = (run.0, run.1 + alike run.0 cells) ∷ runs_in (drop (alike run.0 cells) cells)
+
+-- the runs of cells, the first of which is the nth of its run
+abbrev pub runs_on : ℕ → List CellValue → List RunValue
+runs_on n [] = []
+runs_on n (x ∷ cells) = runs_from (x, n) cells
+
+-- the cells that the 64 bytes after the first stand for
+abbrev pub next_cells : List ℕ → List CellValue
+next_cells bytes = cells_of_bytes (take 64 (drop 1 bytes))
 
 -- whether each of some cells differs from the one before it, the first from x
 abbrev pub marks : CellValue → List CellValue → List Bool

@@ -1,46 +1,29 @@
-use Rattle.std.proofs.Common.{◌<◌, length, get_or, arith, rules}
-use Rattle.std.proofs.lemmas.List.{length-map, get_or_default}
+use Rattle.std.proofs.Common.{◌≡◌, ◌<◌, List, ℕ, length, drop, get_or, ap, arith, length-drop}
+use Rattle.std.proofs.lemmas.List.{take_rest, drop-drop}
 use Rattle.cell_core_values.specs.SmallCells.{byte_cell, cells_of_bytes}
-use Rattle.cell_core.proofs.ByteLemmas.{cells-same, cells-apart, byte_at}
-use Rattle.cell_core.proofs.RowLemmas.{breaks-none, breaks-one, breaks-whole}
+use Rattle.cell_core.specs.parts.RowForms.{mark_bits, next_cells, runs_in}
+use Rattle.cell_core.proofs.ByteLemmas.{number-next, runs-few}
 use Rattle.cell_core.proofs.byte_runs.number_of_byte_runs.Goals as goal
-use Rattle.cell_core.proofs.byte_runs.number_of_byte_runs.Goals.{then-byte-last, else-byte-last}
 
-pub loop-byte-init : goal.loop-byte-init
-loop-byte-init c =
+pub blocks-2-preserved : goal.blocks-2-preserved
+blocks-2-preserved c =
     let bytes = c.args.bytes.now in
-    let some : 0 < length bytes = search (rules, c.if-is_empty.false) in
-    let last = get_or bytes 0 0 in
-    let read = byte_at bytes 0 last some (get_or_default bytes 0 0 last some) in
-    let inside : 0 < length (cells_of_bytes bytes) = omega (arith, some, length-map bytes byte_cell) in
+    let at = c.blocks-2.at in
+    let rest = drop at bytes in
+    let here = take_rest bytes at in
+    let bits : c.breaks_in_bytes.result ≡ mark_bits (byte_cell (get_or rest 0 0)) (next_cells rest) =
+    rw here at c.breaks_in_bytes.ensures in
+    let size : 64 < length rest = omega (arith, length-drop at bytes, c.blocks-2-test.true) in
+    let next = number-next rest c.breaks_in_bytes.result size bits in
+    let after = ap (λ (l : List ℕ). length (runs_in (cells_of_bytes l))) (drop-drop 64 at bytes) in
     record {
-      count = omega (arith, breaks-whole (cells_of_bytes bytes) (byte_cell last) inside read);
-      few = omega arith;
+      within = omega (arith, c.blocks-2-test.true);
+      few = omega (arith, next, after, c.blocks-2.invariant.count, runs-few bytes);
+      count = omega (arith, next, after, c.blocks-2.invariant.count);
     }
 
-pub loop-byte-preserved : goal.loop-byte-preserved
-loop-byte-preserved c =
-    let bytes = c.args.bytes.now in
-    let cells = cells_of_bytes bytes in
-    let i = c.loop-byte.byte-index in
-    let byte = get_or bytes i 0 in
-    let last = c.loop-byte.last in
-    let within : i < length bytes = c.loop-byte-test.true in
-    let inside : i < length cells = omega (arith, within, length-map bytes byte_cell) in
-    let read = byte_at bytes i byte within (get_or_default bytes i 0 byte within) in
-    elim c.if-byte-last.branch [
-      | then-byte-last w ↦
-          let same = cells-same byte last (search (rules, w.if-byte-last)) in
-          let none = breaks-none (byte_cell last) (byte_cell byte) cells i inside read same in
-          record {
-            count = rw w.last-is (omega (arith, w.alike-is, none, c.loop-byte.invariant.count));
-            few = omega (arith, w.alike-is, c.loop-byte.invariant.few);
-          }
-      | else-byte-last w ↦
-          let other = cells-apart byte last (search (rules, w.if-byte-last)) in
-          let one = breaks-one (byte_cell last) (byte_cell byte) cells i inside read other in
-          record {
-            count = rw w.last-is (omega (arith, w.alike-is, one, c.loop-byte.invariant.count));
-            few = omega (arith, w.alike-is, c.loop-byte.invariant.few);
-          }
-    ]
+pub overflow_add-result : goal.overflow_add-result
+overflow_add-result c =
+    let last : c.number_of_last_runs.result ≡ length (runs_in (cells_of_bytes (drop c.blocks-2.at c.args.bytes.now))) =
+    rw (take_rest c.args.bytes.now c.blocks-2.at) at c.number_of_last_runs.ensures in
+    record { fits = omega (arith, last, c.blocks-2.invariant.count, runs-few c.args.bytes.now, c.requires) }

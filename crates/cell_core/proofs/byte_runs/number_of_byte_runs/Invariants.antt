@@ -1,11 +1,14 @@
-use Rattle.std.proofs.Common.{◌≡◌, ◌≤◌, ◌+◌, drop, length}
-use Rattle.cell_core.specs.parts.RowForms.{breaks, runs_in}
-use Rattle.cell_core_values.specs.SmallCells.{byte_cell, cells_of_bytes}
+use Rattle.std.proofs.Common.{◌≡◌, ◌≤◌, ◌+◌, ◌-◌, length, drop}
+use Rattle.cell_core_values.specs.SmallCells.{cells_of_bytes}
+use Rattle.cell_core.specs.parts.RowForms.{runs_in}
 use Rattle.cell_core.proofs.byte_runs.number_of_byte_runs.Given as goal
 
-abbrev pub invariant-loop-byte : goal.invariant-loop-byte
-invariant-loop-byte l = record {
-  count : l.byte-index + 1 + breaks (byte_cell l.last) (drop l.byte-index (cells_of_bytes l.bytes))
-      ≡ length (runs_in (cells_of_bytes l.bytes)) + l.alike;
-  few : l.alike ≤ l.byte-index;
+abbrev pub invariant-blocks-2 : goal.invariant-blocks-2
+invariant-blocks-2 l = record {
+  within : l.at ≤ length l.bytes;
+  few : l.ended ≤ length l.bytes;
+  count : l.ended + length (runs_in (cells_of_bytes (drop l.at l.bytes))) ≡ length (runs_in (cells_of_bytes l.bytes));
 }
+
+abbrev pub decreases-blocks-2 : goal.decreases-blocks-2
+decreases-blocks-2 l = length l.bytes - l.at
