@@ -20,7 +20,7 @@ use std::marker::Model;
 
 /// A raster map of whole numbers (GRASS: a CELL map): its region, its rows from the top, and the
 /// labels of its categories. Rows and columns count from 0. A row is kept as its runs, or as
-/// its cells if these take less memory, in a byte each if they are null or from 0 to 254.
+/// its cells if these take less memory, in a byte each if they are null or from 0 to 254. At most 16 such bytes take none.
 #[derive(Debug, Drop)]
 pub struct CellMap {
     region: Region,
@@ -237,6 +237,7 @@ impl MapBuilder {
     }
 
     // Puts a row below the others.
+    #[inline(always)]
     fn push(&mut self, row: Row) -> Result<(), Memory>
         requires width { length row ≡ self.old.region.cols }
         requires cells { All IsCell row }

@@ -6,6 +6,7 @@ ghost use Rattle.cell_core_values.specs.SmallCells.{cells_of_bytes};
 ghost use Rattle.cell_core.specs.Runs.{AreRuns, written_out};
 
 use crate::byte_runs::{number_of_byte_runs, runs_of_bytes};
+use crate::few_bytes::{FEW, FewBytes};
 use crate::runs::{Runs, category_of, cell_of_runs, number_of_runs, runs_of, write_out};
 use crate::stretches::Stretches;
 use cell_core_values::cell::Cell;
@@ -24,10 +25,12 @@ pub(crate) struct Row {
 }
 
 /// A row as its runs, or, if most runs are short, as its cells: in a byte each, if these stand for all of them.
-/// Each row takes one growth of just its size, since its runs are counted first. One list of runs for a map took the same
-/// time and memory, and rows would have to be cut out of it. With runs alone, noise took 8 bytes a cell.
+/// A few bytes are kept in the row itself. Any other row takes one growth of just its size, since its runs are counted first.
+/// One list of runs for a map took the same time and memory, and rows would have to be cut out of it. With runs alone, noise
+/// took 8 bytes a cell.
 #[derive(Debug, Drop)]
 enum RowForm {
+    Few(FewBytes),
     Runs(Vec<(Cell, u32)>),
     Bytes(Vec<u8>),
     Cells(Vec<Cell>),
@@ -45,8 +48,18 @@ impl Model for Row {
     ghost invariant = { λ row. IsKept row.kept };
 }
 
+// The cell at a column of those that bytes stand for, or null after the end.
+fn cell_of_bytes(bytes: &[u8], col: u32) -> Cell
+    ensures { result ≡ slice_index_or (cells_of_bytes bytes.now) col None }
+{
+    match bytes.get(col as usize) {
+        Some(byte) => cell_of_byte(*byte),
+        None => Cell::null(),
+    }
+}
+
 impl Row {
-    // Keeps a row of cells. Takes memory once.
+    // Keeps a row of cells. Takes memory at most once.
     pub(crate) fn of(alloc: Global, cells: &[Cell]) -> Result<Row, Memory>
         requires { length cells.now < 2 ^ 32 }
         ensures value { IfOk result (λ row. row ≡ cells.now) }
@@ -55,15 +68,17 @@ impl Row {
         let count = number_of_runs(cells);
         let kept = if count <= cells.len() / CELLS_A_RUN {
             RowForm::Runs(runs_of(alloc, cells, count)?)
-        } else if are_small(cells) {
-            RowForm::Bytes(bytes_of(alloc, cells)?)
-        } else {
+        } else if !are_small(cells) {
             RowForm::Cells(Vec::from_slice(alloc, cells)?)
+        } else if cells.len() <= FEW {
+            RowForm::Few(FewBytes::of_cells(cells))
+        } else {
+            RowForm::Bytes(bytes_of(alloc, cells)?)
         };
         Ok(Row { kept })
     }
 
-    // Keeps the row of cells that bytes stand for. Takes memory once.
+    // Keeps the row of cells that bytes stand for. Takes memory at most once.
     pub(crate) fn of_bytes(alloc: Global, bytes: &[u8]) -> Result<Row, Memory>
         requires { length bytes.now < 2 ^ 32 }
         ensures value { IfOk result (λ row. row ≡ cells_of_bytes bytes.now) }
@@ -72,13 +87,15 @@ impl Row {
         let count = number_of_byte_runs(bytes);
         let kept = if count <= bytes.len() / CELLS_A_RUN {
             RowForm::Runs(runs_of_bytes(alloc, bytes, count)?)
+        } else if bytes.len() <= FEW {
+            RowForm::Few(FewBytes::of(bytes))
         } else {
             RowForm::Bytes(Vec::from_slice(alloc, bytes)?)
         };
         Ok(Row { kept })
     }
 
-    // Keeps the row that runs make. Takes memory once.
+    // Keeps the row that runs make. Takes memory at most once.
     pub(crate) fn of_runs(alloc: Global, runs: &[(Cell, u32)]) -> Result<Row, Memory>
         requires { AreRuns runs.now }
         ensures value { IfOk result (λ row. row ≡ written_out runs.now) }
@@ -99,11 +116,9 @@ impl Row {
         ensures { result ≡ slice_index_or self.now col None }
     {
         match &self.kept {
+            RowForm::Few(few) => cell_of_bytes(few.as_slice(), col),
             RowForm::Runs(runs) => cell_of_runs(runs, col),
-            RowForm::Bytes(bytes) => match bytes.get(col as usize) {
-                Some(byte) => cell_of_byte(*byte),
-                None => Cell::null(),
-            },
+            RowForm::Bytes(bytes) => cell_of_bytes(bytes, col),
             RowForm::Cells(cells) => match cells.get(col as usize) {
                 Some(cell) => *cell,
                 None => Cell::null(),
@@ -117,6 +132,7 @@ impl Row {
         ensures { cells.new ≡ self.now }
     {
         match &self.kept {
+            RowForm::Few(few) => write_byte_cells(few.as_slice(), cells),
             RowForm::Runs(runs) => write_out(runs, cells),
             RowForm::Bytes(bytes) => write_byte_cells(bytes, cells),
             RowForm::Cells(kept) => cells.copy_from_slice(kept),
@@ -129,6 +145,7 @@ impl Row {
         ensures runs { AreRuns result }
     {
         match &self.kept {
+            RowForm::Few(few) => Runs::of_bytes(few.as_slice()),
             RowForm::Runs(runs) => Runs::over(runs),
             RowForm::Bytes(bytes) => Runs::of_bytes(bytes),
             RowForm::Cells(cells) => Runs::of_cells(cells),
@@ -140,6 +157,7 @@ impl Row {
         ensures { IfSome result (λ bytes. cells_of_bytes bytes.now ≡ self.now) }
     {
         match &self.kept {
+            RowForm::Few(few) => Some(few.as_slice()),
             RowForm::Bytes(bytes) => Some(bytes.as_slice()),
             _ => None,
         }
@@ -161,6 +179,7 @@ impl Row {
         ensures some { All (λ run. 0 < run.1) result }
     {
         match &self.kept {
+            RowForm::Few(few) => Stretches::of_bytes(few.as_slice()),
             RowForm::Runs(runs) => Stretches::of_runs(runs),
             RowForm::Bytes(bytes) => Stretches::of_bytes(bytes),
             RowForm::Cells(cells) => Stretches::of_cells(cells),

@@ -83,8 +83,8 @@ pub fn bytes_of(alloc: Global, cells: &[Cell]) -> Result<Vec<u8>, Memory>
     Ok(bytes)
 }
 
-// Writes the bytes that stand for cells, into a slice of as many.
-fn write_bytes(cells: &[Cell], bytes: &mut [u8])
+/// Writes the bytes that stand for cells, into a slice of as many.
+pub fn write_bytes(cells: &[Cell], bytes: &mut [u8])
     requires small { All IsSmall cells.now }
     requires size { length bytes.old ≡ length cells.now }
     ensures { cells_of_bytes bytes.new ≡ cells.now }

@@ -8,7 +8,8 @@ use Rattle.cell_core_values.specs.Cell.{IsCell}
 use Rattle.cell_core_values.specs.SmallCells.{byte_cell, cells_of_bytes}
 use Rattle.cell_core.proofs.row.Row.of_bytes.Goals as goal
 use Rattle.cell_core.proofs.row.Row.of_bytes.Goals.{then-count-bytes+in_ok-runs_of_bytes}
-use Rattle.cell_core.proofs.row.Row.of_bytes.Goals.{else-count-bytes+in_ok-from_slice}
+use Rattle.cell_core.proofs.row.Row.of_bytes.Goals.{else-count-bytes+then-bytes-le-FEW}
+use Rattle.cell_core.proofs.row.Row.of_bytes.Goals.{else-count-bytes+else-bytes-le-FEW+in_ok-from_slice}
 
 byte_is : (b : ℕ) → b < 256 → IsCell (byte_cell b)
 byte_is b few = by (eqb b 255)
@@ -27,6 +28,8 @@ returns-clause-cells c =
     elim c.if-count-bytes.branch [
       | then-count-bytes+in_ok-runs_of_bytes w ↦
           rw w.kept-is (All-same IsCell _ _ w.in_ok-runs_of_bytes.ensures.written all)
-      | else-count-bytes+in_ok-from_slice w ↦
+      | else-count-bytes+then-bytes-le-FEW w ↦
+          rw w.kept-is (All-same IsCell _ _ (ap cells_of_bytes w.of.ensures) all)
+      | else-count-bytes+else-bytes-le-FEW+in_ok-from_slice w ↦
           rw w.kept-is (All-same IsCell _ _ (ap cells_of_bytes w.in_ok-from_slice.ensures.items) all)
     ]

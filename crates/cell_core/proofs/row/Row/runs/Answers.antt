@@ -14,10 +14,24 @@ returns-in-Bytes-clause-written c =
       written_out-runs_in (cells_of_bytes c.in-Bytes.bytes.items),
       c.in-Bytes.is,
       c.self.view_is,
-      c.of_bytes.ensures,
+      c.of_bytes-in-Bytes.ensures,
       c.deref-in-Bytes.ensures.value,
     )
 
 pub returns-in-Bytes-clause-runs : goal.returns-in-Bytes-clause-runs
 returns-in-Bytes-clause-runs c =
-    rw (c.of_bytes.ensures) (AreRuns-runs_in (cells_of_bytes c.deref-in-Bytes.result.now))
+    rw (c.of_bytes-in-Bytes.ensures) (AreRuns-runs_in (cells_of_bytes c.deref-in-Bytes.result.now))
+
+pub returns-in-Few-clause-written : goal.returns-in-Few-clause-written
+returns-in-Few-clause-written c =
+    search (
+      written_out-runs_in (cells_of_bytes c.in-Few.few),
+      c.in-Few.is,
+      c.self.view_is,
+      c.of_bytes.ensures,
+      c.as_slice.ensures.value,
+    )
+
+pub returns-in-Few-clause-runs : goal.returns-in-Few-clause-runs
+returns-in-Few-clause-runs c =
+    rw (c.of_bytes.ensures) (AreRuns-runs_in (cells_of_bytes c.as_slice.result.now))

@@ -21,10 +21,24 @@ returns-in-Bytes-clause-written c =
       written_out-one_by_one (cells_of_bytes c.in-Bytes.bytes.items),
       c.in-Bytes.is,
       c.self.view_is,
-      c.of_bytes.ensures,
+      c.of_bytes-in-Bytes.ensures,
       c.deref-in-Bytes.ensures.value,
     )
 
 pub returns-in-Bytes-clause-some : goal.returns-in-Bytes-clause-some
 returns-in-Bytes-clause-some c =
-    rw (c.of_bytes.ensures) (some-one_by_one (cells_of_bytes c.deref-in-Bytes.result.now))
+    rw (c.of_bytes-in-Bytes.ensures) (some-one_by_one (cells_of_bytes c.deref-in-Bytes.result.now))
+
+pub returns-in-Few-clause-written : goal.returns-in-Few-clause-written
+returns-in-Few-clause-written c =
+    search (
+      written_out-one_by_one (cells_of_bytes c.in-Few.few),
+      c.in-Few.is,
+      c.self.view_is,
+      c.of_bytes.ensures,
+      c.as_slice.ensures.value,
+    )
+
+pub returns-in-Few-clause-some : goal.returns-in-Few-clause-some
+returns-in-Few-clause-some c =
+    rw (c.of_bytes.ensures) (some-one_by_one (cells_of_bytes c.as_slice.result.now))
