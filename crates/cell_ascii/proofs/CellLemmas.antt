@@ -1,5 +1,5 @@
 -- The next cell, and n of them, one after another.
-use Rattle.std.proofs.Common.{◌≡◌, ℕ, suc, [], ◌∷◌, ◌++◌, append_assoc, append-nil, ◌+◌, ◌-◌, ◌<◌, arith, List, length, Option, Some, None, Result, Ok, Err, Bool, true, false, ℤ, ◌*ℤ◌, if◌then◌else◌, bytes_eq, refl, ap, sym, ◌∙◌}
+use Rattle.std.proofs.Common.{◌≡◌, ℕ, [], ◌++◌, append_assoc, append-nil, ◌+◌, ◌-◌, ◌≤◌, arith, List, length, Option, Some, None, Result, Ok, Err, Bool, true, false, ℤ, ◌*ℤ◌, if◌then◌else◌, bytes_eq, refl, ap, sym, ◌∙◌}
 use Rattle.std.specs.Option.{option_map}
 use Rattle.std.specs.Result.{IfErr}
 use Rattle.cell_core_devices.specs.Device.{Coming}
@@ -15,6 +15,7 @@ use Rattle.cell_ascii_meaning.specs.declared.grid_fault.GridFault.{GridFault}
 use Rattle.cell_ascii_meaning.specs.declared.grid_fault.GridKind.{GridKind}
 use Rattle.cell_ascii_meaning.specs.declared.grid_fault.GridKind.TheVariants.{CellRange}
 use Rattle.cell_ascii_reading.proofs.MapLemmas.{then_map, map_same}
+use Rattle.cell_ascii.proofs.ManyLemmas.{many_add, glue, and_then}
 
 -- where a cell leaves a reader
 abbrev pub place_after : HeaderValue → ℕ → Ahead → ReaderPlace
@@ -109,35 +110,35 @@ all_read {X} one n i here a front all =
     ap (λ (m : ℕ). option_map (λ c. with_front front (many one m (here c))) a) none
     ∙ ap (λ (l : List X). option_map (λ c. Ok (l, here c)) a) (append-nil front)
 
--- one more of many
-abbrev with_next : {X : Type 0} → (At → Reading X) → ℕ → List X → Reading X → Reading (List X)
-with_next one n front (Ok x) = with_front (front ++ x.0 ∷ []) (many one n x.1)
+-- some more of many
+abbrev with_next : {X : Type 0} → (At → Reading X) → ℕ → List X → Reading (List X) → Reading (List X)
+with_next one n front (Ok x) = with_front (front ++ x.0) (many one n x.1)
 with_next one n front (Err f) = Err f
 
-many_more : {X : Type 0} (one : At → Reading X) (n : ℕ) (front : List X) (at : At) → with_front front (many one (suc n) at) ≡ with_next one n front (one at)
-many_more {X} one n front at = by (one at)
+many_more : {X : Type 0} (one : At → Reading X) (k n : ℕ) (front : List X) (at : At) → with_front front (many one (k + n) at) ≡ with_next one n front (many one k at)
+many_more {X} one k n front at = ap (with_front front) (many_add one k n at) ∙ by (many one k at)
   where
-    rest : (front : List X) (x : X) (r : Reading (List X)) → with_front front (r >>= (λ y. Ok (x ∷ y.0, y.1))) ≡ with_front (front ++ x ∷ []) r
-    rest front x (Ok y) = ap (λ l. Ok (l, y.1)) (sym (append_assoc front (x ∷ []) y.0))
-    rest front x (Err f) = refl
+    rest : (xs : List X) (r : Reading (List X)) → with_front front (r >>= glue one xs) ≡ with_front (front ++ xs) r
+    rest xs (Ok y) = ap (λ l. Ok (l, y.1)) (sym (append_assoc front xs y.0))
+    rest xs (Err f) = refl
 
-    by : (r : Reading X) → with_front front (r >>= (λ x. many one n x.1 >>= (λ y. Ok (x.0 ∷ y.0, y.1)))) ≡ with_next one n front r
-    by (Ok x) = rest front x.0 (many one n x.1)
+    by : (r : Reading (List X)) → with_front front (r >>= and_then one n) ≡ with_next one n front r
+    by (Ok x) = rest x.0 (many one n x.1)
     by (Err f) = refl
 
-less_one : (n i : ℕ) → i < n → n - i ≡ suc (n - (i + 1))
-less_one n i h = omega arith
+less_some : (n i k : ℕ) → i + k ≤ n → n - i ≡ k + (n - (i + k))
+less_some n i k h = omega arith
 
-module _ {X : Type 0} (one : At → Reading X) (F : Coming → Reading (List X)) (a b d : Option Coming) (front : List X) (n i : ℕ) (here : Coming → At) (in_range : i < n)
+module _ {X : Type 0} (one : At → Reading X) (F : Coming → Reading (List X)) (a b d : Option Coming) (front : List X) (n i k : ℕ) (here : Coming → At) (in_range : i + k ≤ n)
     (so_far : option_map F a ≡ option_map (λ c. with_front front (many one (n - i) (here c))) b) where
-  next : option_map F a ≡ option_map (λ c. with_next one (n - (i + 1)) front (one (here c))) b
-  next = so_far ∙ ap (λ (m : ℕ). option_map (λ c. with_front front (many one m (here c))) b) (less_one n i in_range) ∙ (λ j. option_map (λ c. many_more one (n - (i + 1)) front (here c) j) b)
+  next : option_map F a ≡ option_map (λ c. with_next one (n - (i + k)) front (many one k (here c))) b
+  next = so_far ∙ ap (λ (m : ℕ). option_map (λ c. with_front front (many one m (here c))) b) (less_some n i k in_range) ∙ (λ j. option_map (λ c. many_more one k (n - (i + k)) front (here c) j) b)
 
-  -- one more was read
-  pub more_read : (x : X) (there : Coming → At) → option_map (λ c. one (here c)) b ≡ option_map (λ c. Ok (x, there c)) d
-      → option_map F a ≡ option_map (λ c. with_front (front ++ x ∷ []) (many one (n - (i + 1)) (there c))) d
-  more_read x there e = next ∙ then_map (with_next one (n - (i + 1)) front) (λ c. one (here c)) (λ c. Ok (x, there c)) b d e
+  -- some more were read
+  pub more_read : (xs : List X) (there : Coming → At) → option_map (λ c. many one k (here c)) b ≡ option_map (λ c. Ok (xs, there c)) d
+      → option_map F a ≡ option_map (λ c. with_front (front ++ xs) (many one (n - (i + k)) (there c))) d
+  more_read xs there e = next ∙ then_map (with_next one (n - (i + k)) front) (λ c. many one k (here c)) (λ c. Ok (xs, there c)) b d e
 
-  -- an error comes next
-  pub more_fails : (f : GridFault) → option_map (λ c. one (here c)) b ≡ option_map (λ c. Err f) d → option_map F a ≡ option_map (λ c. Err f) d
-  more_fails f e = next ∙ then_map (with_next one (n - (i + 1)) front) (λ c. one (here c)) (λ c. Err f) b d e
+  -- an error comes among the next
+  pub more_fails : (f : GridFault) → option_map (λ c. many one k (here c)) b ≡ option_map (λ c. Err f) d → option_map F a ≡ option_map (λ c. Err f) d
+  more_fails f e = next ∙ then_map (with_next one (n - (i + k)) front) (λ c. many one k (here c)) (λ c. Err f) b d e

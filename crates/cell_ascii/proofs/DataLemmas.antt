@@ -1,5 +1,5 @@
 -- The data, from its rows and its end, and the text, from its header and its data.
-use Rattle.std.proofs.Common.{◌≡◌, ℕ, ℤ, ◌-◌, ◌<◌, List, Option, Some, None, Result, Ok, Err, Bool, false, refl, ap, sym, subst, ◌∙◌}
+use Rattle.std.proofs.Common.{◌≡◌, ℕ, ℤ, ◌+◌, ◌-◌, ◌*◌, ◌<◌, ◌≤◌, List, Option, Some, None, Result, Ok, Err, Bool, false, refl, ap, sym, subst, ◌∙◌}
 use Rattle.std.specs.Option.{option_map, IfSome}
 use Rattle.cell_core_devices.specs.Device.{Coming}
 use Rattle.cell_core.specs.Grid.{CellValue, Grid, no_labels}
@@ -20,6 +20,7 @@ use Rattle.cell_ascii_meaning.specs.declared.grid_fault.GridKind.{GridKind}
 use Rattle.cell_ascii_meaning.specs.declared.grid_fault.GridKind.TheVariants.{MissingKey, Region}
 use Rattle.cell_ascii_reading.proofs.MapLemmas.{known}
 use Rattle.cell_ascii.proofs.CellLemmas.{with_front, more_fails}
+use Rattle.cell_ascii.proofs.ManyLemmas.{rows_cut}
 use Rattle.cell_ascii_law_faults.proofs.GridFaultLemmas.{opening_agrees, opening_keeps_places}
 use Rattle.cell_ascii.proofs.RowReadLemmas.{implied, rows_kept, end_is}
 
@@ -30,13 +31,15 @@ reported_map : {X : Type 0} (F : Coming → X) (v : X) (b : Option Coming) → I
 reported_map F v None e = refl
 reported_map F v (Some c) e = ap Some e
 
--- one of some rows fails
-pub rows_fail : (h : HeaderValue) (F : Coming → Reading (List (List CellValue))) (a b : Option Coming) (front : List (List CellValue)) (n i : ℕ) (here : Coming → At) (f : GridFault) → i < n
+-- one of the next rows fails
+pub rows_fail : (h : HeaderValue) (F : Coming → Reading (List (List CellValue))) (a b : Option Coming) (front : List (List CellValue)) (n i k : ℕ) (here : Coming → At) (f : GridFault) → i + k ≤ n
     → option_map F a ≡ option_map (λ c. with_front front (many (many (cell_from h) h.region.cols) (n - i) (here c))) b
-    → IfSome b (λ c. many (cell_from h) h.region.cols (here c) ≡ Err f) → IfSome a (λ c. F c ≡ Err f)
-rows_fail h F a b front n i here f lower so_far fails =
+    → IfSome b (λ c. many (cell_from h) (k * h.region.cols) (here c) ≡ Err f) → IfSome a (λ c. F c ≡ Err f)
+rows_fail h F a b front n i k here f within so_far fails =
+    let rows = many (many (cell_from h) h.region.cols) k in
+    let cut = implied (λ c. many (cell_from h) (k * h.region.cols) (here c) ≡ Err f) (λ c. rows (here c) ≡ Err f) b (λ c. rows_cut (cell_from h) h.region.cols k (here c) f) fails in
     known F (λ c. Err f) a b (Err f)
-    (more_fails (many (cell_from h) h.region.cols) F a b b front n i here lower so_far f (reported_map (λ c. many (cell_from h) h.region.cols (here c)) (Err f) b fails)) (λ c. refl)
+    (more_fails (many (cell_from h) h.region.cols) F a b b front n i k here within so_far f (reported_map (λ c. rows (here c)) (Err f) b cut)) (λ c. refl)
 
 module _ (h : HeaderValue) (here : Coming → At) where
   -- a row fails

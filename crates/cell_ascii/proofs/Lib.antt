@@ -13,3 +13,4 @@ pub mod WordLemmas
 pub mod RowReadLemmas
 pub mod CellLemmas
 pub mod DataLemmas
+pub mod RowsLemmas

@@ -1,5 +1,6 @@
 -- Rows that were read or cut off, as readings of the text.
 use Rattle.std.proofs.Common.{◌≡◌, ℕ, zero, suc, ◌+◌, ◌*◌, ◌^◌, ◌<◌, ◌≤◌, List, [], ◌∷◌, ◌++◌, Option, Some, None, Result, Ok, Err, length, take, drop, refl, ap, sym, ◌∙◌, arith, subst, mul-le-mul}
+use Rattle.std.proofs.Math.Nat.{add-mul}
 use Rattle.std.specs.Option.{option_map, IfSome}
 use Rattle.cell_core_devices.specs.Device.{Coming}
 use Rattle.cell_core.specs.Grid.{CellValue}
@@ -154,6 +155,7 @@ module _ (h : HeaderValue) (cols : ℕ) (some : 0 < cols) where
 pub lines_fit : (line rows cols : ℕ) → line < 2 ^ 62 → rows ≤ 65535 → cols ≤ 65535 → line + (rows * cols + 1) * 1048577 < 2 ^ 63
 lines_fit line rows cols low high wide = let most : rows * cols ≤ 65535 * 65535 = mul-le-mul high wide in omega arith
 
--- and so do the lines after a row
-pub rows_fit : (line more rows left cols : ℕ) → left + 1 ≡ rows → more ≤ line + cols * 1048577 → line + (rows * cols + 1) * 1048577 < 2 ^ 63 → more + (left * cols + 1) * 1048577 < 2 ^ 63
-rows_fit line more rows left cols one low fits = let e : rows * cols ≡ left * cols + cols = (let o : rows ≡ left + 1 = omega arith in rw o (omega arith)) in omega arith
+-- and so do the lines after some rows
+pub rows_fit : (line more rows left some cols size : ℕ) → left + some ≡ rows → size ≡ some * cols → more ≤ line + size * 1048577 → line + (rows * cols + 1) * 1048577 < 2 ^ 63 → more + (left * cols + 1) * 1048577 < 2 ^ 63
+rows_fit line more rows left some cols size all is low fits =
+    let e : rows * cols ≡ left * cols + size = rw (← all, is) (add-mul left some cols) in omega arith

@@ -18,7 +18,7 @@ ghost use Rattle.cell_ascii.specs.GridReaders.{reader_place, IsOpened, fault_of_
 ghost use Rattle.cell_ascii_reading.specs.Scan.{Hears, FailsInText};
 ghost use Rattle.cell_core_values.specs.SmallCells.{byte_cell, cells_of_bytes};
 ghost use Rattle.cell_ascii.specs.parts.ByteWords.{IsPlain};
-ghost use Rattle.cell_ascii.specs.parts.FrontCells.{front_cells, IsFront};
+ghost use Rattle.cell_ascii.specs.parts.FrontCells.{front_cells, rows_of, IsFront};
 ghost use Rattle.cell_ascii.specs.parts.Unread.{IsUnread, IsAtData, IsBehindHeader, HasRows};
 
 use crate::byte_words::{BLOCK, MORE_BYTES, bytes_in, has_short_runs};
@@ -38,6 +38,9 @@ use cell_core::source::Source;
 use cell_core_values::small_cells::write_byte_cells;
 use std::alloc::Global;
 use std::marker::Model;
+
+// So many cells are read at once where rows have fewer, since a call takes as long as many cells.
+const BAND: u32 = 1024;
 
 const NO_MEMORY: GridFault = GridFault {
     kind: GridKind::Memory,
@@ -552,15 +555,17 @@ impl<R: Source> GridReader<R> {
     }
 }
 
-// Reads the next row, of which there is one, as bytes or else as cells. Returns whether as bytes.
+// Reads the next rows, so many and no more than are left, as bytes or else as cells. Returns whether as bytes.
 fn next_either<R: Source>(
     reader: &mut GridReader<R>,
+    rows: u32,
     bytes: &mut [u8],
     row: &mut [Cell],
 ) -> Result<bool, GridFault>
     requires live { reader.old.failed ≡ false }
-    requires some { 0 < reader.old.rows_left }
-    requires width { length row.old ≡ reader.old.header.region.cols }
+    requires some { 0 < rows }
+    requires left { rows ≤ reader.old.rows_left }
+    requires width { length row.old ≡ rows * reader.old.header.region.cols }
     requires bytes { length row.old + 72 ≤ length bytes.old }
     ensures row { IfOk result (λ is_bytes. option_map
         (λ c. many (cell_from reader.old.header) (length row.old) (reader_place reader.old c))
@@ -572,7 +577,7 @@ fn next_either<R: Source>(
     ensures fault { IfErr result (λ f. IfSome reader.old.coming (λ c.
         many (cell_from reader.old.header) (length row.old) (reader_place reader.old c)
         ≡ Err f)) }
-    ensures left { OnOk result (reader.new.rows_left + 1 ≡ reader.old.rows_left) }
+    ensures left { OnOk result (reader.new.rows_left + rows ≡ reader.old.rows_left) }
     ensures live { OnOk result (reader.new.failed ≡ false) }
     ensures header { reader.new.header ≡ reader.old.header }
     ensures kinds { FailsInText result }
@@ -580,7 +585,7 @@ fn next_either<R: Source>(
 {
     match read_either(&mut reader.cells, bytes, row) {
         Ok(is_bytes) => {
-            reader.rows_left -= 1;
+            reader.rows_left -= rows;
             Ok(is_bytes)
         }
         Err(fault) => {
@@ -611,6 +616,42 @@ fn push_either(
     builder.push_row(row)
 }
 
+// Puts rows below the others of a map, by their bytes or by their cells.
+fn push_rows(
+    builder: &mut MapBuilder,
+    rows: u32,
+    cols: usize,
+    is_bytes: bool,
+    bytes: &[u8],
+    cells: &[Cell],
+) -> Result<(), Memory>
+    requires cols { cols ≡ builder.old.region.cols }
+    requires width { length cells.now ≡ rows * cols }
+    requires bytes { length cells.now ≤ length bytes.now }
+    requires room { length builder.old.rows + rows ≤ builder.old.region.rows }
+    ensures { OnOk result (builder.new ≡ record builder.old {
+      rows = builder.old.rows ++ rows_of cols rows
+          (front_cells (length cells.now, is_bytes) bytes.now cells.now);
+    }) }
+{
+    let mut at = 0;
+    let mut left = rows;
+    'rows: while left > 0 {
+        push_either(builder, is_bytes, &bytes[at..], &cells[at..at + cols])?;
+        at += cols;
+        left -= 1;
+    }
+    Ok(())
+}
+
+// How many rows of a region are read at once.
+fn rows_at_once(region: Region) -> u32
+    ensures some { 0 < result }
+    ensures few { result ≤ 1024 }
+{
+    (BAND / region.cols()).min(region.rows()).max(1)
+}
+
 // Reads the rows that are left into a map.
 fn read_rows<R: Source>(alloc: Global, reader: &mut GridReader<R>) -> Result<CellMap, GridFault>
     requires { IsUnread reader.old }
@@ -622,18 +663,22 @@ fn read_rows<R: Source>(alloc: Global, reader: &mut GridReader<R>) -> Result<Cel
 {
     let region = reader.region();
     let cols = region.cols() as usize;
-    let Ok(mut cell_buffer) = vec![in alloc; Cell::null(); cols] else {
+    let band = rows_at_once(region);
+    let size = band as usize * cols;
+    let Ok(mut cell_buffer) = vec![in alloc; Cell::null(); size] else {
         return Err(NO_MEMORY);
     };
-    let Ok(mut byte_buffer) = vec![in alloc; 0u8; cols + MORE_BYTES] else {
+    let Ok(mut byte_buffer) = vec![in alloc; 0u8; size + MORE_BYTES] else {
         return Err(NO_MEMORY);
     };
-    let row = cell_buffer.as_mut_slice();
+    let cells = cell_buffer.as_mut_slice();
     let bytes = byte_buffer.as_mut_slice();
     let mut builder = MapBuilder::new(alloc, region);
     'rows: while reader.rows_left() > 0 {
-        let is_bytes = next_either(reader, bytes, row)?;
-        match push_either(&mut builder, is_bytes, bytes, row) {
+        let count = band.min(reader.rows_left());
+        let part = &mut cells[..count as usize * cols];
+        let is_bytes = next_either(reader, count, bytes, part)?;
+        match push_rows(&mut builder, count, cols, is_bytes, bytes, part) {
             Ok(()) => {}
             Err(_) => return Err(NO_MEMORY),
         }

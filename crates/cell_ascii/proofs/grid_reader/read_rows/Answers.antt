@@ -1,5 +1,6 @@
 use Rattle.std.proofs.lemmas.Result.{err_from_is_err_and}
-use Rattle.std.proofs.Common.{◌≡◌, ◌≢◌, ◌<◌, ◌+◌, ◌∙◌, zero, suc, ℕ, arith, Bool, false, Ok, Err, Result, List, refl, ap, sym, subst, length, length-append, ◌++◌, ◌∷◌, []}
+use Rattle.std.proofs.Common.{◌≡◌, ◌≢◌, ◌<◌, ◌≤◌, ◌+◌, ◌*◌, ◌∙◌, zero, suc, ℕ, arith, Bool, false, Ok, Err, Result, List, refl, ap, sym, subst, length, length-append, length-drop, length-take, take, drop, ◌++◌, []}
+use Rattle.std.proofs.Math.Nat.{mul-le-mul_right}
 use Rattle.std.specs.Option.{option_map}
 use Rattle.cell_core_devices.specs.Asking.{hears}
 use Rattle.cell_core_devices.specs.Device.{Coming}
@@ -13,24 +14,27 @@ use Rattle.cell_ascii.specs.GridReaders.{reader_place, IsOfReading}
 use Rattle.cell_ascii_meaning.specs.GridTokens.{grid_fault}
 use Rattle.cell_ascii.proofs.CellLemmas.{more_read, none_read, all_read}
 use Rattle.cell_ascii.proofs.DataLemmas.{rows_fail}
-use Rattle.cell_ascii.specs.parts.FrontCells.{front_cells}
+use Rattle.cell_ascii.proofs.ManyLemmas.{rows_read}
+use Rattle.cell_ascii.proofs.RowsLemmas.{rows_count}
+use Rattle.cell_ascii.specs.parts.FrontCells.{front_cells, rows_of}
 use Rattle.cell_ascii.proofs.grid_reader.read_rows.Goals as goal
 
 some_left : (n : ℕ) → (n ≡ 0 → ⊥) → 0 < n
 some_left zero none = absurd (none refl)
 some_left (suc n) none = omega arith
 
-one_left : {next left : ℕ} → next + 1 ≡ left → next < left
-one_left one = omega arith
+fewer_left : {next some left : ℕ} → next + some ≡ left → 0 < some → next < left
+fewer_left all some = omega arith
 
-some_before : (next : ℕ) {left : ℕ} → next + 1 ≡ left → 0 < left
-some_before next one = omega arith
+within : (n : ℕ) {some left rows : ℕ} → some ≤ left → n + left ≡ rows → n + some ≤ rows
+within n few count = omega arith
 
-fewer : {n left rows : ℕ} → 0 < left → n + left ≡ rows → n < rows
-fewer some count = omega arith
+-- the cells of the next rows are among those of the buffer
+width_of : (cells : List CellValue) (some band cols : ℕ) → some ≤ band → length cells ≡ band * cols → length (take (some * cols) cells) ≡ some * cols
+width_of cells some band cols few size = let most : some * cols ≤ band * cols = mul-le-mul_right cols few in omega (arith, length-take (some * cols) cells)
 
-one_more : (n next : ℕ) {left rows : ℕ} → next + 1 ≡ left → n + left ≡ rows → n + 1 + next ≡ rows
-one_more n next one count = omega arith
+some_more : (n next some : ℕ) {left rows : ℕ} → next + some ≡ left → n + left ≡ rows → n + some + next ≡ rows
+some_more n next some all count = omega arith
 
 no_more : {n left rows : ℕ} → n + left ≡ rows → left ≡ 0 → n ≡ rows
 no_more count none = omega arith
@@ -38,8 +42,11 @@ no_more count none = omega arith
 no_rows : (rows : List (List CellValue)) (left n : ℕ) → rows ≡ [] → left ≡ n → length rows + left ≡ n
 no_rows rows left n none all = rw none (omega arith)
 
-longer : (rows : List (List CellValue)) (row : List CellValue) → length (rows ++ row ∷ []) ≡ length rows + 1
-longer rows row = omega (arith, length-append rows (row ∷ []))
+longer : (rows : List (List CellValue)) (cols some : ℕ) (cells : List CellValue) → length (rows ++ rows_of cols some cells) ≡ length rows + some
+longer rows cols some cells = omega (arith, length-append rows (rows_of cols some cells), rows_count cols some cells)
+
+as_long : (part cells : List CellValue) (n : ℕ) → length part ≡ length (take n cells) → length (part ++ drop n cells) ≡ length cells
+as_long part cells n size = omega (arith, length-append part (drop n cells), size, length-take n cells, length-drop n cells)
 
 refused : {X E : Type 0} (f : E) (x : X) → ◌≡◌ {A = Result X E} (Err f) (Ok x) → ⊥
 refused f x e = cc
@@ -59,13 +66,15 @@ rows-init g c =
     let h = s.header in
     let rows = c.new-builder.result.rows in
     let none : rows ≡ [] = ap (λ b. b.rows) c.new-builder.ensures in
+    let cols = c.cols-cols.ensures.value ∙ ap (λ r. r.cols) c.region-region.ensures in
+    let size = ap (λ n. c.rows_at_once-band.result * n) cols in
     record {
       rows = none_read (many (cell_from h) h.region.cols) h.region.rows (reader_place s) s.coming rows none;
       header = refl;
       region = ap (λ b. b.region) c.new-builder.ensures ∙ c.region-region.ensures;
       count = no_rows rows s.rows_left h.region.rows none c.requires.0;
-      width = c.as_mut_slice-row.ensures.len ∙ c.in-Ok.ensures.len ∙ c.cols-cols.ensures.value ∙ ap (λ r. r.cols) c.region-region.ensures;
-      bytes = c.as_mut_slice-bytes.ensures.len ∙ c.in-Ok-vec.ensures.len ∙ ap (λ n. n + 72) (c.cols-cols.ensures.value ∙ ap (λ r. r.cols) c.region-region.ensures);
+      cells = c.as_mut_slice-cells.ensures.len ∙ c.in-Ok.ensures.len ∙ size;
+      bytes = c.as_mut_slice-bytes.ensures.len ∙ c.in-Ok-vec.ensures.len ∙ ap (λ n. n + 72) size;
       live = c.requires.1.0;
       heard = ap (λ (failed : Bool). record { sure = s.heard.sure; failed = failed }) c.requires.1.1;
     }
@@ -76,12 +85,18 @@ returns-in_err-is_bytes-clause-fault g c =
     let t = c.rows.reader in
     let h = s.header in
     let f = c.in_err-is_bytes.field-0.0 in
+    let front = c.rows.builder.rows in
     let is = c.rows.invariant in
-    let left : 0 < t.rows_left = omega (arith, c.rows-test.true, c.rows_left.ensures) in
+    let band = c.rows_at_once-band.result in
+    let some = c.min-count.result in
+    let few : some ≤ t.rows_left = omega (arith, c.min-count.ensures, c.rows_left-in-rows.ensures) in
+    let fit : some ≤ band = omega (arith, c.min-count.ensures) in
+    let same : c.cols-cols.result ≡ h.region.cols = c.cols-cols.ensures.value ∙ ap (λ r. r.cols) c.region-region.ensures in
+    let width : length (take (some * c.cols-cols.result) c.rows.cells) ≡ some * h.region.cols = ap (λ n. length (take (some * n) c.rows.cells)) same ∙ width_of c.rows.cells some band h.region.cols fit is.cells in
     let p = err_from_is_err_and c.from_residual.result c.from_residual.ensures.1 in
     rw (p.1, p.2)
-    (λ _. rows_fail h (λ (x : Coming). rows_from h (reader_place s x)) s.coming t.coming c.rows.builder.rows h.region.rows (length c.rows.builder.rows) (reader_place t) f (fewer left is.count) is.rows
-    (rw (is.width, is.header) at c.in_err-is_bytes.ensures.fault))
+    (λ _. rows_fail h (λ (x : Coming). rows_from h (reader_place s x)) s.coming t.coming front h.region.rows (length front) some (reader_place t) f (within (length front) few is.count) is.rows
+    (rw (width, is.header) at c.in_err-is_bytes.ensures.fault))
 
 pub rows-preserved : goal.rows-preserved
 rows-preserved g c =
@@ -95,20 +110,25 @@ rows-preserved g c =
     let is_bytes = c.in_ok-is_bytes.is_bytes in
     let is = c.rows.invariant in
     let front = c.rows.builder.rows in
-    let cells = front_cells (cols, is_bytes) bytes row in
-    let left : u.rows_left + 1 ≡ t.rows_left = c.in_ok-is_bytes.ensures.left in
-    let lower : length front < h.region.rows = fewer (some_before u.rows_left left) is.count in
-    let width = c.next_either.auto.row ∙ is.width in
-    let grown : c.push_either.new.builder.rows ≡ front ++ cells ∷ [] =
-    ap (λ b. b.rows) c.in-Ok-push_either.ensures.ok ∙ ap (λ n. front ++ front_cells (n, is_bytes) bytes row ∷ []) width in
-    let more : length (front ++ cells ∷ []) ≡ length front + 1 = longer front cells in
+    let band = c.rows_at_once-band.result in
+    let some = c.min-count.result in
+    let few : some ≤ t.rows_left = omega (arith, c.min-count.ensures, c.rows_left-in-rows.ensures) in
+    let fit : some ≤ band = omega (arith, c.min-count.ensures) in
+    let same : c.cols-cols.result ≡ h.region.cols = c.cols-cols.ensures.value ∙ ap (λ r. r.cols) c.region-region.ensures in
+    let width : length (take (some * c.cols-cols.result) c.rows.cells) ≡ some * h.region.cols = ap (λ n. length (take (some * n) c.rows.cells)) same ∙ width_of c.rows.cells some band h.region.cols fit is.cells in
+    let cells = front_cells (some * cols, is_bytes) bytes row in
+    let left : u.rows_left + some ≡ t.rows_left = c.in_ok-is_bytes.ensures.left in
+    let grown : c.push_rows.new.builder.rows ≡ front ++ rows_of cols some cells =
+    ap (λ b. b.rows) c.in-Ok-push_rows.ensures ∙ ap (λ n. front ++ rows_of n some (front_cells (length row, is_bytes) bytes row)) same ∙ ap (λ n. front ++ rows_of cols some (front_cells (n, is_bytes) bytes row)) (c.next_either.auto.row ∙ width) in
+    let more : length (front ++ rows_of cols some cells) ≡ length front + some = longer front cols some cells in
     record {
       rows = rw (grown, more) (more_read (many (cell_from h) cols) (λ (x : Coming). rows_from h (reader_place s x)) s.coming t.coming u.coming
-          front h.region.rows (length front) (reader_place t) lower is.rows cells (reader_place u) (rw (is.width, is.header) at c.in_ok-is_bytes.ensures.row));
+          front h.region.rows (length front) some (reader_place t) (within (length front) few is.count) is.rows (rows_of cols some cells) (reader_place u)
+          (rows_read (cell_from h) (reader_place t) (reader_place u) t.coming u.coming cols some cells (rw (width, is.header) at c.in_ok-is_bytes.ensures.row)));
       header = c.next_either.ensures.header ∙ is.header;
-      region = ap (λ b. b.region) c.in-Ok-push_either.ensures.ok ∙ is.region;
-      count = rw (grown, more) (one_more (length front) u.rows_left left is.count);
-      width = width;
+      region = ap (λ b. b.region) c.in-Ok-push_rows.ensures ∙ is.region;
+      count = rw (grown, more) (some_more (length front) u.rows_left some left is.count);
+      cells = as_long row c.rows.cells (some * c.cols-cols.result) c.next_either.auto.row ∙ is.cells;
       bytes = c.next_either.auto.bytes ∙ is.bytes;
       live = c.in_ok-is_bytes.ensures.live;
       heard = c.in_ok-is_bytes.ensures.heard ∙ ap (hears false) is.heard;

@@ -1,4 +1,4 @@
-use Rattle.std.proofs.Common.{◌≡◌, ◌+◌, ◌-◌, false, length}
+use Rattle.std.proofs.Common.{◌≡◌, ◌+◌, ◌-◌, ◌*◌, false, length}
 use Rattle.std.specs.Option.{option_map}
 use Rattle.cell_core_devices.specs.Asking.{hears}
 use Rattle.cell_ascii_meaning.specs.CellTexts.{cell_from, many}
@@ -17,8 +17,8 @@ invariant-rows g l =
       header : l.reader.header ≡ h;
       region : l.builder.region ≡ h.region;
       count : length l.builder.rows + l.reader.rows_left ≡ h.region.rows;
-      width : length l.row ≡ h.region.cols;
-      bytes : length l.bytes ≡ h.region.cols + 72;
+      cells : length l.cells ≡ l.band * h.region.cols;
+      bytes : length l.bytes ≡ l.band * h.region.cols + 72;
       live : l.reader.failed ≡ false;
       heard : l.reader.heard ≡ hears false s.heard;
     }

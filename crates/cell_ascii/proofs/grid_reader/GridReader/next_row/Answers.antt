@@ -40,7 +40,7 @@ invariant_of-self g c =
     let one : i.rows_left - 1 + 1 ≡ i.rows_left = omega arith in
     record {
       wide = rw c.read_row.ensures.header c.self.invariant.wide;
-      lines = λ live. rw c.read_row.ensures.header (rows_fit p.line u.line i.rows_left (i.rows_left - 1) cols one (rw width at c.read_row.ensures.lines) (c.self.invariant.lines live));
+      lines = λ live. rw c.read_row.ensures.header (rows_fit p.line u.line i.rows_left (i.rows_left - 1) 1 cols cols one (omega arith) (rw width at c.read_row.ensures.lines) (c.self.invariant.lines live));
       placed = λ live. row_placed p.header (at_place p) (λ (x : Coming). i.rows_left ≡ 0 → p.pending ≡ None) (bytes_to_come p.ahead) (c.self.invariant.placed live)
           (length c.args.row.now) (i.rows_left - 1) (at_place u) (bytes_to_come u.ahead) c.read_row.new.row some c.in-Ok.ensures.row;
       heard = λ _. ap (λ (h : Heard). h.failed) c.in-Ok.ensures.heard;

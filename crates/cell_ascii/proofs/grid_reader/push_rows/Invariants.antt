@@ -1,0 +1,17 @@
+use Rattle.std.proofs.Common.{◌≡◌, ◌+◌, ◌*◌, ◌++◌, length, drop}
+use Rattle.cell_ascii.specs.parts.FrontCells.{front_cells, rows_of}
+use Rattle.cell_ascii.proofs.grid_reader.push_rows.Given as goal
+
+abbrev pub invariant-rows : goal.invariant-rows
+invariant-rows l =
+    let old = l.fn.builder in
+    let all = front_cells (length l.fn.cells, l.fn.is_bytes) l.fn.bytes l.fn.cells in
+    record {
+      region : l.builder.region ≡ old.region;
+      rows : l.builder.rows ++ rows_of l.fn.cols l.left (drop l.at all) ≡ old.rows ++ rows_of l.fn.cols l.fn.rows all;
+      count : length l.builder.rows + l.left ≡ length old.rows + l.fn.rows;
+      cells : l.at + l.left * l.fn.cols ≡ length l.fn.cells;
+    }
+
+abbrev pub decreases-rows : goal.decreases-rows
+decreases-rows l = l.left
