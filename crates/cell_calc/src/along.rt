@@ -151,19 +151,11 @@ fn by_rows(
         operands.new.items) }
 {
     gather_arguments(alloc, count, operands, strip, windows, spare)?;
-    let (number, from, width) = (strip.row, strip.from, strip.width);
-    let mut row = spare_row(alloc, width, &mut spare.free)?;
+    let (region, number, from) = (strip.region, strip.row, strip.from);
+    let mut row = spare_row(alloc, strip.width, &mut spare.free)?;
     let arguments = spare.arguments.as_slice();
     let cells = row.as_mut_slice();
-    call_values(
-        alloc,
-        function,
-        strip.region,
-        number,
-        from,
-        arguments,
-        cells,
-    )?;
+    call_values(alloc, function, region, number, from, arguments, cells)?;
     spare.free.append(&mut spare.arguments)?;
     Ok(row)
 }

@@ -26,6 +26,7 @@ pub(crate) fn pop_operand(operands: &mut Vec<Operand>) -> Operand
 }
 
 /// A row of so many cells, whatever they are: one that is free, or a new one.
+#[inline(never)]
 pub(crate) fn spare_row(
     alloc: Global,
     width: usize,
@@ -51,6 +52,9 @@ fn window_row<'a>(windows: &'a [RowWindow], place: usize, down: i32) -> &'a [Cel
 }
 
 /// The cells of an operand, in a row that may be written over.
+///
+/// It is inlined, since most operands of operators are rows, which are only passed on.
+#[inline(always)]
 pub(crate) fn row_of(
     alloc: Global,
     operand: Operand,

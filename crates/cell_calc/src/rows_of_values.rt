@@ -46,12 +46,23 @@ pub(crate) fn along_columns(
         → at cells.items c ∷ [] ≡ values_after (seen_cell windows.now (grid_position region row c)) steps.now []) }
 {
     let _all = region.cols();
-    let mut cells = Vec::with_capacity(alloc, cols)?;
     let mut operands = Vec::new(alloc);
     let mut spare = Spare {
         free: Vec::new(alloc),
         arguments: Vec::new(alloc),
     };
+    // The row of a single strip is not copied.
+    if cols <= STRIP {
+        let strip = Strip {
+            region,
+            row,
+            from: 0,
+            width: cols,
+        };
+        let only = along(alloc, steps, &strip, windows, &mut operands, &mut spare)?;
+        return Ok(only);
+    }
+    let mut cells = Vec::with_capacity(alloc, cols)?;
     let mut from = 0;
     'strips: while from < cols {
         let width = STRIP.min(cols - from);

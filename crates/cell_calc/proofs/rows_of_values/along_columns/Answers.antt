@@ -33,6 +33,10 @@ none_below k lt = omega arith
 least : (n : ℕ) → 0 ≤ n
 least n = omega arith
 
+-- the first strip begins with the row
+from_start : (k : ℕ) → 0 + k ≡ k
+from_start k = omega arith
+
 -- a row with the cells of one more strip
 module _ (old strip values new : List CellValue) (from width : ℕ) (is : new ≡ old ++ strip) (same : strip ≡ values)
     (count : length old ≡ from) (wide : length values ≡ width) where
@@ -53,10 +57,36 @@ module _ (old strip values new : List CellValue) (from width : ℕ) (is : new �
       rw (is, same) (get_or-append_right old values from c None count above) in
       subst (P c) (sym new_c) (subst (λ k. P k (at values (c - from))) place (there (c - from) (omega (arith, lt))))
 
-pub returns-in_err-cells : goal.returns-in_err-cells
-returns-in_err-cells c =
+pub along-requires : goal.along-requires
+along-requires c = record {
+  strip = record {
+    row = c.requires.row;
+    columns = subst (λ n. n ≤ c.args.region.cols) (sym (from_start c.args.cols)) c.requires.cols;
+    most = c.cols-all.ensures.region.cols_most;
+  };
+  ready = c.requires.ready;
+  enough = c.requires.enough;
+}
+
+pub returns-in_err-only : goal.returns-in_err-only
+returns-in_err-only c =
     let failed = IfOk-from_err c.from_residual.result in
     record { width = failed _ c.from_residual.ensures.0; each = failed _ c.from_residual.ensures.0 }
+
+pub returns-then-cols-le-STRIP-clause-width : goal.returns-then-cols-le-STRIP-clause-width
+returns-then-cols-le-STRIP-clause-width c = c.in_ok-only.ensures.width
+
+pub returns-then-cols-le-STRIP-clause-each : goal.returns-then-cols-le-STRIP-clause-each
+returns-then-cols-le-STRIP-clause-each c = λ k h.
+    subst (λ n. at c.in_ok-only.only.items k ∷ [] ≡ values_after
+    (seen_cell c.args.windows.now (grid_position c.args.region c.args.row n)) c.args.steps.now [])
+    (from_start k) (c.in_ok-only.ensures.each k h)
+
+pub returns-in_err-cells : goal.returns-in_err-cells
+returns-in_err-cells c =
+    let failed = IfOk-from_err c.from_residual-in_err-cells.result in
+    let is = c.from_residual-in_err-cells.ensures.0 in
+    record { width = failed _ is; each = failed _ is }
 
 pub strips-init : goal.strips-init
 strips-init c = record {
@@ -68,8 +98,8 @@ strips-init c = record {
 pub overflow_sub-cols : goal.overflow_sub-cols
 overflow_sub-cols c = c.strips.invariant.within
 
-pub along-requires : goal.along-requires
-along-requires c = record {
+pub along-requires-in-strips : goal.along-requires-in-strips
+along-requires-in-strips c = record {
   strip =
       let from = c.strips.from in
       let width = c.min-width.result in
