@@ -81,7 +81,7 @@ pub(crate) fn bytes_in(buffered: &[u8], row: &mut [u8], most: usize) -> (usize, 
 const SAMPLE: usize = 256;
 
 // Runs of so many bytes on average are short.
-const SHORT_RUN: usize = 8;
+const SHORT_RUN: usize = 64;
 
 /// Whether most runs of equal bytes are short, by the first bytes: if not, cells are read faster by runs.
 pub(crate) fn has_short_runs(bytes: &[u8]) -> bool {
