@@ -1,5 +1,6 @@
 -- Several readings one after another.
-use Rattle.std.proofs.Common.{◌≡◌, ℕ, zero, suc, ◌+◌, ◌-◌, ◌*◌, ◌<◌, List, [], ◌∷◌, ◌++◌, length, take, drop, Option, Ok, Err, refl, ap, sym, ◌∙◌, arith}
+use Rattle.std.proofs.Common.{◌≡◌, ℕ, zero, suc, ◌+◌, ◌-◌, ◌*◌, ◌<◌, List, [], ◌∷◌, ◌++◌, length, take, drop, Option}
+use Rattle.std.proofs.Common.{Ok, Err, refl, ap, sym, ◌∙◌, arith}
 use Rattle.std.proofs.Math.Seq.{take-append_seam, drop-append_seam}
 use Rattle.std.specs.Option.{option_map}
 use Rattle.cell_core_devices.specs.Device.{Coming}
@@ -113,16 +114,20 @@ module _ {X : Type 0} (one : At → Reading X) where
 
   -- so many as are asked for
   many_length : (n : ℕ) (at : At) (y : List X × At) → many one n at ≡ Ok y → length y.0 ≡ n
-  many_length zero at y e = let p : ◌≡◌ {A = List X × At} ([], at) y = cc in ap (λ (w : List X × At). length w.0) (sym p)
-  many_length (suc n) at y e = by (λ (x : X × At) (z : List X × At) (f : many one n x.1 ≡ Ok z). many_length n x.1 z f) (one at) e
+  many_length zero at y e = let p : ◌≡◌ {A = List X × At} ([], at) y = cc in ap (λ (w : List X × At). length w.0)
+      (sym p)
+  many_length (suc n) at y e = by
+      (λ (x : X × At) (z : List X × At) (f : many one n x.1 ≡ Ok z). many_length n x.1 z f) (one at) e
     where
-      last : (x : X) (r : Reading (List X)) → ((z : List X × At) → r ≡ Ok z → length z.0 ≡ n) → (r >>= cons x) ≡ Ok y → length y.0 ≡ suc n
+      last : (x : X) (r : Reading (List X)) → ((z : List X × At) → r ≡ Ok z → length z.0 ≡ n) → (r >>= cons x) ≡ Ok y
+          → length y.0 ≡ suc n
       last x (Ok z) on e =
           let p : ◌≡◌ {A = List X × At} (x ∷ z.0, z.1) y = cc in
           ap (λ (w : List X × At). length w.0) (sym p) ∙ ap suc (on z refl)
       last x (Err f) on e = cc
 
-      by : ((x : X × At) (z : List X × At) → many one n x.1 ≡ Ok z → length z.0 ≡ n) → (r : Reading X) → (r >>= (λ x. many one n x.1 >>= (cons x.0))) ≡ Ok y → length y.0 ≡ suc n
+      by : ((x : X × At) (z : List X × At) → many one n x.1 ≡ Ok z → length z.0 ≡ n) → (r : Reading X) →
+          (r >>= (λ x. many one n x.1 >>= (cons x.0))) ≡ Ok y → length y.0 ≡ suc n
       by on (Ok x) e = last x.0 (many one n x.1) (on x) e
       by on (Err f) e = cc
 
@@ -130,27 +135,33 @@ module _ {X : Type 0} (one : At → Reading X) where
   abbrev cut : ℕ → ℕ → List X × At → Reading (List (List X))
   cut cols rows y = Ok (rows_of cols rows y.0, y.1)
 
-  pub many_rows : (cols rows : ℕ) (at : At) → many (many one cols) rows at ≡ (many one (rows * cols) at >>= cut cols rows)
+  pub many_rows : (cols rows : ℕ) (at : At) → many (many one cols) rows at ≡
+      (many one (rows * cols) at >>= cut cols rows)
   many_rows cols zero at = let e : 0 * cols ≡ 0 = omega arith in ap (λ (n : ℕ). many one n at >>= cut cols 0) (sym e)
   many_rows cols (suc rows) at =
       let e : suc rows * cols ≡ cols + rows * cols = omega arith in
       by (λ (there : At). many_rows cols rows there) (many one cols at) (many_length cols at)
-      ∙ ap (λ (r : Reading (List X)). r >>= cut cols (suc rows)) (sym (ap (λ (n : ℕ). many one n at) e ∙ many_add cols (rows * cols) at))
+      ∙ ap (λ (r : Reading (List X)). r >>= cut cols (suc rows))
+      (sym (ap (λ (n : ℕ). many one n at) e ∙ many_add cols (rows * cols) at))
     where
       first : (xs ys : List X) → length xs ≡ cols → xs ∷ rows_of cols rows ys ≡ rows_of cols (suc rows) (xs ++ ys)
       first xs ys e =
           let front : take cols (xs ++ ys) ≡ xs = ap (λ (n : ℕ). take n (xs ++ ys)) (sym e) ∙ take-append_seam xs ys in
           let rest : drop cols (xs ++ ys) ≡ ys = ap (λ (n : ℕ). drop n (xs ++ ys)) (sym e) ∙ drop-append_seam xs ys in
-          ap (λ (x : List X). x ∷ rows_of cols rows ys) (sym front) ∙ ap (λ (l : List X). take cols (xs ++ ys) ∷ rows_of cols rows l) (sym rest)
+          ap (λ (x : List X). x ∷ rows_of cols rows ys) (sym front) ∙ ap
+          (λ (l : List X). take cols (xs ++ ys) ∷ rows_of cols rows l) (sym rest)
 
       last : (xs : List X) → length xs ≡ cols → (r : Reading (List X))
           → ((r >>= cut cols rows) >>= (λ y. Ok (xs ∷ y.0, y.1))) ≡ ((r >>= glue xs) >>= cut cols (suc rows))
       last xs e (Ok z) = ap (λ (l : List (List X)). Ok (l, z.1)) (first xs z.0 e)
       last xs e (Err f) = refl
 
-      by : ((there : At) → many (many one cols) rows there ≡ (many one (rows * cols) there >>= cut cols rows)) → (r : Reading (List X)) → ((y : List X × At) → r ≡ Ok y → length y.0 ≡ cols)
-          → (r >>= (λ x. many (many one cols) rows x.1 >>= (λ y. Ok (x.0 ∷ y.0, y.1)))) ≡ ((r >>= and_then (rows * cols)) >>= cut cols (suc rows))
-      by rest (Ok x) on = ap (λ (r : Reading (List (List X))). r >>= (λ y. Ok (x.0 ∷ y.0, y.1))) (rest x.1) ∙ last x.0 (on x refl) (many one (rows * cols) x.1)
+      by : ((there : At) → many (many one cols) rows there ≡ (many one (rows * cols) there >>= cut cols rows)) →
+          (r : Reading (List X)) → ((y : List X × At) → r ≡ Ok y → length y.0 ≡ cols)
+          → (r >>= (λ x. many (many one cols) rows x.1 >>= (λ y. Ok (x.0 ∷ y.0, y.1)))) ≡
+          ((r >>= and_then (rows * cols)) >>= cut cols (suc rows))
+      by rest (Ok x) on = ap (λ (r : Reading (List (List X))). r >>= (λ y. Ok (x.0 ∷ y.0, y.1))) (rest x.1) ∙ last x.0
+          (on x refl) (many one (rows * cols) x.1)
       by rest (Err f) on = refl
 
   -- rows were read
@@ -158,9 +169,12 @@ module _ {X : Type 0} (one : At → Reading X) where
       → option_map (λ c. many one (rows * cols) (here c)) a ≡ option_map (λ c. Ok (xs, there c)) b
       → option_map (λ c. many (many one cols) rows (here c)) a ≡ option_map (λ c. Ok (rows_of cols rows xs, there c)) b
   rows_read here there a b cols rows xs e =
-      map_same (λ c. many (many one cols) rows (here c)) (λ c. many one (rows * cols) (here c) >>= cut cols rows) a (λ c. many_rows cols rows (here c))
-      ∙ then_map (λ (r : Reading (List X)). r >>= cut cols rows) (λ c. many one (rows * cols) (here c)) (λ c. Ok (xs, there c)) a b e
+      map_same (λ c. many (many one cols) rows (here c)) (λ c. many one (rows * cols) (here c) >>= cut cols rows) a
+      (λ c. many_rows cols rows (here c))
+      ∙ then_map (λ (r : Reading (List X)). r >>= cut cols rows) (λ c. many one (rows * cols) (here c))
+      (λ c. Ok (xs, there c)) a b e
 
   -- an error of the cells is the error of the rows
-  pub rows_cut : (cols rows : ℕ) (at : At) (f : GridFault) → many one (rows * cols) at ≡ Err f → many (many one cols) rows at ≡ Err f
+  pub rows_cut : (cols rows : ℕ) (at : At) (f : GridFault) → many one (rows * cols) at ≡ Err f → many
+      (many one cols) rows at ≡ Err f
   rows_cut cols rows at f e = many_rows cols rows at ∙ ap (λ (r : Reading (List X)). r >>= cut cols rows) e

@@ -1,5 +1,6 @@
 -- Cells that are cut into rows.
-use Rattle.std.proofs.Common.{◌≡◌, ℕ, zero, suc, ◌+◌, ◌-◌, ◌*◌, ◌<◌, ◌≤◌, Bool, true, false, List, [], ◌∷◌, ◌++◌, length, take, drop, ap, refl, sym, ◌∙◌, arith, append_assoc}
+use Rattle.std.proofs.Common.{◌≡◌, ℕ, zero, suc, ◌+◌, ◌-◌, ◌*◌, ◌<◌, ◌≤◌, Bool, true, false, List, [], ◌∷◌, ◌++◌}
+use Rattle.std.proofs.Common.{length, take, drop, ap, refl, sym, ◌∙◌, arith, append_assoc}
 use Rattle.std.proofs.Math.Nat.{add-mul, mul-le-mul_right}
 use Rattle.std.proofs.lemmas.List.{drop-take, take-take, drop-drop, take-map, drop-map}
 use Rattle.cell_core.specs.Grid.{CellValue}
@@ -17,24 +18,30 @@ row_within at left cols n some all = let one : 1 * cols ≤ left * cols = mul-le
 
 -- and the others after it
 pub rows_after : (at left next cols n : ℕ) → next + 1 ≡ left → at + left * cols ≡ n → at + cols + next * cols ≡ n
-rows_after at left next cols n one all = let e : left * cols ≡ next * cols + 1 * cols = rw (← one) (add-mul next 1 cols) in omega arith
+rows_after at left next cols n one all = let e : left * cols ≡ next * cols + 1 * cols = rw (← one)
+    (add-mul next 1 cols) in omega arith
 
--- a part of a front
-part_of : {X : Type 0} (xs : List X) (at cols n : ℕ) → at + cols ≤ n → take cols (drop at (take n xs)) ≡ take cols (drop at xs)
+-- a part of the first elements
+part_of : {X : Type 0} (xs : List X) (at cols n : ℕ) → at + cols ≤ n → take cols (drop at (take n xs)) ≡ take cols
+    (drop at xs)
 part_of xs at cols n within =
     let e : n ≡ at + (n - at) = omega arith in
-    ap (λ (m : ℕ). take cols (drop at (take m xs))) e ∙ ap (take cols) (drop-take at (n - at) xs) ∙ take-take cols (n - at) (drop at xs) (omega arith)
+    ap (λ (m : ℕ). take cols (drop at (take m xs))) e ∙ ap (take cols) (drop-take at (n - at) xs) ∙ take-take cols
+    (n - at) (drop at xs) (omega arith)
 
--- the cells of a row among those of some rows, as bytes or as cells
+-- the cells of a row among the cells of some rows, as bytes or as cells
 pub row_part : (is_bytes : Bool) (bytes : List ℕ) (cells : List CellValue) (at cols n : ℕ) → at + cols ≤ n
-    → front_cells (cols, is_bytes) (drop at bytes) (take cols (drop at cells)) ≡ take cols (drop at (front_cells (n, is_bytes) bytes cells))
+    → front_cells (cols, is_bytes) (drop at bytes) (take cols (drop at cells)) ≡ take cols
+    (drop at (front_cells (n, is_bytes) bytes cells))
 row_part true bytes cells at cols n within =
     ap cells_of_bytes (sym (part_of bytes at cols n within))
     ∙ sym (ap (take cols) (drop-map byte_cell at (take n bytes)) ∙ take-map byte_cell cols (drop at (take n bytes)))
-row_part false bytes cells at cols n within = take-take cols cols (drop at cells) (omega arith) ∙ sym (part_of cells at cols n within)
+row_part false bytes cells at cols n within = take-take cols cols (drop at cells) (omega arith) ∙ sym
+    (part_of cells at cols n within)
 
 -- one more of the rows is below the others
-pub rows_below : {X : Type 0} (front : List (List X)) (all row : List X) (at cols left next : ℕ) → next + 1 ≡ left → row ≡ take cols (drop at all)
+pub rows_below : {X : Type 0} (front : List (List X)) (all row : List X) (at cols left next : ℕ) → next + 1 ≡ left
+    → row ≡ take cols (drop at all)
     → (front ++ row ∷ []) ++ rows_of cols next (drop (at + cols) all) ≡ front ++ rows_of cols left (drop at all)
 rows_below front all row at cols left next one is =
     let e : suc next ≡ left = omega arith in

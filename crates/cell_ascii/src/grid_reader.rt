@@ -363,14 +363,13 @@ fn read_bytes<R: Source>(
     ensures kind { FailsInText result }
     ensures heard { Hears result cells.old.ahead cells.new.ahead }
 {
-    if !cells.words.is_plain() || !cells.pace.is_for_bytes() {
-        cells.pace.pass_row(row.len());
+    if !cells.words.is_plain() || cells.pace.bytes.left > 0 {
+        cells.pace.bytes.pass(row.len());
         return Ok((0, false));
     }
     let front = read_front(cells, bytes, row)?;
-    cells
-        .pace
-        .end_bytes(front.1 && has_short_runs(&bytes[..row.len()]));
+    let is_of_use = front.1 && has_short_runs(&bytes[..row.len()]);
+    cells.pace.bytes.end_trial(is_of_use);
     Ok(front)
 }
 
@@ -695,10 +694,7 @@ fn read_whole<R: Source>(alloc: Global, reader: &mut GridReader<R>) -> Result<Ce
     // A source is asked only while it continues, and its `Err` is reported as Read.
     ensures heard { reader.new.heard ≡ hears (reports_read result) reader.old.heard }
 {
-    let map = match read_rows(alloc, reader) {
-        Ok(map) => map,
-        Err(fault) => return Err(fault),
-    };
+    let map = read_rows(alloc, reader)?;
     match reader.end() {
         Ok(()) => Ok(map),
         Err(fault) => Err(fault),

@@ -29,11 +29,11 @@ pub(crate) enum Way {
     Single,
 }
 
-// How long a way is left alone.
+/// How long a way is left alone.
 #[derive(Drop)]
-struct Pause {
-    // For how many cells yet.
-    left: usize,
+pub(crate) struct Pause {
+    /// For how many cells yet.
+    pub(crate) left: usize,
     // For how many from the next time on that it is of no use.
     next: usize,
     // For how many at least, and at most.
@@ -51,20 +51,18 @@ impl Pause {
         }
     }
 
-    // The way was tried.
-    fn end_trial(&mut self, is_of_use: bool) {
+    /// The way was tried.
+    pub(crate) fn end_trial(&mut self, is_of_use: bool) {
         if is_of_use {
             self.next = self.first;
-            return;
-        }
-        self.left = self.next;
-        if self.next < self.last {
-            self.next = self.next.saturating_add(self.next);
+        } else {
+            self.left = self.next;
+            self.next = self.next.saturating_mul(2).min(self.last);
         }
     }
 
-    // So many cells were read in other ways.
-    fn pass(&mut self, count: usize) {
+    /// So many cells were read in other ways.
+    pub(crate) fn pass(&mut self, count: usize) {
         self.left = self.left.saturating_sub(count);
     }
 }
@@ -74,7 +72,8 @@ impl Pause {
 pub struct Pace {
     repeated: Pause,
     sought: Pause,
-    bytes: Pause,
+    /// Of rows read as bytes.
+    pub(crate) bytes: Pause,
 }
 
 impl Pace {
@@ -85,21 +84,6 @@ impl Pace {
             sought: Pause::new(FIRST_WAIT, LAST_WAIT),
             bytes: Pause::new(FIRST_BYTES_WAIT, LAST_BYTES_WAIT),
         }
-    }
-
-    /// Whether the next row is read as bytes.
-    pub(crate) fn is_for_bytes(&self) -> bool {
-        self.bytes.left == 0
-    }
-
-    /// A row was read as bytes, or not, and that was of use, or not.
-    pub(crate) fn end_bytes(&mut self, is_of_use: bool) {
-        self.bytes.end_trial(is_of_use);
-    }
-
-    /// A row of so many cells was not read as bytes.
-    pub(crate) fn pass_row(&mut self, cols: usize) {
-        self.bytes.pass(cols);
     }
 
     /// The way to read next, and how many cells at most. One by one if the last try but one found nothing.
@@ -122,17 +106,14 @@ impl Pace {
 
     /// So many cells were read in a way, of which so many were looked up in vain. Whether they end where the row does.
     pub(crate) fn pass(&mut self, way: Way, count: usize, missed: usize, ends_row: bool) {
+        self.repeated.pass(count);
         match way {
-            Way::Repeated => {
-                if count > MANY_CELLS || !ends_row {
-                    self.repeated.end_trial(count > MANY_CELLS);
-                }
-                return;
+            Way::Repeated if count > MANY_CELLS || !ends_row => {
+                self.repeated.end_trial(count > MANY_CELLS);
             }
             Way::Sought if count > 0 => self.sought.end_trial(missed <= count / 2),
             Way::Digits => self.sought.pass(count),
             _ => {}
         }
-        self.repeated.pass(count);
     }
 }

@@ -1,4 +1,5 @@
-use Rattle.std.proofs.Common.{◌≡◌, ◌+◌, ◌-◌, ◌≤◌, ◌∙◌, ap, arith, refl, length, length-append, length-drop, length-take, take, drop, ◌++◌, ◌∷◌, []}
+use Rattle.std.proofs.Common.{◌≡◌, ◌+◌, ◌-◌, ◌≤◌, ◌∙◌, ap, arith, refl, length, length-append, length-drop}
+use Rattle.std.proofs.Common.{length-take, take, drop, ◌++◌, ◌∷◌, []}
 use Rattle.std.proofs.lemmas.List.{take_rest}
 use Rattle.cell_ascii.specs.parts.FrontCells.{front_cells, rows_of}
 use Rattle.cell_ascii.proofs.RowsLemmas.{row_within, rows_after, row_part, rows_below}
@@ -24,17 +25,20 @@ rows-preserved c =
     let one : left - 1 + 1 ≡ left = omega (arith, c.rows-test.true) in
     let within : at + cols ≤ n = row_within at left cols n c.rows-test.true is.cells in
     let next : at + cols - at ≡ cols = omega arith in
-    let width : length part ≡ cols = omega (arith, length-take (at + cols - at) (drop at cells), length-drop at cells, within) in
+    let width : length part ≡ cols = omega
+    (arith, length-take (at + cols - at) (drop at cells), length-drop at cells, within) in
     let same : row ≡ take cols (drop at all) =
     ap (λ k. front_cells (k, c.args.is_bytes) rest part) width
     ∙ ap (λ l. front_cells (cols, c.args.is_bytes) l part) (take_rest bytes at)
     ∙ ap (λ k. front_cells (cols, c.args.is_bytes) (drop at bytes) (take k (drop at cells))) next
     ∙ row_part c.args.is_bytes bytes cells at cols n within in
     let grown : c.push_either.new.builder.rows ≡ front ++ row ∷ [] = ap (λ b. b.rows) c.in_ok-push_either.ensures.ok in
-    let longer : length c.push_either.new.builder.rows ≡ length front + 1 = ap length grown ∙ length-append front (row ∷ []) in
+    let longer : length c.push_either.new.builder.rows ≡ length front + 1 = ap length grown ∙ length-append front
+    (row ∷ []) in
     record {
       region = ap (λ b. b.region) c.in_ok-push_either.ensures.ok ∙ is.region;
-      rows = ap (λ l. l ++ rows_of cols (left - 1) (drop (at + cols) all)) grown ∙ rows_below front all row at cols left (left - 1) one same ∙ is.rows;
+      rows = ap (λ l. l ++ rows_of cols (left - 1) (drop (at + cols) all)) grown
+          ∙ rows_below front all row at cols left (left - 1) one same ∙ is.rows;
       count = omega (arith, longer, one, is.count);
       cells = rows_after at left (left - 1) cols n one is.cells;
     }

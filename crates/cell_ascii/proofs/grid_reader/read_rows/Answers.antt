@@ -1,5 +1,7 @@
 use Rattle.std.proofs.lemmas.Result.{err_from_is_err_and}
-use Rattle.std.proofs.Common.{◌≡◌, ◌≢◌, ◌<◌, ◌≤◌, ◌+◌, ◌*◌, ◌∙◌, zero, suc, ℕ, arith, Bool, false, Ok, Err, Result, List, refl, ap, sym, subst, length, length-append, length-drop, length-take, take, drop, ◌++◌, []}
+use Rattle.std.proofs.Common.{◌≡◌, ◌≢◌, ◌<◌, ◌≤◌, ◌+◌, ◌*◌, ◌∙◌, zero, suc, ℕ, arith, Bool, false, Ok, Err, Result}
+use Rattle.std.proofs.Common.{List, refl, ap, sym, subst, length, length-append, length-drop, length-take, take}
+use Rattle.std.proofs.Common.{drop, ◌++◌, []}
 use Rattle.std.proofs.Math.Nat.{mul-le-mul_right}
 use Rattle.std.specs.Option.{option_map}
 use Rattle.cell_core_devices.specs.Asking.{hears}
@@ -29,9 +31,11 @@ fewer_left all some = omega arith
 within : (n : ℕ) {some left rows : ℕ} → some ≤ left → n + left ≡ rows → n + some ≤ rows
 within n few count = omega arith
 
--- the cells of the next rows are among those of the buffer
-width_of : (cells : List CellValue) (some band cols : ℕ) → some ≤ band → length cells ≡ band * cols → length (take (some * cols) cells) ≡ some * cols
-width_of cells some band cols few size = let most : some * cols ≤ band * cols = mul-le-mul_right cols few in omega (arith, length-take (some * cols) cells)
+-- the cells of the next rows are in the buffer
+width_of : (cells : List CellValue) (some band cols : ℕ) → some ≤ band → length cells ≡ band * cols → length
+    (take (some * cols) cells) ≡ some * cols
+width_of cells some band cols few size = let most : some * cols ≤ band * cols = mul-le-mul_right cols few in omega
+    (arith, length-take (some * cols) cells)
 
 some_more : (n next some : ℕ) {left rows : ℕ} → next + some ≡ left → n + left ≡ rows → n + some + next ≡ rows
 some_more n next some all count = omega arith
@@ -42,11 +46,14 @@ no_more count none = omega arith
 no_rows : (rows : List (List CellValue)) (left n : ℕ) → rows ≡ [] → left ≡ n → length rows + left ≡ n
 no_rows rows left n none all = rw none (omega arith)
 
-longer : (rows : List (List CellValue)) (cols some : ℕ) (cells : List CellValue) → length (rows ++ rows_of cols some cells) ≡ length rows + some
+longer : (rows : List (List CellValue)) (cols some : ℕ) (cells : List CellValue) → length
+    (rows ++ rows_of cols some cells) ≡ length rows + some
 longer rows cols some cells = omega (arith, length-append rows (rows_of cols some cells), rows_count cols some cells)
 
-as_long : (part cells : List CellValue) (n : ℕ) → length part ≡ length (take n cells) → length (part ++ drop n cells) ≡ length cells
-as_long part cells n size = omega (arith, length-append part (drop n cells), size, length-take n cells, length-drop n cells)
+as_long : (part cells : List CellValue) (n : ℕ) → length part ≡ length (take n cells) → length
+    (part ++ drop n cells) ≡ length cells
+as_long part cells n size = omega
+    (arith, length-append part (drop n cells), size, length-take n cells, length-drop n cells)
 
 refused : {X E : Type 0} (f : E) (x : X) → ◌≡◌ {A = Result X E} (Err f) (Ok x) → ⊥
 refused f x e = cc
@@ -91,11 +98,15 @@ returns-in_err-is_bytes-clause-fault g c =
     let some = c.min-count.result in
     let few : some ≤ t.rows_left = omega (arith, c.min-count.ensures, c.rows_left-in-rows.ensures) in
     let fit : some ≤ band = omega (arith, c.min-count.ensures) in
-    let same : c.cols-cols.result ≡ h.region.cols = c.cols-cols.ensures.value ∙ ap (λ r. r.cols) c.region-region.ensures in
-    let width : length (take (some * c.cols-cols.result) c.rows.cells) ≡ some * h.region.cols = ap (λ n. length (take (some * n) c.rows.cells)) same ∙ width_of c.rows.cells some band h.region.cols fit is.cells in
+    let same : c.cols-cols.result ≡ h.region.cols = c.cols-cols.ensures.value ∙ ap
+    (λ r. r.cols) c.region-region.ensures in
+    let width : length (take (some * c.cols-cols.result) c.rows.cells) ≡ some * h.region.cols = ap
+    (λ n. length (take (some * n) c.rows.cells)) same
+    ∙ width_of c.rows.cells some band h.region.cols fit is.cells in
     let p = err_from_is_err_and c.from_residual.result c.from_residual.ensures.1 in
     rw (p.1, p.2)
-    (λ _. rows_fail h (λ (x : Coming). rows_from h (reader_place s x)) s.coming t.coming front h.region.rows (length front) some (reader_place t) f (within (length front) few is.count) is.rows
+    (λ _. rows_fail h (λ (x : Coming). rows_from h (reader_place s x)) s.coming t.coming front h.region.rows
+    (length front) some (reader_place t) f (within (length front) few is.count) is.rows
     (rw (width, is.header) at c.in_err-is_bytes.ensures.fault))
 
 pub rows-preserved : goal.rows-preserved
@@ -114,17 +125,24 @@ rows-preserved g c =
     let some = c.min-count.result in
     let few : some ≤ t.rows_left = omega (arith, c.min-count.ensures, c.rows_left-in-rows.ensures) in
     let fit : some ≤ band = omega (arith, c.min-count.ensures) in
-    let same : c.cols-cols.result ≡ h.region.cols = c.cols-cols.ensures.value ∙ ap (λ r. r.cols) c.region-region.ensures in
-    let width : length (take (some * c.cols-cols.result) c.rows.cells) ≡ some * h.region.cols = ap (λ n. length (take (some * n) c.rows.cells)) same ∙ width_of c.rows.cells some band h.region.cols fit is.cells in
+    let same : c.cols-cols.result ≡ h.region.cols = c.cols-cols.ensures.value ∙ ap
+    (λ r. r.cols) c.region-region.ensures in
+    let width : length (take (some * c.cols-cols.result) c.rows.cells) ≡ some * h.region.cols = ap
+    (λ n. length (take (some * n) c.rows.cells)) same
+    ∙ width_of c.rows.cells some band h.region.cols fit is.cells in
     let cells = front_cells (some * cols, is_bytes) bytes row in
     let left : u.rows_left + some ≡ t.rows_left = c.in_ok-is_bytes.ensures.left in
     let grown : c.push_rows.new.builder.rows ≡ front ++ rows_of cols some cells =
-    ap (λ b. b.rows) c.in-Ok-push_rows.ensures ∙ ap (λ n. front ++ rows_of n some (front_cells (length row, is_bytes) bytes row)) same ∙ ap (λ n. front ++ rows_of cols some (front_cells (n, is_bytes) bytes row)) (c.next_either.auto.row ∙ width) in
+    ap (λ b. b.rows) c.in-Ok-push_rows.ensures ∙ ap
+    (λ n. front ++ rows_of n some (front_cells (length row, is_bytes) bytes row)) same ∙ ap
+    (λ n. front ++ rows_of cols some (front_cells (n, is_bytes) bytes row)) (c.next_either.auto.row ∙ width) in
     let more : length (front ++ rows_of cols some cells) ≡ length front + some = longer front cols some cells in
     record {
       rows = rw (grown, more) (more_read (many (cell_from h) cols) (λ (x : Coming). rows_from h (reader_place s x)) s.coming t.coming u.coming
-          front h.region.rows (length front) some (reader_place t) (within (length front) few is.count) is.rows (rows_of cols some cells) (reader_place u)
-          (rows_read (cell_from h) (reader_place t) (reader_place u) t.coming u.coming cols some cells (rw (width, is.header) at c.in_ok-is_bytes.ensures.row)));
+          front h.region.rows (length front) some (reader_place t) (within (length front) few is.count) is.rows
+          (rows_of cols some cells) (reader_place u)
+          (rows_read (cell_from h) (reader_place t) (reader_place u) t.coming u.coming cols some cells
+          (rw (width, is.header) at c.in_ok-is_bytes.ensures.row)));
       header = c.next_either.ensures.header ∙ is.header;
       region = ap (λ b. b.region) c.in-Ok-push_rows.ensures ∙ is.region;
       count = rw (grown, more) (some_more (length front) u.rows_left some left is.count);
