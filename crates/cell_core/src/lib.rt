@@ -10,7 +10,7 @@
 //! - `shelf`: `Shelf`, maps of one region under distinct names; `ShelfFault`
 //! - `printed_cell`: `write_cell`, a category in decimal, or the null text
 //! - private: `row`, a row as runs, bytes or cells; `byte_runs`, the runs of bytes;
-//!   `few_bytes`, short lists without memory of their own
+//!   `few`, a few bytes or cells without memory of their own
 //!
 //! ```
 //! let (one, other) = (Cell::value(1).ok_or("null")?, Cell::value(2).ok_or("null")?);
@@ -24,7 +24,7 @@
 #![tactic(auto)]
 
 mod byte_runs;
-mod few_bytes;
+mod few;
 pub mod map;
 pub mod printed_cell;
 mod row;

@@ -20,7 +20,8 @@ use std::marker::Model;
 
 /// A raster map of whole numbers (GRASS: a CELL map): its region, its rows from the top, and the
 /// labels of its categories. Rows and columns count from 0. A row is kept as its runs, or as
-/// its cells if these take less memory, in a byte each if they are null or from 0 to 254. At most 16 such bytes take none.
+/// its cells if these take less memory, in a byte each if they are null or from 0 to 254. At most 16 such bytes
+/// take none, nor do at most 4 other cells.
 #[derive(Debug, Drop)]
 pub struct CellMap {
     region: Region,

@@ -6,7 +6,7 @@ ghost use Rattle.cell_core_values.specs.SmallCells.{cells_of_bytes};
 ghost use Rattle.cell_core.specs.Runs.{AreRuns, written_out};
 
 use crate::byte_runs::{number_of_byte_runs, runs_of_bytes};
-use crate::few_bytes::{FEW, FewBytes};
+use crate::few::{FEW_BYTES, FEW_CELLS, FewBytes, FewCells};
 use crate::runs::{Runs, category_of, cell_of_runs, number_of_runs, runs_of, write_out};
 use crate::stretches::Stretches;
 use cell_core_values::cell::Cell;
@@ -25,12 +25,14 @@ pub(crate) struct Row {
 }
 
 /// A row as its runs, or, if most runs are short, as its cells: in a byte each, if these stand for all of them.
-/// A few bytes are kept in the row itself. Any other row takes one growth of just its size, since its runs are counted first.
+/// A few bytes or cells are kept in the row itself. Any other row takes one growth of just its size, since its runs are counted
+/// first.
 /// One list of runs for a map took the same time and memory, and rows would have to be cut out of it. With runs alone, noise
 /// took 8 bytes a cell.
 #[derive(Debug, Drop)]
 enum RowForm {
-    Few(FewBytes),
+    FewBytes(FewBytes),
+    FewCells(FewCells),
     Runs(Vec<(Cell, u32)>),
     Bytes(Vec<u8>),
     Cells(Vec<Cell>),
@@ -58,6 +60,16 @@ fn cell_of_bytes(bytes: &[u8], col: u32) -> Cell
     }
 }
 
+// The cell at a column, or null after the end.
+fn cell_of(cells: &[Cell], col: u32) -> Cell
+    ensures { result ≡ slice_index_or cells.now col None }
+{
+    match cells.get(col as usize) {
+        Some(cell) => *cell,
+        None => Cell::null(),
+    }
+}
+
 impl Row {
     // Keeps a row of cells. Takes memory at most once.
     pub(crate) fn of(alloc: Global, cells: &[Cell]) -> Result<Row, Memory>
@@ -65,13 +77,24 @@ impl Row {
         ensures value { IfOk result (λ row. row ≡ cells.now) }
         ensures cells { IfOk result (λ row. All IsCell row) }
     {
+        if cells.len() <= FEW_BYTES && are_small(cells) {
+            let few = FewBytes::of_cells(cells);
+            return Ok(Row {
+                kept: RowForm::FewBytes(few),
+            });
+        }
+        if cells.len() <= FEW_CELLS {
+            let few = FewCells::of(cells);
+            return Ok(Row {
+                kept: RowForm::FewCells(few),
+            });
+        }
         let count = number_of_runs(cells);
         let kept = if count <= cells.len() / CELLS_A_RUN {
             RowForm::Runs(runs_of(alloc, cells, count)?)
-        } else if !are_small(cells) {
+        } else if cells.len() <= FEW_BYTES || !are_small(cells) {
+            // A few that are small are kept above.
             RowForm::Cells(Vec::from_slice(alloc, cells)?)
-        } else if cells.len() <= FEW {
-            RowForm::Few(FewBytes::of_cells(cells))
         } else {
             RowForm::Bytes(bytes_of(alloc, cells)?)
         };
@@ -84,11 +107,15 @@ impl Row {
         ensures value { IfOk result (λ row. row ≡ cells_of_bytes bytes.now) }
         ensures cells { IfOk result (λ row. All IsCell row) }
     {
+        if bytes.len() <= FEW_BYTES {
+            let few = FewBytes::of(bytes);
+            return Ok(Row {
+                kept: RowForm::FewBytes(few),
+            });
+        }
         let count = number_of_byte_runs(bytes);
         let kept = if count <= bytes.len() / CELLS_A_RUN {
             RowForm::Runs(runs_of_bytes(alloc, bytes, count)?)
-        } else if bytes.len() <= FEW {
-            RowForm::Few(FewBytes::of(bytes))
         } else {
             RowForm::Bytes(Vec::from_slice(alloc, bytes)?)
         };
@@ -116,13 +143,11 @@ impl Row {
         ensures { result ≡ slice_index_or self.now col None }
     {
         match &self.kept {
-            RowForm::Few(few) => cell_of_bytes(few.as_slice(), col),
+            RowForm::FewBytes(few) => cell_of_bytes(few.as_slice(), col),
+            RowForm::FewCells(few) => cell_of(few.as_slice(), col),
             RowForm::Runs(runs) => cell_of_runs(runs, col),
             RowForm::Bytes(bytes) => cell_of_bytes(bytes, col),
-            RowForm::Cells(cells) => match cells.get(col as usize) {
-                Some(cell) => *cell,
-                None => Cell::null(),
-            },
+            RowForm::Cells(cells) => cell_of(cells, col),
         }
     }
 
@@ -132,7 +157,8 @@ impl Row {
         ensures { cells.new ≡ self.now }
     {
         match &self.kept {
-            RowForm::Few(few) => write_byte_cells(few.as_slice(), cells),
+            RowForm::FewBytes(few) => write_byte_cells(few.as_slice(), cells),
+            RowForm::FewCells(few) => cells.copy_from_slice(few.as_slice()),
             RowForm::Runs(runs) => write_out(runs, cells),
             RowForm::Bytes(bytes) => write_byte_cells(bytes, cells),
             RowForm::Cells(kept) => cells.copy_from_slice(kept),
@@ -145,7 +171,8 @@ impl Row {
         ensures runs { AreRuns result }
     {
         match &self.kept {
-            RowForm::Few(few) => Runs::of_bytes(few.as_slice()),
+            RowForm::FewBytes(few) => Runs::of_bytes(few.as_slice()),
+            RowForm::FewCells(few) => Runs::of_cells(few.as_slice()),
             RowForm::Runs(runs) => Runs::over(runs),
             RowForm::Bytes(bytes) => Runs::of_bytes(bytes),
             RowForm::Cells(cells) => Runs::of_cells(cells),
@@ -157,7 +184,7 @@ impl Row {
         ensures { IfSome result (λ bytes. cells_of_bytes bytes.now ≡ self.now) }
     {
         match &self.kept {
-            RowForm::Few(few) => Some(few.as_slice()),
+            RowForm::FewBytes(few) => Some(few.as_slice()),
             RowForm::Bytes(bytes) => Some(bytes.as_slice()),
             _ => None,
         }
@@ -168,6 +195,7 @@ impl Row {
         ensures { IfSome result (λ cells. cells.now ≡ self.now) }
     {
         match &self.kept {
+            RowForm::FewCells(few) => Some(few.as_slice()),
             RowForm::Cells(cells) => Some(cells.as_slice()),
             _ => None,
         }
@@ -179,7 +207,8 @@ impl Row {
         ensures some { All (λ run. 0 < run.1) result }
     {
         match &self.kept {
-            RowForm::Few(few) => Stretches::of_bytes(few.as_slice()),
+            RowForm::FewBytes(few) => Stretches::of_bytes(few.as_slice()),
+            RowForm::FewCells(few) => Stretches::of_cells(few.as_slice()),
             RowForm::Runs(runs) => Stretches::of_runs(runs),
             RowForm::Bytes(bytes) => Stretches::of_bytes(bytes),
             RowForm::Cells(cells) => Stretches::of_cells(cells),

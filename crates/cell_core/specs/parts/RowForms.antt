@@ -14,14 +14,16 @@ use Rattle.cell_core.specs.declared.stretches.Unread.TheVariants as unread
 
 -- the cells that are kept
 abbrev pub cells_of_row : RowForm → List CellValue
-cells_of_row (kept.Few bytes) = cells_of_bytes bytes
+cells_of_row (kept.FewBytes bytes) = cells_of_bytes bytes
+cells_of_row (kept.FewCells cells) = cells
 cells_of_row (kept.Runs runs) = written_out runs.items
 cells_of_row (kept.Bytes bytes) = cells_of_bytes bytes.items
 cells_of_row (kept.Cells cells) = cells.items
 
 -- what is kept as runs are runs, and bytes and cells are no more than a run may have cells
 abbrev pub IsKept : RowForm → Type 0
-IsKept (kept.Few bytes) = Unit {0}
+IsKept (kept.FewBytes bytes) = Unit {0}
+IsKept (kept.FewCells cells) = Unit {0}
 IsKept (kept.Runs runs) = AreRuns runs.items
 IsKept (kept.Bytes bytes) = length bytes.items < 2 ^ 32
 IsKept (kept.Cells cells) = length cells.items < 2 ^ 32

@@ -1,6 +1,5 @@
-use Rattle.std.proofs.Common.{arith, rules, ◌≡◌, ◌<◌, ◌+◌, ◌++◌, [], ◌∷◌, All, length, take, true, false, ap, sym, ◌∙◌, take_all}
-use Rattle.std.proofs.lemmas.List.{take_more}
-use Rattle.std.proofs.lemmas.List.Elements.{All-push, All-same}
+use Rattle.std.proofs.Common.{arith, rules, ◌≡◌, ◌<◌, ◌+◌, All, length, take, true, false, sym, subst, take_all}
+use Rattle.std.proofs.lemmas.List.Elements.{All-more, All-same}
 use Rattle.cell_core_values.specs.Cell.{IsCell, cell_eq}
 use Rattle.cell_core.proofs.RowLemmas.{breaks-none, breaks-one, breaks-whole}
 use Rattle.cell_core.proofs.runs.number_of_runs.Goals as goal
@@ -22,7 +21,9 @@ loop-cell-preserved c =
     let cell = c.cell-item.result in
     let last = c.loop-cell.last in
     let within : i < length row = omega arith in
-    let cells : All IsCell (take (i + 1) row) = All-same IsCell _ _ (take_more row i cell within ∙ ap (λ y. take i row ++ y ∷ []) (sym c.cell-item.is)) (All-push IsCell (take i row) cell c.loop-cell.invariant.cells c.category_of.ensures.cell) in
+    let cells : All IsCell (take (i + 1) row) =
+    All-more IsCell row i cell within c.loop-cell.invariant.cells
+    (subst IsCell c.cell-item.is c.category_of.ensures.cell) in
     elim c.if-eq.branch [
       | then-eq w ↦
           let same : cell_eq cell last ≡ true = search (rules, w.if-eq, c.eq.ensures) in

@@ -1,7 +1,6 @@
-use Rattle.std.proofs.Common.{◌<◌, ◌++◌, [], ◌∷◌, suc, List, All, length, take, replicate, ap, sym, ◌∙◌, arith}
+use Rattle.std.proofs.Common.{◌<◌, [], ◌∷◌, suc, List, All, length, take, replicate, ap, sym, subst, arith}
 use Rattle.std.proofs.Common.{take_all}
-use Rattle.std.proofs.lemmas.List.{take_more}
-use Rattle.std.proofs.lemmas.List.Elements.{All-append, All-nil, All-push, All-replicate, All-same}
+use Rattle.std.proofs.lemmas.List.Elements.{All-append, All-more, All-nil, All-replicate, All-same}
 use Rattle.cell_core_values.specs.Cell.{IsCell}
 use Rattle.cell_core.specs.Runs.{RunValue, written_out}
 use Rattle.cell_core.proofs.row.Row.of_runs.Goals as goal
@@ -19,9 +18,9 @@ loop-run-preserved c =
     let i = c.loop-run.run-index in
     let run = c.run-item.result in
     let within : i < length runs = omega arith in
-    All-same (λ (r : RunValue). IsCell r.0) _ _ (take_more runs i run within
-    ∙ ap (λ r. take i runs ++ r ∷ []) (sym c.run-item.is))
-    (All-push (λ (r : RunValue). IsCell r.0) (take i runs) run c.loop-run.invariant c.category_of.ensures.cell)
+    let is_cell : RunValue → Type 0 = λ r. IsCell r.0 in
+    All-more is_cell runs i run within c.loop-run.invariant
+    (subst is_cell c.run-item.is c.category_of.ensures.cell)
 
 pub returns-clause-cells : goal.returns-clause-cells
 returns-clause-cells c =

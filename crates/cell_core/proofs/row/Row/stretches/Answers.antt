@@ -8,12 +8,12 @@ returns-in-Cells-clause-written c =
       written_out-one_by_one c.in-Cells.cells.items,
       c.in-Cells.is,
       c.self.view_is,
-      c.of_cells.ensures,
+      c.of_cells-in-Cells.ensures,
       c.deref-in-Cells.ensures.value,
     )
 
 pub returns-in-Cells-clause-some : goal.returns-in-Cells-clause-some
-returns-in-Cells-clause-some c = rw (c.of_cells.ensures) (some-one_by_one c.deref-in-Cells.result.now)
+returns-in-Cells-clause-some c = rw (c.of_cells-in-Cells.ensures) (some-one_by_one c.deref-in-Cells.result.now)
 
 pub returns-in-Bytes-clause-written : goal.returns-in-Bytes-clause-written
 returns-in-Bytes-clause-written c =
@@ -29,16 +29,30 @@ pub returns-in-Bytes-clause-some : goal.returns-in-Bytes-clause-some
 returns-in-Bytes-clause-some c =
     rw (c.of_bytes-in-Bytes.ensures) (some-one_by_one (cells_of_bytes c.deref-in-Bytes.result.now))
 
-pub returns-in-Few-clause-written : goal.returns-in-Few-clause-written
-returns-in-Few-clause-written c =
+pub returns-in-FewBytes-clause-written : goal.returns-in-FewBytes-clause-written
+returns-in-FewBytes-clause-written c =
     search (
-      written_out-one_by_one (cells_of_bytes c.in-Few.few),
-      c.in-Few.is,
+      written_out-one_by_one (cells_of_bytes c.in-FewBytes.few),
+      c.in-FewBytes.is,
       c.self.view_is,
       c.of_bytes.ensures,
       c.as_slice.ensures.value,
     )
 
-pub returns-in-Few-clause-some : goal.returns-in-Few-clause-some
-returns-in-Few-clause-some c =
+pub returns-in-FewBytes-clause-some : goal.returns-in-FewBytes-clause-some
+returns-in-FewBytes-clause-some c =
     rw (c.of_bytes.ensures) (some-one_by_one (cells_of_bytes c.as_slice.result.now))
+
+pub returns-in-FewCells-clause-written : goal.returns-in-FewCells-clause-written
+returns-in-FewCells-clause-written c =
+    search (
+      written_out-one_by_one c.in-FewCells.few,
+      c.in-FewCells.is,
+      c.self.view_is,
+      c.of_cells.ensures,
+      c.as_slice-in-FewCells.ensures.value,
+    )
+
+pub returns-in-FewCells-clause-some : goal.returns-in-FewCells-clause-some
+returns-in-FewCells-clause-some c =
+    rw (c.of_cells.ensures) (some-one_by_one c.as_slice-in-FewCells.result.now)
