@@ -1,10 +1,8 @@
 //! Numbers in place of labels.
 
-ghost use Rattle.std.specs.Prelude.{◌≡◌, pos, ◌+◌, ◌<◌, ◌≤◌, length, Some, None};
+ghost use Rattle.std.specs.Prelude.{◌+◌, ◌<◌, ◌≤◌, length};
 ghost use Rattle.cell_cats_areas.specs.parts.Labels.{PointDown};
 ghost use Rattle.cell_cats_areas.specs.parts.AreaNumbers.{CanNumber, NumbersLabel, NumbersLabels};
-
-use cell_core::cell::Cell;
 
 // Replaces a label by a number: an open one by the next number, a closed one by the number of the label that it points
 // to. Returns the largest number so far.
@@ -36,16 +34,5 @@ pub(crate) fn number_labels(table: &mut [u32])
     let mut count = 0;
     for place in 0..table.len() as u32 {
         count = number_label(table, place, count);
-    }
-}
-
-// The cell of a number.
-pub(crate) fn number_cell(number: u32) -> Cell
-    ensures within { number < 2147483648 → result ≡ Some (pos number) }
-    ensures past { 2147483648 ≤ number → result ≡ None }
-{
-    match i32::try_from(number) {
-        Ok(category) => Cell::value(category).unwrap_or(Cell::null()),
-        Err(_) => Cell::null(),
     }
 }

@@ -27,10 +27,15 @@ pub enum Joining {
 // A map goes run by run if it has so many cells to a run: cell by cell is faster where runs are shorter.
 const CELLS_A_RUN: usize = 4;
 
-// How many runs a map has.
+// How many runs a map has. One of few columns may have fewer, since to count them takes longer than it saves.
 fn number_of_runs(map: &CellMap) -> usize {
+    let region = map.region();
+    let cols = region.cols() as usize;
+    if cols <= CELLS_A_RUN {
+        return region.rows() as usize * cols;
+    }
     let mut count: usize = 0;
-    for row in 0..map.region().rows() {
+    for row in 0..region.rows() {
         count = count.saturating_add(map.runs(row).len());
     }
     count
@@ -61,8 +66,8 @@ fn label_map(alloc: Global, map: &CellMap, joining: Joining) -> Result<MapLabels
 /// left (profile). The rows `1 2` and `2 1` give `1 2` and `3 4` by edges, and `1 2` and `2 1` by edges
 /// and corners.
 ///
-/// It takes at most twelve bytes for each run of equal cells side by side, or four for each cell if most runs are short, and a few
-/// rows, besides the map that it returns.
+/// It takes at most twelve bytes for each run of equal cells side by side, or four for each cell and each run if most runs are
+/// short, 32 for each row, and a few rows, besides the map that it returns.
 ///
 /// # Errors
 ///

@@ -3,7 +3,6 @@
 ghost use Rattle.std.specs.Prelude.{◌≡◌, ◌<◌, All, IfOk, length, map};
 ghost use Rattle.cell_cats_areas.specs.parts.RunsOfLabels.{labels_along, number_for, numbers_along};
 
-use crate::area_numbers::number_cell;
 use crate::near::{Labelled, NO_LABEL};
 use cell_core::cell::Cell;
 use cell_core::memory::Memory;
@@ -17,20 +16,27 @@ pub(crate) struct KeptLabels {
     kept: LabelForm,
 }
 
+// So many labels and their number are as large as a `Vec`, which another row has in their place.
+const FEW: usize = 4;
+
 // The labels of a row: each with how many cells side by side have it, or one by one, which takes less memory if most runs are short.
+// A few labels are kept in the row itself, without memory of their own.
 #[derive(Debug, Drop)]
 enum LabelForm {
+    Few(usize, [u32; FEW]),
     Runs(Vec<(u32, u32)>),
     Cells(Vec<u32>),
 }
 
 impl Model for KeptLabels {
     ghost use Rattle.std.specs.Prelude.{ℕ, List};
-    ghost use Rattle.cell_cats_areas.specs.parts.LabelForms.{labels_kept};
+    ghost use Rattle.cell_cats_areas.specs.parts.LabelForms.{labels_kept, AreFew};
 
     ghost Value = { List ℕ };
 
     ghost view = { λ row. labels_kept row.kept };
+
+    ghost invariant = { λ row. AreFew row.kept };
 }
 
 impl KeptLabels {
@@ -47,20 +53,30 @@ impl KeptLabels {
     pub(crate) fn of_line(alloc: Global, line: &[Labelled]) -> Result<KeptLabels, Memory>
         ensures { IfOk result (λ labels. labels ≡ map (λ x. x.label) line.now) }
     {
-        let mut labels = vec![in alloc; NO_LABEL; line.len()]?;
+        let count = line.len();
+        if count <= FEW {
+            let mut labels = [NO_LABEL; FEW];
+            copy_labels(line, &mut labels[..count]);
+            return Ok(KeptLabels {
+                kept: LabelForm::Few(count, labels),
+            });
+        }
+        let mut labels = vec![in alloc; NO_LABEL; count]?;
         copy_labels(line, labels.as_mut_slice());
         Ok(KeptLabels {
             kept: LabelForm::Cells(labels),
         })
     }
 
-    // Writes the numbers of a row's cells. The table has the number of each label, and none of what null has for one.
-    pub(crate) fn write_numbers(&self, table: &[u32], cells: &mut [Cell])
+    // Writes the numbers of a row's cells, and lets its labels go. The table has the number of each label, and none of what null has
+    // for one.
+    pub(crate) fn write_numbers(self, table: &[u32], cells: &mut [Cell])
         requires small { All (λ number. number < 2147483648) table.now }
-        requires wide { length self.now ≡ length cells.old }
-        ensures { cells.new ≡ map (number_for table.now) self.now }
+        requires wide { length self ≡ length cells.old }
+        ensures { cells.new ≡ map (number_for table.now) self }
     {
         match &self.kept {
+            LabelForm::Few(count, labels) => write_cell_numbers(&labels[..*count], table, cells),
             LabelForm::Runs(runs) => write_run_numbers(runs, table, cells),
             LabelForm::Cells(labels) => write_cell_numbers(labels, table, cells),
         }
@@ -83,7 +99,7 @@ fn number_of_label(table: &[u32], label: u32) -> Cell
     ensures { result ≡ number_for table.now label }
 {
     match table.get(label as usize) {
-        Some(number) => number_cell(*number),
+        Some(number) => Cell::value(*number as i32).unwrap_or(Cell::null()),
         None => Cell::null(),
     }
 }

@@ -13,6 +13,7 @@ use crate::near::{Labelled, NO_LABEL, Near, label_cell, outside};
 use cell_core::map::CellMap;
 use cell_core::memory::Memory;
 use std::alloc::Global;
+use std::mem::swap;
 
 // Labels the runs of a row. The line has the runs of the row above it, and the runs of this row are put below it.
 #[inline(never)]
@@ -81,8 +82,9 @@ pub(crate) fn label_runs(
     let mut rows = Vec::with_capacity(alloc, region.rows() as usize)?;
     let mut line = Vec::with_capacity(alloc, 1)?;
     line.push((outside(), region.cols()))?;
+    let mut below = Vec::new(alloc);
     for row in 0..region.rows() {
-        let mut below = Vec::with_capacity(alloc, map.runs(row).len())?;
+        below.clear();
         let labels = label_runs_of_row(
             alloc,
             map,
@@ -93,7 +95,7 @@ pub(crate) fn label_runs(
             &mut below,
         )?;
         rows.push(labels)?;
-        line = below;
+        swap(&mut line, &mut below);
     }
     Ok(MapLabels { table, rows })
 }

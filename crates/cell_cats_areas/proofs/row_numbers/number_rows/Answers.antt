@@ -35,24 +35,3 @@ loop-labels-preserved c =
           (subst (All (λ (labels : List ℕ). length labels ≡ c.args.region.cols)) steps inv.wide);
       len = omega (arith, inv.len, c.in-Some.ensures.steps.1);
     }
-
-pub loop-labels-preserved-in_ok-push_row : goal.loop-labels-preserved-in_ok-push_row
-loop-labels-preserved-in_ok-push_row c =
-    let inv = c.loop-labels.invariant in
-    let table : List ℕ = c.args.table.now in
-    let rows : List (List CellValue) = c.loop-labels.builder.rows in
-    let steps = c.in-Some.ensures.steps.0 in
-    let ok = c.in_ok-push_row.ensures.ok in
-    let grown : c.push_row.new.self.rows ≡ rows ++ map (number_for table) c.in-Some.labels ∷ [] = ap (λ b. b.rows) ok
-    ∙ ap (λ (cells : List CellValue). rows ++ cells ∷ []) c.write_numbers.ensures in
-    let one = ap (λ l. length l) steps in
-    let more = length_push rows (map (number_for table) c.in-Some.labels) in
-    record {
-      width = c.write_numbers.auto.cells ∙ inv.width;
-      region = ap (λ b. b.region) ok ∙ inv.region;
-      whole = next_row table rows _ _ c.in-Some.labels _ _ grown steps inv.whole;
-      count = omega (arith, inv.count, ap (length {A = List CellValue}) grown);
-      wide = All-tail (λ (labels : List ℕ). length labels ≡ c.args.region.cols) _ _
-          (subst (All (λ (labels : List ℕ). length labels ≡ c.args.region.cols)) steps inv.wide);
-      len = omega (arith, inv.len, c.in-Some.ensures.steps.1);
-    }

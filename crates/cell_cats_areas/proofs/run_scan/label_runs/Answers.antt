@@ -35,7 +35,7 @@ label_runs_of_row-requires c =
       down = is.down;
       short = row_fits c.args.map.now.region _ c.loop-row.row (rw region at c.cols.ensures.region) row is.most;
       lengths = rw c.as_slice.ensures.value is.lengths;
-      empty = c.in_ok-below.ensures.items;
+      empty = c.clear.ensures.items;
       read = rw c.as_slice.ensures.value (record { cells = is.runs.cells; kept_are = kept_none c.args.map.now _ });
     }
 
@@ -43,12 +43,13 @@ pub loop-row-preserved : goal.loop-row-preserved
 loop-row-preserved c =
     let is = c.loop-row.invariant in
     let pushed = c.in_ok-push-2.ensures.items in
+    let line = c.swap.ensures.x_after in
     record {
       down = c.in_ok-labels.ensures.down;
       most = omega (arith, is.most, c.in_ok-labels.ensures.long);
-      lengths = c.in_ok-labels.ensures.lengths;
+      lengths = rw line c.in_ok-labels.ensures.lengths;
       count = rw pushed (length_push c.loop-row.rows.items c.in_ok-labels.labels ∙ ap (λ n. n + 1) is.count);
-      runs = rw pushed (c.in_ok-labels.ensures.read c.loop-row.rows.items is.count
+      runs = rw (line, pushed) (c.in_ok-labels.ensures.read c.loop-row.rows.items is.count
           (rw c.as_slice.ensures.value is.runs));
     }
 
