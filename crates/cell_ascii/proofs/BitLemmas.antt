@@ -1,18 +1,17 @@
 -- Blanks and line feeds as bits, and words as numbers.
-use Rattle.std.proofs.Common.{◌≡◌, ℕ, zero, suc, ◌+◌, ◌-◌, ◌*◌, ◌/◌, ◌%◌, ◌^◌, ◌<◌, ◌≤◌, eqb, cond, Bool, true, false, not, List, [], ◌∷◌, map, length, take, drop, get_or, replicate, refl, ap, ap₂, sym, ◌∙◌, arith, length-take}
-use Rattle.std.specs.Prelude.{◌||◌}
+use Rattle.std.proofs.Common.{◌≡◌, ℕ, zero, suc, ◌+◌, ◌-◌, ◌*◌, ◌/◌, ◌%◌, ◌^◌, ◌<◌, ◌≤◌, cond, Bool, true, false, not, List, [], ◌∷◌, map, length, take, drop, get_or, refl, ap, ap₂, sym, ◌∙◌, arith, length-take}
 use Rattle.std.specs.List.{prefix_len, list_all}
 use Rattle.std.specs.Int.RustNames.{count_ones}
-use Rattle.std.proofs.lemmas.Simd.{trailing_mask_l, ones-mask_l, mask_l-mod}
+use Rattle.std.proofs.lemmas.Simd.{trailing_mask_l, ones-mask_l}
 use Rattle.std.proofs.lemmas.Nat.{and_block, field_of, shl-shr}
 use Rattle.std.proofs.lemmas.List.{length-map, take-map, take-take, drop-take, get_or-take}
-use Rattle.std.specs.Int.Bits.{bit_and, bit_or, and_self}
+use Rattle.std.specs.Int.Bits.{bit_and, and_self}
 pub use Rattle.cell_ascii_lanes.proofs.ByteBitLemmas.{bit, turned, mask-take, below}
 use Rattle.cell_ascii_meaning.specs.GridTokens.{is_line_feed, is_space, is_word_byte, newlines}
 use Rattle.cell_ascii_writer.proofs.ByteLemmas.{digits-mod, digits-number}
 use Rattle.cell_ascii.specs.TableWords.{blanks, feeds, cleared_front, kept_bytes}
 use lib.Count.{count_trailing_zeros}
-use lib.Lanes.{mask_l, number_l, digits_l, top, zip2}
+use lib.Lanes.{mask_l, number_l, digits_l}
 
 -- how many of the first lanes are false
 abbrev pub unset : List Bool → ℕ
@@ -88,42 +87,6 @@ next_blank (x ∷ xs) (suc at) l =
     let less : suc k - suc at ≡ k - at = omega arith in
     let word : list_all is_word_byte (take (suc k - suc at) (drop at xs)) ≡ true = ap (λ (n : ℕ). list_all is_word_byte (take n (drop at xs))) less ∙ is.word in
     rw one (record { behind = omega (arith, is.behind); word = word; blank = is.blank })
-
-abbrev hit : ℕ → ℕ → ℕ
-hit a b = cond (eqb a b) 255 0
-
-abbrev hits : ℕ → ℕ → List ℕ → List ℕ
-hits n y xs = zip2 hit xs (replicate n y)
-
-one-of-four : (a b c d : Bool) → top 7 (bit_or (bit_or (cond a 255 0) (cond b 255 0)) (bit_or (cond c 255 0) (cond d 255 0))) ≡ ((a || b) || (c || d))
-one-of-four true true true true = refl
-one-of-four true true true false = refl
-one-of-four true true false true = refl
-one-of-four true true false false = refl
-one-of-four true false true true = refl
-one-of-four true false true false = refl
-one-of-four true false false true = refl
-one-of-four true false false false = refl
-one-of-four false true true true = refl
-one-of-four false true true false = refl
-one-of-four false true false true = refl
-one-of-four false true false false = refl
-one-of-four false false true true = refl
-one-of-four false false true false = refl
-one-of-four false false false true = refl
-one-of-four false false false false = refl
-
-spaces : (xs : List ℕ) → map (top 7) (zip2 bit_or (zip2 bit_or (hits (length xs) 32 xs) (hits (length xs) 9 xs)) (zip2 bit_or (hits (length xs) 13 xs) (hits (length xs) 10 xs))) ≡ map is_space xs
-spaces [] = refl
-spaces (x ∷ xs) = ap₂ (λ (b : Bool) (l : List Bool). b ∷ l) (one-of-four (eqb x 32) (eqb x 9) (eqb x 13) (eqb x 10)) (spaces xs)
-
--- which of 64 bytes are blanks or line feeds
-pub four-hits : (xs : List ℕ) → length xs ≡ 64
-    → mask_l (map (top 7) (zip2 bit_or (zip2 bit_or (hits 64 32 xs) (hits 64 9 xs)) (zip2 bit_or (hits 64 13 xs) (hits 64 10 xs)))) % 2 ^ 64 ≡ mask_l (map is_space xs)
-four-hits xs long =
-    let few : length (map is_space xs) ≤ 64 = omega (arith, length-map xs is_space) in
-    ap (λ (n : ℕ). mask_l (map (top 7) (zip2 bit_or (zip2 bit_or (hits n 32 xs) (hits n 9 xs)) (zip2 bit_or (hits n 13 xs) (hits n 10 xs)))) % 2 ^ 64) (sym long)
-    ∙ ap (λ (l : List Bool). mask_l l % 2 ^ 64) (spaces xs) ∙ mask_l-mod (map is_space xs) 64 few
 
 module _ (bs : List ℕ) (buffered : 64 ≤ length bs) (at : ℕ) where
   abbrev ends : ℕ

@@ -7,7 +7,7 @@ ghost use Rattle.cell_ascii_meaning.specs.Header.{HeaderValue};
 ghost use Rattle.cell_ascii.specs.TableWords.{HoldsLines};
 ghost use Rattle.cell_ascii.specs.parts.ByteWords.{IsPlain};
 
-use crate::word_table::{blanks_in, feeds_in, ones_below};
+use crate::word_table::{blanks_in, lines_below};
 use cell_ascii_lanes::word_lanes::{
     are_short, cell_bytes, digit_mask, lowest_bits, put_lanes, star_mask, word_values,
 };
@@ -70,7 +70,7 @@ pub(crate) fn bytes_in(buffered: &[u8], row: &mut [u8], most: usize) -> (usize, 
         if found.0 == 0 {
             return (i, passed, lines);
         }
-        lines += ones_below(feeds_in(block), found.1);
+        lines = lines_below(lines, block, found.1);
         i += found.0;
         passed += found.1;
     }

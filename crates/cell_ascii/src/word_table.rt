@@ -15,6 +15,7 @@ ghost use Rattle.cell_ascii.specs.parts.BlankRuns.{IsAtBlank, IsBehindBlanks};
 
 use crate::number_words::block_numbers_in;
 use crate::short_cells::{MOST_DIGITS, negative};
+use cell_ascii_lanes::word_lanes::space_mask;
 use cell_ascii_reading::header::Header;
 use cell_core::cell::Cell;
 use cell_core::memory::Memory;
@@ -52,15 +53,12 @@ pub(crate) fn blanks_in(buffered: &[u8]) -> u64
     requires { 64 ≤ length buffered.now }
     ensures { result ≡ mask_l (blanks buffered.now) }
 {
-    let bytes = u8x64::from_slice(buffered);
-    let apart = bytes.simd_eq(u8x64::splat(b' ')) | bytes.simd_eq(u8x64::splat(b'\t'));
-    let ends = bytes.simd_eq(u8x64::splat(b'\r')) | bytes.simd_eq(u8x64::splat(b'\n'));
-    (apart | ends).to_bitmask()
+    space_mask(u8x64::from_slice(buffered))
 }
 
 // Which of them are line feeds.
 #[inline(always)]
-pub(crate) fn feeds_in(buffered: &[u8]) -> u64
+fn feeds_in(buffered: &[u8]) -> u64
     requires { 64 ≤ length buffered.now }
     ensures { result ≡ mask_l (feeds buffered.now) }
 {
@@ -69,18 +67,20 @@ pub(crate) fn feeds_in(buffered: &[u8]) -> u64
         .to_bitmask()
 }
 
-// How many of the lowest n bits are set.
+// A number of lines, and how many line feeds are among the first n bytes.
 #[inline(always)]
-pub(crate) fn ones_below(bits: u64, n: usize) -> u64
-    requires { n < 64 }
-    ensures value { result ≡ count_ones (bits % 2 ^ n) }
-    ensures few { result ≤ 64 }
+pub(crate) fn lines_below(lines: u64, buffered: &[u8], n: usize) -> u64
+    requires room { lines + 64 < 2 ^ 64 }
+    requires buffered { 64 ≤ length buffered.now }
+    requires within { n < 64 }
+    ensures { result ≡ lines + newlines (take n buffered.now) }
 {
-    // As of the line feeds in most blocks.
-    if bits == 0 {
-        return 0;
+    let feeds = feeds_in(buffered);
+    // As in most blocks.
+    if feeds == 0 {
+        return lines;
     }
-    (bits & ((1 << n) - 1)).count_ones() as u64
+    lines + (feeds & ((1 << n) - 1)).count_ones() as u64
 }
 
 // Bits without the lowest that is set.
@@ -445,7 +445,7 @@ fn table_cells_in<const SOUGHT: bool>(
         if found.0 == 0 {
             return (i, passed, lines);
         }
-        lines += ones_below(feeds_in(block), found.1);
+        lines = lines_below(lines, block, found.1);
         i += found.0;
         passed += found.1;
     }

@@ -9,6 +9,8 @@ use Rattle.std.proofs.lemmas.List.FromFn.{get_or-range_with_len, get_or-map-rang
 use Rattle.std.proofs.lemmas.Nat.Bits.{bit_at-zero}
 use Rattle.std.specs.List.{range_with_len}
 use Rattle.cell_core_values.specs.Digits.{is_digit}
+use Rattle.cell_ascii_meaning.specs.GridTokens.{is_space}
+use Rattle.std.proofs.lemmas.Nat.{and_mask}
 use Rattle.std.proofs.lemmas.Bool.{eqb-true, eqb-false, lt-leb}
 use Rattle.std.proofs.lemmas.Bool.Decides.{nat_tests}
 use Rattle.cell_ascii_lanes.specs.parts.LaneTables.{IsLaneTable, table_place, capped_sum, lane_before}
@@ -101,6 +103,34 @@ looked f bytes p within =
     let inside : p < length (map table_place bytes) = omega (arith, length-map bytes table_place) in
     get_or-map f (map table_place bytes) p 0 0 inside ∙ ap f (get_or-map table_place bytes p 0 0 within)
 
+-- ---- blanks and line feeds, by the low four bits of bytes
+
+abbrev pub low_bits : ℕ → ℕ
+low_bits b = bit_and b 15
+
+abbrev pub space_at : ℕ → ℕ
+space_at j = cond (eqb j 0) 32 (cond (is_space j) j 0)
+
+pub small_low : (xs : List ℕ) (k : ℕ) → get_or (map low_bits xs) k 0 < 16
+small_low [] k = omega arith
+small_low (x ∷ xs) zero = omega (arith, and_mask x 4)
+small_low (x ∷ xs) (suc k) = small_low xs k
+
+abbrev pub alike : ℕ → ℕ → ℕ
+alike a b = cond (eqb a b) 255 0
+
+abbrev is_found : ℕ → Bool
+is_found b = top 7 (alike (space_at (low_bits b)) b)
+
+space_bool : (x : ℕ) → x < 256 → is_found x ≡ is_space x
+space_bool x lt = same_is _ _ (upto_sound (λ y. same (is_found y) (is_space y)) 256 tt x lt)
+
+pub spaces_are : (xs : List ℕ) → Each1 (Fits w8) xs
+    → map (top 7) (zip2 alike (map space_at (map low_bits xs)) xs) ≡ map is_space xs
+spaces_are [] f = refl
+spaces_are (x ∷ xs) f =
+    ap₂ (λ (a : Bool) (l : List Bool). a ∷ l) (space_bool x f.0.fits) (spaces_are xs f.1)
+
 -- ---- sums, at most 255
 
 one_sum : (a b : ℕ) → a < 256 → b < 256 → (a + cond (top 7 (under b (255 - a))) b (255 - a)) % 256 ≡ capped_sum a b
@@ -151,19 +181,19 @@ both_tops true false = refl
 both_tops false true = refl
 both_tops false false = refl
 
-digit_bool : (x : ℕ) → x < 256 → ltb (less x 48) 10 ≡ is_digit x
-digit_bool x lt = same_is _ _ (upto_sound (λ y. same (ltb (less y 48) 10) (is_digit y)) 256 tt x lt)
+digit_bool : (x : ℕ) → x < 256 → ltb (table_place x) 10 ≡ is_digit x
+digit_bool x lt = same_is _ _ (upto_sound (λ y. same (ltb (table_place y) 10) (is_digit y)) 256 tt x lt)
 
 abbrev pub digit_large : ℕ → ℕ → Bool
 digit_large x y = is_digit x && eqb y 255
 
 pub large_lanes : (xs ys : List ℕ) → length xs ≡ length ys → Each1 (Fits w8) xs
-    → map (top 7) (zip2 bit_and (map (λ a. under (less a 48) 10) xs) (map (λ a. cond (eqb a 255) 255 0) ys)) ≡ zip2 digit_large xs ys
+    → map (top 7) (zip2 bit_and (map (λ a. under (table_place a) 10) xs) (map (λ a. cond (eqb a 255) 255 0) ys)) ≡ zip2 digit_large xs ys
 large_lanes [] ys e f = refl
 large_lanes (x ∷ xs) [] e f = absurd (omega arith)
 large_lanes (x ∷ xs) (y ∷ ys) e f =
     ap₂ (λ (a : Bool) (l : List Bool). a ∷ l)
-    (both_tops (ltb (less x 48) 10) (eqb y 255) ∙ ap (λ b. b && eqb y 255) (digit_bool x f.0.fits)) (large_lanes xs ys (omega arith) f.1)
+    (both_tops (ltb (table_place x) 10) (eqb y 255) ∙ ap (λ b. b && eqb y 255) (digit_bool x f.0.fits)) (large_lanes xs ys (omega arith) f.1)
 
 pub not_large : (x y : ℕ) → y < 256 → digit_large x y ≡ false → is_digit x ≡ true → y < 255
 not_large x y lt e digit = by (eqb y 255) refl (sym (ap (λ b. b && eqb y 255) digit) ∙ e)

@@ -8,6 +8,7 @@ ghost use Rattle.std.specs.Int.{bit_at};
 ghost use Rattle.std.specs.Int.RustNames.{count_ones};
 ghost use Rattle.std.specs.Simd.Lanes.{mask_l};
 ghost use Rattle.cell_core_values.specs.Digits.{is_digit};
+ghost use Rattle.cell_ascii_meaning.specs.GridTokens.{is_space};
 ghost use Rattle.cell_ascii_lanes.specs.WordLanes.{AreWordValues, AreShortWords, AreLowest, kept, is_null_star};
 ghost use Rattle.cell_ascii_lanes.specs.parts.LaneTables.{IsLaneTable, table_place, place_at, more_at, as_one, as_ten, capped_sum, lane_before, ones_of_digit};
 
@@ -111,6 +112,13 @@ static DIGITS: [u8; 64] = [
     0, 0, 0, 0, 0, 255, 255, 255, 255, 255, 255, 255, 255, 255, 255, 0, 0, 0, 0, 0, 0,
 ];
 
+// Blanks and line feeds, by the low four bits of their bytes. No byte with other such bits is 0.
+static SPACES: [u8; 64] = [
+    32, 0, 0, 0, 0, 0, 0, 0, 0, 9, 10, 0, 0, 13, 0, 0, 32, 0, 0, 0, 0, 0, 0, 0, 0, 9, 10, 0, 0, 13,
+    0, 0, 32, 0, 0, 0, 0, 0, 0, 0, 0, 9, 10, 0, 0, 13, 0, 0, 32, 0, 0, 0, 0, 0, 0, 0, 0, 9, 10, 0,
+    0, 13, 0, 0,
+];
+
 // The entries of a table at the places that lanes name.
 #[inline(always)]
 fn looked_up(table: &[u8; 64], places: u8x64) -> u8x64
@@ -179,14 +187,22 @@ fn three_digits(bytes: u8x64) -> u8x64
     sums(looked_up(&ONES, places), moved_up(more))
 }
 
+/// Which bytes are blanks or line feeds.
+#[inline(always)]
+pub fn space_mask(bytes: u8x64) -> u64
+    ensures { result ≡ mask_l (map is_space bytes) }
+{
+    looked_up(&SPACES, bytes & u8x64::splat(15))
+        .simd_eq(bytes)
+        .to_bitmask()
+}
+
 /// Which bytes are digits.
 #[inline(always)]
 pub fn digit_mask(bytes: u8x64) -> u64
     ensures { result ≡ mask_l (map is_digit bytes) }
 {
-    (bytes - u8x64::splat(b'0'))
-        .simd_lt(u8x64::splat(10))
-        .to_bitmask()
+    places_of(bytes).simd_lt(u8x64::splat(10)).to_bitmask()
 }
 
 // Whether a value at a digit is 255.
@@ -195,7 +211,7 @@ fn has_large(bytes: u8x64, values: u8x64) -> bool
     ensures { result ≡ false → (p : ℕ) → p < 64 → is_digit (slice_index_or bytes p 0) ≡ true
         → slice_index_or values p 0 < 255 }
 {
-    let is_digit = (bytes - u8x64::splat(b'0')).simd_lt(u8x64::splat(10));
+    let is_digit = places_of(bytes).simd_lt(u8x64::splat(10));
     (is_digit & values.simd_eq(u8x64::splat(255))).to_bitmask() != 0
 }
 

@@ -1,16 +1,13 @@
-use Rattle.std.proofs.Common.{◌≡◌, ◌≤◌, ◌+◌, ◌-◌, ◌^◌, ◌%◌, ◌∙◌, ap, arith, length, take, drop, length-drop, length-take, ℕ}
+use Rattle.std.proofs.Common.{◌≡◌, ◌≤◌, ◌+◌, ◌-◌, ◌∙◌, ap, arith, length, take, drop, length-drop, length-take}
 use Rattle.std.proofs.lemmas.List.{take_rest, map-append}
-use Rattle.std.specs.Int.RustNames.{count_ones}
 use Rattle.cell_core_values.specs.SmallCells.{byte_cell, cells_of_bytes}
 use Rattle.cell_ascii_meaning.specs.GridTokens.{newlines}
-use Rattle.cell_ascii.proofs.BitLemmas.{feeds_before}
 use Rattle.cell_ascii.proofs.WordLemmas.{HoldsLines-append, newlines-few}
 use Rattle.cell_ascii_lanes.proofs.ByteLaneLemmas.{more_bytes}
 use Rattle.cell_ascii.proofs.byte_words.bytes_in.Goals as goal
 
-pub overflow_add-lines : goal.overflow_add-lines
-overflow_add-lines c =
-    record { fits = omega (arith, c.blocks-2.invariant.fewer, c.blocks-2.invariant.within, c.if-buffered-passed-ge-BLOCK.true, c.ones_below-lines.ensures.few) }
+pub lines_below-lines-requires-clause-room : goal.lines_below-lines-requires-clause-room
+lines_below-lines-requires-clause-room c = omega (arith, c.blocks-2.invariant.fewer, c.blocks-2.invariant.within, c.if-buffered-passed-ge-BLOCK.true, c.well_formed)
 
 pub blocks-2-preserved : goal.blocks-2-preserved
 blocks-2-preserved c =
@@ -32,8 +29,7 @@ blocks-2-preserved c =
     let here = take_rest buffered passed in
     let rest = drop passed buffered in
     let below : n ≤ 64 = omega (arith, found.ensures.within) in
-    let lines : c.ones_below-lines.result ≡ newlines (take n rest) =
-    c.ones_below-lines.ensures.value ∙ ap (λ (m : ℕ). count_ones (m % 2 ^ n)) (rw here at c.feeds_in.ensures) ∙ feeds_before n rest below in
+    let lines : c.lines_below-lines.result ≡ c.blocks-2.lines + newlines (take n rest) = rw here at c.lines_below-lines.ensures in
     let cells = ap cells_of_bytes front ∙ map-append byte_cell (take i row) (take k part) in
     record {
       count = omega (arith, found.ensures.count, inv.count);
@@ -42,5 +38,5 @@ blocks-2-preserved c =
           let next = rw here at (found.ensures.cells h plain) in
           rw (cells, lines) (HoldsLines-append h buffered (cells_of_bytes (take i row)) (cells_of_bytes (take k part)) i k passed n c.blocks-2.lines (newlines (take n rest)) (inv.cells h plain) next);
       fewer = omega (arith, lines, newlines-few rest n, inv.fewer);
-      few = omega (arith, c.ones_below-lines.ensures.few, inv.few, c.if-found-eq0.false);
+      few = omega (arith, lines, newlines-few rest n, inv.few, c.if-found-eq0.false);
     }

@@ -1,17 +1,12 @@
-use Rattle.std.proofs.Common.{◌≡◌, ◌≤◌, ◌+◌, ◌-◌, ◌^◌, ◌∙◌, ap, sym, arith, length, take, drop, length-drop, length-take, ℕ, ◌%◌}
+use Rattle.std.proofs.Common.{◌≡◌, ◌≤◌, ◌+◌, ◌-◌, ◌∙◌, ap, sym, arith, length, take, drop, length-drop, length-take}
 use Rattle.std.proofs.lemmas.List.{take_rest}
-use Rattle.std.specs.Int.RustNames.{count_ones}
 use Rattle.cell_ascii_meaning.specs.GridTokens.{newlines}
-use Rattle.cell_ascii.proofs.BitLemmas.{feeds_before}
 use Rattle.cell_ascii.proofs.BufferedRowLemmas.{filled, filled-length, part-front, part-none, part-rest}
 use Rattle.cell_ascii.proofs.WordLemmas.{HoldsLines-append, newlines-few}
 use Rattle.cell_ascii.proofs.word_table.table_cells_in.Goals as goal
 
-pub overflow_add-lines : goal.overflow_add-lines
-overflow_add-lines g c =
-    let buffered = c.args.buffered.now in
-    let inside : c.blocks-2.passed ≤ length buffered = c.blocks-2.invariant.within in
-    record { fits = omega (arith, c.blocks-2.invariant.fewer, c.if-buffered-passed-ge-LEAST_BUFFERED.true, c.ones_below-lines.ensures.few) }
+pub lines_below-lines-requires-clause-room : goal.lines_below-lines-requires-clause-room
+lines_below-lines-requires-clause-room g c = omega (arith, c.blocks-2.invariant.fewer, c.blocks-2.invariant.within, c.if-buffered-passed-ge-LEAST_BUFFERED.true, c.well_formed)
 
 pub blocks-2-preserved : goal.blocks-2-preserved
 blocks-2-preserved g c =
@@ -33,15 +28,14 @@ blocks-2-preserved g c =
     let rest = drop passed buffered in
     let next = rw here at found.ensures.cells in
     let below : n ≤ 64 = omega (arith, found.ensures.within) in
-    let lines : c.ones_below-lines.result ≡ newlines (take n rest) =
-    c.ones_below-lines.ensures.value ∙ ap (λ (m : ℕ). count_ones (m % 2 ^ n)) (rw here at c.feeds_in.ensures) ∙ feeds_before n rest below in
+    let lines : c.lines_below-lines.result ≡ c.blocks-2.lines + newlines (take n rest) = rw here at c.lines_below-lines.ensures in
     let fits : 80 ≤ length buffered - passed = omega (arith, c.if-buffered-passed-ge-LEAST_BUFFERED.true) in
     record {
       low = omega (arith, few, within, whole);
       within = omega (arith, fits, below);
       cells = rw (front, lines) (HoldsLines-append c.args.header.now buffered (take i row) (take k part) i k passed n c.blocks-2.lines (newlines (take n rest)) c.blocks-2.invariant.cells next);
       fewer = omega (arith, lines, newlines-few rest n, c.blocks-2.invariant.fewer);
-      few = omega (arith, c.ones_below-lines.ensures.few, c.blocks-2.invariant.few, c.if-found-eq0.false);
+      few = omega (arith, lines, newlines-few rest n, c.blocks-2.invariant.few, c.if-found-eq0.false);
       rest = part-rest i k row part old within size few found.ensures.rest c.blocks-2.invariant.rest;
       room = found.auto.entries ∙ c.blocks-2.invariant.room;
       known = found.ensures.known;

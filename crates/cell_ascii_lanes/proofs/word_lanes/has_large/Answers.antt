@@ -2,7 +2,8 @@ use Rattle.std.proofs.Common.{◌≡◌, ◌≤◌, ◌%◌, ◌^◌, ℕ, Bool,
 use Rattle.std.proofs.lemmas.Bool.{eqb-true}
 use Rattle.std.proofs.lemmas.Simd.{zip2_splat, map-map, get_or-zip2, length-zip2, Each1-get_or}
 use Rattle.std.proofs.lemmas.List.{length-map}
-use Rattle.cell_ascii_lanes.proofs.ByteLaneLemmas.{under, less, large_lanes, digit_large, none_at, not_large}
+use Rattle.cell_ascii_lanes.specs.parts.LaneTables.{table_place}
+use Rattle.cell_ascii_lanes.proofs.ByteLaneLemmas.{under, large_lanes, digit_large, none_at, not_large}
 use Rattle.cell_ascii_lanes.proofs.word_lanes.has_large.Goals as goal
 use lib.Bits.{bit_and}
 use lib.Lanes.{zip2, mask_l, top}
@@ -19,9 +20,8 @@ returns c = λ none p lt digit.
     let v = c.args.bytes in
     let w = c.args.values in
     let long = c.fits-bytes.0 in
-    let lanes = zip2_splat less v 64 48 long in
-    let tests = ap (λ l. zip2 under l (replicate 64 10)) lanes
-    ∙ zip2_splat under (map (λ a. less a 48) v) 64 10 (length-map v (λ a. less a 48) ∙ long) ∙ map-map (λ x. under x 10) (λ a. less a 48) v in
+    let tests = ap (λ l. zip2 under l (replicate 64 10)) c.places_of.ensures
+    ∙ zip2_splat under (map table_place v) 64 10 (length-map v table_place ∙ long) ∙ map-map (λ x. under x 10) table_place v in
     let hits = zip2_splat (λ a b. cond (eqb a b) 255 0) w 64 255 c.fits-values.0 in
     let size = long ∙ sym c.fits-values.0 in
     let all = ap (map (top 7)) (ap₂ (zip2 bit_and) tests hits) ∙ large_lanes v w size c.fits-bytes.1 in
