@@ -41,10 +41,9 @@ pub(crate) struct Gathered {
 // A number of a cell.
 #[inline(always)]
 pub(crate) fn code_of(cell: Cell) -> u64 {
-    match cell.get() {
-        Some(category) => (i64::from(category) + 2147483648) as u64,
-        None => 0,
-    }
+    // Of null 0, as the lowest number is no category.
+    let number = cell.get().unwrap_or(i32::MIN);
+    (i64::from(number) + 2147483648) as u64
 }
 
 // A number of a combination, all of whose upper bits depend on each cell.
