@@ -52,14 +52,19 @@ bytes_of_each f table (v ∷ vs) (b ∷ bs) e is few each =
     ∙ ap (λ l. f (byte_cell b) ∷ l) (bytes_of_each f table vs bs (omega (arith, e)) is (λ i. few (suc i))
     (λ c lt. each (suc c) (omega (arith, lt))))
 
--- one more cell at the end
+-- one more item at the end
+pub item_pushed : {A : Type 0} (d : A) (P : ℕ → A → Type 0) (old : List A) (x : A) (n : ℕ) → length old ≡ n
+    → ((k : ℕ) → k < n → P k (get_or old k d)) → P n x → (k : ℕ) → k < n + 1 → P k (get_or (old ++ x ∷ []) k d)
+item_pushed d P old x n count done here =
+    below_more (λ k. P k (get_or (old ++ x ∷ []) k d)) n
+    (λ k below. let lt : k < length old = omega (arith, below, count) in subst (P k) (sym (get_or_append_left old
+    (x ∷ []) d k lt)) (done k below))
+    (subst (P n) (sym (get_or_at old x [] d n count)) here)
+
+-- one more cell
 pub one_pushed : (P : ℕ → CellValue → Type 0) (old : List CellValue) (x : CellValue) (n : ℕ) → length old ≡ n
     → ((k : ℕ) → k < n → P k (at old k)) → P n x → (k : ℕ) → k < n + 1 → P k (at (old ++ x ∷ []) k)
-one_pushed P old x n count done here =
-    below_more (λ k. P k (at (old ++ x ∷ []) k)) n
-    (λ k below. let lt : k < length old = omega (arith, below, count) in subst (P k) (sym (get_or_append_left old
-    (x ∷ []) None k lt)) (done k below))
-    (subst (P n) (sym (get_or_at old x [] None n count)) here)
+one_pushed = item_pushed None
 
 -- the values of more places at the end of a table
 pub table_more : (f : CellValue → CellValue) (s : CategorySpan) (old new cells : List CellValue)
