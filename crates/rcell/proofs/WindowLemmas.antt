@@ -13,12 +13,12 @@ use Rattle.cell_calc.specs.Window.{Window, IsWindowOf}
 use Rattle.rcell.specs.parts.WindowsSet.{IsSet, AreSet, then_maps, picked_maps}
 
 -- an item before the last, and the last
-before : {A : Type 0} (xs ys : List A) (i : ℕ) → i < length xs → slice_get (xs ++ ys) i ≡ slice_get xs i
+pub before : {A : Type 0} (xs ys : List A) (i : ℕ) → i < length xs → slice_get (xs ++ ys) i ≡ slice_get xs i
 before [] ys i lt = absurd (let no : ⊥ = omega arith in no)
 before (x ∷ xs) ys zero lt = refl
 before (x ∷ xs) ys (suc i) lt = before xs ys i (omega arith)
 
-behind : {A : Type 0} (xs : List A) (x : A) (i : ℕ) → length xs ≡ i → slice_get (xs ++ x ∷ []) i ≡ Some x
+pub behind : {A : Type 0} (xs : List A) (x : A) (i : ℕ) → length xs ≡ i → slice_get (xs ++ x ∷ []) i ≡ Some x
 behind [] x zero e = refl
 behind [] x (suc i) e = absurd (let no : ⊥ = omega arith in no)
 behind (y ∷ xs) x zero e = absurd (let no : ⊥ = omega arith in no)
@@ -100,17 +100,17 @@ pub least : (i : ℕ) → i ≤ i
 least i = omega arith
 
 -- a place of a list has a map
-got : (maps : List Grid) (i : ℕ) → i < length maps → slice_get maps i ≡ None → ⊥
+pub got : (maps : List Grid) (i : ℕ) → i < length maps → slice_get maps i ≡ None → ⊥
 got [] i lt e = let no : ⊥ = omega arith in no
 got (m ∷ maps) zero lt e = cc
 got (m ∷ maps) (suc i) lt e = got maps i (omega arith) e
 
 -- a map before others is the first
-first : (o : Option Grid) (maps : List Grid) → (o ≡ None → ⊥) → slice_get (then_maps o maps) zero ≡ o
+pub first : (o : Option Grid) (maps : List Grid) → (o ≡ None → ⊥) → slice_get (then_maps o maps) zero ≡ o
 first None maps some = absurd (some refl)
 first (Some m) maps some = refl
 
-others : (o : Option Grid) (maps : List Grid) (k : ℕ) → (o ≡ None → ⊥) → slice_get (then_maps o maps) (suc k) ≡ slice_get maps k
+pub others : (o : Option Grid) (maps : List Grid) (k : ℕ) → (o ≡ None → ⊥) → slice_get (then_maps o maps) (suc k) ≡ slice_get maps k
 others None maps k some = absurd (some refl)
 others (Some m) maps k some = refl
 

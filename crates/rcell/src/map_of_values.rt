@@ -1,29 +1,43 @@
 //! Maps of values.
 
-ghost use Rattle.std.specs.Prelude.{◌≡◌, ◌<◌, ◌≤◌, ◌+◌, length, slice_get, Some, IfOk};
+ghost use Rattle.std.specs.Prelude.{◌≡◌, ◌<◌, ◌≤◌, ◌+◌, length, slice_get, Some, IfOk, IfSome, All};
+ghost use Rattle.std.specs.List.{range_with_len};
+ghost use Rattle.cell_core_values.specs.Region.{RegionValue};
 ghost use Rattle.cell_calc_binding.specs.Reach.{top_of};
+ghost use Rattle.cell_calc_binding.specs.Transposed.{AreTransposed};
 ghost use Rattle.rcell.specs.Making.{AreValues};
-ghost use Rattle.rcell.specs.parts.WindowsSet.{AreMapPlaces, AreSet, picked_maps};
+ghost use Rattle.rcell.specs.parts.WindowsSet.{AreMapPlaces, AreOfRegion, AreSet, picked_maps};
 ghost use Rattle.cell_calc_categories.specs.MapValues.{HasValues};
+ghost use Rattle.cell_calc_categories.specs.Transposed.{AreSidesExchanged};
 
 use cell_calc::rows_of_values::eval_row;
 use cell_calc::window::RowWindow;
 use cell_calc_binding::bound::Bound;
 use cell_calc_categories::map_by_category::map_by_category;
+use cell_calc_categories::transposing::{transposed_map, transposed_region};
 use cell_core::cell::Cell;
 use cell_core::map::{CellMap, MapBuilder};
 use cell_core::memory::Memory;
+use cell_core::region::Region;
 use cell_core::shelf::Shelf;
 use std::alloc::Global;
 
+// The most columns of a narrow map. A step costs a hundred instructions a row however short the row, so the rows of a narrow map
+// are made its columns: with 17 steps this saved nine tenths at one column, and a third at 32.
+const MOST_COLS: usize = 32;
+
+// The most columns for each step, so that the steps save more than the exchange of rows and columns costs.
+const COLS_A_STEP: usize = 2;
+
 // The map of the place at index `i`.
-fn map_at<'a>(shelf: &'a Shelf, places: &[usize], i: usize) -> &'a CellMap
+fn map_at<'a>(maps: &'a [CellMap], places: &[usize], i: usize) -> &'a CellMap
     requires place { i < length places.now }
-    requires within { AreMapPlaces shelf.now places.now }
-    ensures value { slice_get (picked_maps places.now shelf.now.maps) i ≡ Some result.now }
-    ensures region { result.now.region ≡ shelf.now.region }
+    requires within { AreMapPlaces maps.now places.now }
+    ensures value { slice_get (picked_maps places.now maps.now) i ≡ Some result.now }
+    ensures region { (region : RegionValue) → AreOfRegion region maps.now
+        → result.now.region ≡ region }
 {
-    shelf.map(places[i])
+    &maps[places[i]]
 }
 
 // A window for each map that is read, at the first row.
@@ -31,18 +45,18 @@ fn open_windows(
     alloc: Global,
     bound: &Bound,
     places: &[usize],
-    shelf: &Shelf,
+    maps: &[CellMap],
 ) -> Result<Vec<RowWindow>, Memory>
     requires places { top_of bound.now ≡ length places.now }
-    requires within { AreMapPlaces shelf.now places.now }
+    requires within { AreMapPlaces maps.now places.now }
     ensures set { IfOk result (λ windows. AreSet bound.now (length places.now) 0 windows.items
-        (picked_maps places.now shelf.now.maps)) }
+        (picked_maps places.now maps.now)) }
     ensures count { IfOk result (λ windows. length windows.items ≡ length places.now) }
 {
     let mut windows = Vec::new(alloc);
     for i in 0..places.len() {
         let (up, down) = bound.reach(i);
-        windows.push(RowWindow::new(alloc, map_at(shelf, places, i), up, down)?)?;
+        windows.push(RowWindow::new(alloc, map_at(maps, places, i), up, down)?)?;
     }
     Ok(windows)
 }
@@ -51,24 +65,25 @@ fn open_windows(
 fn advance_windows(
     bound: &Bound,
     places: &[usize],
-    shelf: &Shelf,
+    maps: &[CellMap],
+    region: Region,
     row: u32,
     windows: &mut [RowWindow],
 )
     requires count { length windows.old ≡ length places.now }
-    requires within { AreMapPlaces shelf.now places.now }
+    requires within { AreMapPlaces maps.now places.now }
+    requires regions { AreOfRegion region maps.now }
     requires set { AreSet bound.now (length windows.old) row windows.old
-        (picked_maps places.now shelf.now.maps) }
-    ensures { row + 1 < shelf.now.region.rows
-        → AreSet bound.now (length windows.old) (row + 1) windows.new
-        (picked_maps places.now shelf.now.maps) }
+        (picked_maps places.now maps.now) }
+    ensures { row + 1 < region.rows → AreSet bound.now (length windows.old) (row + 1) windows.new
+        (picked_maps places.now maps.now) }
 {
     let _ = bound;
-    if row as u64 + 1 >= shelf.region().rows() as u64 {
+    if row as u64 + 1 >= region.rows() as u64 {
         return;
     }
     for i in 0..windows.len() {
-        windows[i].advance(map_at(shelf, places, i));
+        windows[i].advance(map_at(maps, places, i));
     }
 }
 
@@ -77,15 +92,15 @@ fn evaluate_over(
     alloc: Global,
     bound: &Bound,
     places: &[usize],
-    shelf: &Shelf,
+    maps: &[CellMap],
+    region: Region,
 ) -> Result<CellMap, Memory>
     requires places { top_of bound.now ≡ length places.now }
-    requires within { AreMapPlaces shelf.now places.now }
-    ensures { IfOk result (HasValues bound.now shelf.now.region
-        (picked_maps places.now shelf.now.maps)) }
+    requires within { AreMapPlaces maps.now places.now }
+    requires regions { AreOfRegion region maps.now }
+    ensures { IfOk result (HasValues bound.now region (picked_maps places.now maps.now)) }
 {
-    let region = shelf.region();
-    let mut windows = open_windows(alloc, bound, places, shelf)?;
+    let mut windows = open_windows(alloc, bound, places, maps)?;
     let mut builder = MapBuilder::new(alloc, region);
     let mut cells = Vec::from_elem(alloc, Cell::null(), region.cols() as usize)?;
     for row in 0..region.rows() {
@@ -98,29 +113,93 @@ fn evaluate_over(
             cells.as_mut_slice(),
         )?;
         builder.push_row(cells.as_slice())?;
-        advance_windows(bound, places, shelf, row, windows.as_mut_slice());
+        advance_windows(bound, places, maps, region, row, windows.as_mut_slice());
     }
     Ok(builder.finish())
 }
 
-// The same by a table of values, if that is possible and costs less.
+// The maps at places with rows and columns exchanged, and their own places.
+fn transposed_maps(
+    alloc: Global,
+    places: &[usize],
+    maps: &[CellMap],
+    region: Region,
+    sides: Region,
+) -> Result<(Vec<CellMap>, Vec<usize>), Memory>
+    requires within { AreMapPlaces maps.now places.now }
+    requires regions { AreOfRegion region maps.now }
+    requires sides { AreSidesExchanged region sides }
+    ensures maps { IfOk result
+        (λ others. AreTransposed (picked_maps places.now maps.now) others.0.items) }
+    ensures regions { IfOk result (λ others. AreOfRegion sides others.0.items) }
+    ensures places { IfOk result (λ others. others.1.items ≡ range_with_len 0 (length places.now)) }
+    ensures count { IfOk result (λ others. length others.0.items ≡ length places.now) }
+{
+    let mut others = Vec::new(alloc);
+    let mut own = Vec::new(alloc);
+    for i in 0..places.len() {
+        let other = transposed_map(alloc, map_at(maps, places, i), sides)?;
+        others.push(other)?;
+        own.push(i)?;
+    }
+    Ok((others, own))
+}
+
+// Whether the rows of a map are so short that the steps of an expression cost more than they do.
+fn is_narrow(bound: &Bound, region: Region) -> bool {
+    let cols = region.cols() as usize;
+    cols <= MOST_COLS && cols / COLS_A_STEP <= bound.steps().len()
+}
+
+// The same by the maps with rows and columns exchanged, if the maps are narrow.
+fn evaluate_transposed(
+    alloc: Global,
+    bound: &Bound,
+    places: &[usize],
+    maps: &[CellMap],
+    region: Region,
+) -> Result<Option<CellMap>, Memory>
+    requires places { top_of bound.now ≡ length places.now }
+    requires within { AreMapPlaces maps.now places.now }
+    requires regions { AreOfRegion region maps.now }
+    ensures { IfOk result (λ found. IfSome found
+        (HasValues bound.now region (picked_maps places.now maps.now))) }
+{
+    if !is_narrow(bound, region) {
+        return Ok(None);
+    }
+    let Some(sides) = transposed_region(region) else {
+        return Ok(None);
+    };
+    let turned = bound.transposed(alloc)?;
+    let (others, own) = transposed_maps(alloc, places, maps, region, sides)?;
+    let made = evaluate_over(alloc, &turned, own.as_slice(), others.as_slice(), sides)?;
+    let back = transposed_map(alloc, &made, region)?;
+    Ok(Some(back))
+}
+
+// The same in the way that costs least.
 fn evaluate_fast(
     alloc: Global,
     bound: &Bound,
     places: &[usize],
-    shelf: &Shelf,
+    maps: &[CellMap],
+    region: Region,
 ) -> Result<CellMap, Memory>
     requires places { top_of bound.now ≡ length places.now }
-    requires within { AreMapPlaces shelf.now places.now }
-    ensures { IfOk result (HasValues bound.now shelf.now.region
-        (picked_maps places.now shelf.now.maps)) }
+    requires within { AreMapPlaces maps.now places.now }
+    requires regions { AreOfRegion region maps.now }
+    ensures { IfOk result (HasValues bound.now region (picked_maps places.now maps.now)) }
 {
     if !places.is_empty() {
-        if let Some(made) = map_by_category(alloc, bound, map_at(shelf, places, 0))? {
+        if let Some(made) = map_by_category(alloc, bound, map_at(maps, places, 0))? {
             return Ok(made);
         }
     }
-    evaluate_over(alloc, bound, places, shelf)
+    if let Some(made) = evaluate_transposed(alloc, bound, places, maps, region)? {
+        return Ok(made);
+    }
+    evaluate_over(alloc, bound, places, maps, region)
 }
 
 /// The map of an expression's values over a shelf's maps, without labels.
@@ -134,7 +213,8 @@ pub fn evaluate(alloc: Global, bound: &Bound, shelf: &Shelf) -> Result<CellMap, 
 {
     // Only the maps that are read have windows.
     let (compact, places) = bound.over_read_maps(alloc)?;
-    let map = evaluate_fast(alloc, &compact, places.as_slice(), shelf)?;
-    let _region = map.region();
+    let (maps, region) = (shelf.maps(), shelf.region());
+    let map = evaluate_fast(alloc, &compact, places.as_slice(), maps, region)?;
+    let _map_region = map.region();
     Ok(map)
 }

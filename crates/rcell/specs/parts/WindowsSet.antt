@@ -1,14 +1,18 @@
 -- Windows of the maps that an expression reads.
 use Rattle.std.specs.Prelude.{◌≡◌, ◌<◌, ℕ, List, [], ◌∷◌, length, All, Option, Some, None, slice_get}
 use Rattle.cell_core.specs.Grid.{Grid}
-use Rattle.cell_core.specs.Shelf.{ShelfValue}
+use Rattle.cell_core_values.specs.Region.{RegionValue}
 use Rattle.cell_calc_binding.specs.Formula.{Formula}
 use Rattle.cell_calc_binding.specs.Reach.{up_of, down_of}
 use Rattle.cell_calc.specs.Window.{Window, IsWindowOf}
 
--- each place has a map on the shelf
-abbrev pub AreMapPlaces : ShelfValue → List ℕ → Type 0
-AreMapPlaces shelf places = All (λ place. place < length shelf.maps) places
+-- each place has a map
+abbrev pub AreMapPlaces : List Grid → List ℕ → Type 0
+AreMapPlaces maps places = All (λ place. place < length maps) places
+
+-- each map is of a region
+abbrev pub AreOfRegion : RegionValue → List Grid → Type 0
+AreOfRegion region maps = All (λ m. m.region ≡ region) maps
 
 -- a window of a map, centred at a row, with so many rows above and below
 abbrev pub IsSet : (row up down : ℕ) → Option Window → Option Grid → Type 0

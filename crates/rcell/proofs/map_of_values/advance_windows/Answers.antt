@@ -7,7 +7,7 @@ use Rattle.rcell.proofs.map_of_values.advance_windows.Goals as goal
 
 pub returns-then-row-rows : goal.returns-then-row-rows
 returns-then-row-rows c =
-    λ left _ _. absurd (no_row c.args.row (c.rows.ensures.value ∙ ap (λ r. r.rows) c.region.ensures.value) c.if-row-rows.true left)
+    λ left _ _. absurd (no_row c.args.row c.rows.ensures.value c.if-row-rows.true left)
 
 pub bounds-windows-i : goal.bounds-windows-i
 bounds-windows-i c = below_same c.loop-i-test.true (sym c.loop-i.auto.windows)
@@ -20,7 +20,7 @@ advance-requires-clause-window c =
     let at = c.loop-i in
     let bound = c.args.bound.now in
     let set = set_read c.args.row (up_of at.i bound) (down_of at.i bound) at.i at.windows c.args.windows.now c.index-windows-i.result
-    (picked_maps c.args.places.now c.args.shelf.now.maps) c.map_at.result.now (below_same c.loop-i-test.true (sym at.auto.windows))
+    (picked_maps c.args.places.now c.args.maps.now) c.map_at.result.now (below_same c.loop-i-test.true (sym at.auto.windows))
     (at.invariant.rest at.i (least at.i)) c.map_at.ensures.value (c.requires.set at.i c.loop-i-test.true) in
     set.1.1.1
 
@@ -29,9 +29,9 @@ advance-requires-clause-left c =
     let at = c.loop-i in
     let bound = c.args.bound.now in
     let set = set_read c.args.row (up_of at.i bound) (down_of at.i bound) at.i at.windows c.args.windows.now c.index-windows-i.result
-    (picked_maps c.args.places.now c.args.shelf.now.maps) c.map_at.result.now (below_same c.loop-i-test.true (sym at.auto.windows))
+    (picked_maps c.args.places.now c.args.maps.now) c.map_at.result.now (below_same c.loop-i-test.true (sym at.auto.windows))
     (at.invariant.rest at.i (least at.i)) c.map_at.ensures.value (c.requires.set at.i c.loop-i-test.true) in
-    row_below set.0 set.1.1.1.rows (ap (λ r. r.rows) c.map_at.ensures.region) (c.rows.ensures.value ∙ ap (λ r. r.rows) c.region.ensures.value)
+    row_below set.0 set.1.1.1.rows (ap (λ r. r.rows) (c.map_at.ensures.region c.args.region c.requires.regions)) c.rows.ensures.value
     c.if-row-rows.false
 
 pub loop-i-smaller : goal.loop-i-smaller
@@ -41,7 +41,7 @@ pub loop-i-preserved : goal.loop-i-preserved
 loop-i-preserved c =
     let at = c.loop-i in
     let bound = c.args.bound.now in
-    let maps = picked_maps c.args.places.now c.args.shelf.now.maps in
+    let maps = picked_maps c.args.places.now c.args.maps.now in
     let old = c.index-windows-i.result in
     let new = c.advance.new.self in
     let moved = c.advance.ensures in

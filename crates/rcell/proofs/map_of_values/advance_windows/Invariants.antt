@@ -6,6 +6,6 @@ use Rattle.rcell.proofs.map_of_values.advance_windows.Given as goal
 abbrev pub invariant-loop-i : goal.invariant-loop-i
 invariant-loop-i l =
     record {
-      done : AreSet l.bound l.i (l.row + 1) l.windows (picked_maps l.places l.shelf.maps);
+      done : AreSet l.bound l.i (l.row + 1) l.windows (picked_maps l.places l.maps);
       rest : (i : ℕ) → l.i ≤ i → slice_get l.windows i ≡ slice_get l.initial.windows i;
     }

@@ -18,14 +18,14 @@ loop-row-preserved c =
     let row = c.loop-row.row in
     let new = c.eval_row.new.cells in
     let bound = c.args.bound.now in
-    let maps = picked_maps c.args.places.now c.args.shelf.now.maps in
-    let region = c.args.shelf.now.region in
-    let below = rw (c.rows-row-end.ensures.value, c.region-region.ensures.value) at c.loop-row-test.true in
+    let maps = picked_maps c.args.places.now c.args.maps.now in
+    let region = c.args.region in
+    let below = rw c.rows-row-end.ensures.value at c.loop-row-test.true in
     let width = c.eval_row.auto.cells ∙ ap (λ l. length l) c.as_mut_slice.ensures.value in
     let same = written cells.len new cells.items cells.ok.0 width in
     let many = c.advance_windows.auto.windows ∙ ap (λ l. length l) c.as_mut_slice-in-loop-row.ensures.value in
     let moved = written windows.len c.advance_windows.new.windows windows.items windows.ok.0 many in
-    let found = rw c.region-region.ensures.value at c.in_ok-eval_row.ensures.ok in
+    let found = c.in_ok-eval_row.ensures.ok in
     record {
       region = ap (λ b. b.region) pushed ∙ held.region;
       count = ap (λ b. length b.rows) pushed ∙ length-append c.loop-row.builder.rows (c.as_slice-in-loop-row.result.now ∷ []) ∙ ap (λ n. n + 1) held.count;
@@ -45,14 +45,14 @@ eval_row-requires-clause-row c = rw c.rows-row-end.ensures.value at c.loop-row-t
 
 pub eval_row-requires-clause-width : goal.eval_row-requires-clause-width
 eval_row-requires-clause-width c =
-    ap (λ l. length l) c.as_mut_slice.ensures.value ∙ c.loop-row.invariant.width ∙ ap (λ r. r.cols) (sym c.region-region.ensures.value)
+    ap (λ l. length l) c.as_mut_slice.ensures.value ∙ c.loop-row.invariant.width
 
 pub eval_row-requires-clause-windows : goal.eval_row-requires-clause-windows
 eval_row-requires-clause-windows c =
     let held = c.loop-row.invariant in
     let bound = c.args.bound.now in
-    let maps = picked_maps c.args.places.now c.args.shelf.now.maps in
-    let below = rw (c.rows-row-end.ensures.value, c.region-region.ensures.value) at c.loop-row-test.true in
+    let maps = picked_maps c.args.places.now c.args.maps.now in
+    let below = rw c.rows-row-end.ensures.value at c.loop-row-test.true in
     λ i lt. rw c.as_slice.ensures.value
     (set_reach c.loop-row.row (up_of i bound) (down_of i bound) (slice_get c.loop-row.windows.items i) (slice_get maps i)
     (held.set below i (rw held.windows lt)))
@@ -67,7 +67,7 @@ push_row-requires-clause-width c =
 pub push_row-requires-clause-room : goal.push_row-requires-clause-room
 push_row-requires-clause-room c =
     room_left c.loop-row.invariant.count c.loop-row-test.true
-    (c.rows-row-end.ensures.value ∙ ap (λ r. r.rows) (c.region-region.ensures.value ∙ sym c.loop-row.invariant.region))
+    (c.rows-row-end.ensures.value ∙ ap (λ r. r.rows) (sym c.loop-row.invariant.region))
 
 pub advance_windows-requires-clause-count : goal.advance_windows-requires-clause-count
 advance_windows-requires-clause-count c =
@@ -75,7 +75,7 @@ advance_windows-requires-clause-count c =
 
 pub advance_windows-requires-clause-set : goal.advance_windows-requires-clause-set
 advance_windows-requires-clause-set c =
-    let below = rw (c.rows-row-end.ensures.value, c.region-region.ensures.value) at c.loop-row-test.true in
+    let below = rw c.rows-row-end.ensures.value at c.loop-row-test.true in
     rw c.as_mut_slice-in-loop-row.ensures.value (c.loop-row.invariant.set below)
 
 pub loop-row-smaller : goal.loop-row-smaller
@@ -84,12 +84,12 @@ loop-row-smaller c = falls _ _ c.loop-row-test.true
 pub finish-requires : goal.finish-requires
 finish-requires c =
     all_rows c.loop-row.invariant.count c.loop-row-test.false c.loop-row.auto.row-end
-    (c.rows-row-end.ensures.value ∙ ap (λ r. r.rows) (c.region-region.ensures.value ∙ sym c.loop-row.invariant.region))
+    (c.rows-row-end.ensures.value ∙ ap (λ r. r.rows) (sym c.loop-row.invariant.region))
 
 pub returns : goal.returns
 returns c = record {
   region = ap (λ m. m.region) c.finish.ensures ∙ c.loop-row.invariant.region;
   labels = ap (λ m. m.labels) c.finish.ensures;
   cells = λ r k lr lk. ap (λ m. cell_at m r k) c.finish.ensures
-      ∙ c.loop-row.invariant.cells r k (row_made lr (c.rows-row-end.ensures.value ∙ ap (λ r. r.rows) c.region-region.ensures.value) c.loop-row-test.false) lk;
+      ∙ c.loop-row.invariant.cells r k (row_made lr c.rows-row-end.ensures.value c.loop-row-test.false) lk;
 }

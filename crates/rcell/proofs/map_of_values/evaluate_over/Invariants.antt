@@ -9,10 +9,10 @@ use Rattle.rcell.proofs.map_of_values.evaluate_over.Given as goal
 abbrev pub invariant-loop-row : goal.invariant-loop-row
 invariant-loop-row l =
     record {
-      region : l.builder.region ≡ l.shelf.region;
+      region : l.builder.region ≡ l.region;
       count : length l.builder.rows ≡ l.row;
-      width : length l.cells.items ≡ l.shelf.region.cols;
+      width : length l.cells.items ≡ l.region.cols;
       windows : length l.windows.items ≡ top_of l.bound;
-      set : l.row < l.shelf.region.rows → AreSet l.bound (length l.windows.items) l.row l.windows.items (picked_maps l.places l.shelf.maps);
-      cells : (r c : ℕ) → r < l.row → c < l.shelf.region.cols → slice_index_or (slice_index_or l.builder.rows r []) c None ≡ value l.bound (picked_maps l.places l.shelf.maps) (grid_position l.shelf.region r c);
+      set : l.row < l.region.rows → AreSet l.bound (length l.windows.items) l.row l.windows.items (picked_maps l.places l.maps);
+      cells : (r c : ℕ) → r < l.row → c < l.region.cols → slice_index_or (slice_index_or l.builder.rows r []) c None ≡ value l.bound (picked_maps l.places l.maps) (grid_position l.region r c);
     }

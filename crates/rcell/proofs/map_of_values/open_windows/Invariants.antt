@@ -6,5 +6,5 @@ abbrev pub invariant-loop-i : goal.invariant-loop-i
 invariant-loop-i l =
     record {
       count : length l.windows.items ≡ l.i;
-      set : AreSet l.bound l.i 0 l.windows.items (picked_maps l.places l.shelf.maps);
+      set : AreSet l.bound l.i 0 l.windows.items (picked_maps l.places l.maps);
     }
