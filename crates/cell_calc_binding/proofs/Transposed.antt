@@ -1,4 +1,4 @@
--- Expressions over maps whose rows and columns are exchanged.
+-- Expressions over maps whose rows and columns are swapped.
 use Rattle.std.proofs.Common.{◌≡◌, ◌<◌, ◌+◌, ◌^◌, ℕ, suc, pos, ◌+ℤ◌, List, [], ◌∷◌, ◌++◌, map, refl, sym, ap, ◌∙◌, Some}
 use Rattle.std.proofs.lemmas.List.{map-append}
 use Rattle.cell_core.specs.Grid.{Grid, CellValue}
@@ -39,7 +39,7 @@ module _ (s t : GridPosition) (are : AreExchanged s t) where
 
   module _ (maps others : List Grid) (same : AreTransposed maps others) where
     mutual
-      -- the value over the maps whose rows and columns are exchanged
+      -- the value over the maps whose rows and columns are swapped
       pub value-transposed : (f : Formula) → value (transposed f) others t ≡ value f maps s
       value-transposed (Number n) = refl
       value-transposed (Map i down right) = rw (are.row, are.col) (same i (pos s.row +ℤ down) (pos s.col +ℤ right))
@@ -127,7 +127,7 @@ mutual
   top-transposed_all NoTrees = refl
   top-transposed_all (Then a xs) = rw (top-transposed a, top-transposed_all xs) refl
 
--- the steps of an expression with rows and columns exchanged
+-- the steps of an expression with rows and columns swapped
 module _ (f : Formula) (all turned : List (Step ℕ)) (is : all ≡ postfix f) (steps : turned ≡ map transposed_step all) where
   of_transposed : turned ≡ postfix (transposed f)
   of_transposed = steps ∙ ap (λ l. map transposed_step l) is ∙ postfix-transposed f

@@ -1,4 +1,4 @@
--- Maps and positions whose rows and columns are exchanged.
+-- Maps and positions whose rows and columns are swapped.
 use Rattle.std.specs.Prelude.{◌≡◌, ℕ, ℤ, List, slice_get}
 use Rattle.cell_core.specs.Grid.{Grid}
 use Rattle.cell_calc_binding.specs.Applied.{GridPosition}

@@ -1,4 +1,4 @@
-//! Expressions over maps whose rows and columns are exchanged.
+//! Expressions over maps whose rows and columns are swapped.
 
 ghost use Rattle.std.specs.Prelude.{◌≡◌, List, map, IfOk};
 ghost use Rattle.cell_core.specs.Grid.{Grid};
@@ -27,7 +27,7 @@ fn transposed_function(function: Function) -> Function
     }
 }
 
-// A step with its rows and columns exchanged.
+// A step with its rows and columns swapped.
 fn transposed_step(step: Step<usize>) -> Step<usize>
     ensures { result ≡ transposed_step step }
 {
@@ -53,7 +53,7 @@ fn transposed_steps(alloc: Global, steps: &[Step<usize>]) -> Result<Vec<Step<usi
 }
 
 impl Bound {
-    /// The same expression over maps whose rows and columns are exchanged.
+    /// The same expression over maps whose rows and columns are swapped.
     ///
     /// # Errors
     ///

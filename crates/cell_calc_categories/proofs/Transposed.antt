@@ -46,7 +46,7 @@ beyond_column m rows col filled is below = λ k d lt.
     let row = ap (λ l. length (get_or l k [])) (sym is) ∙ ap (λ l. length l) (get_or-map (λ row. row.items) rows k d [] lt) in
     omega (arith, below, row, filled.width k [] there)
 
--- cells that are exchanged within the maps are so everywhere
+-- cells that are swapped within the maps are so everywhere
 module _ (m t : Grid) (filled : IsFilled m.region m.rows) (turned : IsFilled t.region t.rows) (sides : AreSidesExchanged m.region t.region)
     (cells : (col row : ℕ) → col < m.region.cols → row < m.region.rows → cell_at t col row ≡ cell_at m row col) where
   anywhere : (row col : ℕ) → cell_at t col row ≡ cell_at m row col

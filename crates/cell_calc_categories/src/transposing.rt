@@ -11,7 +11,7 @@ use cell_core::memory::Memory;
 use cell_core::region::Region;
 use std::alloc::Global;
 
-/// A region with the sides of another exchanged.
+/// A region with the sides of another swapped.
 pub fn transposed_region(region: Region) -> Option<Region>
     ensures { IfSome result (AreSidesExchanged region) }
 {

@@ -1,4 +1,4 @@
--- Maps whose rows and columns are exchanged, in the order of the places that an expression reads.
+-- Maps whose rows and columns are swapped, in the order of the places that an expression reads.
 use Rattle.std.proofs.Common.{◌≡◌, ◌<◌, ◌≤◌, ◌+◌, ℕ, ℤ, zero, suc, pos, negsuc, List, [], ◌∷◌, ◌++◌, length, refl, sym, ap, ◌∙◌, arith, Some, None, Bool, true, false, Option, below_more, append_assoc, length-append}
 use Rattle.std.specs.Prelude.{slice_get, nat_lt}
 use Rattle.std.specs.List.{range_with_len}
@@ -13,7 +13,7 @@ use Rattle.cell_calc_categories.specs.Transposed.{IsTransposed}
 use Rattle.rcell.specs.parts.WindowsSet.{AreMapPlaces, then_maps, picked_maps}
 use Rattle.rcell.proofs.WindowLemmas.{before, behind, got}
 
--- so many first maps have rows and columns exchanged
+-- so many first maps have rows and columns swapped
 abbrev pub AreTurned : (n : ℕ) → (maps others : List Grid) → Type 0
 AreTurned n maps others = (i : ℕ) → i < n → (row col : ℤ) → cell_in (slice_get others i) col row ≡ cell_in (slice_get maps i) row col
 

@@ -26,7 +26,7 @@ use std::alloc::Global;
 // are made its columns: with 17 steps this saved nine tenths at one column, and a third at 32.
 const MOST_COLS: usize = 32;
 
-// The most columns for each step, so that the steps save more than the exchange of rows and columns costs.
+// The most columns for each step, so that the steps save more than the swap of rows and columns costs.
 const COLS_A_STEP: usize = 2;
 
 // The map of the place at index `i`.
@@ -118,7 +118,7 @@ fn evaluate_over(
     Ok(builder.finish())
 }
 
-// The maps at places with rows and columns exchanged, and their own places.
+// The maps at places with rows and columns swapped, and their own places.
 fn transposed_maps(
     alloc: Global,
     places: &[usize],
@@ -151,7 +151,7 @@ fn is_narrow(bound: &Bound, region: Region) -> bool {
     cols <= MOST_COLS && cols / COLS_A_STEP <= bound.steps().len()
 }
 
-// The same by the maps with rows and columns exchanged, if the maps are narrow.
+// The same by the maps with rows and columns swapped, if the maps are narrow.
 fn evaluate_transposed(
     alloc: Global,
     bound: &Bound,

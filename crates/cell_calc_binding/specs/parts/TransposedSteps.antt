@@ -1,4 +1,4 @@
--- Expressions whose rows and columns are exchanged.
+-- Expressions whose rows and columns are swapped.
 use Rattle.std.specs.Prelude.{ℕ}
 use Rattle.cell_calc_grammar.specs.declared.function.Function.{Function}
 use Rattle.cell_calc_grammar.specs.declared.function.Function.TheVariants as function
@@ -14,7 +14,7 @@ transposed_function function.RowCount = function.ColumnCount
 transposed_function function.ColumnCount = function.RowCount
 transposed_function f = f
 
--- a step with its rows and columns exchanged
+-- a step with its rows and columns swapped
 abbrev pub transposed_step : Step ℕ → Step ℕ
 transposed_step (step.Map i down right) = step.Map i right down
 transposed_step (step.Call f n) = step.Call (transposed_function f) n
