@@ -11,15 +11,17 @@ use Rattle.cell_calc_grammar.specs.Postfix.{postfix, postfix_all, tree_of}
 use Rattle.cell_calc_grammar.proofs.PostfixLemmas.{are_of_tree}
 use Rattle.cell_calc_language.specs.Grammatical.{IsGrammatical, AreGrammatical}
 use Rattle.cell_calc_binding.specs.Applied.{GridPosition, operator_value, call_result, negated_cell, inverted_cell}
-use Rattle.cell_calc_binding.specs.Formula.{Formula, Number, Map, Negated, Not, Binary, Call, Formulas, NoTrees, Then, count}
+use Rattle.cell_calc_binding.specs.Formula.{Formula, Number, Map, Negated, Not, Binary, Call, Formulas, NoTrees, Then}
+use Rattle.cell_calc_binding.specs.Formula.{count}
 use Rattle.cell_calc_binding.specs.Reach.{top_of, top_of_all, IsProper}
-use Rattle.cell_calc_binding.specs.Transposed.{AreTransposed, AreExchanged}
+use Rattle.cell_calc_binding.specs.Transposed.{AreTransposed, AreSwapped}
 use Rattle.cell_calc_binding.specs.Value.{value, argument_values}
-use Rattle.cell_calc_binding.specs.parts.TransposedSteps.{transposed_function, transposed_step, transposed, transposed_all}
+use Rattle.cell_calc_binding.specs.parts.TransposedSteps.{transposed_function, transposed_step, transposed}
+use Rattle.cell_calc_binding.specs.parts.TransposedSteps.{transposed_all}
 use Rattle.cell_calc_binding.specs.parts.TreeSteps.{AreBound}
 use Rattle.cell_calc_binding.proofs.Placing.{bound_by}
 
-module _ (s t : GridPosition) (are : AreExchanged s t) where
+module _ (s t : GridPosition) (are : AreSwapped s t) where
   call-transposed : (f : Function) (xs : List CellValue) → call_result (transposed_function f) t xs ≡ call_result f s xs
   call-transposed function.Row xs = ap (λ n. Some (pos (n + 1))) are.col
   call-transposed function.Column xs = ap (λ n. Some (pos (n + 1))) are.row
@@ -49,7 +51,8 @@ module _ (s t : GridPosition) (are : AreExchanged s t) where
           ap (λ v. operator_value op v (value (transposed b) others t)) (value-transposed a)
           ∙ ap (λ v. operator_value op (value a maps s) v) (value-transposed b)
       value-transposed (Call f xs) =
-          ap (λ vs. call_result (transposed_function f) t vs) (values-transposed xs) ∙ call-transposed f (argument_values xs maps s)
+          ap (λ vs. call_result (transposed_function f) t vs) (values-transposed xs)
+          ∙ call-transposed f (argument_values xs maps s)
 
       values-transposed : (xs : Formulas) → argument_values (transposed_all xs) others t ≡ argument_values xs maps s
       values-transposed NoTrees = refl
@@ -66,7 +69,8 @@ mutual
   postfix-transposed : (f : Formula) → map transposed_step (postfix f) ≡ postfix (transposed f)
   postfix-transposed (Number n) = refl
   postfix-transposed (Map i down right) = refl
-  postfix-transposed (Negated a) = rw (map-append transposed_step (postfix a) (step.Negated ∷ []), postfix-transposed a) refl
+  postfix-transposed (Negated a) = rw
+      (map-append transposed_step (postfix a) (step.Negated ∷ []), postfix-transposed a) refl
   postfix-transposed (Not a) = rw (map-append transposed_step (postfix a) (step.Not ∷ []), postfix-transposed a) refl
   postfix-transposed (Binary op a b) =
       rw (
@@ -76,7 +80,12 @@ mutual
         postfix-transposed b,
       ) refl
   postfix-transposed (Call f xs) =
-      rw (map-append transposed_step (postfix_all xs) (step.Call f (count xs) ∷ []), postfix-transposed_all xs, count-transposed xs) refl
+      rw (
+        map-append transposed_step (postfix_all xs)
+            (step.Call f (count xs) ∷ []),
+        postfix-transposed_all xs,
+        count-transposed xs,
+      ) refl
 
   postfix-transposed_all : (xs : Formulas) → map transposed_step (postfix_all xs) ≡ postfix_all (transposed_all xs)
   postfix-transposed_all NoTrees = refl
@@ -128,7 +137,8 @@ mutual
   top-transposed_all (Then a xs) = rw (top-transposed a, top-transposed_all xs) refl
 
 -- the steps of an expression with rows and columns swapped
-module _ (f : Formula) (all turned : List (Step ℕ)) (is : all ≡ postfix f) (steps : turned ≡ map transposed_step all) where
+module _ (f : Formula) (all turned : List (Step ℕ)) (is : all ≡ postfix f)
+    (steps : turned ≡ map transposed_step all) where
   of_transposed : turned ≡ postfix (transposed f)
   of_transposed = steps ∙ ap (λ l. map transposed_step l) is ∙ postfix-transposed f
 

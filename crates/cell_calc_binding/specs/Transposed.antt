@@ -9,7 +9,7 @@ abbrev pub AreTransposed : (maps others : List Grid) → Type 0
 AreTransposed maps others = (i : ℕ) (row col : ℤ) → cell_in (slice_get others i) col row ≡ cell_in (slice_get maps i) row col
 
 -- the rows of one position are the columns of the other
-pub record AreExchanged (s t : GridPosition) : Type 0 where
+pub record AreSwapped (s t : GridPosition) : Type 0 where
   pub rows : t.rows ≡ s.cols
   pub cols : t.cols ≡ s.rows
   pub row : t.row ≡ s.col

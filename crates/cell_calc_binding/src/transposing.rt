@@ -4,7 +4,7 @@ ghost use Rattle.std.specs.Prelude.{◌≡◌, List, map, IfOk};
 ghost use Rattle.cell_core.specs.Grid.{Grid};
 ghost use Rattle.cell_calc_binding.specs.Applied.{GridPosition};
 ghost use Rattle.cell_calc_binding.specs.Reach.{top_of};
-ghost use Rattle.cell_calc_binding.specs.Transposed.{AreTransposed, AreExchanged};
+ghost use Rattle.cell_calc_binding.specs.Transposed.{AreTransposed, AreSwapped};
 ghost use Rattle.cell_calc_binding.specs.Value.{value};
 ghost use Rattle.cell_calc_binding.specs.parts.TransposedSteps.{transposed_function, transposed_step};
 
@@ -12,7 +12,15 @@ use crate::bound::Bound;
 use cell_calc_grammar::function::Function;
 use cell_calc_grammar::step::Step;
 use cell_core::memory::Memory;
+use cell_core::region::Region;
 use std::alloc::Global;
+
+// The most columns of a narrow map. A step costs a hundred instructions a row however short the row, so the rows of a narrow map
+// are made its columns: 17 steps then took an eighth of the instructions at one column, and two thirds at 32.
+const MOST_COLS: usize = 32;
+
+// The most columns for each step, so that the steps save more than it costs to swap rows and columns.
+const COLS_A_STEP: usize = 2;
 
 // The function that asks for the column where this one asks for the row, and the other way round.
 fn transposed_function(function: Function) -> Function
@@ -53,6 +61,12 @@ fn transposed_steps(alloc: Global, steps: &[Step<usize>]) -> Result<Vec<Step<usi
 }
 
 impl Bound {
+    /// Whether it is worked out faster over maps whose rows and columns are swapped: their rows are many and short. Takes no memory.
+    pub fn is_faster_transposed(&self, region: Region) -> bool {
+        let cols = region.cols() as usize;
+        cols <= MOST_COLS && cols / COLS_A_STEP <= self.steps.len() && region.cols() < region.rows()
+    }
+
     /// The same expression over maps whose rows and columns are swapped.
     ///
     /// # Errors
@@ -60,7 +74,7 @@ impl Bound {
     /// [`Memory`] if memory runs out.
     pub fn transposed(&self, alloc: Global) -> Result<Bound, Memory>
         ensures value { IfOk result (λ turned. (maps others : List Grid)
-            → AreTransposed maps others → (s t : GridPosition) → AreExchanged s t
+            → AreTransposed maps others → (s t : GridPosition) → AreSwapped s t
             → value turned others t ≡ value self.now maps s) }
         ensures top { IfOk result (λ turned. top_of turned ≡ top_of self.now) }
     {

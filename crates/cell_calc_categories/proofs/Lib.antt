@@ -1,4 +1,4 @@
 -- What several proofs share.
 pub mod Categories
 pub mod MapLemmas
-pub mod Transposed
+pub mod TransposedMapLemmas

@@ -1,4 +1,4 @@
 -- Maps of the values of expressions.
 pub mod MapValues
-pub mod Transposed
+pub mod TransposedMaps
 pub mod parts

@@ -1,5 +1,7 @@
 -- Maps whose rows and columns are swapped, in the order of the places that an expression reads.
-use Rattle.std.proofs.Common.{◌≡◌, ◌<◌, ◌≤◌, ◌+◌, ℕ, ℤ, zero, suc, pos, negsuc, List, [], ◌∷◌, ◌++◌, length, refl, sym, ap, ◌∙◌, arith, Some, None, Bool, true, false, Option, below_more, append_assoc, length-append}
+use Rattle.std.proofs.Common.{◌≡◌, ◌<◌, ◌≤◌, ◌+◌, ℕ, ℤ, zero, suc, pos, negsuc, List, [], ◌∷◌, ◌++◌, length, refl}
+use Rattle.std.proofs.Common.{sym, ap, ◌∙◌, arith, Some, None, Bool, true, false, Option, below_more, append_assoc}
+use Rattle.std.proofs.Common.{length-append}
 use Rattle.std.specs.Prelude.{slice_get, nat_lt}
 use Rattle.std.specs.List.{range_with_len}
 use Rattle.std.proofs.lemmas.Option.{slice_get_past}
@@ -9,38 +11,48 @@ use Rattle.cell_core.specs.Grid.{Grid}
 use Rattle.cell_core_values.specs.Region.{RegionValue}
 use Rattle.cell_calc_binding.specs.Offsets.{cell_in}
 use Rattle.cell_calc_binding.specs.Transposed.{AreTransposed}
-use Rattle.cell_calc_categories.specs.Transposed.{IsTransposed}
+use Rattle.cell_calc_categories.specs.TransposedMaps.{IsTransposed}
 use Rattle.rcell.specs.parts.WindowsSet.{AreMapPlaces, then_maps, picked_maps}
 use Rattle.rcell.proofs.WindowLemmas.{before, behind, got}
 
 -- so many first maps have rows and columns swapped
 abbrev pub AreTurned : (n : ℕ) → (maps others : List Grid) → Type 0
-AreTurned n maps others = (i : ℕ) → i < n → (row col : ℤ) → cell_in (slice_get others i) col row ≡ cell_in (slice_get maps i) row col
+AreTurned n maps others = (i : ℕ) → i < n → (row col : ℤ)
+    → cell_in (slice_get others i) col row ≡ cell_in (slice_get maps i) row col
 
 -- one more map
-pub turned_more : (maps others : List Grid) (n : ℕ) (m other : Grid) (sides : RegionValue) → length others ≡ n → slice_get maps n ≡ Some m
+pub turned_more : (maps others : List Grid) (n : ℕ) (m other : Grid) (sides : RegionValue) → length others ≡ n
+    → slice_get maps n ≡ Some m
     → IsTransposed m sides other → AreTurned n maps others → AreTurned (n + 1) maps (others ++ other ∷ [])
 turned_more maps others n m other sides count place is done =
-    below_more (λ i. (row col : ℤ) → cell_in (slice_get (others ++ other ∷ []) i) col row ≡ cell_in (slice_get maps i) row col) n
-    (λ i lt row col. let short : i < length others = omega (arith, lt, count) in rw (before others (other ∷ []) i short) (done i lt row col))
+    below_more (λ i. (row col : ℤ)
+    → cell_in (slice_get (others ++ other ∷ []) i) col row ≡ cell_in (slice_get maps i) row col) n
+    (λ i lt row col. let short : i < length others = omega (arith, lt, count) in rw
+    (before others (other ∷ []) i short) (done i lt row col))
     (λ row col. rw (behind others other n count, place) (is.cells row col))
 
 -- all maps
-pub all_turned : (maps others : List Grid) (n : ℕ) → length maps ≡ n → length others ≡ n → AreTurned n maps others → AreTransposed maps others
+pub all_turned : (maps others : List Grid) (n : ℕ) → length maps ≡ n → length others ≡ n → AreTurned n maps others
+    → AreTransposed maps others
 all_turned maps others n count many done i row col = by_case (nat_lt i n) refl
   where
     by_case : (b : Bool) → nat_lt i n ≡ b → cell_in (slice_get others i) col row ≡ cell_in (slice_get maps i) row col
     by_case true e = done i (grind arith) row col
     by_case false e =
         let past : n ≤ i = grind arith in
-        rw (slice_get_past others i (omega (arith, past, many)), slice_get_past maps i (omega (arith, past, count))) refl
+        rw (
+          slice_get_past others i (omega (arith, past, many)),
+          slice_get_past maps i
+              (omega (arith, past, count)),
+        ) refl
 
 -- as many maps are picked as there are places
 after_one : (o : Option Grid) (maps : List Grid) → (o ≡ None → ⊥) → length (then_maps o maps) ≡ length maps + 1
 after_one None maps some = absurd (some refl)
 after_one (Some m) maps some = omega arith
 
-pub length-picked : (places : List ℕ) (maps : List Grid) → AreMapPlaces maps places → length (picked_maps places maps) ≡ length places
+pub length-picked : (places : List ℕ) (maps : List Grid) → AreMapPlaces maps places
+    → length (picked_maps places maps) ≡ length places
 length-picked [] maps within = refl
 length-picked (p ∷ places) maps within =
     let there = after_one (slice_get maps p) (picked_maps places maps) (got maps p (within zero p (omega arith))) in
@@ -68,7 +80,8 @@ pick_own others n count = ap (λ k. picked_maps (range_with_len 0 k) others) (sy
 
 -- each number from 0 is the place of a map
 pub own_places : (others : List Grid) (n : ℕ) → length others ≡ n → AreMapPlaces others (range_with_len 0 n)
-own_places others n count k d lt = rw (get_or-range_with_len 0 n k d (omega (arith, lt, length-range_with_len 0 n))) (omega (arith, lt, count, length-range_with_len 0 n))
+own_places others n count k d lt = rw (get_or-range_with_len 0 n k d (omega (arith, lt, length-range_with_len 0 n)))
+    (omega (arith, lt, count, length-range_with_len 0 n))
 
 -- one more number
 pub range_more : (a n : ℕ) → range_with_len a (n + 1) ≡ range_with_len a n ++ (a + n) ∷ []

@@ -8,26 +8,19 @@ ghost use Rattle.cell_calc_binding.specs.Transposed.{AreTransposed};
 ghost use Rattle.rcell.specs.Making.{AreValues};
 ghost use Rattle.rcell.specs.parts.WindowsSet.{AreMapPlaces, AreOfRegion, AreSet, picked_maps};
 ghost use Rattle.cell_calc_categories.specs.MapValues.{HasValues};
-ghost use Rattle.cell_calc_categories.specs.Transposed.{AreSidesExchanged};
+ghost use Rattle.cell_calc_categories.specs.TransposedMaps.{AreSidesSwapped};
 
 use cell_calc::rows_of_values::eval_row;
 use cell_calc::window::RowWindow;
 use cell_calc_binding::bound::Bound;
 use cell_calc_categories::map_by_category::map_by_category;
-use cell_calc_categories::transposing::{transposed_map, transposed_region};
+use cell_calc_categories::transposed_map::{transposed_map, transposed_region};
 use cell_core::cell::Cell;
 use cell_core::map::{CellMap, MapBuilder};
 use cell_core::memory::Memory;
 use cell_core::region::Region;
 use cell_core::shelf::Shelf;
 use std::alloc::Global;
-
-// The most columns of a narrow map. A step costs a hundred instructions a row however short the row, so the rows of a narrow map
-// are made its columns: with 17 steps this saved nine tenths at one column, and a third at 32.
-const MOST_COLS: usize = 32;
-
-// The most columns for each step, so that the steps save more than the swap of rows and columns costs.
-const COLS_A_STEP: usize = 2;
 
 // The map of the place at index `i`.
 fn map_at<'a>(maps: &'a [CellMap], places: &[usize], i: usize) -> &'a CellMap
@@ -128,7 +121,7 @@ fn transposed_maps(
 ) -> Result<(Vec<CellMap>, Vec<usize>), Memory>
     requires within { AreMapPlaces maps.now places.now }
     requires regions { AreOfRegion region maps.now }
-    requires sides { AreSidesExchanged region sides }
+    requires sides { AreSidesSwapped region sides }
     ensures maps { IfOk result
         (λ others. AreTransposed (picked_maps places.now maps.now) others.0.items) }
     ensures regions { IfOk result (λ others. AreOfRegion sides others.0.items) }
@@ -145,12 +138,6 @@ fn transposed_maps(
     Ok((others, own))
 }
 
-// Whether the rows of a map are so short that the steps of an expression cost more than they do.
-fn is_narrow(bound: &Bound, region: Region) -> bool {
-    let cols = region.cols() as usize;
-    cols <= MOST_COLS && cols / COLS_A_STEP <= bound.steps().len()
-}
-
 // The same by the maps with rows and columns swapped, if the maps are narrow.
 fn evaluate_transposed(
     alloc: Global,
@@ -165,7 +152,7 @@ fn evaluate_transposed(
     ensures { IfOk result (λ found. IfSome found
         (HasValues bound.now region (picked_maps places.now maps.now))) }
 {
-    if !is_narrow(bound, region) {
+    if !bound.is_faster_transposed(region) {
         return Ok(None);
     }
     let Some(sides) = transposed_region(region) else {
@@ -178,7 +165,7 @@ fn evaluate_transposed(
     Ok(Some(back))
 }
 
-// The same in the way that costs least.
+// The same in the fastest of three ways.
 fn evaluate_fast(
     alloc: Global,
     bound: &Bound,

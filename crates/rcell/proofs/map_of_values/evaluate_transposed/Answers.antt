@@ -1,7 +1,7 @@
 use Rattle.std.proofs.Common.{ap, ◌∙◌, sym, subst, length}
 use Rattle.std.specs.List.{range_with_len}
 use Rattle.std.proofs.lemmas.List.FromFn.{length-range_with_len}
-use Rattle.cell_calc_categories.proofs.Transposed.{values_back}
+use Rattle.cell_calc_categories.proofs.TransposedMapLemmas.{values_back}
 use Rattle.cell_calc_categories.specs.MapValues.{HasValues}
 use Rattle.rcell.specs.parts.WindowsSet.{AreMapPlaces, AreOfRegion, picked_maps}
 use Rattle.rcell.proofs.TransposedLemmas.{own_places, pick_own}
@@ -22,7 +22,8 @@ returns c =
     let f = c.args.bound.now in
     let maps = picked_maps c.args.places.now c.args.maps.now in
     let others = c.in_ok-others.others.items in
-    let picked = ap (λ l. picked_maps l c.as_slice-2.result.now) (c.as_slice.ensures.value ∙ c.in_ok-others.ensures.places)
+    let picked = ap (λ l. picked_maps l c.as_slice-2.result.now) (c.as_slice.ensures.value
+    ∙ c.in_ok-others.ensures.places)
     ∙ ap (λ l. picked_maps (range_with_len 0 (length c.args.places.now)) l) c.as_slice-2.ensures.value
     ∙ pick_own others (length c.args.places.now) c.in_ok-others.ensures.count in
     values_back f c.in_ok-turned.turned c.args.region c.in-Some.sides maps others c.in_ok-made.made c.in_ok-back.back

@@ -8,8 +8,11 @@ loop-i-preserved c =
     let w = c.in_ok-new.field-0 in
     let reach = c.in_ok-new.ensures.reach in
     record {
-      count = let e = ap (λ l. length l) c.in_ok-push.ensures.items in omega (arith, e, length-append c.loop-i.windows.items (w ∷ []), c.loop-i.invariant.count);
-      set = rw c.in_ok-push.ensures.items (set_more c.args.bound.now c.loop-i.windows.items (picked_maps c.args.places.now c.args.maps.now) c.loop-i.i w c.map_at.result.now
+      count = let e = ap (λ l. length l) c.in_ok-push.ensures.items in omega
+          (arith, e, length-append c.loop-i.windows.items (w ∷ []), c.loop-i.invariant.count);
+      set = rw c.in_ok-push.ensures.items
+          (set_more c.args.bound.now c.loop-i.windows.items
+          (picked_maps c.args.places.now c.args.maps.now) c.loop-i.i w c.map_at.result.now
           c.loop-i.invariant.count c.loop-i.invariant.set c.map_at.ensures.value c.in_ok-new.ensures.centre
           (reach.0 ∙ c.reach-up.ensures.up, reach.1 ∙ c.reach-up.ensures.down) c.in_ok-new.ensures.window);
     }

@@ -16,7 +16,8 @@ returns-clause-value c =
     let f = tree_of c.self.inside.steps.items in
     let old = c.as_slice.ensures.value ∙ c.self.invariant.postfix in
     let turned = tree-transposed f c.as_slice.result.now c.in_ok-steps.steps.items old c.in_ok-steps.ensures in
-    rw (← c.self.view_is) (λ maps others same s t are. ap (λ g. value g others t) turned ∙ value-transposed s t are maps others same f)
+    rw (← c.self.view_is) (λ maps others same s t are. ap (λ g. value g others t) turned
+    ∙ value-transposed s t are maps others same f)
 
 pub returns-clause-top : goal.returns-clause-top
 returns-clause-top c =

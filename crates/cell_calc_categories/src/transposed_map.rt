@@ -3,7 +3,7 @@
 ghost use Rattle.std.specs.Prelude.{◌≡◌, ◌<◌, ℕ, length, map, All, IfOk, IfSome, [], slice_index_or};
 ghost use Rattle.cell_core.specs.Grid.{cell_at};
 ghost use Rattle.cell_calc.specs.RowValues.{at};
-ghost use Rattle.cell_calc_categories.specs.Transposed.{AreSidesExchanged, IsTransposed};
+ghost use Rattle.cell_calc_categories.specs.TransposedMaps.{AreSidesSwapped, IsTransposed};
 
 use cell_core::cell::Cell;
 use cell_core::map::{CellMap, MapBuilder};
@@ -13,7 +13,7 @@ use std::alloc::Global;
 
 /// A region with the sides of another swapped.
 pub fn transposed_region(region: Region) -> Option<Region>
-    ensures { IfSome result (AreSidesExchanged region) }
+    ensures { IfSome result (AreSidesSwapped region) }
 {
     let (north, south) = (region.north(), region.south());
     let (east, west) = (region.east(), region.west());
@@ -88,7 +88,7 @@ fn write_column(given: &CellMap, rows: &Option<Vec<Vec<Cell>>>, col: u32, cells:
 ///
 /// [`Memory`] if memory runs out.
 pub fn transposed_map(alloc: Global, given: &CellMap, region: Region) -> Result<CellMap, Memory>
-    requires { AreSidesExchanged given.now.region region }
+    requires { AreSidesSwapped given.now.region region }
     ensures { IfOk result (IsTransposed given.now region) }
 {
     let _region = given.region();

@@ -1,5 +1,5 @@
 use Rattle.std.proofs.Common.{◌≡◌, length, map, take}
-use Rattle.cell_calc_categories.proofs.transposing.long_rows.Given as goal
+use Rattle.cell_calc_categories.proofs.transposed_map.long_rows.Given as goal
 
 abbrev pub invariant-loop-row : goal.invariant-loop-row
 invariant-loop-row l = record {

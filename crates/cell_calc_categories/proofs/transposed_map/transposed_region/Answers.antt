@@ -1,7 +1,7 @@
 use Rattle.std.proofs.Common.{ap, sym, ◌∙◌, to_z, of_z, w64}
 use Rattle.cell_core_values.specs.Region.{RegionValue}
-use Rattle.cell_calc_categories.proofs.Transposed.{accepted_is}
-use Rattle.cell_calc_categories.proofs.transposing.transposed_region.Goals as goal
+use Rattle.cell_calc_categories.proofs.TransposedMapLemmas.{accepted_is}
+use Rattle.cell_calc_categories.proofs.transposed_map.transposed_region.Goals as goal
 
 pub returns-in-Ok : goal.returns-in-Ok
 returns-in-Ok c =

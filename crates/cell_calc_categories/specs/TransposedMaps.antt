@@ -5,7 +5,7 @@ use Rattle.cell_core_values.specs.Region.{RegionValue}
 use Rattle.cell_calc_binding.specs.Offsets.{cell_at_offset}
 
 -- so many rows as another has columns, and so many columns as that has rows
-pub record AreSidesExchanged (r q : RegionValue) : Type 0 where
+pub record AreSidesSwapped (r q : RegionValue) : Type 0 where
   pub rows : q.rows ≡ r.cols
   pub cols : q.cols ≡ r.rows
 

@@ -2,7 +2,7 @@ use Rattle.std.proofs.Common.{◌≡◌, ◌<◌, ℕ, length, map, []}
 use Rattle.std.specs.Prelude.{IfSome, slice_index_or}
 use Rattle.cell_core.specs.Grid.{cell_at}
 use Rattle.cell_calc.specs.RowValues.{at}
-use Rattle.cell_calc_categories.proofs.transposing.transposed_map.Given as goal
+use Rattle.cell_calc_categories.proofs.transposed_map.transposed_map.Given as goal
 
 abbrev pub invariant-loop-col : goal.invariant-loop-col
 invariant-loop-col l = record {

@@ -1,7 +1,7 @@
 use Rattle.std.proofs.Common.{◌≡◌, ◌<◌, ℕ}
 use Rattle.cell_core.specs.Grid.{cell_at}
 use Rattle.cell_calc.specs.RowValues.{at}
-use Rattle.cell_calc_categories.proofs.transposing.write_from_map.Given as goal
+use Rattle.cell_calc_categories.proofs.transposed_map.write_from_map.Given as goal
 
 abbrev pub invariant-loop-row : goal.invariant-loop-row
 invariant-loop-row l = record {
