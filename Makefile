@@ -97,9 +97,8 @@ bench: bin/rcell
 	python3 bench/dimensions.py
 
 figures: bin/rcell
-	@sh tools/debian.sh clang grass-core linux-perf valgrind python3-matplotlib
+	@sh tools/debian.sh clang grass-core valgrind python3-matplotlib
 	python3 bench/run.py --write $(BENCH)
-	python3 bench/shares.py --write
 	python3 bench/instructions.py --write
 	python3 bench/dimensions.py --write
 	$(PICTURES) speed docs/speed.png

@@ -11,18 +11,15 @@ into bench/RESULTS.md.
 import argparse
 import concurrent.futures
 import os
-import re
 import shutil
 import subprocess
 import tempfile
 from dataclasses import dataclass
 from typing import Callable
 
-from run import ROOT, say
-from shares import print_table
+from run import COLLECTED, ROOT, print_table, say
 
 MARKS = ("<!-- The table of bench/dimensions.py -->\n", "<!-- End of the dimensions -->\n")
-COLLECTED = re.compile(r"Collected : (\d+)")
 # n log n grows by less than this from the second size to the third, since none of the second sizes that are sorted is below 32.
 MOST = 1.2
 TIMES = (1, 2, 4)

@@ -159,8 +159,8 @@ inline void read_cells(Input &input, std::string_view null_text, int32_t *cell, 
     input.at = at;
 }
 
-// The map of a grid, whose cells are read by `read`.
-template <typename Read> inline Map read_map(const char *path, Read read) {
+// The map of a grid.
+inline Map read_map(const char *path) {
     static const std::array<std::string_view, 6> KEYS = {"north:", "south:", "east:", "west:", "rows:", "cols:"};
     Input input(path);
     Map map;
@@ -182,7 +182,7 @@ template <typename Read> inline Map read_map(const char *path, Read read) {
     if (map.rows == 0 || map.cols == 0 || map.rows > 65535 || map.cols > 65535) fail("bad region");
     map.cells = new_cells(map.size());
     map.cells[0] = any_cell(first, null_text);
-    read(input, null_text, &map.cells[1], &map.cells[map.size()]);
+    read_cells(input, null_text, &map.cells[1], &map.cells[map.size()]);
     if (!input.token().empty()) fail("too many cells");
     return map;
 }
@@ -279,13 +279,8 @@ inline char *put_run(char *at, int32_t cell, size_t times, Output &output) {
     return at;
 }
 
-// Runs put into the block one by one.
-struct Runs {
-    char *put(char *at, int32_t cell, size_t times, Output &output) { return put_run(at, cell, times, output); }
-};
-
 // r.out.ascii.
-template <typename Texts> inline void write_map(const Map &map, Texts &&texts, Output &output) {
+inline void write_map(const Map &map, Output &output) {
     static const std::array<std::string, 4> KEYS = {"north: ", "south: ", "east: ", "west: "};
     for (size_t key = 0; key < 4; key++) output.text(KEYS[key] + map.edges[key] + "\n");
     output.text("rows: " + std::to_string(map.rows) + "\ncols: " + std::to_string(map.cols) + "\n");
@@ -295,7 +290,7 @@ template <typename Texts> inline void write_map(const Map &map, Texts &&texts, O
         while (cell < last) {
             const int32_t *end = cell + 1;
             while (end < last && *end == *cell) end++;
-            at = texts.put(at, *cell, size_t(end - cell), output);
+            at = put_run(at, *cell, size_t(end - cell), output);
             cell = end;
         }
         at[-1] = '\n';

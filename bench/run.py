@@ -1,15 +1,18 @@
 #!/usr/bin/env python3
 """Times rcell and a yardstick by hand in C++ (bench/yardstick.cpp), task by task, and prints tables of the figures.
 
-run.py [--short] [--rounds N] [--only WORD] [--program PATH] [--write]
+run.py [--short] [--rounds N] [--only WORD] [--program PATH] [--limit PATH] [--write]
 
 First each task is done once by both, and their outputs are compared byte for byte. Then they take turns, and the smallest
 processor time (user and system) of all rounds counts, so that other work on the machine disturbs little; grids of up to 4
-million cells have three times N rounds. In "Runs and words" a second yardstick takes part, which looks up what texts repeat
-(words.h), and there are three runs of N rounds each. All times are
+million cells have three times N rounds. All times are
 milliseconds for a million cells of one map, from the start of a program to its end, output to /dev/null. The cost of a task
 beyond reading is its time without the time of reading the same grids with the same program. Memory is the peak of the process,
 in bytes a cell of one map.
+
+"Ten tasks" has one run of N rounds, the ratios of the smallest and of the median times, memory, and the instructions for a cell, which
+callgrind counts if valgrind is installed. --limit names a program that does some of the tasks as fast as one can for digits
+and blanks alone (LIMIT_WORDS); it is not in this repository.
 
 --short takes grids of a million cells; otherwise they are those that the tables name, written once under bench/out. The real
 maps are made by bench/real_maps.py, and GRASS is timed by bench/beside_grass.py, where what these need is installed; with --short
@@ -19,7 +22,9 @@ figures` does so, and all else that follows from it.
 import argparse
 import filecmp
 import os
+import re
 import shutil
+import statistics
 import subprocess
 import sys
 import time
@@ -39,11 +44,10 @@ SHORT_SIDE = 1000
 FEW_SIDE = 2000
 ROUNDS_FOR_FEW = 3
 ROUNDS_OF_GRASS = 3
-# How often all three contenders run, each time by the rounds that are asked for.
-RUNS = 3
 REAL = "real-"
-# The yardstick as it is, and the one that knows words (yardstick.cpp), by the names of their files.
-YARDSTICK, KNOWS_WORDS = "yardstick", "yardstick-words"
+# The yardstick, and the same without AVX-512, which valgrind does not know.
+YARDSTICK, COUNTED_YARDSTICK = "yardstick", "yardstick-for-valgrind"
+COLLECTED = re.compile(r"Collected : (\d+)")
 HEADER_LINES = 6
 MILLION = 1e6
 
@@ -72,21 +76,38 @@ class Bench:
 
 
 @dataclass
-class Least:
-    """The smallest processor time, in seconds, and the largest peak of memory, in bytes."""
-    seconds: float = float("inf")
+class Taken:
+    """The processor time of each round, in seconds, and the largest peak of memory, in bytes."""
+    rounds: list[float] = field(default_factory=list)
     peak: int = 0
 
     def add(self, seconds, peak):
-        self.seconds, self.peak = min(self.seconds, seconds), max(self.peak, peak)
+        self.rounds.append(seconds)
+        self.peak = max(self.peak, peak)
+
+    @property
+    def seconds(self):
+        """The smallest, which other work disturbed the fewest times."""
+        return min(self.rounds)
+
+    @property
+    def median(self):
+        return statistics.median(self.rounds)
+
+
+@dataclass(frozen=True)
+class Goal:
+    """The most that is aimed at, as ratios to the yardstick and to the program of --limit."""
+    yardstick: float | None = None
+    limit: float | None = None
 
 
 @dataclass(frozen=True)
 class Race:
-    """Tasks over grids of one kind, of seeds 1, 2, .., with rcell and both yardsticks; with each the ratio aimed at, or None."""
+    """Tasks over grids of one kind, of seeds 1, 2, ..; with each what is aimed at."""
     title: str
     kind: str
-    tasks: tuple[tuple[Task, float | None], ...]
+    tasks: tuple[tuple[Task, Goal], ...]
     side: int = FEW_SIDE
 
 
@@ -155,29 +176,45 @@ PARTS = {
     ),
 }
 
-RUNS_AND_WORDS = "Runs and words"
-# The tasks, and the ratios aimed at for patches, noise and heights of five digits.
-RACED = ((READ, 0.4, 0.4, 0.9), (STATS, 0.45, 0.45, 1.0), (STATS_TWO, 0.4, 0.5, 1.3), (RECLASS_STATS, 0.45, 0.4, 1.0),
-         (LONG_IF_STATS, 0.6, 0.55, 1.0), (CLUMP, 0.65, 0.7, 0.9), (CLUMP_CORNERS, 0.65, 0.7, 0.9), (CLUMP_WRITE, 0.55, 0.75, 0.9),
-         (SUM_WRITE, 0.8, 0.65, 0.9), (WRITE, 0.45, 0.4, 0.9))
-SPELLED = ((READ, 1.0),)
-PARTS[RUNS_AND_WORDS] = (
-    Race("patchy land cover, 4 million cells", "patchy", tuple((task, patchy) for task, patchy, *_ in RACED)),
-    Race("noise, 4 million cells", "noise", tuple((task, noise) for task, _, noise, _ in RACED)),
-    Race("heights of five digits, 4 million cells", "heights:5", tuple((task, heights) for task, *_, heights in RACED)),
-    Race("a mask, 4 million cells", "mask", tuple((task, None) for task, *_ in RACED)),
-    Race("a coarse zoning, 4 million cells", "zones", tuple((task, None) for task, *_ in RACED)),
-    Race("heights of four digits, 4 million cells", "heights", tuple((task, None) for task, *_ in RACED)),
-    Race("noise, two blanks between cells, 4 million cells", "noise@two", SPELLED),
-    Race("noise, tabs between cells, 4 million cells", "noise@tabs", SPELLED),
-    Race("noise, a cell a line, 4 million cells", "noise@lines", SPELLED),
-    Race("noise, each cell set right in five places, 4 million cells", "noise@padded", SPELLED),
-    Race("patchy land cover, each cell set right in five places, 4 million cells", "patchy@padded", SPELLED),
+TEN_TASKS = "Ten tasks"
+# The tasks, and what is aimed at for patches, noise and heights of five digits.
+RACED = (
+    (READ, Goal(0.4, 1.6), Goal(0.4, 1.7), Goal(0.9)),
+    (STATS, Goal(0.45, 1.5), Goal(0.45, 1.6), Goal(1)),
+    (STATS_TWO, Goal(0.4, 1.6), Goal(0.5, 1.8), Goal(1.3)),
+    (CLUMP, Goal(0.65, 1.5), Goal(0.7, 1.2), Goal(0.9)),
+    (CLUMP_CORNERS, Goal(0.65, 1.5), Goal(0.7, 1.2), Goal(0.9)),
+    (CLUMP_WRITE, Goal(0.55, 1.5), Goal(0.75, 1.2), Goal(0.9)),
+    (SUM_WRITE, Goal(0.8), Goal(0.65), Goal(0.9)),
+    (LONG_IF_STATS, Goal(0.6), Goal(0.55), Goal(1)),
+    (RECLASS_STATS, Goal(0.45), Goal(0.4), Goal(1)),
+    (WRITE, Goal(0.45, 1.6), Goal(0.4, 1.7), Goal(0.9)),
+)
+# What the program of --limit calls a task.
+LIMIT_WORDS = {READ: "read", STATS: "count", STATS_TWO: "count2", CLUMP: "clump", CLUMP_CORNERS: "clumpd", CLUMP_WRITE: "clumpout",
+               WRITE: "out"}
+
+
+def raced(title, kind, goals):
+    """All ten tasks over a kind of grid, with the goals in a column of RACED."""
+    return Race(f"{title}, 4 million cells", kind, tuple((task, goal[goals] if goals is not None else Goal()) for task, *goal in RACED))
+
+
+PARTS[TEN_TASKS] = (
+    raced("patchy land cover", "patchy", 0),
+    raced("noise", "noise", 1),
+    raced("heights of five digits", "heights:5", 2),
+    raced("a mask", "mask", None),
+    raced("a coarse zoning", "zones", None),
+    *(Race(f"{title}, 4 million cells", kind, ((READ, Goal(1)),)) for title, kind in (
+        ("noise, two blanks between cells", "noise@two"), ("noise, tabs between cells", "noise@tabs"),
+        ("noise, a cell a line", "noise@lines"), ("noise, each cell set right in five places", "noise@padded"),
+        ("patchy land cover, each cell set right in five places", "patchy@padded"))),
 )
 
 # No dimension may take more than so many times as long as the yardstick.
 MOST = 3
-NARROW = (READ.aiming(MOST), CLUMP_WRITE.aiming(MOST), SUM_WRITE.aiming(MOST))
+NARROW = tuple(task.aiming(MOST) for task in (READ, STATS, WRITE, CLUMP_WRITE, SUM_WRITE, LONG_IF_STATS, RECLASS_STATS))
 
 
 def counted(title, kinds, side=2000):
@@ -188,7 +225,7 @@ def counted(title, kinds, side=2000):
 
 
 PARTS["Dimensions beside C++"] = (
-    *(Bench(f"noise in 65,535 rows of {cols} columns", (("noise", 1),), (65535, cols), NARROW) for cols in (1, 16, 61)),
+    *(Bench(f"noise, 65,535 rows by {cols}", (("noise", 1),), (65535, cols), NARROW) for cols in (1, 2, 4, 8, 16, 61)),
     *(counted(f"{count:,} categories at random, 4 million cells", [f"random:{count}"]) for count in (10_000, 100_000, 1_000_000)),
     counted("another category in each of 10 million cells", ["blocks:1"], 3163),
     *(counted(f"two maps of {count:,} values at random, 4 million cells", [f"random:{count}"] * 2) for count in (300, 1000, 3000)),
@@ -221,11 +258,11 @@ def build():
     os.makedirs(OUT, exist_ok=True)
     for name in ("make_grid", "measure", YARDSTICK):
         compile_to(name, name)
-    compile_to(KNOWS_WORDS, YARDSTICK, "-DKNOWS_WORDS")
+    compile_to(COUNTED_YARDSTICK, YARDSTICK, machine="x86-64-v3")
 
 
-def compile_to(program, name, *flags, machine="native"):
-    words = [compiler(), "-std=c++20", "-O3", f"-march={machine}", *flags, "-o", f"{OUT}/{program}", f"{HERE}/{name}.cpp"]
+def compile_to(program, name, machine="native"):
+    words = [compiler(), "-std=c++20", "-O3", f"-march={machine}", "-o", f"{OUT}/{program}", f"{HERE}/{name}.cpp"]
     subprocess.run(words, check=True)
 
 
@@ -260,40 +297,56 @@ def measure(words, output="/dev/null", environment=None):
     return micros / 1e6, peak
 
 
+def instructions(words, given=subprocess.DEVNULL):
+    """How many instructions a run takes, or None if valgrind is not installed."""
+    if not shutil.which("valgrind"):
+        return None
+    ran = subprocess.run(["valgrind", "--tool=callgrind", "--callgrind-out-file=/dev/null", *words], check=True, stdin=given,
+                         stdout=subprocess.DEVNULL, stderr=subprocess.PIPE, text=True)
+    return int(COLLECTED.search(ran.stderr)[1])
+
+
 @dataclass
 class Contest:
-    """One task with rcell, the yardstick and, if that takes part, the one that knows words, over given grids."""
+    """One task with rcell, the yardstick and, if it is given, the program of --limit, over given grids."""
     task: Task
     paths: list[str]
     program: str
     number: int
-    yardsticks: tuple[str, ...] = (YARDSTICK,)
-    rcell: Least = field(default_factory=Least)
-    yardstick: Least = field(default_factory=Least)
-    knowing: Least = field(default_factory=Least)
+    limit: str | None = None
+    rcell: Taken = field(default_factory=Taken)
+    yardstick: Taken = field(default_factory=Taken)
+    fastest: Taken = field(default_factory=Taken)
 
     def words(self):
+        """The words of rcell and of the yardstick."""
         script = f"{OUT}/script-{self.number}"
         with open(script, "w", encoding="ascii") as file:
             file.write(self.task.script)
         named = [f"{name}={path}" for name, path in zip(NAMES, self.paths)]
-        return [self.program, script, *named], *([f"{OUT}/{name}", *self.task.words, *self.paths] for name in self.yardsticks)
+        return [self.program, script, *named], [f"{OUT}/{YARDSTICK}", *self.task.words, *self.paths]
 
     def check(self):
-        """All write the same bytes."""
-        first, other = (f"{OUT}/output-of-{by}" for by in ("rcell", "yardstick"))
-        ours, *others = self.words()
-        measure(ours, first)
-        for words in others:
-            measure(words, other)
-            if not filecmp.cmp(first, other, shallow=False):
-                sys.exit(f"the programs wrote different texts: {self.task.title}")
-            os.remove(other)
-        os.remove(first)
+        """Both write the same bytes."""
+        outputs = [f"{OUT}/output-of-{by}" for by in ("rcell", "yardstick")]
+        for words, output in zip(self.words(), outputs):
+            measure(words, output)
+        if not filecmp.cmp(*outputs, shallow=False):
+            sys.exit(f"the programs wrote different texts: {self.task.title}")
+        for output in outputs:
+            os.remove(output)
 
     def turn(self):
-        for words, least in zip(self.words(), (self.rcell, self.yardstick, self.knowing)):
-            least.add(*measure(words))
+        ours, theirs = self.words()
+        self.rcell.add(*measure(ours))
+        self.yardstick.add(*measure(theirs))
+        if self.limit:
+            self.fastest.add(*measure([self.limit, LIMIT_WORDS[self.task], *self.paths]))
+
+    def instructions(self):
+        """Of rcell and of the yardstick."""
+        ours, (_, *words) = self.words()
+        return instructions(ours), instructions([f"{OUT}/{COUNTED_YARDSTICK}", *words])
 
 
 def ratio_cell(ratio, most):
@@ -320,13 +373,13 @@ def row(contest, reading, cells):
 HEAD = ("Task", "rcell ms", "yardstick ms", "ratio", "beyond reading: rcell", "yardstick", "ratio", "memory: rcell", "yardstick")
 
 
-def run(bench, program, rounds, side):
+def run(bench, wanted, side):
     """The lines of a table. Reading the same grids is measured too, since the tasks need it."""
     paths = [grid_file(kind, seed, side) for kind, seed in bench.grids]
     tasks = bench.tasks if bench.tasks[0].title == READ.title else (READ, *bench.tasks)
-    contests = [Contest(task, paths, program, number) for number, task in enumerate(tasks)]
+    contests = [Contest(task, paths, wanted.program, number) for number, task in enumerate(tasks)]
     cells = cells_of(paths[0])
-    take_turns(contests, rounds * (ROUNDS_FOR_FEW if cells <= FEW_SIDE * FEW_SIDE else 1))
+    take_turns(contests, wanted.rounds * (ROUNDS_FOR_FEW if cells <= FEW_SIDE * FEW_SIDE else 1))
     return [row(contest, contests[0], cells) for contest in contests]
 
 
@@ -339,31 +392,31 @@ def take_turns(contests, rounds):
             contest.turn()
 
 
-RACE_HEAD = ("Task", "rcell ms", "yardstick ms", "ratio, by runs", "knowing words ms", "ratio, by runs")
+RACE_HEAD = ("Task", "rcell ms", "yardstick ms", "ratio: smallest, median", "over the limit: smallest, median",
+             "instructions a cell: rcell, yardstick", "bytes a cell: rcell, yardstick")
 
 
-def race(bench, program, rounds, side):
-    """The lines of a table of all three contenders: the smallest times of all runs, and the ratios of each run. The goal is
-    missed where the middle one is above it."""
+def race(bench, wanted, side):
+    """The lines of a table: one run by turns."""
     paths = [grid_file(bench.kind, seed + 1, side) for seed in range(max(task.maps for task, _ in bench.tasks))]
-    both = (YARDSTICK, KNOWS_WORDS)
-    runs = []
-    for _ in range(RUNS):
-        runs.append([Contest(task, paths[:task.maps], program, number, both) for number, (task, _) in enumerate(bench.tasks)])
-        take_turns(runs[-1], rounds)
-    for contests, (task, most) in zip(zip(*runs), bench.tasks):
-        ours = [it.rcell.seconds for it in contests]
-        theirs = [it.yardstick.seconds for it in contests]
-        knowing = [it.knowing.seconds for it in contests]
-        times = [f"{min(seconds) * 1000 * MILLION / side ** 2:.1f}" for seconds in (ours, theirs, knowing)]
-        yield task.title, times[0], times[1], ratios_cell(ours, theirs, most), times[2], ratios_cell(ours, knowing, None)
+    contests = [Contest(task, paths[:task.maps], wanted.program, number, wanted.limit if goal.limit else None)
+                for number, (task, goal) in enumerate(bench.tasks)]
+    take_turns(contests, wanted.rounds)
+    for contest, (task, goal) in zip(contests, bench.tasks):
+        times = [f"{it.seconds * 1000 * MILLION / side ** 2:.1f}" for it in (contest.rcell, contest.yardstick)]
+        counts = [f"{count / side ** 2:.1f}" for count in contest.instructions() if count is not None]
+        peaks = [f"{it.peak / side ** 2:.2f}" for it in (contest.rcell, contest.yardstick)]
+        yield (task.title, *times, ratios_cell(contest.rcell, contest.yardstick, goal.yardstick),
+               ratios_cell(contest.rcell, contest.fastest, goal.limit), ", ".join(counts), ", ".join(peaks))
 
 
 def ratios_cell(ours, theirs, most):
-    """The ratios of runs, and next to them their limit if the middle one is larger."""
-    ratios = [own / other for own, other in zip(ours, theirs)]
-    is_missed = most is not None and sorted(ratios)[len(ratios) // 2] > most
-    return ", ".join(f"{ratio:.2f}" for ratio in ratios) + (f" (missed: {most:g})" if is_missed else "")
+    """The ratios of the smallest and of the median times, and what is aimed at for the first."""
+    if not theirs.rounds:
+        return ""
+    least, median = ours.seconds / theirs.seconds, ours.median / theirs.median
+    goal = f" (goal {most:g}{', missed' if round(least, 2) > most else ''})" if most else ""
+    return f"{least:.2f}, {median:.2f}{goal}"
 
 
 def lines_of(title, head, rows):
@@ -387,7 +440,7 @@ def tables(benches, wanted):
         side = SHORT_SIDE if wanted.short else bench.side
         say(f"{bench.title}")
         table, head = (race, RACE_HEAD) if isinstance(bench, Race) else (run, HEAD)
-        rows = table(bench, os.path.abspath(wanted.program), wanted.rounds, side)
+        rows = table(bench, wanted, side)
         title = bench.title + (" (here 1 million)" if wanted.short and bench.side != SHORT_SIDE else "")
         yield from lines_of(title, head, rows)
 
@@ -405,7 +458,7 @@ def grass_tables(wanted):
             def seconds(words, environment):
                 return measure(words, environment=environment)[0]
 
-            rows = beside_grass.table(path, cells_of(path), os.path.abspath(wanted.program), ROUNDS_OF_GRASS, seconds)
+            rows = beside_grass.table(path, cells_of(path), wanted.program, ROUNDS_OF_GRASS, seconds)
             yield from lines_of(title, beside_grass.HEAD, rows)
 
 
@@ -419,6 +472,16 @@ def part(title, wanted):
 def commit():
     words = ["git", "log", "-1", "--format=%h"]
     return subprocess.run(words, capture_output=True, text=True, cwd=ROOT).stdout.strip()
+
+
+def print_table(rows, marks, is_written):
+    """Prints the lines of a table as they come, and puts them into the document if that is asked for."""
+    lines = [mark(), f"Of the program of commit {commit()}:\n", "\n"]
+    for line in rows:
+        print(line, flush=True)
+        lines.append(line + "\n")
+    if is_written:
+        put_between(marks, lambda _: "".join(lines))
 
 
 def mark():
@@ -468,7 +531,8 @@ def main():
     parser.add_argument("--short", action="store_true")
     parser.add_argument("--rounds", type=int, default=5)
     parser.add_argument("--only", default="")
-    parser.add_argument("--program", default=f"{ROOT}/bin/rcell")
+    parser.add_argument("--program", default=f"{ROOT}/bin/rcell", type=os.path.abspath)
+    parser.add_argument("--limit", type=os.path.abspath)
     parser.add_argument("--write", action="store_true")
     wanted = parser.parse_args()
     build()

@@ -7,8 +7,6 @@
 // MAKER makes a map of the first grid: none (the grid itself), clump, clump-d, sum, choice, reclass. WRITER is nothing,
 // ascii (r.out.ascii of that map), stats (r.stats -c of that map and the other grids) or stats-std (the same with a hashed
 // map of std in place of a table of its own).
-//
-// Built with KNOWS_WORDS it is the second contender, which reads and writes by what texts repeat (words.h).
 #include "areas.h"
 #include "expressions.h"
 #include "grid.h"
@@ -16,19 +14,7 @@
 
 #include <string_view>
 
-#ifdef KNOWS_WORDS
-#include "words.h"
-#endif
-
 namespace {
-
-#ifdef KNOWS_WORDS
-constexpr auto READ = read_cells_by_words;
-using Texts = Fields;
-#else
-constexpr auto READ = read_cells;
-using Texts = Runs;
-#endif
 
 void make(std::string_view maker, Map &map) {
     if (maker == "clump") clump<false>(map);
@@ -44,11 +30,11 @@ void make(std::string_view maker, Map &map) {
 int main(int count, char **words) {
     if (count < 4) fail("usage: yardstick MAKER WRITER GRID..");
     std::vector<Map> maps;
-    for (int i = 3; i < count; i++) maps.push_back(read_map(words[i], READ));
+    for (int i = 3; i < count; i++) maps.push_back(read_map(words[i]));
     make(words[1], maps[0]);
     const std::string_view writer = words[2];
     Output output;
-    if (writer == "ascii") write_map(maps[0], Texts{}, output);
+    if (writer == "ascii") write_map(maps[0], output);
     else if (writer == "stats" || writer == "stats-std") write_table(maps, writer == "stats-std", output);
     else if (writer != "nothing") fail("unknown writer");
     output.flush();
