@@ -17,7 +17,7 @@ use std::alloc::Global;
 const BYTES: usize = 256;
 
 // A map of fewer cells takes less time without a table.
-const FEWEST_CELLS: u64 = 65_536;
+const FEWEST_CELLS: u64 = 16_384;
 
 // For each byte the byte of its new category: None if bytes do not stand for all of these, or for a map of few cells.
 pub(crate) fn byte_table(
