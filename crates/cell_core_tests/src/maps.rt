@@ -146,13 +146,14 @@ fn expect_stretches<R: Abort + AllocGlobal>(
     Ok(())
 }
 
-// A row of few runs is in stretches as long, and another one cell by cell.
+// A row of few runs is in stretches as long, and another one cell by cell. (A short row of small cells is kept as bytes, whatever
+// its runs.)
 #[test]
 fn gives_its_stretches(rt: HostRuntime) -> Result<(), Fail> {
-    let rows = [1, 1, 2, 2, 2, NULL, 1, 1, 2, 3, 1, NULL];
+    let rows = [501, 501, 502, 502, 502, NULL, 501, 501, 502, 503, 501, NULL];
     let map = map_of(rt.alloc(), 2, 6, &rows)?;
-    expect_stretches(&rt, &map, 0, &[(1, 2), (2, 3), (NULL, 1)])?;
-    let cells = [(1, 1), (1, 1), (2, 1), (3, 1), (1, 1), (NULL, 1)];
+    expect_stretches(&rt, &map, 0, &[(501, 2), (502, 3), (NULL, 1)])?;
+    let cells = [(501, 1), (501, 1), (502, 1), (503, 1), (501, 1), (NULL, 1)];
     expect_stretches(&rt, &map, 1, &cells)
 }
 
