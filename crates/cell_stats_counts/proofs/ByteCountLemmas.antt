@@ -1,5 +1,5 @@
 -- What is summed over bytes, by how often each occurs.
-use Rattle.std.proofs.Common.{◌≡◌, ℕ, zero, suc, ◌+◌, ◌*◌, ◌<◌, ◌≤◌, List, [], ◌∷◌, length, drop, map, replicate}
+use Rattle.std.proofs.Common.{◌≡◌, ℕ, zero, suc, ◌+◌, ◌*◌, ◌<◌, ◌≤◌, List, [], ◌∷◌, length, drop, map}
 use Rattle.std.proofs.Common.{get_or, set, sum_by, Bool, true, false, cond, refl, ap, sym, ◌∙◌, arith, add-zero}
 use Rattle.std.proofs.lemmas.List.{drop_more}
 use Rattle.std.proofs.lemmas.List.Sums.{sum_by-cons}
@@ -9,14 +9,9 @@ use Rattle.cell_stats_combinations.specs.Combinations.{Combination}
 use Rattle.cell_stats_combinations.specs.LeftOut.{kept_cells, is_left_out}
 use Rattle.cell_stats_counts.specs.Counts.{count_of}
 use Rattle.cell_stats_counts.specs.parts.Alone.{alone}
-use Rattle.cell_stats_counts.specs.parts.ByteCounts.{sum_counted}
+use Rattle.cell_stats_counts.specs.parts.ByteCounts.{one_counted, sum_counted}
 use Rattle.cell_stats_combinations.specs.parts.Same.{is_same}
 use Rattle.cell_stats_counts.proofs.CountLemmas.{count-both, count-stretch}
-
--- no byte is counted yet
-pub sum_counted-none : (f : ℕ → ℕ) (byte n : ℕ) → sum_counted f byte (replicate n 0) ≡ 0
-sum_counted-none f byte zero = refl
-sum_counted-none f byte (suc n) = omega (arith, sum_counted-none f (byte + 1) n)
 
 -- a byte occurs once more
 pub sum_counted-more : (f : ℕ → ℕ) (byte i d : ℕ) (counts : List ℕ) → i < length counts
@@ -43,10 +38,6 @@ pub sum_counted-first : (f : ℕ → ℕ) (byte n : ℕ) (counts : List ℕ) →
 sum_counted-first f byte n counts within is =
     ap (sum_counted f byte) (drop_more counts byte 0 within)
     ∙ ap (λ m. f byte * m + sum_counted f (byte + 1) (drop (byte + 1) counts)) (sym is)
-
--- what one cell that a byte stands for counts
-abbrev pub one_counted : Skip → Combination → ℕ → ℕ
-one_counted skip k byte = count_of k (kept_cells skip (alone (byte_cell byte) ∷ []))
 
 pub cells-sum : (skip : Skip) (k : Combination) (bytes : List ℕ)
     → count_of k (kept_cells skip (map alone (cells_of_bytes bytes))) ≡ sum_by (one_counted skip k) bytes

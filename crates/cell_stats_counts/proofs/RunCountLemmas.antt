@@ -79,12 +79,6 @@ row-alone maps row p cols wide =
     ap (λ n. map (combination_at maps (p ∷ []) row) (range_with_len 0 n)) (sym wide)
     ∙ row-get (row_in maps row p) 0 (combination_at maps (p ∷ []) row) (λ j. ap (combination_at maps (p ∷ []) row) (zero-add j) ∙ ap alone (cell-row maps row j p))
 
--- the one place
-pub single : (places : List ℕ) (d : ℕ) → length places ≡ 1 → places ≡ get_or places 0 d ∷ []
-single [] d e = cc
-single (p ∷ []) d e = refl
-single (p ∷ q ∷ places) d e = absurd (omega (arith, e))
-
 -- a row more of one map is counted
 pub counted-alone : (skip : Skip) (k : Combination) (maps : List Grid) (picks : List ℕ) (row p cols : ℕ) (m : Grid)
     (old new : ℕ) → picks ≡ p ∷ [] → slice_get maps p ≡ Some m → length (row_at m row) ≡ cols
@@ -103,11 +97,18 @@ counted-alone skip k maps picks row p cols m old new sole e wide was grown =
     ∙ ap (λ (l : List Combination). count_of k (kept_cells skip l)) (sym (all_combinations_more maps picks cols row))
     ∙ ap (λ r. count_of k (kept_cells skip (all_combinations maps picks r cols))) (sym (add-one row))
 
--- and its cells fit
-pub fits-alone : (skip : Skip) (k : Combination) (maps : List Grid) (picks : List ℕ) (row cols old size : ℕ) → row ≤ 65535 → cols ≤ 65535 → old ≡ count_of k (kept_cells skip (all_combinations maps picks row cols)) → size ≡ cols → old + size < 2 ^ 64
-fits-alone skip k maps picks row cols old size hr hc was wide =
+-- what was counted above a row is not many
+pub few-alone : (skip : Skip) (k : Combination) (maps : List Grid) (picks : List ℕ) (row cols old : ℕ)
+    → row ≤ 65535 → cols ≤ 65535 → old ≡ count_of k (kept_cells skip (all_combinations maps picks row cols)) → old < 2 ^ 63
+few-alone skip k maps picks row cols old hr hc was =
     let base = all_combinations maps picks row cols in
     let none : 0 ≤ 65535 = omega arith in
     let small = count_small maps picks cols skip k row 0 hr none hc in
-    let same : count_of k (kept_cells skip (base ++ [])) ≡ count_of k (kept_cells skip base) = ap (λ (l : List Combination). count_of k (kept_cells skip l)) (append-nil base) in
-    omega (arith, small, same, was, wide, hc)
+    let same : count_of k (kept_cells skip (base ++ [])) ≡ count_of k (kept_cells skip base) =
+    ap (λ (l : List Combination). count_of k (kept_cells skip l)) (append-nil base) in
+    omega (arith, small, same, was)
+
+-- and the cells of the row fit
+pub fits-alone : (skip : Skip) (k : Combination) (maps : List Grid) (picks : List ℕ) (row cols old size : ℕ) → row ≤ 65535 → cols ≤ 65535 → old ≡ count_of k (kept_cells skip (all_combinations maps picks row cols)) → size ≡ cols → old + size < 2 ^ 64
+fits-alone skip k maps picks row cols old size hr hc was wide =
+    omega (arith, few-alone skip k maps picks row cols old hr hc was, wide, hc)

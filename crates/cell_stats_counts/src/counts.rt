@@ -62,7 +62,7 @@ fn count_columns<'a>(
     Ok(())
 }
 
-// Counts the cells of a row: of one map as they are kept, else by the columns in which no map changes.
+// Counts the cells of a row by the columns in which no map changes.
 fn count_row<'a>(
     alloc: Global,
     selection: Selection<'a, '_>,
@@ -85,11 +85,6 @@ fn count_row<'a>(
     ensures going { OnOk result
         (IsCounting (length selection.entry.picks.now) places.new entries.new.items) }
 {
-    if let [place] = selection.picks {
-        let grid = selection.shelf.map(*place);
-        count_alone(alloc, grid, row, selection.skip, places, entries)?;
-        return Ok(());
-    }
     if let [first, second] = selection.picks {
         let one = selection.shelf.map(*first);
         let other = selection.shelf.map(*second);
@@ -114,6 +109,44 @@ fn count_row<'a>(
     count_columns(alloc, selection, row, cursors, cells, places, entries)
 }
 
+// Counts the cells of all rows.
+fn count_rows(
+    alloc: Global,
+    selection: Selection<'_, '_>,
+    places: &mut CountPlaces,
+    entries: &mut Vec<(Combo, u64)>,
+) -> Result<(), Memory>
+    requires picked { ArePicks selection.shelf.now selection.picks.now }
+    requires going { IsCounting (length selection.picks.now) places.old entries.old.items }
+    requires counted { AreCounted selection.shelf.now selection.picks.now selection.skip 0
+        places.old entries.old.items }
+    ensures ok { OnOk result (AreCounted selection.entry.shelf.now selection.entry.picks.now
+        selection.entry.skip selection.entry.shelf.now.region.rows places.new entries.new.items) }
+    ensures going { OnOk result
+        (IsCounting (length selection.entry.picks.now) places.new entries.new.items) }
+    ensures region { OnOk result (IsRegion selection.entry.shelf.now.region) }
+{
+    let Selection { shelf, picks, skip } = selection;
+    if let [pick] = picks {
+        return count_alone(alloc, shelf, *pick, skip, places, entries);
+    }
+    let mut cells = vec![in alloc; Cell::null(); picks.len()]?;
+    let mut started = cursors_of(alloc, shelf, picks)?;
+    let cursors = started.as_mut_slice();
+    for row in 0..shelf.region().rows() {
+        count_row(
+            alloc,
+            selection,
+            row,
+            cursors,
+            cells.as_mut_slice(),
+            places,
+            entries,
+        )?;
+    }
+    Ok(())
+}
+
 /// The combinations of the cells of the picked maps that are not left out, in ascending order, each with the number of
 /// cells that have it. The picks are places on the shelf; there are 1 to 16, and a map may be picked twice.
 ///
@@ -131,24 +164,11 @@ pub fn count_cells(
     ensures { IfOk result (λ counted.
         AreCountsOf (kept_cells skip (shelf_combinations shelf.now picks.now)) counted.items) }
 {
-    let width = picks.len();
-    let mut cells = vec![in alloc; Cell::null(); width]?;
     let mut places = first_places(alloc, shelf, picks)?;
     let mut entries = Vec::new(alloc);
-    let mut started = cursors_of(alloc, shelf, picks)?;
-    let cursors = started.as_mut_slice();
     let selection = Selection { shelf, picks, skip };
-    for row in 0..shelf.region().rows() {
-        count_row(
-            alloc,
-            selection,
-            row,
-            cursors,
-            cells.as_mut_slice(),
-            &mut places,
-            &mut entries,
-        )?;
-    }
+    count_rows(alloc, selection, &mut places, &mut entries)?;
+    let width = picks.len();
     list_gathered(alloc, width, places.wide, &mut entries)?;
     list_pairs(alloc, width, places.pairs, &mut entries)?;
     Ok(ordered_entries(entries))

@@ -8,7 +8,7 @@ use Rattle.cell_stats_counts.specs.parts.Alone.{alone}
 use Rattle.cell_stats_counts.specs.parts.ByteCounts.{sum_counted}
 use Rattle.cell_stats_combinations.specs.parts.Same.{is_same}
 use Rattle.cell_stats_counts.specs.parts.CountsUnderWay.{total_of, IsCounting}
-use Rattle.cell_stats_counts.proofs.ByteCountLemmas.{one_counted, cells-sum, length-sum, byte-left, byte-none, byte-more}
+use Rattle.cell_stats_counts.proofs.ByteCountLemmas.{byte-left, byte-none, byte-more}
 use Rattle.cell_stats_counts.proofs.ByteCountLemmas.{room-on, room-grown}
 use Rattle.cell_stats_counts.proofs.alone.count_bytes.Goals as goal
 use Rattle.cell_stats_counts.proofs.alone.count_bytes.Goals.{then-count-gt0+then-not-is_left_out+in_ok-add_count}
@@ -24,26 +24,16 @@ left_as skip cell byte stands reported left = ap (λ x. is_left_out skip (alone 
 inside : {byte size : ℕ} → byte < 256 → size ≡ 256 → byte < size
 inside small size = omega arith
 
-pub loop-byte-init : goal.loop-byte-init
-loop-byte-init c = record {
-  counted = λ k.
-      ap (λ m. total_of 1 k c.args.places.now c.args.entries.now.items + m)
-      (c.byte_counts-counts.ensures.sums (one_counted c.args.skip k) ∙ sym (cells-sum c.args.skip k c.args.bytes.now));
-  room = λ k.
-      omega (arith, c.byte_counts-counts.ensures.sums (λ b. 1), length-sum c.args.bytes.now, c.requires.fits k);
-  going = c.requires.going;
-}
-
 pub loop-byte-preserved : goal.loop-byte-preserved
 loop-byte-preserved c =
     let inv = c.loop-byte.invariant in
     let skip = c.args.skip in
     let byte = c.loop-byte.byte in
-    let counts = c.byte_counts-counts.result in
+    let counts = c.args.counts.now in
     let n = get_or counts byte 0 in
     let cell = c.cell_of_byte.result in
     let stands : cell ≡ byte_cell byte = c.cell_of_byte.ensures in
-    let within : byte < length counts = inside c.loop-byte-test.true c.byte_counts-counts.ensures.size in
+    let within : byte < length counts = inside c.loop-byte-test.true c.told-counts in
     let now = c.if-count-gt0 in
     elim c.if-count-gt0.branch [
       | then-count-gt0+then-not-is_left_out+in_ok-add_count w ↦
@@ -51,7 +41,6 @@ loop-byte-preserved c =
           let grown : (k : Combination) → total_of 1 k now.places now.entries.items
           ≡ total_of 1 k c.loop-byte.places c.loop-byte.entries.items + cond (is_same k (alone (byte_cell byte))) n 0 = λ k.
           rw (w.places-is, w.entries-is) (w.in_ok-add_count.ensures.counts k
-          ∙ ap (λ m. total_of 1 k c.loop-byte.places c.loop-byte.entries.items + cond (is_same k (alone cell)) m 0) w.from.ensures
           ∙ ap (λ x. total_of 1 k c.loop-byte.places c.loop-byte.entries.items + cond (is_same k (alone x)) n 0) stands) in
           record {
             counted = λ k. byte-more skip k byte n counts within refl _ _ _ kept (grown k) (inv.counted k);

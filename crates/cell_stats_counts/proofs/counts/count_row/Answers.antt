@@ -1,10 +1,8 @@
 use Rattle.std.proofs.Common.{◌≡◌, ◌<◌, ◌≤◌, ◌^◌, arith, ap, refl, sym, ◌∙◌, ◌+◌, ℕ}
-use Rattle.std.proofs.lemmas.Result.{IfOk-from_err}
 use Rattle.cell_core_values.specs.Region.{RegionValue}
 use Rattle.cell_stats_counts.specs.parts.CountsUnderWay.{total_of}
 use Rattle.cell_stats_counts.specs.parts.SideBySide.{gathered_of}
-use Rattle.cell_stats_counts.proofs.HeldLemmas.{going_of}
-use Rattle.cell_stats_counts.proofs.RunCountLemmas.{single, counted-alone, fits-alone}
+use Rattle.cell_stats_counts.proofs.RunCountLemmas.{fits-alone}
 use Rattle.cell_stats_counts.proofs.RowLemmas.{twin, counted-both}
 use Rattle.cell_stats_counts.proofs.counts.count_row.Goals as goal
 
@@ -32,56 +30,6 @@ whole paired listed gathered now later more grown = omega arith
 
 same_cols : {wide cols : ℕ} → wide ≡ cols → cols ≤ 65535 → wide < 2 ^ 32
 same_cols same high = omega arith
-
-pub count_alone-requires-clause-row_in_range : goal.count_alone-requires-clause-row_in_range
-count_alone-requires-clause-row_in_range c =
-    below c.requires.row_in_range (ap (λ (r : RegionValue). r.rows) (sym c.map-grid.ensures.region))
-
-pub count_alone-requires-clause-short : goal.count_alone-requires-clause-short
-count_alone-requires-clause-short c =
-    same_cols (ap (λ (r : RegionValue). r.cols) c.map-grid.ensures.region) c.requires.region.cols_most
-
-pub count_alone-requires-clause-fits : goal.count_alone-requires-clause-fits
-count_alone-requires-clause-fits c = λ k.
-    let picks = c.args.selection.picks.now in
-    let region = c.requires.region in
-    let one = just_one c.in-len1.len_at_least c.in-len1.len_below in
-    let few = before c.requires.row_in_range region.rows_most in
-    let was = sym (ap (λ w. total_of w k c.args.places.now c.args.entries.now.items) one) ∙ c.requires.counted k in
-    let wide = ap (λ (r : RegionValue). r.cols) c.map-grid.ensures.region in
-    fits-alone c.args.selection.skip k c.args.selection.shelf.now.maps picks c.args.row
-    c.args.selection.shelf.now.region.cols (total_of 1 k c.args.places.now c.args.entries.now.items) _ few
-    region.cols_most was wide
-
-pub returns-in-len1-clause-ok : goal.returns-in-len1-clause-ok
-returns-in-len1-clause-ok c = λ k.
-    let picks = c.args.selection.picks.now in
-    let one = just_one c.in-len1.len_at_least c.in-len1.len_below in
-    let was = sym (ap (λ w. total_of w k c.args.places.now c.args.entries.now.items) one) ∙ c.requires.counted k in
-    let wide = c.count_alone.ensures.width ∙ ap (λ (r : RegionValue). r.cols) c.map-grid.ensures.region in
-    let new = c.count_alone.new in
-    ap (λ w. total_of w k new.places new.entries.items) one
-    ∙ counted-alone c.args.selection.skip k c.args.selection.shelf.now.maps picks c.args.row _
-    c.args.selection.shelf.now.region.cols c.map-grid.result.now
-    (total_of 1 k c.args.places.now c.args.entries.now.items) (total_of 1 k new.places new.entries.items)
-    (single picks _ one) c.map-grid.ensures.value wide was (c.in_ok-count_alone.ensures.ok k)
-
-pub map-grid-requires : goal.map-grid-requires
-map-grid-requires c = c.requires.picked 0 0 c.in-len1.len_at_least
-
-pub count_alone-requires-clause-going : goal.count_alone-requires-clause-going
-count_alone-requires-clause-going c =
-    going_of (just_one c.in-len1.len_at_least c.in-len1.len_below) c.requires.going
-
-pub returns-in_err-count_alone-clause-ok : goal.returns-in_err-count_alone-clause-ok
-returns-in_err-count_alone-clause-ok c = IfOk-from_err c.from_residual.result _ c.from_residual.ensures.0
-
-pub returns-in_err-count_alone-clause-going : goal.returns-in_err-count_alone-clause-going
-returns-in_err-count_alone-clause-going c = IfOk-from_err c.from_residual.result _ c.from_residual.ensures.0
-
-pub returns-in-len1-clause-going : goal.returns-in-len1-clause-going
-returns-in-len1-clause-going c =
-    going_of (sym (just_one c.in-len1.len_at_least c.in-len1.len_below)) c.in_ok-count_alone.ensures.going
 
 pub count_varied-requires-clause-fits : goal.count_varied-requires-clause-fits
 count_varied-requires-clause-fits c = λ k.
