@@ -9,6 +9,7 @@ ghost use Rattle.cell_cats.specs.parts.Pieces.{AreOfRules};
 
 use crate::pieces::Pieces;
 use cell_core::cell::Cell;
+use cell_core::map::CellMap;
 use cell_core::memory::Memory;
 use cell_core_values::small_cells::{are_small, bytes_of, cell_of_byte};
 use std::alloc::Global;
@@ -16,21 +17,35 @@ use std::alloc::Global;
 // How many bytes there are.
 const BYTES: usize = 256;
 
-// A map of fewer cells takes less time without a table.
-const FEWEST_CELLS: u64 = 16_384;
+// Fewer cells that are kept as bytes take less time without a table.
+const FEWEST_CELLS: usize = 16_384;
 
-// For each byte the byte of its new category: None if bytes do not stand for all of these, or for a map of few cells.
+// Whether so many cells of a map are kept as bytes that a table saves time.
+fn has_many_bytes(map: &CellMap) -> bool {
+    let mut cells: usize = 0;
+    for row in 0..map.region().rows() {
+        if let Some(bytes) = map.bytes(row) {
+            cells = cells.wrapping_add(bytes.len());
+            if cells >= FEWEST_CELLS {
+                return true;
+            }
+        }
+    }
+    false
+}
+
+// For each byte the byte of its new category: None if bytes do not stand for all of these, or if a table would save no time.
 pub(crate) fn byte_table(
     alloc: Global,
     pieces: &Pieces,
-    cells_of_map: u64,
+    given: &CellMap,
 ) -> Result<Option<Vec<u8>>, Memory>
     ensures size { IfOk result (λ table. IfSome table (λ bytes. length bytes.items ≡ 256)) }
     ensures right { IfOk result (λ table. IfSome table
         (λ bytes. (rules : List RuleValue) → AreOfRules rules pieces.now
         → IsByteTable rules bytes.items)) }
 {
-    if cells_of_map < FEWEST_CELLS {
+    if !has_many_bytes(given) {
         return Ok(None);
     }
     let mut cells = vec![in alloc; Cell::null(); BYTES]?;

@@ -87,7 +87,7 @@ fn reclass_cells(alloc: Global, given: &CellMap, rules: &Rules) -> Result<CellMa
     let region = given.region();
     let cells = u64::from(region.rows()) * u64::from(region.cols());
     let pieces = Pieces::of_rules(alloc, rules)?;
-    let new_bytes = byte_table(alloc, &pieces, cells)?;
+    let new_bytes = byte_table(alloc, &pieces, given)?;
     let table = new_bytes.as_deref();
     let mut places = only_null(alloc, cells)?;
     let known = places.as_mut_slice();
@@ -98,11 +98,13 @@ fn reclass_cells(alloc: Global, given: &CellMap, rules: &Rules) -> Result<CellMa
     let mut new_runs = Vec::new(alloc);
     let mut builder = MapBuilder::new(alloc, region);
     for r in 0..region.rows() {
-        let runs = given.runs(r);
         if let (Some(table), Some(bytes)) = (table, given.bytes(r)) {
             write_by_table(table, bytes, byte_row);
             builder.push_bytes(byte_row)?;
-        } else if runs.len() > row.len() / CELLS_A_RUN {
+            continue;
+        }
+        let runs = given.runs(r);
+        if runs.len() > row.len() / CELLS_A_RUN {
             given.copy_row(r, row);
             renew(&pieces, known, row);
             builder.push_row(row)?;

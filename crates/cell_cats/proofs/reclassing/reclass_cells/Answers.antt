@@ -10,7 +10,7 @@ use Rattle.cell_cats.specs.parts.ByteTables.{IsByteTable}
 use Rattle.cell_cats.specs.parts.KnownCategories.{AreRight}
 use Rattle.cell_cats.specs.parts.Pieces.{AreOfRules}
 use Rattle.cell_cats.proofs.ReclassLemmas.{rows-more}
-use Rattle.cell_cats.proofs.reclassing.reclass_cells.Goals.{in-Some-Some+in_ok-push_bytes, in_default+then-len-row+in_ok-push_row, in_default+else-len-row+in_ok-write_new_runs+in_ok-push_runs}
+use Rattle.cell_cats.proofs.reclassing.reclass_cells.Goals.{then-len-row+in_ok-push_row, else-len-row+in_ok-write_new_runs+in_ok-push_runs}
 use Rattle.cell_cats.proofs.reclassing.reclass_cells.Goals as goal
 
 row_inside : {row end rows : ℕ} → row < end → end ≡ rows → row < rows
@@ -38,6 +38,33 @@ push_runs-requires-clause-width c =
     ∙ length-map (written_out c.runs-runs.result) (new_category rules)
     ∙ c.runs-runs.ensures.width ∙ ap (λ r. r.cols) (sym c.loop-r.invariant.region)
 
+pub loop-r-preserved-in-Some-Some : goal.loop-r-preserved-in-Some-Some
+loop-r-preserved-in-Some-Some c =
+    let rules : List RuleValue = c.args.rules.now in
+    let given : Grid = c.args.given.now in
+    let old : Draft = c.loop-r.builder in
+    let is = c.loop-r.invariant in
+    let new = new_row rules (row_at given c.loop-r.r) in
+    let within : c.loop-r.r < length given.rows =
+    row_inside c.loop-r-test.true (c.rows-r-end.ensures.value ∙ ap (λ r. r.rows) c.region-region.ensures.value ∙ sym c.region-region.ensures.filled.count) in
+    let table : IsByteTable rules c.in-Some-Some.table.now =
+    shown (λ bytes. bytes.items) (λ bytes. bytes.now) (λ bytes. (rules : List RuleValue) → AreOfRules rules c.in_ok-pieces.pieces → IsByteTable rules bytes)
+    c.in_ok-new_bytes.new_bytes c.as_deref-table.result c.in-Some-Some.table
+    c.in-Some-Some.is-0 c.as_deref-table.ensures.value c.in_ok-new_bytes.ensures.right rules c.in_ok-pieces.ensures in
+    let row = c.write_by_table.ensures rules table ∙ ap (new_row rules) c.in-Some-Some.ensures.cells in
+    let done : c.push_bytes.new.self ≡ record old { rows = old.rows ++ new ∷ [] } =
+    c.in_ok-push_bytes.ensures.ok ∙ ap (λ (cells : List CellValue). record old { rows = old.rows ++ cells ∷ [] }) row in
+    let pushed = ap (λ (b : Draft). b.rows) done in
+    record {
+      rows = rows-more rules given old.rows c.push_bytes.new.self.rows c.loop-r.r within is.rows pushed;
+      region = ap (λ (b : Draft). b.region) done ∙ is.region;
+      count = ap length pushed ∙ length-append old.rows (new ∷ []) ∙ ap (λ n. n + 1) is.count;
+      width = is.width;
+      byte_width = c.write_by_table.auto.row ∙ is.byte_width;
+      some = is.some;
+      right = is.right;
+    }
+
 pub loop-r-preserved : goal.loop-r-preserved
 loop-r-preserved c =
     let rules : List RuleValue = c.args.rules.now in
@@ -48,24 +75,15 @@ loop-r-preserved c =
     let within : c.loop-r.r < length given.rows =
     row_inside c.loop-r-test.true (c.rows-r-end.ensures.value ∙ ap (λ r. r.rows) c.region-region.ensures.value ∙ sym c.region-region.ensures.filled.count) in
     let more : List CellValue → Draft = λ cells. record old { rows = old.rows ++ cells ∷ [] } in
-    let done : (c.match-table.builder ≡ more new) × AreRight rules c.match-table.known
-    = elim c.match-table.branch [
-      | in-Some-Some+in_ok-push_bytes w ↦
-          let table : IsByteTable rules w.in-Some-Some.table.now =
-          shown (λ bytes. bytes.items) (λ bytes. bytes.now) (λ bytes. (rules : List RuleValue) → AreOfRules rules c.in_ok-pieces.pieces → IsByteTable rules bytes)
-          c.in_ok-new_bytes.new_bytes c.as_deref-table.result w.in-Some-Some.table
-          w.in-Some-Some.is-0 c.as_deref-table.ensures.value c.in_ok-new_bytes.ensures.right rules c.in_ok-pieces.ensures in
-          let row = w.write_by_table.ensures rules table ∙ ap (new_row rules) w.in-Some-Some.ensures.cells in (
-            w.builder-is ∙ w.in_ok-push_bytes.ensures.ok ∙ ap more row,
-            subst (AreRight rules) (sym w.known-is) is.right,
-          )
-      | in_default+then-len-row+in_ok-push_row w ↦
+    let done : (c.if-len-row.builder ≡ more new) × AreRight rules c.if-len-row.known
+    = elim c.if-len-row.branch [
+      | then-len-row+in_ok-push_row w ↦
           let row = w.renew.ensures.row rules c.in_ok-pieces.ensures is.right
           ∙ ap (new_row rules) w.copy_row.ensures in (
             w.builder-is ∙ w.in_ok-push_row.ensures.ok ∙ ap more row,
             subst (AreRight rules) (sym w.known-is) (w.renew.ensures.right rules c.in_ok-pieces.ensures is.right),
           )
-      | in_default+else-len-row+in_ok-write_new_runs+in_ok-push_runs w ↦
+      | else-len-row+in_ok-write_new_runs+in_ok-push_runs w ↦
           let row = ap written_out w.deref.ensures.value
           ∙ w.in_ok-write_new_runs.ensures.row rules c.in_ok-pieces.ensures is.right
           ∙ ap (new_row rules) c.runs-runs.ensures.written in (
@@ -75,11 +93,11 @@ loop-r-preserved c =
     ] in
     let pushed = ap (λ (b : Draft). b.rows) done.0 in
     record {
-      rows = rows-more rules given old.rows c.match-table.builder.rows c.loop-r.r within is.rows pushed;
+      rows = rows-more rules given old.rows c.if-len-row.builder.rows c.loop-r.r within is.rows pushed;
       region = ap (λ (b : Draft). b.region) done.0 ∙ is.region;
       count = ap length pushed ∙ length-append old.rows (new ∷ []) ∙ ap (λ n. n + 1) is.count;
-      width = c.match-table.auto.row ∙ is.width;
-      byte_width = c.match-table.auto.byte_row ∙ is.byte_width;
-      some = omega (arith, c.match-table.auto.known, is.some);
+      width = c.if-len-row.auto.row ∙ is.width;
+      byte_width = is.byte_width;
+      some = omega (arith, c.if-len-row.auto.known, is.some);
       right = done.1;
     }
