@@ -2,4 +2,5 @@ mod ByteLemmas
 pub mod LabelLemmas
 pub mod RowLemmas
 pub mod RunLemmas
+pub mod MapRowLemmas
 pub mod MarkLemmas

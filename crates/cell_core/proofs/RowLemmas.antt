@@ -1,9 +1,12 @@
 -- The runs of cells that are kept as they are.
-use Rattle.std.proofs.Common.{◌≡◌, ◌≢◌, ℕ, suc, Bool, true, false, ◌+◌, ◌-◌, ◌<◌, List, [], ◌∷◌, ◌++◌, length, take, drop, replicate, get_or, All, refl, ap, sym, ◌∙◌, arith, add-one, take_all, length-drop}
+use Rattle.std.proofs.Common.{◌≡◌, ◌≢◌, ℕ, suc, Bool, true, false, ◌+◌, ◌-◌, ◌<◌, List, [], ◌∷◌, ◌++◌, length, take, drop, replicate, get_or, All, refl, ap, sym, ◌∙◌, arith, add-one, take_all, length-drop, eqb, pos, Some, None, Fits, w8, rules}
 use Rattle.std.specs.Prelude.{if◌then◌else◌}
 use Rattle.std.proofs.Math.Seq.{drop-cons}
-use Rattle.std.proofs.lemmas.List.Elements.{All-cons, All-nil}
-use Rattle.cell_core_values.specs.Cell.{cell_eq, cell_eq-Decides}
+use Rattle.std.proofs.Math.Facts.{Fits-lt-pow}
+use Rattle.std.proofs.lemmas.List.{get_or_default}
+use Rattle.std.proofs.lemmas.List.Elements.{All-cons, All-map, All-nil}
+use Rattle.cell_core_values.specs.Cell.{cell_eq, cell_eq-Decides, IsCell}
+use Rattle.cell_core_values.specs.SmallCells.{byte_cell, cells_of_bytes}
 use Rattle.cell_core.specs.Grid.{CellValue}
 use Rattle.cell_core.specs.Runs.{RunValue, written_out, AreApart, AreRuns}
 use Rattle.cell_core.specs.parts.RowForms.{alike, breaks, with_cell, runs_in, one_by_one}
@@ -108,3 +111,15 @@ module _ (x y : CellValue) (cells : List CellValue) (i : ℕ) (within : i < leng
 
   pub breaks-one : cell_eq y x ≡ false → breaks x (drop i cells) ≡ suc (breaks y (drop (i + 1) cells))
   breaks-one other = ap (breaks x) next-cell ∙ ap (λ (b : Bool). if b then breaks y (drop (i + 1) cells) else suc (breaks y (drop (i + 1) cells))) other
+
+-- bytes stand for cells
+byte_is : (b : ℕ) → b < 256 → IsCell (byte_cell b)
+byte_is b few = by (eqb b 255)
+  where
+    by : (n : Bool) → IsCell (if n then None else Some (pos b))
+    by true = tt
+    by false = search (rules, few)
+
+pub all_cells : (bytes : List ℕ) → ((i : ℕ) → Fits w8 (get_or bytes i 0)) → All IsCell (cells_of_bytes bytes)
+all_cells bytes fits = All-map IsCell byte_cell bytes (λ i d within. rw (sym (get_or_default bytes i 0 d within))
+    (byte_is (get_or bytes i 0) (Fits-lt-pow (fits i))))

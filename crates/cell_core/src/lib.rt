@@ -9,8 +9,8 @@
 //! - `stretches`: `Stretches`, a row as it is kept: by runs, or cell by cell
 //! - `shelf`: `Shelf`, maps of one region under distinct names; `ShelfFault`
 //! - `printed_cell`: `write_cell`, a category in decimal, or the null text
-//! - private: `row`, a row as runs, bytes or cells; `byte_runs`, the runs of bytes;
-//!   `few`, a few bytes or cells without memory of their own
+//! - private: `map_rows`, the rows of a map as they are kept; `row`, a row as runs, bytes or cells, and
+//!   `row_view`, what is read from it; `byte_runs`, the runs of bytes
 //!
 //! ```
 //! let (one, other) = (Cell::value(1).ok_or("null")?, Cell::value(2).ok_or("null")?);
@@ -24,10 +24,11 @@
 #![tactic(auto)]
 
 mod byte_runs;
-mod few;
 pub mod map;
+mod map_rows;
 pub mod printed_cell;
 mod row;
+mod row_view;
 pub mod runs;
 pub mod shelf;
 pub mod stretches;

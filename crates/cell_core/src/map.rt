@@ -8,7 +8,7 @@ ghost use Rattle.cell_core_values.specs.SmallCells.{cells_of_bytes};
 ghost use Rattle.cell_core.specs.Grid.{Grid, Draft, cell_at, row_at, IsFilled, IsDraft, AreCells, no_labels};
 ghost use Rattle.cell_core.specs.Runs.{AreRuns, written_out};
 
-use crate::row::Row;
+use crate::map_rows::Rows;
 use crate::runs::Runs;
 use crate::stretches::Stretches;
 use cell_core_values::cell::Cell;
@@ -20,13 +20,12 @@ use std::marker::Model;
 
 /// A raster map of whole numbers (GRASS: a CELL map): its region, its rows from the top, and the
 /// labels of its categories. Rows and columns count from 0. A row is kept as its runs, or as
-/// its cells if these take less memory, in a byte each if they are null or from 0 to 254. At most 16 such bytes
-/// take none, nor do at most 4 other cells.
+/// its cells if these take less memory, in a byte each if they are null or from 0 to 254. A map of at most 16
+/// columns has no row of its own: its cells follow one another.
 #[derive(Debug, Drop)]
 pub struct CellMap {
-    region: Region,
     alloc: Global,
-    rows: Vec<Row>,
+    rows: Rows,
     labels: BTreeMap<i32, Vec<u8>>,
 }
 
@@ -40,9 +39,9 @@ impl Model for CellMap {
 
     ghost coded = { grid_code };
 
-    ghost view = { λ m. record { region = m.region; rows = m.rows.items; labels = from_entries (map (λ e. (e.0, e.1.items)) m.labels.entries) } };
+    ghost view = { λ m. record { region = m.rows.region; rows = m.rows.rows; labels = from_entries (map (λ e. (e.0, e.1.items)) m.labels.entries) } };
 
-    ghost invariant = { λ m. IsFilled m.region m.rows.items × AreCells m.rows.items };
+    ghost invariant = { λ m. IsFilled m.rows.region m.rows.rows × AreCells m.rows.rows };
 }
 
 impl CellMap {
@@ -51,7 +50,7 @@ impl CellMap {
         ensures value { result ≡ self.now.region }
         ensures filled { IsFilled self.now.region self.now.rows }
     {
-        self.region
+        self.rows.region()
     }
 
     /// The cell at a row and a column. It walks the runs of the row, since a run keeps its length and not its end: to read many
@@ -61,7 +60,7 @@ impl CellMap {
         requires col_in_range { col < self.now.region.cols }
         ensures { result ≡ cell_at self.now row col }
     {
-        self.rows[row as usize].cell(col)
+        self.rows.row(row).cell(col)
     }
 
     /// Copies the cells of a row, from left to right. The slice has as many cells as the region
@@ -72,7 +71,7 @@ impl CellMap {
         requires width { length cells.old ≡ self.now.region.cols }
         ensures { cells.new ≡ row_at self.now row }
     {
-        self.rows[row as usize].copy_to(cells);
+        self.rows.row(row).copy_to(cells);
     }
 
     /// The runs of a row, from left to right.
@@ -82,7 +81,7 @@ impl CellMap {
         ensures width { length (written_out result) ≡ self.now.region.cols }
         ensures runs { AreRuns result }
     {
-        self.rows[row as usize].runs()
+        self.rows.row(row).runs()
     }
 
     /// The stretches of a row, from left to right: its runs, or its cells one by one, as they are kept.
@@ -92,7 +91,7 @@ impl CellMap {
         ensures width { length (written_out result) ≡ self.now.region.cols }
         ensures some { All (λ run. 0 < run.1) result }
     {
-        self.rows[row as usize].stretches()
+        self.rows.row(row).stretches()
     }
 
     /// The bytes that stand for the cells of a row, from left to right, if the row is kept so.
@@ -101,7 +100,7 @@ impl CellMap {
         ensures cells { IfSome result (λ bytes. cells_of_bytes bytes.now ≡ row_at self.now row) }
         ensures width { IfSome result (λ bytes. length bytes.now ≡ self.now.region.cols) }
     {
-        self.rows[row as usize].bytes()
+        self.rows.row(row).bytes()
     }
 
     /// The cells of a row, from left to right, if the row is kept so.
@@ -109,7 +108,7 @@ impl CellMap {
         requires row_in_range { row < self.now.region.rows }
         ensures { IfSome result (λ cells. cells.now ≡ row_at self.now row) }
     {
-        self.rows[row as usize].cells()
+        self.rows.row(row).cells()
     }
 
     /// Says that each cell of a map is null or a category. Does nothing. It is a call of its own, so that only a law that needs
@@ -152,19 +151,16 @@ impl CellMap {
 /// A map that is filled row by row, from the top.
 #[derive(Debug, Drop)]
 pub struct MapBuilder {
-    region: Region,
     alloc: Global,
-    rows: Vec<Row>,
+    rows: Rows,
 }
 
 impl Model for MapBuilder {
-    ghost use Rattle.cell_core.specs.Grid.{Draft, IsDraft, AreCells};
+    ghost use Rattle.cell_core.specs.Grid.{Draft};
 
     ghost Value = { Draft };
 
-    ghost view = { λ m. record { region = m.region; rows = m.rows.items } };
-
-    ghost invariant = { λ m. IsDraft m.region m.rows.items × AreCells m.rows.items };
+    ghost view = { λ m. m.rows };
 }
 
 impl MapBuilder {
@@ -173,9 +169,8 @@ impl MapBuilder {
         ensures { result ≡ record { region = region; rows = [] } }
     {
         MapBuilder {
-            region,
             alloc,
-            rows: Vec::new(alloc),
+            rows: Rows::new(alloc, region),
         }
     }
 
@@ -184,7 +179,7 @@ impl MapBuilder {
         ensures count { result + length self.now.rows ≡ self.now.region.rows }
         ensures draft { IsDraft self.now.region self.now.rows }
     {
-        self.region.rows() - self.rows.len() as u32
+        self.rows.region().rows() - self.rows.len()
     }
 
     /// Puts a row of as many cells as the region has columns below the others. One is left.
@@ -199,8 +194,7 @@ impl MapBuilder {
             (self.new ≡ record self.old { rows = self.old.rows ++ row.now ∷ [] }) }
         ensures err { OnErr result (self.new ≡ self.old) }
     {
-        let row = Row::of(self.alloc, row)?;
-        self.push(row)
+        self.rows.push_row(row)
     }
 
     /// Puts the row of cells that bytes stand for below the others, as [`MapBuilder::push_row`] does.
@@ -215,12 +209,11 @@ impl MapBuilder {
             (self.new ≡ record self.old { rows = self.old.rows ++ cells_of_bytes bytes.now ∷ [] }) }
         ensures err { OnErr result (self.new ≡ self.old) }
     {
-        let row = Row::of_bytes(self.alloc, bytes)?;
-        self.push(row)
+        self.rows.push_bytes(bytes)
     }
 
-    /// Puts the row that runs make below the others, as [`MapBuilder::push_row`] does. It is kept as these runs, which takes less
-    /// memory than its cells if they are at most half as many.
+    /// Puts the row that runs make below the others, as [`MapBuilder::push_row`] does. A row of more than 16 columns is kept as
+    /// these runs, which takes less memory than its cells if they are at most half as many.
     ///
     /// # Errors
     ///
@@ -233,22 +226,7 @@ impl MapBuilder {
             (self.new ≡ record self.old { rows = self.old.rows ++ written_out runs.now ∷ [] }) }
         ensures err { OnErr result (self.new ≡ self.old) }
     {
-        let row = Row::of_runs(self.alloc, runs)?;
-        self.push(row)
-    }
-
-    // Puts a row below the others.
-    #[inline(always)]
-    fn push(&mut self, row: Row) -> Result<(), Memory>
-        requires width { length row ≡ self.old.region.cols }
-        requires cells { All IsCell row }
-        requires room { length self.old.rows < self.old.region.rows }
-        ensures ok { OnOk result
-            (self.new ≡ record self.old { rows = self.old.rows ++ row ∷ [] }) }
-        ensures err { OnErr result (self.new ≡ self.old) }
-    {
-        self.rows.push(row)?;
-        Ok(())
+        self.rows.push_runs(runs)
     }
 
     /// The map of the rows pushed, without labels. No row is left to be pushed.
@@ -256,13 +234,8 @@ impl MapBuilder {
         requires { length self.rows ≡ self.region.rows }
         ensures { result ≡ record { region = self.region; rows = self.rows; labels = no_labels } }
     {
-        let MapBuilder {
-            region,
-            alloc,
-            rows,
-        } = self;
+        let MapBuilder { alloc, rows } = self;
         CellMap {
-            region,
             alloc,
             rows,
             labels: BTreeMap::new(alloc),

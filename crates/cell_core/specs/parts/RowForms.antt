@@ -7,6 +7,8 @@ use Rattle.cell_core.specs.Runs.{RunValue, AreRuns, written_out}
 use Rattle.cell_core_values.specs.SmallCells.{cells_of_bytes}
 use Rattle.cell_core.specs.declared.row.RowForm.{RowForm}
 use Rattle.cell_core.specs.declared.row.RowForm.TheVariants as kept
+use Rattle.cell_core.specs.declared.row_view.ViewForm.{ViewForm}
+use Rattle.cell_core.specs.declared.row_view.ViewForm.TheVariants as view
 use Rattle.cell_core.specs.declared.runs.Rest.{Rest}
 use Rattle.cell_core.specs.declared.runs.Rest.TheVariants as rest
 use Rattle.cell_core.specs.declared.stretches.Unread.{Unread}
@@ -14,19 +16,26 @@ use Rattle.cell_core.specs.declared.stretches.Unread.TheVariants as unread
 
 -- the cells that are kept
 abbrev pub cells_of_row : RowForm → List CellValue
-cells_of_row (kept.FewBytes bytes) = cells_of_bytes bytes
-cells_of_row (kept.FewCells cells) = cells
 cells_of_row (kept.Runs runs) = written_out runs.items
 cells_of_row (kept.Bytes bytes) = cells_of_bytes bytes.items
 cells_of_row (kept.Cells cells) = cells.items
 
 -- what is kept as runs are runs, and bytes and cells are no more than a run may have cells
 abbrev pub IsKept : RowForm → Type 0
-IsKept (kept.FewBytes bytes) = Unit {0}
-IsKept (kept.FewCells cells) = Unit {0}
 IsKept (kept.Runs runs) = AreRuns runs.items
 IsKept (kept.Bytes bytes) = length bytes.items < 2 ^ 32
 IsKept (kept.Cells cells) = length cells.items < 2 ^ 32
+
+-- the same of a row that is read
+abbrev pub cells_of_view : ViewForm → List CellValue
+cells_of_view (view.Runs runs) = written_out runs.now
+cells_of_view (view.Bytes bytes) = cells_of_bytes bytes.now
+cells_of_view (view.Cells cells) = cells.now
+
+abbrev pub IsSeen : ViewForm → Type 0
+IsSeen (view.Runs runs) = AreRuns runs.now
+IsSeen (view.Bytes bytes) = length bytes.now < 2 ^ 32
+IsSeen (view.Cells cells) = length cells.now < 2 ^ 32
 
 -- how many cells at the start equal a cell
 abbrev pub alike : CellValue → List CellValue → ℕ

@@ -11,4 +11,4 @@ returns-clause-ok c =
     let updates = rw (to_z-of_z w32 c.args.category c.ranges.category) at c.in_ok-insert.ensures.updates in
     let labels = insert-labels (λ v. v.items) old c.insert.new.self.entries c.args.category c.in_ok-label.label updates.0
     ∙ ap (insert (from_entries (map (λ e. (e.0, e.1.items)) old)) c.args.category) c.in_ok-label.ensures.items in
-    rw (← c.self.view_is) (λ i. record { region = c.self.inside.region; rows = c.self.inside.rows.items; labels = labels i })
+    rw (← c.self.view_is) (λ i. record { region = c.self.inside.rows.region; rows = c.self.inside.rows.rows; labels = labels i })

@@ -1,7 +1,7 @@
 use Rattle.std.proofs.Common.{◌<◌, length, take, arith, subst, sym, take_all}
 use Rattle.std.proofs.lemmas.List.Elements.{All-more, All-same}
 use Rattle.cell_core_values.specs.Cell.{IsCell}
-use Rattle.cell_core.proofs.few.FewCells.of.Goals as goal
+use Rattle.cell_core.proofs.map_rows.are_in_range.Goals as goal
 
 pub loop-cell-preserved : goal.loop-cell-preserved
 loop-cell-preserved c =
@@ -11,8 +11,8 @@ loop-cell-preserved c =
     All-more IsCell cells i c.cell-item.result within c.loop-cell.invariant
     (subst IsCell c.cell-item.is c.category_of.ensures.cell)
 
-pub returns-clause-cells : goal.returns-clause-cells
-returns-clause-cells c =
+pub returns : goal.returns
+returns c =
     let cells = c.args.cells.now in
     let i = c.loop-cell.cell-index in
     All-same IsCell cells (take i cells) (sym (take_all i cells (omega arith))) c.loop-cell.invariant

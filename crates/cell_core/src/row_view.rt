@@ -1,0 +1,141 @@
+//! A row of a map, seen as it is kept.
+
+ghost use Rattle.std.specs.Prelude.{◌≡◌, ◌<◌, ◌^◌, length, All, None, IfSome, slice_index_or};
+ghost use Rattle.cell_core_values.specs.SmallCells.{cells_of_bytes};
+ghost use Rattle.cell_core.specs.Runs.{AreRuns, written_out};
+
+use crate::runs::{Runs, cell_of_runs, write_out};
+use crate::stretches::Stretches;
+use cell_core_values::cell::Cell;
+use cell_core_values::small_cells::{cell_of_byte, write_byte_cells};
+use std::marker::Model;
+
+/// A row of cells in the form in which it is kept.
+#[derive(Drop)]
+pub(crate) struct RowView<'a> {
+    form: ViewForm<'a>,
+}
+
+#[derive(Drop)]
+enum ViewForm<'a> {
+    Runs(&'a [(Cell, u32)]),
+    Bytes(&'a [u8]),
+    Cells(&'a [Cell]),
+}
+
+impl<'a> Model for RowView<'a> {
+    ghost use Rattle.std.specs.Prelude.{List};
+    ghost use Rattle.cell_core.specs.Grid.{CellValue};
+    ghost use Rattle.cell_core.specs.parts.RowForms.{cells_of_view, IsSeen};
+
+    ghost Value = { List CellValue };
+
+    ghost view = { λ row. cells_of_view row.form };
+
+    ghost invariant = { λ row. IsSeen row.form };
+}
+
+impl<'a> RowView<'a> {
+    // The row that runs make.
+    pub(crate) fn of_runs(runs: &'a [(Cell, u32)]) -> RowView<'a>
+        requires { AreRuns runs.now }
+        ensures { result ≡ written_out runs.now }
+    {
+        RowView {
+            form: ViewForm::Runs(runs),
+        }
+    }
+
+    // The row of cells that bytes stand for.
+    pub(crate) fn of_bytes(bytes: &'a [u8]) -> RowView<'a>
+        requires { length bytes.now < 2 ^ 32 }
+        ensures { result ≡ cells_of_bytes bytes.now }
+    {
+        RowView {
+            form: ViewForm::Bytes(bytes),
+        }
+    }
+
+    // The row of cells.
+    pub(crate) fn of_cells(cells: &'a [Cell]) -> RowView<'a>
+        requires { length cells.now < 2 ^ 32 }
+        ensures { result ≡ cells.now }
+    {
+        RowView {
+            form: ViewForm::Cells(cells),
+        }
+    }
+
+    // The cell at a column, or null after the end.
+    pub(crate) fn cell(self, col: u32) -> Cell
+        ensures { result ≡ slice_index_or self.entry col None }
+    {
+        match self.form {
+            ViewForm::Runs(runs) => cell_of_runs(runs, col),
+            ViewForm::Bytes(bytes) => match bytes.get(col as usize) {
+                Some(byte) => cell_of_byte(*byte),
+                None => Cell::null(),
+            },
+            ViewForm::Cells(cells) => match cells.get(col as usize) {
+                Some(cell) => *cell,
+                None => Cell::null(),
+            },
+        }
+    }
+
+    // Copies the cells into a slice of as many.
+    pub(crate) fn copy_to(self, cells: &mut [Cell])
+        requires { length cells.old ≡ length self }
+        ensures { cells.new ≡ self.entry }
+    {
+        match self.form {
+            ViewForm::Runs(runs) => write_out(runs, cells),
+            ViewForm::Bytes(bytes) => write_byte_cells(bytes, cells),
+            ViewForm::Cells(kept) => cells.copy_from_slice(kept),
+        }
+    }
+
+    // The runs, from left to right.
+    pub(crate) fn runs(self) -> Runs<'a>
+        ensures written { written_out result ≡ self.entry }
+        ensures runs { AreRuns result }
+    {
+        match self.form {
+            ViewForm::Runs(runs) => Runs::over(runs),
+            ViewForm::Bytes(bytes) => Runs::of_bytes(bytes),
+            ViewForm::Cells(cells) => Runs::of_cells(cells),
+        }
+    }
+
+    // The bytes that stand for the cells, if they are kept so.
+    pub(crate) fn bytes(self) -> Option<&'a [u8]>
+        ensures { IfSome result (λ bytes. cells_of_bytes bytes.now ≡ self.entry) }
+    {
+        match self.form {
+            ViewForm::Bytes(bytes) => Some(bytes),
+            _ => None,
+        }
+    }
+
+    // The cells, if they are kept so.
+    pub(crate) fn cells(self) -> Option<&'a [Cell]>
+        ensures { IfSome result (λ cells. cells.now ≡ self.entry) }
+    {
+        match self.form {
+            ViewForm::Cells(cells) => Some(cells),
+            _ => None,
+        }
+    }
+
+    // The stretches, from left to right.
+    pub(crate) fn stretches(self) -> Stretches<'a>
+        ensures written { written_out result ≡ self.entry }
+        ensures some { All (λ run. 0 < run.1) result }
+    {
+        match self.form {
+            ViewForm::Runs(runs) => Stretches::of_runs(runs),
+            ViewForm::Bytes(bytes) => Stretches::of_bytes(bytes),
+            ViewForm::Cells(cells) => Stretches::of_cells(cells),
+        }
+    }
+}
