@@ -146,15 +146,36 @@ fn expect_stretches<R: Abort + AllocGlobal>(
     Ok(())
 }
 
-// A row of few runs is in stretches as long, and another one cell by cell. (A short row of small cells is kept as bytes, whatever
-// its runs.)
+const FEW_RUNS: [i32; 18] = [
+    501, 501, 502, 502, 502, NULL, NULL, NULL, NULL, NULL, NULL, NULL, NULL, NULL, NULL, NULL,
+    NULL, NULL,
+];
+
+const MANY_RUNS: [i32; 18] = [
+    501, 502, 501, 502, 501, 502, 501, 502, 501, 502, 501, 502, 501, 502, 501, 502, 501, 502,
+];
+
+// A row of few runs is in stretches as long, and another one cell by cell. So is each row of a narrow map.
 #[test]
 fn gives_its_stretches(rt: HostRuntime) -> Result<(), Fail> {
-    let rows = [501, 501, 502, 502, 502, NULL, 501, 501, 502, 503, 501, NULL];
-    let map = map_of(rt.alloc(), 2, 6, &rows)?;
-    expect_stretches(&rt, &map, 0, &[(501, 2), (502, 3), (NULL, 1)])?;
-    let cells = [(501, 1), (501, 1), (502, 1), (503, 1), (501, 1), (NULL, 1)];
-    expect_stretches(&rt, &map, 1, &cells)
+    let map = map_of(rt.alloc(), 1, 18, &FEW_RUNS)?;
+    expect_stretches(&rt, &map, 0, &[(501, 2), (502, 3), (NULL, 13)])?;
+    let map = map_of(rt.alloc(), 1, 18, &MANY_RUNS)?;
+    let mut cells = [(0, 1); 18];
+    for col in 0..18 {
+        cells[col].0 = MANY_RUNS[col];
+    }
+    expect_stretches(&rt, &map, 0, &cells)?;
+    let map = map_of(rt.alloc(), 1, 3, &[501, 501, NULL])?;
+    expect_stretches(&rt, &map, 0, &[(501, 1), (501, 1), (NULL, 1)])
+}
+
+#[test]
+fn keeps_a_narrow_map_whose_later_rows_need_more_than_a_byte(rt: HostRuntime) -> Result<(), Fail> {
+    let map = map_of(rt.alloc(), 3, 2, &[1, 2, 300, NULL, 254, 5])?;
+    expect_runs(&rt, &map, 0, &[(1, 1), (2, 1)])?;
+    expect_runs(&rt, &map, 1, &[(300, 1), (NULL, 1)])?;
+    expect_runs(&rt, &map, 2, &[(254, 1), (5, 1)])
 }
 
 const FIVE: [i32; 5] = [7, -2147483647, -2147483647, NULL, 0];
