@@ -1,11 +1,12 @@
 #!/usr/bin/env python3
-"""Runs rcell over random maps of many columns, and compares its tables and grids with numpy.
+"""Runs rcell over random maps of many columns or of many rows, and compares its tables and grids with numpy.
 
     /usr/bin/python3 tools/model/wide_maps.py [--maps N] [--seed S] [--first F] [--program PATH] [--pieces CLANG]
 
-A row has up to 20,000 columns in stretches of different kinds: masks, small numbers, heights, long and negative numbers, null, each in
-a spelling of its own. Map F of seed S is the same wherever it is made. With --pieces half of the maps are read a few bytes at a time,
-as by compare.py. The last line is 'N maps, M differences'.
+Four of five maps have up to 3 rows of up to 20,000 columns, the others up to 20,000 rows of up to 20 columns, in stretches of
+different kinds: masks, small numbers, heights, long and negative numbers, null, each in a spelling of its own. Map F of seed S is the
+same wherever it is made. With --pieces half of the maps are read a few bytes at a time, as by compare.py. The last line is 'N maps, M
+differences'.
 """
 import argparse
 import tempfile
@@ -17,12 +18,26 @@ from made_cases import Made
 
 NULL = -(2**31)
 MOST = 2**31 - 1
-MOST_COLS = 20_000
+MOST_LENGTH = 20_000
+FEW_ROWS, FEW_COLS = 3, 20
+WIDE_SHARE = 0.8
 LENGTHS = (1, 3, 64, 65, 300, 5000)  # the most cells of a stretch
 # The smallest and the largest number of a stretch.
 RANGES = ((0, 1), (7, 7), (1, 12), (0, 254), (0, 255), (1, 999), (0, 19_999), (0, 99_999_999), (-120, -1), (-9999, 9999), (-MOST, MOST))
 SPELLINGS = ("%d",) * 4 + ("%d ", "%5d", "%d\t", "%05d", "%d\r\n", "%d\n", "%12d")
-SCRIPT = b"r.stats -c input=g\nr.stats -c input=g,h\nr.out.ascii input=g\nr.mapcalc m = max(g[0,1], h)\nr.out.ascii input=m\n"
+SCRIPT = b"""r.stats -c input=g
+r.stats -c input=g,h
+r.out.ascii input=g
+r.mapcalc m = max(g[0,1], h)
+r.out.ascii input=m
+r.reclass input=h output=c
+0 thru 9 = 1
+10 thru 254 = 200
+-120 thru -1 = NULL
+* = 2
+end
+r.stats -c input=c
+"""
 
 
 def random_map(random, shape):
@@ -68,12 +83,21 @@ def expected(g, h):
     beside = np.full(g.shape, NULL, np.int64)
     beside[:, :-1] = g[:, 1:]
     largest = np.where((beside == NULL) | (h == NULL), NULL, np.maximum(beside, h))
-    return table(g) + table(g, h) + grid(g) + grid(largest)
+    classes = np.select([h == NULL, (0 <= h) & (h <= 9), (10 <= h) & (h <= 254), (-120 <= h) & (h <= -1)], [NULL, 1, 200, NULL], 2)
+    return table(g) + table(g, h) + grid(g) + grid(largest) + table(classes)
+
+
+def random_shape(random):
+    """Rows and columns: few of the one, up to 20,000 of the other."""
+    most = int(random.choice([200, 3000, MOST_LENGTH]))
+    if random.random() < WIDE_SHARE:
+        return int(random.integers(1, FEW_ROWS + 1)), int(random.integers(1, most))
+    return int(random.integers(1, most)), int(random.integers(1, min(FEW_COLS, FEW_ROWS * MOST_LENGTH // most) + 1))
 
 
 def is_equal(program, shim, seed, number):
     random = np.random.default_rng([seed, number])
-    shape = (int(random.integers(1, 4)), int(random.integers(1, random.choice([200, 3000, MOST_COLS]))))
+    shape = random_shape(random)
     (g, text), (h, other) = random_map(random, shape), random_map(random, shape)
     files = {"script": SCRIPT, "grid0": (header(shape) + text).encode(), "grid1": (header(shape) + other).encode()}
     made = Made(files, [(b"g", "grid0"), (b"h", "grid1")])
