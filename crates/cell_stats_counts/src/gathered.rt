@@ -23,6 +23,9 @@ const FIRST: usize = 1024;
 // A place that names no combination.
 const NONE: u64 = u64::MAX;
 
+// A multiplier that spreads the bits of a number: 2^64 divided by the golden ratio.
+pub(crate) const SPREAD: u64 = 11400714819323198485;
+
 // The lower half of a number.
 const LOW: u64 = u32::MAX as u64;
 
@@ -50,7 +53,7 @@ pub(crate) fn code_of(cell: Cell) -> u64 {
 fn combination_hash(cells: &[Cell]) -> u64 {
     let mut number: u64 = 0;
     for cell in cells {
-        number = (number.rotate_left(29) ^ code_of(*cell)).wrapping_mul(11400714819323198485);
+        number = (number.rotate_left(29) ^ code_of(*cell)).wrapping_mul(SPREAD);
     }
     number
 }
