@@ -5,10 +5,8 @@ run.py [--short] [--rounds N] [--only WORD] [--program PATH] [--limit PATH] [--w
 
 First each task is done once by both, and their outputs are compared byte for byte. Then they take turns, and the smallest
 processor time (user and system) of all rounds counts, so that other work on the machine disturbs little; grids of up to 4
-million cells have three times N rounds. All times are
-milliseconds for a million cells of one map, from the start of a program to its end, output to /dev/null. The cost of a task
-beyond reading is its time without the time of reading the same grids with the same program. Memory is the peak of the process,
-in bytes a cell of one map.
+million cells have three times N rounds. All times are milliseconds for a million cells of one map, from the start of a program
+to its end, output to /dev/null. Memory is the peak of the process, in bytes a cell of one map.
 
 "Ten tasks" has one run of N rounds, the ratios of the smallest and of the median times, memory, and the instructions for a cell, which
 callgrind counts if valgrind is installed. --limit names a program that does some of the tasks as fast as one can for digits
@@ -54,25 +52,21 @@ MILLION = 1e6
 
 @dataclass(frozen=True)
 class Task:
-    """What is done: the lines of the script, and the words of the yardstick. `most` is the ratio aimed at."""
+    """What is done: the lines of the script, and the words of the yardstick."""
     title: str
     script: str
     words: tuple[str, str]
     maps: int = 1
-    most: float | None = None
-    most_beyond: float | None = None
-
-    def aiming(self, most=None, beyond=None):
-        return Task(self.title, self.script, self.words, self.maps, most, beyond)
 
 
 @dataclass(frozen=True)
 class Bench:
-    """Tasks over grids of one region, each grid a kind of make_grid.cpp and a seed. `side` is its rows and columns, or a pair of both."""
+    """Tasks, each over grids of some kinds of make_grid.cpp with the seeds 1, 2, .. `side` is their rows and columns, or a pair of
+    both; `most` is the ratio aimed at."""
     title: str
-    grids: tuple[tuple[str, int], ...]
     side: int | tuple[int, int]
-    tasks: tuple[Task, ...]
+    tasks: tuple[tuple[Task, tuple[str, ...]], ...]
+    most: float | None = None
 
 
 @dataclass
@@ -104,10 +98,9 @@ class Goal:
 
 @dataclass(frozen=True)
 class Race:
-    """Tasks over grids of one kind, of seeds 1, 2, ..; with each what is aimed at."""
+    """Tasks, each over grids of a kind, of seeds 1, 2, ..; with each what is aimed at."""
     title: str
-    kind: str
-    tasks: tuple[tuple[Task, Goal], ...]
+    tasks: tuple[tuple[Task, str, Goal], ...]
     side: int = FEW_SIDE
 
 
@@ -119,62 +112,20 @@ READ = Task("reading", "", ("none", "nothing"))
 WRITE = Task("r.out.ascii", "r.out.ascii input=g\n", ("none", "ascii"))
 STATS = Task("r.stats -c", "r.stats -c input=g\n", ("none", "stats"))
 STATS_TWO = Task("r.stats -c of two maps", "r.stats -c input=g,h\n", ("none", "stats"), 2)
-STATS_THREE = Task("r.stats -c of three maps", "r.stats -c input=g,h,i\n", ("none", "stats"), 3)
-BY_STD = ("none", "stats-std")
-STD = Task("r.stats -c, by std", STATS.script, BY_STD)
-STD_TWO = Task("r.stats -c of two maps, by std", STATS_TWO.script, BY_STD, 2)
-STD_THREE = Task("r.stats -c of three maps, by std", STATS_THREE.script, BY_STD, 3)
 CLUMP = Task("r.clump", "r.clump input=g output=m\n", ("clump", "nothing"))
 CLUMP_CORNERS = Task("r.clump -d", "r.clump -d input=g output=m\n", ("clump-d", "nothing"))
 CLUMP_WRITE = Task("r.clump, r.out.ascii", CLUMP.script + "r.out.ascii input=m\n", ("clump", "ascii"))
 CLUMP_CORNERS_WRITE = Task("r.clump -d, r.out.ascii", CLUMP_CORNERS.script + "r.out.ascii input=m\n", ("clump-d", "ascii"))
 SUM = Task("sum of nine offsets", f"r.mapcalc m = {NINE}\n", ("sum", "nothing"))
-SUM_WRITE = Task("the sum, r.out.ascii", SUM.script + "r.out.ascii input=m\n", ("sum", "ascii"))
+SUM_WRITE = Task("sum of nine offsets, r.out.ascii", SUM.script + "r.out.ascii input=m\n", ("sum", "ascii"))
 LONG_IF = Task("long `if`", f"r.mapcalc m = {CHOICE}\n", ("choice", "nothing"))
 LONG_IF_STATS = Task("long `if`, r.stats -c", LONG_IF.script + "r.stats -c input=m\n", ("choice", "stats"))
-RECLASS = Task("r.reclass", f"r.reclass input=g output=m\n{RULES}", ("reclass", "nothing"))
-RECLASS_STATS = Task("r.reclass, r.stats -c", RECLASS.script + "r.stats -c input=m\n", ("reclass", "stats"))
+RECLASS_STATS = Task("r.reclass, r.stats -c", f"r.reclass input=g output=m\n{RULES}r.stats -c input=m\n", ("reclass", "stats"))
 
-READING = (READ.aiming(1.1), STATS.aiming(1.2), WRITE.aiming(1.3))
-NEGATIVE = (READ.aiming(1.3), STATS, WRITE)
-TABLES = (STATS, STD.aiming(beyond=2))
-TABLES_OF_TWO = (STATS_TWO, STD_TWO)
-TABLES_OF_THREE = (STATS_THREE, STD_THREE.aiming(beyond=2))
-AREAS = (CLUMP.aiming(beyond=2), CLUMP_CORNERS.aiming(beyond=2), CLUMP_WRITE, CLUMP_CORNERS_WRITE)
+READING = (READ, STATS, WRITE)
+AREAS = (READ, CLUMP, CLUMP_CORNERS, CLUMP_WRITE, CLUMP_CORNERS_WRITE)
+NARROW = (READ, STATS, WRITE, CLUMP_WRITE, SUM_WRITE, LONG_IF_STATS, RECLASS_STATS)
 REAL_TASKS = (READ, STATS, WRITE, CLUMP, SUM, LONG_IF)
-CELLS = (SUM.aiming(beyond=2), SUM_WRITE, LONG_IF.aiming(beyond=3), LONG_IF_STATS, RECLASS, RECLASS_STATS)
-
-PARTS = {
-    "Reading, counting and writing": (
-        Bench("patchy land cover, 25 million cells", (("patchy", 1),), 5000, READING),
-        Bench("noise, 25 million cells", (("noise", 1),), 5000, READING),
-        Bench("patchy land cover, 4 million cells", (("patchy", 1),), 2000, READING),
-        Bench("noise, 4 million cells", (("noise", 1),), 2000, READING),
-        Bench("negative numbers at random, `null: -9999`, 25 million cells", (("negative", 1),), 5000, NEGATIVE),
-        Bench("negative patches, `null: -9999`, 25 million cells", (("cold", 1),), 5000, NEGATIVE),
-        Bench("another category at each cell, 25 million cells", (("apart", 1),), 5000, (READ, STATS, WRITE)),
-    ),
-    "Tables": (
-        Bench("20,000 categories at random, 1 million cells", (("random:20000", 1),), 1000, TABLES),
-        Bench("200,000 categories at random, 1 million cells", (("random:200000", 1),), 1000, TABLES),
-        Bench("10,000 categories in blocks of 60 by 60, 36 million cells", (("blocks:60", 1),), 6000, TABLES),
-        Bench("three land covers, 4 million cells", (("cover", 1), ("cover", 2), ("cover", 3)), 2000, TABLES_OF_THREE),
-        Bench("patchy land cover, 25 million cells", (("patchy", 1),), 5000, TABLES),
-        Bench("two patchy land covers, 4 million cells", (("patchy", 1), ("patchy", 2)), 2000, TABLES_OF_TWO),
-        Bench("two maps of noise, 4 million cells", (("noise", 1), ("noise", 2)), 2000, TABLES_OF_TWO),
-        Bench("two maps of 40 values at random, 4 million cells", (("random:40", 1), ("random:40", 2)), 2000, TABLES_OF_TWO),
-        Bench("two maps of 100 values at random, 4 million cells", (("random:100", 1), ("random:100", 2)), 2000, TABLES_OF_TWO),
-    ),
-    "Areas": tuple(
-        Bench(f"{title}, 4 million cells", ((kind, 1),), 2000, AREAS)
-        for title, kind in (("patchy land cover", "patchy"), ("noise", "noise"), ("one comb of width 2000", "comb"),
-                            ("one spiral", "spiral"), ("checkerboard", "checkerboard"))
-    ),
-    "Expressions and rules": (
-        Bench("patchy land cover, 4 million cells", (("patchy", 1),), 2000, CELLS),
-        Bench("noise, 4 million cells", (("noise", 1),), 2000, CELLS),
-    ),
-}
 
 TEN_TASKS = "Ten tasks"
 # The tasks, and what is aimed at for patches, noise and heights of five digits.
@@ -197,45 +148,68 @@ LIMIT_WORDS = {READ: "read", STATS: "count", STATS_TWO: "count2", CLUMP: "clump"
 
 def raced(title, kind, goals):
     """All ten tasks over a kind of grid, with the goals in a column of RACED."""
-    return Race(f"{title}, 4 million cells", kind, tuple((task, goal[goals] if goals is not None else Goal()) for task, *goal in RACED))
+    tasks = tuple((task, kind, goal[goals] if goals is not None else Goal()) for task, *goal in RACED)
+    return Race(f"{title}, 4 million cells", tasks)
 
 
-PARTS[TEN_TASKS] = (
-    raced("patchy land cover", "patchy", 0),
-    raced("noise", "noise", 1),
-    raced("heights of five digits", "heights:5", 2),
-    raced("a mask", "mask", None),
-    raced("a coarse zoning", "zones", None),
-    *(Race(f"{title}, 4 million cells", kind, ((READ, Goal(1)),)) for title, kind in (
-        ("noise, two blanks between cells", "noise@two"), ("noise, tabs between cells", "noise@tabs"),
-        ("noise, a cell a line", "noise@lines"), ("noise, each cell set right in five places", "noise@padded"),
-        ("patchy land cover, each cell set right in five places", "patchy@padded"))),
-)
+# Other layouts of a grid's cells: as many digits as the largest, two blanks or tabs between them, or a line each.
+LAYOUTS = tuple((Task(f"{kind}, {layout}", READ.script, READ.words), f"{kind}@{word}", Goal(1)) for kind, layout, word in (
+    ("noise", "two blanks between cells", "two"), ("noise", "tabs between cells", "tabs"), ("noise", "a line for each cell", "lines"),
+    ("noise", "cells five places wide", "padded"), ("patchy", "cells five places wide", "padded")))
 
 # No dimension may take more than so many times as long as the yardstick.
 MOST = 3
-NARROW = tuple(task.aiming(MOST) for task in (READ, STATS, WRITE, CLUMP_WRITE, SUM_WRITE, LONG_IF_STATS, RECLASS_STATS))
 
 
-def counted(title, kinds, side=2000):
-    """A table of all maps of some kinds, the seeds of which are 1, 2, .."""
-    grids = tuple((kind, seed + 1) for seed, kind in enumerate(kinds))
-    script = f"r.stats -c input={','.join(NAMES[:len(kinds)])}\n"
-    return Bench(title, grids, side, (Task("r.stats -c of all maps", script, STATS.words, len(kinds), MOST),))
+def over(kind, tasks):
+    """Tasks over one kind of grid."""
+    return tuple((task, (kind,)) for task in tasks)
 
 
-PARTS["Dimensions beside C++"] = (
-    *(Bench(f"noise, 65,535 rows by {cols}", (("noise", 1),), (65535, cols), NARROW) for cols in (1, 2, 4, 8, 16, 61)),
-    *(counted(f"{count:,} categories at random, 4 million cells", [f"random:{count}"]) for count in (10_000, 100_000, 1_000_000)),
-    counted("another category in each of 10 million cells", ["blocks:1"], 3163),
-    *(counted(f"two maps of {count:,} values at random, 4 million cells", [f"random:{count}"] * 2) for count in (300, 1000, 3000)),
-    counted("two maps of heights of five digits, 4 million cells", ["heights:5"] * 2),
-    *(counted(f"{maps} maps of four values at random, 1 million cells", ["random:4"] * maps, 1000) for maps in (8, 12, 16)),
+def counted(title, *kinds):
+    """A table of as many maps as there are kinds."""
+    return Task(title, f"r.stats -c input={','.join(NAMES[:len(kinds)])}\n", STATS.words), kinds
+
+
+COUNTED = (
+    *(counted(f"{count:,} categories at random", f"random:{count}") for count in (10_000, 100_000, 1_000_000)),
+    *(counted(f"two maps of {count:,} values at random", *[f"random:{count}"] * 2) for count in (40, 100, 300, 1000, 3000)),
+    counted("two maps of heights of five digits", *["heights:5"] * 2),
+    counted("three land covers", *["cover"] * 3),
 )
+
+PARTS = {
+    TEN_TASKS: (
+        raced("patchy land cover", "patchy", 0),
+        raced("noise", "noise", 1),
+        raced("heights of five digits", "heights:5", 2),
+        raced("a mask", "mask", None),
+        raced("a coarse zoning", "zones", None),
+        Race("reading other layouts, 4 million cells", LAYOUTS),
+    ),
+    "Larger maps": (
+        Bench("patchy land cover, 25 million cells", 5000, over("patchy", READING)),
+        Bench("noise, 25 million cells", 5000, over("noise", READING)),
+        Bench("negative numbers at random, `null: -9999`, 25 million cells", 5000, over("negative", READING)),
+        Bench("negative patches, `null: -9999`, 25 million cells", 5000, over("cold", READING)),
+        Bench("a category in each block of 60 by 60 cells, 36 million cells", 6000, over("blocks:60", READING)),
+    ),
+    "Areas of difficult shapes": tuple(
+        Bench(f"{title}, 4 million cells", 2000, over(kind, AREAS))
+        for title, kind in (("a comb of width 2000", "comb"), ("a spiral", "spiral"), ("a checkerboard", "checkerboard"))
+    ),
+    "Dimensions beside C++": (
+        *(Bench(f"noise, 65,535 rows by {cols}", (65535, cols), over("noise", NARROW), MOST) for cols in (1, 2, 4, 8, 16, 61)),
+        Bench("r.stats -c of 4 million cells", 2000, COUNTED, MOST),
+        Bench("r.stats -c of 10 million cells", 3163, (counted("another category in each cell", "blocks:1"),), MOST),
+        Bench("r.stats -c of 1 million cells", 1000, tuple(counted(f"{maps} maps of four values at random", *["random:4"] * maps)
+                                                           for maps in (8, 12, 16)), MOST),
+    ),
+}
 
 REAL_MAPS = "Real maps"
 PARTS[REAL_MAPS] = tuple(
-    Bench(title, ((kind, 0),), 0, REAL_TASKS)
+    Bench(title, 0, over(kind, REAL_TASKS))
     for title, kind in (
         ("real land and lakes of South-East Asia, 27 million cells", f"{REAL}land"),
         ("real countries of South-East Asia, 27 million cells", f"{REAL}countries"),
@@ -354,33 +328,24 @@ def ratio_cell(ratio, most):
     return f"{ratio:.2f}" + (f" (missed: {most:g})" if most is not None and ratio > most else "")
 
 
-def row(contest, reading, cells):
+def row(contest, most):
     """A line of the table of a part."""
-    ours, theirs = contest.rcell, contest.yardstick
-    per_million = [least.seconds * 1000 * MILLION / cells for least in (ours, theirs)]
-    ratio = ratio_cell(per_million[0] / per_million[1], contest.task.most)
-    found = [contest.task.title, *(f"{time:.1f}" for time in per_million), ratio]
-    if contest is reading:
-        found += ["", "", ""]
-    else:
-        base = [least.seconds * 1000 * MILLION / cells for least in (reading.rcell, reading.yardstick)]
-        beyond = [whole - part for whole, part in zip(per_million, base)]
-        ratio = ratio_cell(beyond[0] / beyond[1], contest.task.most_beyond) if beyond[1] > 0 else ""
-        found += [*(f"{time:.2f}" for time in beyond), ratio]
-    return found + [f"{least.peak / cells:.2f}" for least in (ours, theirs)]
+    cells = cells_of(contest.paths[0])
+    times = [it.seconds * 1000 * MILLION / cells for it in (contest.rcell, contest.yardstick)]
+    peaks = [it.peak / cells for it in (contest.rcell, contest.yardstick)]
+    return [contest.task.title, *(f"{time:.1f}" for time in times), ratio_cell(times[0] / times[1], most), *(f"{it:.2f}" for it in peaks)]
 
 
-HEAD = ("Task", "rcell ms", "yardstick ms", "ratio", "beyond reading: rcell", "yardstick", "ratio", "memory: rcell", "yardstick")
+HEAD = ("Task", "rcell ms", "yardstick ms", "ratio", "bytes a cell: rcell", "yardstick")
 
 
 def run(bench, wanted, side):
-    """The lines of a table. Reading the same grids is measured too, since the tasks need it."""
-    paths = [grid_file(kind, seed, side) for kind, seed in bench.grids]
-    tasks = bench.tasks if bench.tasks[0].title == READ.title else (READ, *bench.tasks)
-    contests = [Contest(task, paths, wanted.program, number) for number, task in enumerate(tasks)]
-    cells = cells_of(paths[0])
-    take_turns(contests, wanted.rounds * (ROUNDS_FOR_FEW if cells <= FEW_SIDE * FEW_SIDE else 1))
-    return [row(contest, contests[0], cells) for contest in contests]
+    """The lines of a table."""
+    contests = [Contest(task, [grid_file(kind, seed, side) for seed, kind in enumerate(kinds, 1)], wanted.program, number)
+                for number, (task, kinds) in enumerate(bench.tasks)]
+    is_small = cells_of(contests[0].paths[0]) <= FEW_SIDE * FEW_SIDE
+    take_turns(contests, wanted.rounds * (ROUNDS_FOR_FEW if is_small else 1))
+    return [row(contest, bench.most) for contest in contests]
 
 
 def take_turns(contests, rounds):
@@ -398,11 +363,10 @@ RACE_HEAD = ("Task", "rcell ms", "yardstick ms", "ratio: smallest, median", "ove
 
 def race(bench, wanted, side):
     """The lines of a table: one run by turns."""
-    paths = [grid_file(bench.kind, seed + 1, side) for seed in range(max(task.maps for task, _ in bench.tasks))]
-    contests = [Contest(task, paths[:task.maps], wanted.program, number, wanted.limit if goal.limit else None)
-                for number, (task, goal) in enumerate(bench.tasks)]
+    contests = [Contest(task, [grid_file(kind, seed + 1, side) for seed in range(task.maps)], wanted.program, number,
+                        wanted.limit if goal.limit else None) for number, (task, kind, goal) in enumerate(bench.tasks)]
     take_turns(contests, wanted.rounds)
-    for contest, (task, goal) in zip(contests, bench.tasks):
+    for contest, (task, _, goal) in zip(contests, bench.tasks):
         times = [f"{it.seconds * 1000 * MILLION / side ** 2:.1f}" for it in (contest.rcell, contest.yardstick)]
         counts = [f"{count / side ** 2:.1f}" for count in contest.instructions() if count is not None]
         peaks = [f"{it.peak / side ** 2:.2f}" for it in (contest.rcell, contest.yardstick)]

@@ -5,7 +5,6 @@
 
 #include <algorithm>
 #include <numeric>
-#include <unordered_map>
 #include <utility>
 
 // A cell as a number that orders as tables do, null last.
@@ -42,39 +41,6 @@ template <size_t N> struct Many {
 };
 
 template <typename Form> using Entries = std::vector<std::pair<typename Form::Key, uint64_t>>;
-
-// Counts in a hashed map of std, found through the last combination that was counted at each of some thousand places.
-template <typename Form> class StdCounts {
-public:
-    using Key = typename Form::Key;
-
-    StdCounts() : recent(size_t(1) << PLACES_LOG) { counts.reserve(EXPECTED); }
-
-    void add(const Key &key, uint64_t cells) {
-        Recent &place = recent[Form::mixed(key) >> (64 - PLACES_LOG)];
-        if (place.count == nullptr || place.key != key) place = {key, &counts[key]};
-        *place.count += cells;
-    }
-
-    Entries<Form> entries() const { return {counts.begin(), counts.end()}; }
-
-private:
-    static constexpr int PLACES_LOG = 12;
-    static constexpr size_t EXPECTED = 65536;
-    struct Recent {
-        Key key{};
-        uint64_t *count = nullptr;
-    };
-    struct Hash {
-        size_t operator()(const Key &key) const {
-            if constexpr (Form::WIDTH <= 2) return key;
-            else return Form::mixed(key) >> 20;
-        }
-    };
-
-    std::vector<Recent> recent;
-    std::unordered_map<Key, uint64_t, Hash> counts;
-};
 
 // Counts in one array of places, at most half of them taken: a combination is at the first free one from where its
 // hash says.
@@ -155,8 +121,8 @@ inline Entries<One> entries_by_array(const Map &map) {
     return entries;
 }
 
-template <typename Form, typename Counts> inline Entries<Form> entries_by_hash(const std::vector<Map> &maps) {
-    Counts counts;
+template <typename Form> inline Entries<Form> entries_by_hash(const std::vector<Map> &maps) {
+    OwnCounts<Form> counts;
     std::array<const int32_t *, Form::WIDTH> cells;
     for (size_t m = 0; m < Form::WIDTH; m++) cells[m] = maps[m].cells.get();
     const size_t size = maps[0].size();
@@ -175,12 +141,10 @@ template <typename Form, typename Counts> inline Entries<Form> entries_by_hash(c
     return entries;
 }
 
-template <typename Form> inline void write_table_of(const std::vector<Map> &maps, bool by_std, Output &output) {
+template <typename Form> inline void write_table_of(const std::vector<Map> &maps, Output &output) {
     Entries<Form> entries;
-    if constexpr (Form::WIDTH == 1) {
-        if (!by_std) entries = entries_by_array(maps[0]);
-    }
-    if (entries.empty()) entries = by_std ? entries_by_hash<Form, StdCounts<Form>>(maps) : entries_by_hash<Form, OwnCounts<Form>>(maps);
+    if constexpr (Form::WIDTH == 1) entries = entries_by_array(maps[0]);
+    if (entries.empty()) entries = entries_by_hash<Form>(maps);
     char *at = output.start();
     for (const auto &[key, count] : entries) {
         for (size_t m = 0; m < Form::WIDTH; m++) {
@@ -193,15 +157,15 @@ template <typename Form> inline void write_table_of(const std::vector<Map> &maps
     output.wrote_to(at);
 }
 
-inline void write_table(const std::vector<Map> &maps, bool by_std, Output &output) {
+inline void write_table(const std::vector<Map> &maps, Output &output) {
     for (const Map &map : maps) {
         if (map.edges != maps[0].edges || map.rows != maps[0].rows || map.cols != maps[0].cols) fail("other region");
     }
-    if (maps.size() == 1) write_table_of<One>(maps, by_std, output);
-    else if (maps.size() == 2) write_table_of<Two>(maps, by_std, output);
-    else if (maps.size() == 3) write_table_of<Many<3>>(maps, by_std, output);
-    else if (maps.size() == 8) write_table_of<Many<8>>(maps, by_std, output);
-    else if (maps.size() == 12) write_table_of<Many<12>>(maps, by_std, output);
-    else if (maps.size() == 16) write_table_of<Many<16>>(maps, by_std, output);
+    if (maps.size() == 1) write_table_of<One>(maps, output);
+    else if (maps.size() == 2) write_table_of<Two>(maps, output);
+    else if (maps.size() == 3) write_table_of<Many<3>>(maps, output);
+    else if (maps.size() == 8) write_table_of<Many<8>>(maps, output);
+    else if (maps.size() == 12) write_table_of<Many<12>>(maps, output);
+    else if (maps.size() == 16) write_table_of<Many<16>>(maps, output);
     else fail("another number of maps than 1, 2, 3, 8, 12 and 16");
 }

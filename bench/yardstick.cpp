@@ -5,8 +5,7 @@
 //   yardstick MAKER WRITER GRID..
 //
 // MAKER makes a map of the first grid: none (the grid itself), clump, clump-d, sum, choice, reclass. WRITER is nothing,
-// ascii (r.out.ascii of that map), stats (r.stats -c of that map and the other grids) or stats-std (the same with a hashed
-// map of std in place of a table of its own).
+// ascii (r.out.ascii of that map) or stats (r.stats -c of that map and the other grids).
 #include "areas.h"
 #include "expressions.h"
 #include "grid.h"
@@ -35,7 +34,7 @@ int main(int count, char **words) {
     const std::string_view writer = words[2];
     Output output;
     if (writer == "ascii") write_map(maps[0], output);
-    else if (writer == "stats" || writer == "stats-std") write_table(maps, writer == "stats-std", output);
+    else if (writer == "stats") write_table(maps, output);
     else if (writer != "nothing") fail("unknown writer");
     output.flush();
     return 0;

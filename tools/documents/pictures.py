@@ -182,8 +182,8 @@ CHARTED = (
     ("r.out.ascii\npatchy land cover", "r.out.ascii", "patchy land cover, 25 million cells"),
     ("r.stats -c\nnoise", "r.stats -c", "noise, 25 million cells"),
     ("r.clump\npatchy land cover", "r.clump", "patchy land cover, 4 million cells"),
-    ("nine offsets\npatchy land cover", "sum of nine offsets", "patchy land cover, 4 million cells"),
-    ("r.reclass\npatchy land cover", "r.reclass", "patchy land cover, 4 million cells"),
+    ("nine offsets, written\npatchy land cover", "sum of nine offsets, r.out.ascii", "patchy land cover, 4 million cells"),
+    ("r.reclass, counted\npatchy land cover", "r.reclass, r.stats -c", "patchy land cover, 4 million cells"),
 )
 
 
