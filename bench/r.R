@@ -53,10 +53,15 @@ made <- function(side, is_patchy, classes = CLASSES) {
   path
 }
 
-adjacency_by_table <- function(map) {
-  cells <- matrix(values(map, mat = FALSE), nrow(map), byrow = TRUE)
-  across <- table(cells[, -ncol(cells)], cells[, -1])
-  down <- table(cells[-nrow(cells), ], cells[-1, ])
+# Counts of pairs of classes, the fastest way in R.
+pairs_of <- function(one, other) matrix(tabulate(one + CLASSES * (other - 1L), CLASSES^2), CLASSES)
+
+cells_of <- function(path) matrix(values(rast(path), mat = FALSE), SIDE, byrow = TRUE)
+
+adjacency_by_tabulate <- function(path) {
+  cells <- cells_of(path)
+  across <- pairs_of(cells[, -SIDE], cells[, -1])
+  down <- pairs_of(cells[-SIDE, ], cells[-1, ])
   across + t(across) + down + t(down)
 }
 
@@ -70,7 +75,8 @@ calls <- function(path, other) {
   show("new classes (`classify`)", pair(function() classify(rast(path), from_to), function() rcell_grid(rules, "k", x = path), cells))
   show("majority of nine (`focal`, modal)", pair(function() focal(rast(path), 3, "modal", na.rm = TRUE), function() rcell_majority(path, fill = TRUE), cells))
   show("cross table (`crosstab`)", pair(function() crosstab(c(rast(path), rast(other)), long = TRUE), function() rcell_cross(x = path, y = other), cells))
-  show("adjacency (`table` of shifted matrices)", pair(function() adjacency_by_table(rast(path)), function() rcell_adjacency(path), cells))
+  show("cross table (`tabulate`)", pair(function() pairs_of(cells_of(path), cells_of(other)), function() rcell_cross(x = path, y = other), cells))
+  show("adjacency (`tabulate`)", pair(function() adjacency_by_tabulate(path), function() rcell_adjacency(path), cells))
 }
 
 patchy_calls <- function(path) {

@@ -22,10 +22,12 @@ from typing import Any, Callable, Mapping, Sequence
 import numpy as np
 import rasterio
 from scipy import ndimage
+from skimage import measure
 
 import rcell
 from made_maps import geotiff, land_and_zones
 from page import load, put
+from ten import majority
 from rcell import _program
 from rcell_front.pipe import request
 
@@ -108,32 +110,16 @@ def by_bincount(*paths: str) -> Any:
     return np.bincount(keys.reshape(-1))
 
 
-def patches_by_scipy(path: str) -> int:
-    """Patches of all classes with their cells and extents."""
+def patches_by_skimage(path: str) -> Any:
+    """Patches of all classes with their cells."""
     [cells] = read(path)
-    found = 0
-    for one in np.unique(cells[cells > 0]):
-        labels, count = ndimage.label(cells == one)
-        np.bincount(labels.reshape(-1))
-        found += len(ndimage.find_objects(labels))
-    return found
+    return np.bincount(measure.label(cells, background=0, connectivity=1).reshape(-1))
 
 
 def zonal_by_scipy(values: str, zones: str) -> Any:
     cells, zone = read(values, zones)
     index = np.unique(zone)
     return [of(cells, zone, index) for of in (ndimage.mean, ndimage.variance, ndimage.minimum, ndimage.maximum, ndimage.median)]
-
-
-def majority_by_numpy(path: str) -> Any:
-    """The class with the largest sum of nine shifted masks."""
-    [cells] = read(path)
-    best, most = np.zeros_like(cells), np.zeros(cells.shape, np.int8)
-    for one in np.unique(cells[cells > 0]):
-        often = ndimage.uniform_filter((cells == one).astype(np.float32), 3, mode="constant")
-        count = np.rint(often * 9).astype(np.int8)
-        best, most = np.where(count > most, one, best), np.maximum(count, most)
-    return best
 
 
 def calls_of(maps: Maps) -> dict[str, tuple[list[str], Callable[[], object], tuple[str, Task]]]:
@@ -145,9 +131,9 @@ def calls_of(maps: Maps) -> dict[str, tuple[list[str], Callable[[], object], tup
         "composition in degrees": ([degrees], lambda: rcell.composition(degrees), ("", lambda: None)),
         "cross": ([land, zones], lambda: rcell.cross(a=land, b=zones), ("numpy bincount", lambda: by_bincount(land, zones))),
         "change": ([land, later], lambda: rcell.change(land, later).summary, ("numpy bincount", lambda: by_bincount(land, later))),
-        "patches": ([land], lambda: rcell.patches(land), ("scipy label, no perimeters or cores", lambda: patches_by_scipy(land))),
+        "patches": ([land], lambda: rcell.patches(land), ("skimage label, cells alone", lambda: patches_by_skimage(land))),
         "zonal": ([land, zones], lambda: rcell.zonal(land, zones), ("scipy ndimage", lambda: zonal_by_scipy(land, zones))),
-        "majority 3 x 3": ([land], lambda: rcell.majority(land), ("scipy, 15 masks", lambda: majority_by_numpy(land))),
+        "majority 3 x 3": ([land], lambda: rcell.majority(land), ("numpy, 15 masks", lambda: majority(*read(land)))),
         "align by whole cells": ([land], lambda: rcell.align(land, to=later), ("numpy, reading alone", lambda: read(land))),
     }
 

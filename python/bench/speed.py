@@ -1,12 +1,12 @@
 #!/usr/bin/python3
-"""Measures ten tasks by the package, by the package of an earlier commit and by peers, by turns in one run, and writes bench/RESULTS.md.
+"""Measures ten tasks by the package and by peers, by turns in one run, and writes bench/RESULTS.md.
 
-    speed.py [--side N] [--rounds N] [--before COMMIT] [--show]
+    speed.py [--side N] [--rounds N] [--show]
 
 Each figure is nanoseconds of the processor a cell (user and system, all processes), the smallest of the rounds, on a GeoTIFF of patchy land
-cover of N x N cells and another of zones. The contenders are started once and get a task after another: ten.py twice, with this
-package and with the package of COMMIT over the same program `rcell`; ten.py with numpy, rasterio and scipy; ten.R with terra; ten.sh with GRASS,
-whose maps are there already, and whose modules start anew for each task. Results that can be compared have to be the same. Last come what a
+cover of N x N cells and another of zones. The contenders are started once and get a task after another: ten.py with this package; ten.py
+with rasterio, numpy and scikit-image; ten.R with terra; ten.sh with GRASS, whose maps are there already, and whose modules start anew for
+each task. Results that can be compared have to be the same. Last come what a
 call takes whatever its map, and the table of a GeoTIFF compared with reading it and counting in C++ (bench/yardstick.cpp), whose sum it may
 not pass by more than a fifth of the one and half of the other. With --show the tables are printed and no file is written.
 """
@@ -14,13 +14,11 @@ not pass by more than a fifth of the one and half of the other. With --show the 
 from __future__ import annotations
 
 import argparse
-import io
 import os
 import pathlib
 import resource
 import shutil
 import subprocess
-import tarfile
 import tempfile
 import time
 
@@ -32,7 +30,7 @@ from page import load, put
 
 HERE = pathlib.Path(__file__).resolve().parent
 ROOT = HERE.parents[1]
-HEADS = {"before": "before", "rcell": "now", "numpy": "numpy, rasterio, scipy", "terra": "terra", "grass": "GRASS, maps in GRASS"}
+HEADS = {"rcell": "rcell", "numpy": "rasterio, numpy, scikit-image", "terra": "terra", "grass": "GRASS, maps in GRASS"}
 TURNS = 20
 READING, COUNTING = 1.2, 1.5
 """What a table may take of reading and of counting alone."""
@@ -72,17 +70,9 @@ def make_maps(folder: str, side: int) -> None:
     pathlib.Path(folder, "rules").write_text(f"{ten.RULES}end\n", encoding="ascii")
 
 
-def contenders(folder: str, before: str) -> dict[str, Contender]:
+def contenders(folder: str) -> dict[str, Contender]:
     """All that are installed, by their names."""
-    old = pathlib.Path(folder, "before")
-    packed = subprocess.run(["git", "archive", before, "python/src"], cwd=ROOT, check=True, capture_output=True).stdout
-    tarfile.open(fileobj=io.BytesIO(packed)).extractall(old)
-    by_python = ["/usr/bin/python3", str(HERE / "ten.py")]
-    found = {
-        "before": Contender([*by_python, "rcell", folder], PYTHONPATH=str(old / "python" / "src")),
-        "rcell": of_package(folder),
-        "numpy": Contender([*by_python, "numpy", folder]),
-    }
+    found = {"rcell": of_package(folder), "numpy": Contender(["/usr/bin/python3", str(HERE / "ten.py"), "numpy", folder])}
     if shutil.which("Rscript"):
         found["terra"] = Contender(["Rscript", str(HERE / "ten.R"), folder])
     if shutil.which("grass"):
@@ -95,9 +85,9 @@ def of_package(folder: str) -> Contender:
     return Contender(["/usr/bin/python3", str(HERE / "ten.py"), "rcell", folder], PYTHONPATH=str(ROOT / "python" / "src"))
 
 
-def measured(folder: str, rounds: int, before: str) -> dict[str, Contender]:
+def measured(folder: str, rounds: int) -> dict[str, Contender]:
     """The contenders after all rounds."""
-    found = contenders(folder, before)
+    found = contenders(folder)
     for _ in range(rounds):
         for task in ten.NAMES:
             for contender in found.values():
@@ -105,9 +95,7 @@ def measured(folder: str, rounds: int, before: str) -> dict[str, Contender]:
     for contender in found.values():
         contender.close()
     for task in ten.NAMES:
-        others = {"before"} if task in ("patches", "align") else {"before", "numpy"}  # patches by scipy have other numbers; its null is 0
-        sums = {found[name].sums[task] for name in {*others, "rcell"} if found[name].seconds[task] < float("inf")}
-        if len(sums) != 1:
+        if task != "align" and found["numpy"].sums[task] != found["rcell"].sums[task]:  # rasterio reads null as 0
             raise SystemExit(f"{task}: not the same results")
     return found
 
@@ -155,7 +143,7 @@ def call(folder: str) -> float:
 
 def section(folder: str, settings: argparse.Namespace) -> str:
     cells = settings.side**2
-    found = measured(folder, settings.rounds, settings.before)
+    found = measured(folder, settings.rounds)
 
     def ns(seconds: float) -> str:
         return "" if seconds == float("inf") else f"{seconds / cells * 1e9:.1f}"
@@ -165,7 +153,7 @@ def section(folder: str, settings: argparse.Namespace) -> str:
     return f"""Measured on {load()}.
 
 Nanoseconds of the processor a cell (user and system, all processes), the least of {settings.rounds} rounds in which each had its turn, on
-{settings.side:,} x {settings.side:,} cells of patchy land cover in 15 classes. "Before" is the package of {settings.before}, which spelled cells as text.
+{settings.side:,} x {settings.side:,} cells of patchy land cover in 15 classes.
 
 | Task | {' | '.join(HEADS[name] for name in found)} |
 |---{'|---' * len(found)}|
@@ -186,7 +174,6 @@ def main() -> None:
     words = argparse.ArgumentParser(description=__doc__, formatter_class=argparse.RawDescriptionHelpFormatter)
     words.add_argument("--side", type=int, default=2000)
     words.add_argument("--rounds", type=int, default=3)
-    words.add_argument("--before", default="b6318640")
     words.add_argument("--show", action="store_true")
     settings = words.parse_args()
     with tempfile.TemporaryDirectory(prefix="rcell-speed-") as folder:

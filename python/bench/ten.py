@@ -1,10 +1,10 @@
 #!/usr/bin/python3
-"""Does ten tasks with rcell, or by the fastest ways of numpy, rasterio and scipy: a name a line in, and out the seconds of the processor.
+"""Does ten tasks with rcell, or the fastest way with rasterio, numpy and scikit-image: a name a line in, and out the seconds of the processor.
 
     ten.py (rcell|numpy) FOLDER
 
 A sum of the result follows the seconds: of the counts of a table, in ascending order, or of the cells of a map. Python begins before
-the clock does. `speed.py` runs it with the package of this commit and with an earlier one, which lacks some tasks.
+the clock does. `speed.py` runs it.
 """
 
 from __future__ import annotations
@@ -46,7 +46,7 @@ def by_rcell(lc: str, zones: str, other: str) -> Tasks:
 
     masked = masked_of(lc, zones)
     plain = masked.data
-    tasks: Tasks = {
+    return {
         "table": lambda: rcell.table(TABLE, lc=lc),
         "cross table": lambda: rcell.table("r.stats -c input=lc,zones", lc=lc, zones=zones),
         "masked table": lambda: rcell.table(TABLE, lc=masked),
@@ -56,10 +56,8 @@ def by_rcell(lc: str, zones: str, other: str) -> Tasks:
         "sizes of patches": lambda: rcell.table("r.clump input=lc output=x\nr.stats -c -n input=x", lc=lc),
         "reclass": lambda: rcell.grid(f"r.reclass input=lc output=x\n{RULES}end", "x", lc=lc).array,
         "majority of nine": lambda: rcell.grid(f"r.mapcalc x = nmode({NINE})", "x", lc=lc).array,
+        "align": lambda: rcell.align(lc, to=other).array,
     }
-    if hasattr(rcell, "align"):
-        tasks["align"] = lambda: rcell.align(lc, to=other).array
-    return tasks
 
 
 def by_numpy(lc: str, zones: str, other: str) -> Tasks:
@@ -95,25 +93,20 @@ def expression(lc: Any, zones: Any) -> Any:
 
 
 def patches(lc: Any) -> Any:
-    """scipy finds the patches of one class at a time."""
-    from scipy import ndimage
+    from skimage import measure
 
-    found, last = np.zeros(lc.shape, np.int32), 0
-    for one in np.unique(lc[lc > 0]):
-        labels, count = ndimage.label(lc == one)
-        np.add(labels, last, out=found, where=labels > 0)
-        last += count
-    return found
+    return measure.label(lc, background=0, connectivity=1)
 
 
 def majority(lc: Any) -> Any:
     """The class with the largest sum of nine shifted masks."""
-    from scipy import ndimage
-
-    best, most = np.zeros_like(lc), np.zeros(lc.shape, np.int8)
-    for one in np.unique(lc[lc > 0]):
-        count = ndimage.convolve1d(ndimage.convolve1d((lc == one).astype(np.int8), [1, 1, 1], 0, mode="constant"), [1, 1, 1], 1, mode="constant")
-        best, most = np.where(count > most, one, best), np.maximum(count, most)
+    best, most = np.zeros_like(lc), np.zeros(lc.shape, np.uint8)
+    for one in np.flatnonzero(np.bincount(lc.reshape(-1)))[1:]:
+        mask = np.pad((lc == one).view(np.uint8), 1)
+        rows = mask[:-2] + mask[1:-1] + mask[2:]
+        count = rows[:, :-2] + rows[:, 1:-1] + rows[:, 2:]
+        np.copyto(best, lc.dtype.type(one), where=count > most)
+        np.maximum(most, count, out=most)
     return best
 
 
@@ -122,11 +115,13 @@ def window(path: str) -> Any:
         return dataset.read(1, window=Window(SHIFT[1], SHIFT[0], dataset.width - SHIFT[1], dataset.height - SHIFT[0]))
 
 
-def sum_of(result: Any) -> int:
+def sum_of(task: str, result: Any) -> int:
     """A sum of the counts of a table, or of the cells of a map."""
     if hasattr(result, "columns"):
         result = result["cells"].to_numpy()
     filled = np.asarray(result.filled(NULL) if hasattr(result, "filled") else result).astype(np.int64)
+    if task == "patches":  # of which scikit-image gives null the number 0
+        filled[filled == NULL] = 0
     return zlib.crc32((np.sort(filled) if filled.ndim == 1 else filled).tobytes())
 
 
@@ -138,11 +133,11 @@ def main() -> None:
     ways = {"rcell": by_rcell, "numpy": by_numpy}[sys.argv[1]]
     tasks = ways(*(f"{sys.argv[2]}/{name}.tif" for name in ("lc", "zones", "other")))
     for line in sys.stdin:
-        task = tasks.get(line.strip())
+        name = line.strip()
         before = used()
-        result = task() if task else None
+        result = tasks[name]()
         seconds = used() - before
-        print(f"{seconds} {sum_of(result)}" if task else "inf 0", flush=True)
+        print(f"{seconds} {sum_of(name, result)}", flush=True)
 
 
 if __name__ == "__main__":
