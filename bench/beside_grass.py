@@ -25,14 +25,14 @@ class Task:
 
 TASKS = (
     Task("table (r.stats -c)", "r.stats -c input=g\n", "r.stats -c input=$map"),
-    Task("areas and their sizes (r.clump, r.stats -c)", "r.clump input=g output=m\nr.stats -c -n input=m\n",
+    Task("patches and their sizes (r.clump, r.stats -c)", "r.clump input=g output=m\nr.stats -c -n input=m\n",
          "r.clump input=$map output=m && r.stats -c -n input=m"),
     Task("patches of one class (r.reclass, r.clump -d, r.stats -c)",
          f"r.reclass input=g output=w\n{WOOD}end\nr.clump -d input=w output=m\nr.stats -c -n input=m\n",
          "r.reclass input=$map output=w rules=$room/wood && r.clump -d input=w output=m && r.stats -c -n input=m"),
     Task("mode of 3 by 3 cells, counted (r.neighbors)", f"r.mapcalc m = nmode({OFFSETS})\nr.stats -c input=m\n",
          "r.neighbors input=$map output=m method=mode size=3 && r.stats -c input=m"),
-    Task("areas as a map (r.clump)", "r.clump input=g output=m\nr.out.ascii input=m\n", "r.clump input=$map output=m", is_map=True),
+    Task("patches as a map (r.clump)", "r.clump input=g output=m\nr.out.ascii input=m\n", "r.clump input=$map output=m", is_map=True),
 )
 
 
@@ -61,7 +61,7 @@ def ways(task):
 
 
 def check(task, environment):
-    """The table of rcell is the table of GRASS; of areas, whose numbers differ, the counts are."""
+    """The table of rcell is the table of GRASS; of patches, whose numbers differ, the counts are."""
     texts = []
     for command in (ways(task)[0], ways(task)[2]):
         texts.append(subprocess.run(["sh", "-c", command], env=environment, check=True, capture_output=True, text=True).stdout)

@@ -200,9 +200,9 @@ TABLES = (
               of_distinct(lambda n: "r.stats -c input=g after=500000\n"), BEYOND),
     Dimension("tables with `after=`, of 1,000 categories", 10,
               over(distinct(10), lambda n: n * "r.stats -c input=g after=500000\n"), BEYOND),
-    Dimension("hundreds of areas of a cell", 100, of_distinct(lambda n: "r.clump input=g output=m\n"), BEYOND),
+    Dimension("hundreds of patches of a cell", 100, of_distinct(lambda n: "r.clump input=g output=m\n"), BEYOND),
     Dimension("rows of a comb, one area", 100, lambda n: Run("r.clump input=g output=m\n", {"g": comb(n)}), BEYOND),
-    Dimension("rows of noise, their areas and sizes", 100, of_noise("r.clump input=g output=m\nr.stats -c input=m\n"), BEYOND),
+    Dimension("rows of noise, their patches and sizes", 100, of_noise("r.clump input=g output=m\nr.stats -c input=m\n"), BEYOND),
     Dimension("rows written, noise", 100, of_noise("r.out.ascii input=g\n"), BEYOND),
     Dimension("rows written, no two cells alike", 100, of_distinct(lambda n: "r.out.ascii input=g\n"), BEYOND),
 )

@@ -80,7 +80,7 @@ def maps(room: str, short: bool) -> list[Map]:
 COUNT = "counts of one map"
 ZONES = "class by zone, two maps"
 RULES = "a map by rules"
-AREAS = "connected areas"
+PATCHES = "patches"
 MODE = "majority of 3 x 3"
 GRASS_TABLE = {"separator": "space", "null_value": "*", "nsteps": 255, "sort": 0, "-c": True, "-n": True, "-1": False}
 NATIVE_RULES = [0, 30, 1, 31, 60, 2, 61, 255, 3]
@@ -99,10 +99,10 @@ WAYS = [
                         "OUTPUT": f"{to}.tif"}),
     Way(RULES, "rcell:reclass", "rcell:reclass",
         lambda it, to: {"INPUT": it.path, "RULES": "0 thru 30 = 1 low\n31 thru 60 = 2\n61 thru 255 = 3", "OUTPUT": f"{to}.tif"}),
-    Way(AREAS, "rcell:patches, map and table", "rcell:patches", lambda it, to: {"INPUT": it.path, "MAP": f"{to}.tif", "OUTPUT": f"{to}.gpkg"}),
-    Way(AREAS, "rcell:patches, table alone", "rcell:patches", lambda it, to: {"INPUT": it.path, "OUTPUT": f"{to}.gpkg"}),
-    Way(AREAS, "grass7:r.clump, map alone", "grass7:r.clump", lambda it, to: {"input": it.path, "title": "areas", "output": f"{to}.tif"}),
-    Way(AREAS, "gdal:polygonize, polygons", "gdal:polygonize",
+    Way(PATCHES, "rcell:patches, map and table", "rcell:patches", lambda it, to: {"INPUT": it.path, "MAP": f"{to}.tif", "OUTPUT": f"{to}.gpkg"}),
+    Way(PATCHES, "rcell:patches, table alone", "rcell:patches", lambda it, to: {"INPUT": it.path, "OUTPUT": f"{to}.gpkg"}),
+    Way(PATCHES, "grass7:r.clump, map alone", "grass7:r.clump", lambda it, to: {"input": it.path, "title": "clumps", "output": f"{to}.tif"}),
+    Way(PATCHES, "gdal:polygonize, polygons", "gdal:polygonize",
         lambda it, to: {"INPUT": it.path, "BAND": 1, "FIELD": "class", "OUTPUT": f"{to}.gpkg"}, "patches"),
     Way(MODE, "rcell:majority", "rcell:majority", lambda it, to: {"INPUT": it.path, "OUTPUT": f"{to}.tif"}),
     Way(MODE, "grass7:r.neighbors", "grass7:r.neighbors", lambda it, to: {"input": it.path, "method": 2, "size": 3, "output": f"{to}.tif"}),

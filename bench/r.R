@@ -81,7 +81,7 @@ calls <- function(path, other) {
 
 patchy_calls <- function(path) {
   cells <- SIDE^2
-  show("areas of one class (`patches`)", pair(function() patches(rast(path) == 3, directions = 8, zeroAsNA = TRUE),
+  show("patches of one class (`patches`)", pair(function() patches(rast(path) == 3, directions = 8, zeroAsNA = TRUE),
     function() rcell_patches(path, 8, classes = 3), cells))
   show("sizes of one class (`freq` of `patches`); of all, with perimeters", pair(function() freq(patches(rast(path) == 3, directions = 8, zeroAsNA = TRUE)),
     function() rcell_patches(path, 8), cells))
@@ -90,7 +90,7 @@ patchy_calls <- function(path) {
 small_calls <- function(path) {
   of_each <- function() lapply(seq_len(CLASSES), function(class) patches(rast(path) == class, directions = 4, zeroAsNA = TRUE))
   perimeters <- function() perim(as.polygons(rcell_grid("r.clump input=x output=p", "p", x = path)))
-  show(sprintf("areas of each class, %d x %d (`patches` of each)", SMALL, SMALL), pair(of_each, function() rcell_patches(path, 4), SMALL^2))
+  show(sprintf("patches of each class, %d x %d (`patches` of each)", SMALL, SMALL), pair(of_each, function() rcell_patches(path, 4), SMALL^2))
   show(sprintf("perimeters, %d x %d (`perim` of `as.polygons`)", SMALL, SMALL), pair(perimeters, function() rcell_patches(path, 4), SMALL^2))
 }
 

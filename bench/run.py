@@ -194,7 +194,7 @@ PARTS = {
         Bench("negative patches, `null: -9999`, 25 million cells", 5000, over("cold", READING)),
         Bench("a category in each block of 60 by 60 cells, 36 million cells", 6000, over("blocks:60", READING)),
     ),
-    "Areas of difficult shapes": tuple(
+    "Patches of difficult shapes": tuple(
         Bench(f"{title}, 4 million cells", 2000, over(kind, AREAS))
         for title, kind in (("a comb of width 2000", "comb"), ("a spiral", "spiral"), ("a checkerboard", "checkerboard"))
     ),

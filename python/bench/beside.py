@@ -37,20 +37,20 @@ class Task(NamedTuple):
     tiled: Callable[[rcell.tiles.Mosaic, Path], Any]
 
     @property
-    def is_of_areas(self) -> bool:
+    def is_of_patches(self) -> bool:
         return self.null == 0
 
 
 TASKS = [
-    Task("areas by edges", "r.clump input=lc output=x", 0, "edges", lambda mosaic, out: mosaic.clump("lc", out)),
-    Task("areas by corners", "r.clump -d input=lc output=x", 0, "corners", lambda mosaic, out: mosaic.clump("lc", out, connectivity=8)),
+    Task("patches by edges", "r.clump input=lc output=x", 0, "edges", lambda mosaic, out: mosaic.clump("lc", out)),
+    Task("patches by corners", "r.clump -d input=lc output=x", 0, "corners", lambda mosaic, out: mosaic.clump("lc", out, connectivity=8)),
     Task("sum of nine offsets", f"r.mapcalc x = {SUM}", NULL, "total", lambda mosaic, out: mosaic.grid(f"x = {SUM}", out)),
     Task("nmode over 3x3", f"r.mapcalc x = {NMODE}", NULL, "modes", lambda mosaic, out: mosaic.grid(f"x = {NMODE}", out)),
 ]
 
 
 ALL = ["table", *(task.grass for task in TASKS), "sizes"]
-"""What can be asked for: the table, maps by GRASS's names of them, and with maps of areas the sizes of these."""
+"""What can be asked for: the table, maps by GRASS's names of them, and with maps of patches the sizes of these."""
 
 
 def answers(path: Path, folder: Path, sizes: list[int], workers: int, asked: Collection[str] = ALL) -> list[str]:
@@ -93,7 +93,7 @@ def _grass_table(table: Any) -> list[str]:
 
 
 def _answer(task: Task, path: Path, folder: Path, sizes: list[int], workers: int, has_sizes: bool) -> Iterator[list[str]]:
-    """The row of a task; where it makes areas, and it is asked for, one of their sizes as well."""
+    """The row of a task; where it makes patches, and it is asked for, one of their sizes as well."""
     out = folder / "tiles.tif"
     cells, seconds, program = undivided(path, task.script)
     row, of_sizes = [task.name, f"{seconds:.1f} s, {program / MILLION:.0f} MB"], []
@@ -101,7 +101,7 @@ def _answer(task: Task, path: Path, folder: Path, sizes: list[int], workers: int
         with rcell.tiles.open(size=size, scheduler=workers, lc=str(path)) as mosaic:
             areas, figures = measured(mosaic, lambda: task.tiled(mosaic, out))
             row.append(_told(_same(cells, out, task.null), figures))
-            if task.is_of_areas and has_sizes:
+            if task.is_of_patches and has_sizes:
                 patches, figures = measured(mosaic, lambda: mosaic.patches("lc", connectivity=8 if "corners" in task.name else 4))
                 is_equal = len(patches) == areas and np.array_equal(patches["cells"].to_numpy(np.int64), _sizes_of(cells, areas))
                 of_sizes.append(_told(is_equal, figures))
@@ -114,7 +114,7 @@ def _answer(task: Task, path: Path, folder: Path, sizes: list[int], workers: int
 def _beside_grass(task: Task, grass: Path, out: Path, areas: int) -> str:
     if not grass.exists():
         return ""
-    if task.is_of_areas:
+    if task.is_of_patches:
         return _judged(_one_to_one(grass, out, areas)) + " but for numbers"
     apart, alone = _apart(grass, out)
     return _judged(apart == 0) + (f"; {alone:,} cells null in one alone" if alone else "")
@@ -178,7 +178,7 @@ def _answer_of_array(task: Task, lazy: Callable[[], Any], mosaic: rcell.tiles.Mo
         expected[top:top + STRIP] = np.where(part == NULL, task.null, part)
     differing, figures = measured(mosaic, lambda: _differing(mosaic, lazy().data, path))
     yield [task.name, f"{seconds:.1f} s", _told(differing == 0, figures)]
-    if task.is_of_areas:
+    if task.is_of_patches:
         patches, figures = measured(mosaic, lambda: mosaic.patches("lc"))
         is_equal = np.array_equal(patches["cells"].to_numpy(np.int64), _sizes_of(cells, len(patches)))
         yield [f"sizes of the {len(patches):,} {task.name}", "", _told(is_equal, figures)]
@@ -243,7 +243,7 @@ def _apart(first: Path, second: Path) -> tuple[int, int]:
 
 
 def _one_to_one(first: Path, second: Path, areas: int) -> bool:
-    """Whether two maps of areas are the same but for their numbers: GRASS gives them in another order."""
+    """Whether two maps of patches are the same but for their numbers: GRASS gives them in another order."""
     of = np.zeros(areas + 1, dtype=np.int32)
     for one, other in _strips(first, second):
         one = np.where(one == NULL, 0, one)

@@ -90,14 +90,14 @@ class Known(NamedTuple):
 
 
 def patches(diagonal: bool) -> Callable[[Mosaic], Any]:
-    """The table of the connected areas."""
+    """The table of the patches."""
     return lambda mosaic: mosaic.patches("made", 8 if diagonal else 4)
 
 
 TASKS: dict[str, tuple[str, Callable[[Mosaic], Any]]] = {
     "table": ("table", lambda mosaic: mosaic.table("r.stats -c input=made")),
-    "corners": ("areas by corners, with their sizes", patches(True)),
-    "edges": ("areas by edges, with their sizes", patches(False)),
+    "corners": ("patches by corners, with their sizes", patches(True)),
+    "edges": ("patches by edges, with their sizes", patches(False)),
 }
 
 

@@ -98,7 +98,7 @@ def spiral(side: int) -> Cells:
 
 
 def checkerboard(side: int) -> Cells:
-    """No two cells of one category share an edge; by corners there are two areas."""
+    """No two cells of one category share an edge; by corners there are two patches."""
     cells: Cells = (np.add.outer(np.arange(side), np.arange(side)) % 2 + 1).astype(np.uint8)
     return cells
 

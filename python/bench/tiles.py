@@ -99,9 +99,9 @@ def of_grass(given: Settings) -> list[str]:
 def of_shapes(given: Settings) -> list[str]:
     """Maps that are hard to cut, by tiles whose borders cut them everywhere."""
     side, size = 2000, 612
-    rows = [f"Maps of {side:,} x {side:,} cells, tiles of {size} x {size}.", "", "| Map | Areas by edges | by corners |", "|---|---|---|"]
+    rows = [f"Maps of {side:,} x {side:,} cells, tiles of {size} x {size}.", "", "| Map | Patches by edges | by corners |", "|---|---|---|"]
     for shape in (comb, spiral, checkerboard):
-        path, out = given.folder / "shape.tif", given.folder / "shape-areas.tif"
+        path, out = given.folder / "shape.tif", given.folder / "shape-patches.tif"
         write(path, shape(side))
         found = []
         for diagonal in (False, True):
@@ -130,8 +130,8 @@ class Work(NamedTuple):
 WORKS = [
     Work("Table", lambda mosaic, out: mosaic.table(TABLE), lambda table, out: table.to_csv()),
     Work("nmode over 3x3, written", lambda mosaic, out: mosaic.grid(f"x = {NMODE}", out), lambda _, out: sum_of(out)),
-    Work("Areas by edges, written", lambda mosaic, out: mosaic.clump("lc", out), lambda areas, out: (areas, sum_of(out))),
-    Work("Sizes of areas", lambda mosaic, out: mosaic.patches("lc"), lambda patches, out: zlib.crc32(patches.to_numpy(np.int64).tobytes())),
+    Work("Patches by edges, written", lambda mosaic, out: mosaic.clump("lc", out), lambda areas, out: (areas, sum_of(out))),
+    Work("Sizes of patches", lambda mosaic, out: mosaic.patches("lc"), lambda patches, out: zlib.crc32(patches.to_numpy(np.int64).tobytes())),
 ]
 
 
@@ -204,7 +204,7 @@ def of_memory(given: Settings) -> list[str]:
         (patches_demand(1), lambda mosaic: mosaic.patches("lc")),
     ]
     rows, worst = [], 0.0
-    for name, file, runs, areas in (("noise", loud, 1.0, 1.0), ("land cover", quiet, runs_of(quiet), areas_of(quiet))):
+    for name, file, runs, areas in (("noise", loud, 1.0, 1.0), ("land cover", quiet, runs_of(quiet), share_of_patches(quiet))):
         for size in (1024, 2048, 4096):
             entries = []
             for demand, work in tasks:
@@ -215,12 +215,12 @@ def of_memory(given: Settings) -> list[str]:
                 entries.append(f"{both / MILLION:.0f}, formula {said / MILLION:.0f}")
             rows.append(told(f"| {name} | {size:,} | {' | '.join(entries)} |"))
     head = ["MB of a worker and the program in it together, at their peak.", "",
-            "| Map | Tiles | Table | Sum of nine offsets | Areas | Sizes of areas |", "|---|---|---|---|---|---|"]
+            "| Map | Tiles | Table | Sum of nine offsets | Patches | Sizes of patches |", "|---|---|---|---|---|---|"]
     return [*head, *rows, "", f"The formula is at most {worst:.0%} away from what was measured."]
 
 
-def areas_of(path: Path) -> float:
-    """Connected areas by edges, as a part of the cells, of the first cells of a map."""
+def share_of_patches(path: Path) -> float:
+    """Patches by edges, as a part of the cells, of the first cells of a map."""
     with rasterio.open(path) as dataset:
         cells = dataset.read(1, window=Window(0, 0, min(STRIP, dataset.width), min(STRIP, dataset.height)))
     return float(len(rcell.patches(rcell.Map(cells, nodata=0))) / cells.size)

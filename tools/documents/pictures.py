@@ -177,10 +177,10 @@ def examples(folder, program):
 
 # The tasks of the chart: what it says of each, and where the row is in bench/RESULTS.md.
 CHARTED = (
-    ("reading\npatchy land cover", "reading", "patchy land cover, 25 million cells"),
-    ("r.stats -c\npatchy land cover", "r.stats -c", "patchy land cover, 25 million cells"),
-    ("r.out.ascii\npatchy land cover", "r.out.ascii", "patchy land cover, 25 million cells"),
-    ("r.stats -c\nnoise", "r.stats -c", "noise, 25 million cells"),
+    ("reading\npatchy land cover", "reading", "patchy land cover, 4 million cells"),
+    ("r.stats -c\npatchy land cover", "r.stats -c", "patchy land cover, 4 million cells"),
+    ("r.out.ascii\npatchy land cover", "r.out.ascii", "patchy land cover, 4 million cells"),
+    ("r.stats -c\nnoise", "r.stats -c", "noise, 4 million cells"),
     ("r.clump\npatchy land cover", "r.clump", "patchy land cover, 4 million cells"),
     ("nine offsets, written\npatchy land cover", "sum of nine offsets, r.out.ascii", "patchy land cover, 4 million cells"),
     ("r.reclass, counted\npatchy land cover", "r.reclass, r.stats -c", "patchy land cover, 4 million cells"),
