@@ -39,13 +39,14 @@ from beside import ALL, NMODE, SUM, TABLE, answers, answers_of_array, grass_maps
 from made_maps import STRIP, checkerboard, comb, land_cover, noise, runs_of, spiral, write
 from page import load, put
 from rcell.tiles._graph import cuts_of, places_of
-from rcell.tiles._memory import Demand, clump_demand, grid_demand, patches_demand, table_demand
+from rcell.tiles._memory import WORKER, Demand, clump_demand, grid_demand, patches_demand, table_demand
 from rcell.tiles._scripts import NO_REACH, Reach
 from rcell.tiles._tasks import ClumpRun, tile_border
 from rcell.tiles.joining import Rectangle, join
 from watching import MILLION, Figures, measured
 
 MEMORY_SIDE = 4096
+BYTES_OF_A_PATCH = 100  # in the worker that adds up the sizes of all tiles (Mosaic.patches)
 WAIT_SECONDS = 60
 ROUNDS = 2
 KILLED_AFTER = 1 / 3
@@ -211,12 +212,14 @@ def of_memory(given: Settings) -> list[str]:
                 with rcell.tiles.open(size=size, scheduler=1, lc=str(file)) as mosaic:
                     both = measured(mosaic, lambda: work(mosaic))[1].both
                 said = demand.bytes(size, size, runs, areas)
+                if demand.entry:
+                    said = max(said, WORKER + int(BYTES_OF_A_PATCH * areas * MEMORY_SIDE**2))
                 worst = max(worst, said / both - 1, 1 - said / both, key=abs)
                 entries.append(f"{both / MILLION:.0f}, formula {said / MILLION:.0f}")
             rows.append(told(f"| {name} | {size:,} | {' | '.join(entries)} |"))
     head = ["MB of a worker and the program in it together, at their peak.", "",
             "| Map | Tiles | Table | Sum of nine offsets | Patches | Sizes of patches |", "|---|---|---|---|---|---|"]
-    return [*head, *rows, "", f"The formula is at most {worst:.0%} away from what was measured."]
+    return [*head, *rows, "", f"The formula is at most {abs(worst):.0%} away from what was measured."]
 
 
 def share_of_patches(path: Path) -> float:
