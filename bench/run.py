@@ -453,13 +453,13 @@ def mark():
     return f"<!-- figures: {commit()} -->\n\n"
 
 
-def machine():
+def machine(rounds):
     """A sentence on what was measured, where."""
     with open("/proc/cpuinfo", encoding="utf-8") as file:
         model = next((line.split(":")[1].strip() for line in file if line.startswith("model name")), "an unknown processor")
     day, load = time.strftime("%Y-%m-%d"), os.getloadavg()[0]
     return (f"{mark()}Measured on {day} with the program of commit {commit()}: {len(os.sched_getaffinity(0))} processors ({model}), "
-            f"Linux {os.uname().release.split('-')[0]}, {compiler()}, load {load:.0f} at the start.\n")
+            f"Linux {os.uname().release.split('-')[0]}, {compiler()}, load {load:.0f} at the start, {rounds} rounds.\n")
 
 
 def compiler():
@@ -500,7 +500,7 @@ def main():
     parser.add_argument("--write", action="store_true")
     wanted = parser.parse_args()
     build()
-    found, where = {}, machine()
+    found, where = {}, machine(wanted.rounds)
     for title in TITLES:
         if wanted.only.lower() not in title.lower():
             continue
